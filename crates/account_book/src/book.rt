@@ -59,7 +59,7 @@ impl Book {
     }
 
     /// The account of this name, or None where there is none.
-    #[tactic(auto, using(crate::proofs::lemmas::Maps::map_found))]
+    #[tactic(auto, using(crate::proofs::lemmas::Maps::account_is_in_map))]
     pub fn account(&self, name: &PlainName) -> Option<&Account>
         ensures value { option_copied result ≡ account_at self.now name.now }
         ensures mapped { option_copied result ≡ map.get (accounts_of self.now) name.now }

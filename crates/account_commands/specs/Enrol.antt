@@ -10,7 +10,7 @@ use Rattle.account_book.specs.SavedBooks.{HasStoredText}
 use Rattle.account_book.specs.declared.book.view.TheConstants.{SALT_LEN}
 use Rattle.book_file.specs.Text.{IsWritten}
 use Rattle.clap.specs.declared.parser.matches.ArgMatches.{ArgMatches}
-use Rattle.command_line.specs.Fault.{IsUnwritten}
+use Rattle.command_line.specs.Fault.{IsFileUnwritten}
 use Rattle.command_line.specs.declared.fault.Fault.{Fault}
 use Rattle.command_line.specs.declared.fault.Fault.TheVariants.{NameTaken, CannotWriteOutput}
 use Rattle.command_line.specs.declared.option_name.OptionName.TheVariants as option
@@ -40,15 +40,15 @@ pub record TakesSalts (old : Option (List ℕ)) (salts : Salts) (new : Option (L
   pub taken : Consumes old new (salts.sha1 ++ salts.sha256)
 
 -- a book is this one, or was read from a file since
-abbrev pub IsThisBookOrARead : {File : Type 0} → (bytes_of : File → Option (List ℕ)) → (this book : BookFields) → Type 0
-IsThisBookOrARead bytes_of this book = (book ≡ this) ⊎ ((text : List ℕ) × IsReadBook bytes_of text book)
+abbrev pub IsThisOrReadBook : {File : Type 0} → (bytes_of : File → Option (List ℕ)) → (this book : BookFields) → Type 0
+IsThisOrReadBook bytes_of this book = (book ≡ this) ⊎ ((text : List ℕ) × IsReadBook bytes_of text book)
 
 -- an account with the keys of a password is added to a book, which is this one or was read from a file since, and the text of
 -- the book as it is then is written to a file
 pub record SavesAccount {File : Type 0} (bytes_of written_to : File → Option (List ℕ)) (book : BookFields)
     (account : NewAccount) (salts : Salts) : Type 0 where
   pub first : BookFields
-  pub is_first : IsThisBookOrARead bytes_of book first
+  pub is_first : IsThisOrReadBook bytes_of book first
   pub last : BookFields
   pub is_enrolled : IsEnrolled account salts first last
   pub is_saved : HasStoredText (IsStoredShort (IsWritten written_to)) last
@@ -59,7 +59,7 @@ pub record EnrolsAsked {File : Type 0} (bytes_of written_to : File → Option (L
     (input old new : Option (List ℕ)) : Type 0 where
   pub account : NewAccount
   pub is_name : account.name ≡ given_value words option.Name
-  pub is_first : IsFirstLine input account.password
+  pub is_first_line : IsFirstLine input account.password
   pub is_password : IsPassword account.password
   pub is_count : given_value words option.Count ≡ decimal account.count
   pub file : File
@@ -80,7 +80,7 @@ DescribesNoAccount words input fault =
 -- the name is taken in a book, which is this one or was read from a file since
 abbrev pub IsNameTakenIn : {File : Type 0} → (bytes_of : File → Option (List ℕ)) → BookFields → (name : List ℕ) → Fault → Type 0
 IsNameTakenIn bytes_of this name fault =
-    (fault ≡ NameTaken) × (book : BookFields) × IsThisBookOrARead bytes_of this book × (is_some (account_at book name) ≡ true)
+    (fault ≡ NameTaken) × (book : BookFields) × IsThisOrReadBook bytes_of this book × (is_some (account_at book name) ≡ true)
 
 -- the name is taken in a book that was read from a file
 abbrev pub IsNameTaken : {File : Type 0} → (bytes_of : File → Option (List ℕ)) → (name : List ℕ) → Fault → Type 0
@@ -89,7 +89,7 @@ IsNameTaken bytes_of name fault =
 
 -- the book at this path can't be held or read, or can't be saved
 abbrev pub CannotBeChanged : {File : Type 0} → (bytes_of : File → Option (List ℕ)) → (path : List ℕ) → Fault → Type 0
-CannotBeChanged bytes_of path fault = CannotOpenBook bytes_of path fault ⊎ IsUnwritten path fault
+CannotBeChanged bytes_of path fault = CannotOpenBook bytes_of path fault ⊎ IsFileUnwritten path fault
 
 -- the fault that ends `enrol`: no account is described, the name is taken, the book can't be held, read or saved, the file of random
 -- bytes can't be read, the output can't be written, or memory ran out

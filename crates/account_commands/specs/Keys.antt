@@ -31,7 +31,7 @@ pub record PrintsKeysAsked (words : ArgMatches) (input old new : Option (List �
   pub count : ℕ
   pub is_count : given_value words option.Count ≡ decimal count
   pub password : List ℕ
-  pub is_first : IsFirstLine input password
+  pub is_first_line : IsFirstLine input password
   pub is_password : IsPassword password
   pub printed : Appends old new (printed_keys mechanism password salt count)
 

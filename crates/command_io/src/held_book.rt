@@ -4,7 +4,7 @@ ghost use Rattle.book_format.specs.Trees.{IsBookText};
 ghost use Rattle.account_book.specs.Accounts.{account_at};
 ghost use Rattle.account_book.specs.Tokens.{token_at};
 ghost use Rattle.otp_core.specs.Sent.{texts_of};
-ghost use Rattle.command_line.specs.Fault.{IsTokenFault, IsUnwritten};
+ghost use Rattle.command_line.specs.Fault.{IsTokenFault, IsFileUnwritten};
 ghost use Rattle.command_io.specs.HeldBook.{held_shown, CannotBeSaved, IsBookSaved, IsBookUnsaved, IsChangeUnsaved, IsUnlockSaved};
 ghost use Rattle.command_io.specs.HeldBook.{IsEnrolled, IsReplySaved, IsReplyUnsaved, IsTokenUnlocked, LacksToken};
 
@@ -50,7 +50,7 @@ impl<'a, S: BookStore> HeldBook<'a, S> {
     pub fn enrol(&mut self, alloc: Global, account: &NewAccount, salts: &Salts) -> Result<(), Fault>
         ensures added { OnOk result (IsEnrolled account.now salts.now self.old.book self.new.book) }
         ensures err { IfErr result (λ fault. MatchOption (account_at self.old.book account.now.name)
-            (IsUnwritten self.old.path.now fault) (λ account. fault ≡ Fault.NameTaken)) }
+            (IsFileUnwritten self.old.path.now fault) (λ account. fault ≡ Fault.NameTaken)) }
         ensures path { self.new.path.now ≡ self.old.path.now }
         ensures unasked { IfErr result (λ fault. fault ≡ Fault.NoMemory → self.new.store ≡ self.old.store) }
         ensures unsaved { OnErr result (IsChangeUnsaved (held_shown S.facts self.old) (IsEnrolled account.now salts.now)
@@ -121,7 +121,7 @@ impl<'a, S: BookStore> HeldBook<'a, S> {
     pub fn save(&mut self, alloc: Global) -> Result<(), Fault>
         ensures book { self.new.book ≡ self.old.book }
         ensures path { self.new.path.now ≡ self.old.path.now }
-        ensures err { IfErr result (IsUnwritten self.old.path.now) }
+        ensures err { IfErr result (IsFileUnwritten self.old.path.now) }
         ensures why { IfErr result (λ fault. fault ≢ Fault.NoMemory
             → (text : List ℕ) × IsBookText text self.old.book × CannotBeSaved text (S.facts self.new.store)) }
         ensures unasked { IfErr result (λ fault. fault ≡ Fault.NoMemory → self.new.store ≡ self.old.store) }

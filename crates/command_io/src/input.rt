@@ -56,7 +56,7 @@ fn read_line<I: Read>(alloc: Global, input: &mut I, most: usize) -> Result<(Vec<
 /// The first line of `input` without its LF, or all of `input` where it has no LF. Nothing after the line
 /// is looked at. CannotReadInput where a read fails, and where the line and its LF have more than
 /// 16777216 bytes; NoMemory where memory runs out.
-#[tactic(auto, using(crate::proofs::lemmas::InputLines::first_taken))]
+#[tactic(auto, using(crate::proofs::lemmas::InputLines::taken_line_is_first))]
 pub fn first_line<I: BufRead>(alloc: Global, input: &mut I) -> Result<Vec<u8>, Fault>
     ensures first { IfOk result (λ line. IsFirstLine (I.remaining input.old) line.items) }
     ensures taken { IfOk result (λ line. (has_lf : Bool) × TakesLine (I.remaining input.old) line.items has_lf (I.remaining input.new)) }

@@ -30,7 +30,7 @@ pub struct ReadBook {
 /// Takes hold of the book at `path`, reads it and lets it go; None where there is no file. Faults: CannotRead where
 /// the file can't be read or other runs hold it for 30 seconds; CannotWrite where a save could not keep the file's owner, or
 /// where what stands at the path of the next text can't be opened or removed; BadBook where the text is no book; and NoMemory.
-#[tactic(auto, using(crate::proofs::lemmas::HeldFaults::no_book))]
+#[tactic(auto, using(crate::proofs::lemmas::HeldFaults::bad_text_prevents_opening))]
 pub fn read_and_release<R, E>(rt: &R, path: &str, faults: &mut E) -> Result<Option<ReadBook>, Fault>
 where
     R: Files + Clock + AllocGlobal,
@@ -54,7 +54,7 @@ where
 
 /// Takes hold of the book at `path`, which has to be there, and reads it. Faults: as `read_and_release`, and CannotRead where
 /// there is no file.
-#[tactic(auto, using(crate::proofs::lemmas::HeldFaults::no_book))]
+#[tactic(auto, using(crate::proofs::lemmas::HeldFaults::bad_text_prevents_opening))]
 pub fn open<'a, 'r, R, E>(
     rt: &'r R,
     path: &'a str,
@@ -104,7 +104,7 @@ where
 // The fault of a command that could not hold the book at `path`: that it can't be read, or that a file can't be
 // written. Where other runs held the book, or it belongs to another user, a line on `faults` says so first. The error
 // is that memory ran out.
-#[tactic(auto, using(crate::proofs::lemmas::HeldFaults::unread))]
+#[tactic(auto, using(crate::proofs::lemmas::HeldFaults::failed_read_prevents_holding))]
 fn hold_fault<E: Write>(
     alloc: Global,
     path: &str,
@@ -137,7 +137,7 @@ fn hold_fault<E: Write>(
 
 // The text of a book's file, or None where there is no file. Faults: CannotRead, BadBook where the text is not UTF-8, and
 // NoMemory.
-#[tactic(auto, using(crate::proofs::lemmas::HeldFaults::held_unread))]
+#[tactic(auto, using(crate::proofs::lemmas::HeldFaults::unread_file_prevents_holding))]
 fn text_of<R>(
     alloc: Global,
     file: &mut BookFile<'_, R>,

@@ -30,15 +30,15 @@ status_of CannotWriteOutput = 3
 status_of NoMemory = 3
 
 -- memory ran out, or the file of this path can't be written
-abbrev pub IsUnwritten : (path : List ℕ) → Fault → Type 0
-IsUnwritten path (CannotWrite file) = string_bytes file ≡ path
-IsUnwritten path fault = fault ≡ NoMemory
+abbrev pub IsFileUnwritten : (path : List ℕ) → Fault → Type 0
+IsFileUnwritten path (CannotWrite file) = string_bytes file ≡ path
+IsFileUnwritten path fault = fault ≡ NoMemory
 
 -- the fault of a change to the token of the account that was looked up, in the book whose file has this path:
 -- there is no account, it has no token, or the book can't be saved
 abbrev pub IsTokenFault : (path : List ℕ) → (found : Option AccountFields) → Fault → Type 0
 IsTokenFault path found fault = MatchOption found (fault ≡ NoSuchAccount)
-    (λ account. MatchOption account.token (fault ≡ NoToken) (λ token. IsUnwritten path fault))
+    (λ account. MatchOption account.token (fault ≡ NoToken) (λ token. IsFileUnwritten path fault))
 
 -- what is wrong with a book's text, as a command says it: by its number, or that memory ran out
 abbrev pub fault_of_book_why : BookWhy → Fault

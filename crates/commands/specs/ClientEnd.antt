@@ -7,7 +7,7 @@ use Rattle.mac_core.specs.Mechanism.{name_of, IsOffered}
 use Rattle.mac_core.specs.declared.mechanism.Mechanism.{Mechanism}
 use Rattle.mac_core.specs.declared.mechanism.Mechanism.TheVariants.{ScramSha256}
 use Rattle.scram_text.specs.Messages.{ServerFirstParts}
-use Rattle.scram_ends.specs.Stages.{Started, Answered, answered}
+use Rattle.scram_ends.specs.Stages.{Started, Answered, answered_login}
 use Rattle.scram_ends.specs.Client.{AreUsual, IsStarted, IsAnswerable, IsExpecting}
 use Rattle.scram_ends.specs.Honest.{IsHonest, honest_signature}
 use Rattle.scram_ends.specs.Login.{IsAuthentic}
@@ -63,7 +63,7 @@ pub record AnswersChallenge (login : Started) (password server_first said : List
   pub challenge : ServerFirstParts
   pub answerable : IsAnswerable login.limits login.nonce server_first challenge
   pub client_final : List ℕ
-  pub waits : WaitsForSignature stage (answered login password server_first client_final)
+  pub waits : WaitsForSignature stage (answered_login login password server_first client_final)
   pub line : said ≡ said_line (resp client_final)
 
 -- what a client may say when it is told a line, at the stage where it is: it begins a login by one of the mechanisms that
@@ -108,7 +108,7 @@ pub record IsOfUser (user : User) (nonce password : List ℕ) (login : Answered)
 -- login of this user, and bears the signature that the keys of the password make over the login's messages (RFC 5802, section 3)
 pub record IsLoggedIn (user : User) (nonce password : List ℕ) (old new : Talked) : Type 0 where
   pub login : Answered
-  pub is_of : IsOfUser user nonce password login
+  pub is_of_user : IsOfUser user nonce password login
   pub honest : IsHonest login
   pub before : List ℕ
   pub line : List ℕ

@@ -11,7 +11,7 @@ use Rattle.book_format.specs.Book.{BookFields}
 use Rattle.account_book.specs.Store.{StoreFacts}
 use Rattle.book_file.specs.Text.{IsWritten}
 use Rattle.clap.specs.declared.parser.matches.ArgMatches.{ArgMatches}
-use Rattle.command_line.specs.Fault.{IsUnwritten}
+use Rattle.command_line.specs.Fault.{IsFileUnwritten}
 use Rattle.command_line.specs.declared.fault.Fault.{Fault}
 use Rattle.command_line.specs.declared.fault.Fault.TheVariants.{BadEvent, CannotWriteOutput}
 use Rattle.command_line.specs.declared.option_name.OptionName.TheVariants as option
@@ -65,12 +65,12 @@ IsOfClosedSessionAfter accounts calls (opens server_nonce) = ⊥
 IsOfClosedSessionAfter accounts calls (does_at session event moment) = IsSessionRun accounts (of_number session calls) between
 
 -- an input line says no event
-abbrev pub SaysNothing : List ℕ → Type 0
-SaysNothing line = (event : InputEvent) → SaysEvent line event → ⊥
+abbrev pub SaysNoEvent : List ℕ → Type 0
+SaysNoEvent line = (event : InputEvent) → SaysEvent line event → ⊥
 
 -- an input line says no event, or one of a session that is not open
 abbrev pub IsBadEvent : {S : Type 0} → List ℕ → HallFields S → Type 0
-IsBadEvent line hall = SaysNothing line ⊎ ((event : InputEvent) × SaysEvent line event × IsOfClosedSession hall event)
+IsBadEvent line hall = SaysNoEvent line ⊎ ((event : InputEvent) × SaysEvent line event × IsOfClosedSession hall event)
 
 -- the call of a hall by which it hears an event: a greeting, or one of the session of its number
 abbrev pub IsCallFor : InputEvent → Numbered Call → Type 0
@@ -141,14 +141,15 @@ pub record PrintsHallLog (IsStored : List ℕ → Type 0) (book : BookFields) (i
   pub saved : AreLinesSaved IsStored book (hall_lines calls)
 
 -- after these calls of a hall the line says no event, or one of a session that is not open
-abbrev pub IsBadAfter : Accounts → List (Numbered Call) → (line : List ℕ) → Type 0
-IsBadAfter accounts calls line = SaysNothing line ⊎ ((event : InputEvent) × SaysEvent line event × IsOfClosedSessionAfter accounts calls event)
+abbrev pub IsBadEventAfter : Accounts → List (Numbered Call) → (line : List ℕ) → Type 0
+IsBadEventAfter accounts calls line =
+    SaysNoEvent line ⊎ ((event : InputEvent) × SaysEvent line event × IsOfClosedSessionAfter accounts calls event)
 
 -- `PrintsHallLog`, and the next line is bad after it
 abbrev pub PrintsToBadEvent : (IsStored : List ℕ → Type 0) → BookFields → (input old new : Option (List ℕ)) → Type 0
 PrintsToBadEvent IsStored book input old new =
     (line : List ℕ) × (last : List (List ℕ)) × (log : PrintsHallLog IsStored book input (line ∷ last) old new)
-    × IsBadAfter (accounts_in book) log.calls line
+    × IsBadEventAfter (accounts_in book) log.calls line
 
 -- `PrintsHallLog`, with a book that was read from a file, and saved in being written to one
 pub record RunsHall {File : Type 0} (bytes_of written_to : File → Option (List ℕ)) (input : Option (List ℕ)) (last : List (List ℕ))
@@ -166,7 +167,7 @@ RunsToBadEvent bytes_of written_to input old new =
 -- the fault at which a hall stops hearing: a line of its input can't be read, says no event, or one of a session that is not open; the
 -- book, whose file has this path, can't be saved; the output can't be written; or memory ran out
 abbrev pub StopsHearing : (path : List ℕ) → Fault → Type 0
-StopsHearing path fault = IsInputUnread fault ⊎ ((fault ≡ BadEvent) ⊎ (IsUnwritten path fault ⊎ (fault ≡ CannotWriteOutput)))
+StopsHearing path fault = IsInputUnread fault ⊎ ((fault ≡ BadEvent) ⊎ (IsFileUnwritten path fault ⊎ (fault ≡ CannotWriteOutput)))
 
 -- the fault that ends `hall`: the book can't be held or read, or the hall stops hearing
 abbrev pub CannotRunHall : {File : Type 0} → (bytes_of : File → Option (List ℕ)) → ArgMatches → Fault → Type 0

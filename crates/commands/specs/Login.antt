@@ -21,7 +21,7 @@ use Rattle.commands.specs.DeskLog.{IsGiven, HasSavedLog}
 use Rattle.commands.specs.SentCodes.{SendsLine}
 
 -- the client is logged in, and then sends each line of its input, which passes
-pub record IsInAndPasses (user : User) (nonce password : List ℕ) (input : Option (List ℕ)) (old new : Talked) : Type 0 where
+pub record LogsInAndPasses (user : User) (nonce password : List ℕ) (input : Option (List ℕ)) (old new : Talked) : Type 0 where
   pub middle : Talked
   pub is_in : IsLoggedIn user nonce password old middle
   pub passes : LinesInTurn SendsLine input [] middle true new
@@ -29,7 +29,7 @@ pub record IsInAndPasses (user : User) (nonce password : List ℕ) (input : Opti
 -- the client is logged in, each line passes, and then the server says nothing more
 pub record TalkPasses (user : User) (nonce password : List ℕ) (input : Option (List ℕ)) (old new : Talked) : Type 0 where
   pub last : Talked
-  pub passes : IsInAndPasses user nonce password input old last
+  pub passes : LogsInAndPasses user nonce password input old last
   pub ends : LogSays last.logged new.logged []
 
 -- a log is printed that begins with some lines, and goes on with a talk in which this user is let in, by this nonce and this
@@ -60,7 +60,7 @@ pub record PrintsPassesAsked {File : Type 0} (bytes_of : File → Option (List �
   pub password : List ℕ
   pub has_lf : Bool
   pub rest : Option (List ℕ)
-  pub is_first : TakesLine input password has_lf rest
+  pub is_first_line : TakesLine input password has_lf rest
   pub passes : PrintsPasses user nonce password rest old new
 
 -- a log of this kind, for example a clean one, is printed. It is judged by a book that was read from a file. The desk's part of the nonce

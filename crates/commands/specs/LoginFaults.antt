@@ -3,7 +3,7 @@ use Rattle.std.specs.Prelude.{ℕ, ◌≡◌, ◌≤◌, length, ◌⊎◌, true
 use Rattle.std.specs.Io.KnownBytes.{Consumes, IsAtEnd}
 use Rattle.std.specs.declared.option.Option.{Option}
 use Rattle.clap.specs.declared.parser.matches.ArgMatches.{ArgMatches}
-use Rattle.command_line.specs.Fault.{IsUnwritten}
+use Rattle.command_line.specs.Fault.{IsFileUnwritten}
 use Rattle.command_line.specs.declared.option_name.OptionName.TheVariants as option
 use Rattle.command_line.specs.declared.fault.Fault.{Fault}
 use Rattle.command_line.specs.declared.fault.Fault.TheVariants.{Socket, CannotWriteOutput, NoMemory}
@@ -29,7 +29,7 @@ pub record GivesNoLine (most : ℕ) (old new : SourceFacts) : Type 0 where
 -- why a client is not served, as the command says it: the book, whose file has this path, can't be saved, the log has failed, or
 -- memory ran out. `WriteFault` is that memory ran out: what the desk says is first kept in memory.
 abbrev pub IsFaultOfServing : (path : List ℕ) → ServeFault → Fault → Type 0
-IsFaultOfServing path serve.Halted fault = IsUnwritten path fault
+IsFaultOfServing path serve.Halted fault = IsFileUnwritten path fault
 IsFaultOfServing path serve.Unwritable fault = ⊥
 IsFaultOfServing path serve.NoMemory fault = fault ≡ NoMemory
 IsFaultOfServing path serve.WriteFault fault = fault ≡ NoMemory
@@ -60,7 +60,7 @@ CannotPrepare bytes_of words input fault =
 -- the fault that ends a talk: a line of the input can't be read, the socket fails, the book, whose file has this path, can't be saved, the
 -- output can't be written, or memory ran out
 abbrev pub StopsTalking : (path : List ℕ) → Fault → Type 0
-StopsTalking path fault = IsInputUnread fault ⊎ ((fault ≡ Socket) ⊎ (IsUnwritten path fault ⊎ (fault ≡ CannotWriteOutput)))
+StopsTalking path fault = IsInputUnread fault ⊎ ((fault ≡ Socket) ⊎ (IsFileUnwritten path fault ⊎ (fault ≡ CannotWriteOutput)))
 
 -- the fault that ends `login`: what it begins with is not there, or its talk ends
 abbrev pub CannotLogIn : {File : Type 0} → (bytes_of : File → Option (List ℕ)) → ArgMatches → (input : Option (List ℕ)) → Fault → Type 0

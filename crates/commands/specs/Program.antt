@@ -26,7 +26,7 @@ use Rattle.commands.specs.Hall.{CannotRunHall, RunsHall, RunsToBadEvent}
 use Rattle.commands.specs.LoginFaults.{CannotLogIn}
 use Rattle.commands.specs.Login.{PrintsLogin, PrintsPassesAsked}
 use Rattle.commands.specs.PrintedLog.{StopsAfter}
-use Rattle.commands.specs.Verify.{CannotBegin, VerifiesAllLines, VerifiesFirstLines}
+use Rattle.commands.specs.Verify.{CannotBeginToVerify, VerifiesAllLines, VerifiesFirstLines}
 
 -- the exit status of an answer: 0 for yes, 1 for no
 abbrev pub answer_status : Bool → ℕ
@@ -88,7 +88,7 @@ module _ {File : Type 0} (bytes_of written_to : File → Option (List ℕ)) wher
   -- what a command has printed where it ends with this fault: nothing, or what its first lines or events ask for; and why it ends so
   abbrev pub StopsAt : CommandName → ArgMatches → Fault → (input old new : Option (List ℕ)) → Type 0
   StopsAt Verify words fault input old new =
-      (CannotBegin bytes_of words fault × (new ≡ old)) ⊎ VerifiesFirstLines bytes_of written_to words input old fault new
+      (CannotBeginToVerify bytes_of words fault × (new ≡ old)) ⊎ VerifiesFirstLines bytes_of written_to words input old fault new
   StopsAt Login words fault input old new =
       StopsAfter fault old new (PrintsLogin bytes_of written_to words IsFront old new) × CannotLogIn bytes_of words input fault
   StopsAt Hall words fault input old new =

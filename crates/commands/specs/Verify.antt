@@ -66,15 +66,15 @@ module _ (IsStored : List ℕ → Type 0) where
     pub printed : Appends old.printed new.printed (printed_reply reply moment)
 
   -- the reply to what a line says is saved, and is not printed
-  abbrev pub IsReplyUntold : (name : List ℕ) → (moment : ℕ) → CodeTexts → (old : VerifyRun) → Fault → (new : VerifyRun) → Type 0
-  IsReplyUntold name moment sent old fault new =
+  abbrev pub IsReplyUnprinted : (name : List ℕ) → (moment : ℕ) → CodeTexts → (old : VerifyRun) → Fault → (new : VerifyRun) → Type 0
+  IsReplyUnprinted name moment sent old fault new =
       (reply : Reply) × IsReplySaved IsStored old.held name moment sent reply new.held × IsUnprinted fault old.printed new.printed
 
   -- a fault at a line: the reply to what it says is not saved, or it is saved and not printed
   abbrev pub FailsAtLine : (path name : List ℕ) → (moment : ℕ) → (line : List ℕ) → (old : VerifyRun) → Fault → (new : VerifyRun) → Type 0
   FailsAtLine path name moment line old fault new =
       (sent : CodeTexts) × SaysCodes line sent
-      × (IsReplyLost path name moment sent old fault new ⊎ IsReplyUntold name moment sent old fault new)
+      × (IsReplyLost path name moment sent old fault new ⊎ IsReplyUnprinted name moment sent old fault new)
 
   -- a line is answered, and whether its code passed
   abbrev pub AnswersLine : (name : List ℕ) → (moment : ℕ) → (line : List ℕ) → VerifyRun → (passed : Bool) → VerifyRun → Type 0
@@ -88,15 +88,16 @@ module _ (IsStored : List ℕ → Type 0) where
   abbrev pub AnswersFirstLines : (path name : List ℕ) → (moment : ℕ) → Option (List ℕ) → (old : VerifyRun) → Fault
       → (new : VerifyRun) → Type 0
   AnswersFirstLines path name moment input old fault new =
-      ((last : List (List ℕ)) × (all_passed : Bool) × LinesInTurn (AnswersLine name moment) input last old all_passed new × IsInputUnread fault)
+      ((last : List (List ℕ)) × (all_passed : Bool) × LinesInTurn (AnswersLine name moment) input last old all_passed new
+        × IsInputUnread fault)
       ⊎ ((line : List ℕ) × (last : List (List ℕ)) × (all_passed : Bool) × (middle : VerifyRun)
       × LinesInTurn (AnswersLine name moment) input (line ∷ last) old all_passed middle
       × FailsAtLine path name moment line middle fault new)
 
 -- a run of `verify` does not begin: an option refuses its value, the book can't be held or read, a book that was read has no token for
 -- the name, or memory ran out
-abbrev pub CannotBegin : {File : Type 0} → (bytes_of : File → Option (List ℕ)) → ArgMatches → Fault → Type 0
-CannotBegin bytes_of words fault =
+abbrev pub CannotBeginToVerify : {File : Type 0} → (bytes_of : File → Option (List ℕ)) → ArgMatches → Fault → Type 0
+CannotBeginToVerify bytes_of words fault =
     HasBadValue (option.Name ∷ option.Moment ∷ []) words fault
     ⊎ (CannotOpenBook bytes_of (given_value words option.Book) fault
     ⊎ ((text : List ℕ) × (book : BookFields) × IsReadBook bytes_of text book

@@ -118,7 +118,7 @@ fn acceptance(alloc: Global, signature: &[u8]) -> Result<String, Fault>
 }
 
 // The line of a refusal that is due. No byte of its message has to be escaped.
-#[tactic(auto, using(crate::proofs::lemmas::Spellings::refused_line, crate::proofs::lemmas::Spellings::bare_line))]
+#[tactic(auto, using(crate::proofs::lemmas::Spellings::refusal_line_is_spelled, crate::proofs::lemmas::Spellings::bare_refusal_line_is_spelled))]
 fn refusal(alloc: Global, text: NoText) -> Result<String, Fault>
     ensures ok { IfOk result (λ line. string_bytes line ≡ line_text (refusal_line text)) }
     ensures err { IfErr result (λ fault. fault ≡ Fault.NoMemory) }

@@ -1,6 +1,6 @@
 //! Why a desk or a hall can't go on, as a command says it.
 ghost use Rattle.std.specs.Prelude.{◌≡◌, ◌≢◌};
-ghost use Rattle.command_line.specs.Fault.{IsUnwritten};
+ghost use Rattle.command_line.specs.Fault.{IsFileUnwritten};
 ghost use Rattle.commands.specs.LoginFaults.{IsFaultOfServing};
 
 use command_line::Fault;
@@ -9,7 +9,7 @@ use std::alloc::Global;
 
 /// The fault of a book that can't be saved to the file of this path: CannotWrite, or NoMemory where there is none for the path.
 pub fn save_fault(alloc: Global, path: &str) -> Fault
-    ensures { IsUnwritten path.now result }
+    ensures { IsFileUnwritten path.now result }
 {
     match String::from_str(alloc, path) {
         Ok(file) => Fault::CannotWrite(file),
@@ -22,7 +22,7 @@ pub fn save_fault(alloc: Global, path: &str) -> Fault
 /// NoNumber can't come here, since an input has fewer lines than there are numbers; it is CannotWrite too.
 pub fn fault_of_desk(alloc: Global, path: &str, fault: DeskFault) -> Fault
     requires { fault ≢ DeskFault.Unwritable }
-    ensures unwritten { IsUnwritten path.now result }
+    ensures unwritten { IsFileUnwritten path.now result }
     ensures memory { fault ≡ DeskFault.NoMemory → result ≡ Fault.NoMemory }
 {
     match fault {

@@ -245,7 +245,7 @@ where
 }
 
 // Lets the client go away, where its session is still open; the desk says nothing to that. Faults: those of a turn.
-#[tactic(auto, using(crate::proofs::lemmas::Told::says_none))]
+#[tactic(auto, using(crate::proofs::lemmas::Told::log_says_nothing))]
 fn hang_up<S, R, W, L, C>(
     alloc: Global,
     talk: &mut Talk<'_, S, R, W, L, C>,

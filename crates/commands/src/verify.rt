@@ -1,7 +1,7 @@
 //! The command `verify`: judges each input line as a one-time code, or as two in a row.
 ghost use Rattle.std.specs.Prelude.{◌≡◌, ◌⊎◌, ◌&&◌, IfOk, IfErr, OnOk};
 ghost use Rattle.std.specs.Io.KnownBytes.{Appends};
-ghost use Rattle.commands.specs.Verify.{is_passed, printed_reply, run_of, IsLineAnswered, IsUnprinted, CannotBegin, FailsAtLine};
+ghost use Rattle.commands.specs.Verify.{is_passed, printed_reply, run_of, IsLineAnswered, IsUnprinted, CannotBeginToVerify, FailsAtLine};
 ghost use Rattle.commands.specs.Verify.{AnswersAllLines, AnswersFirstLines, VerifiesAllLines, VerifiesFirstLines};
 
 use crate::sent_codes::sent_by;
@@ -43,7 +43,7 @@ where
     E: TerminalOutput,
     ensures ok { IfOk result (λ all_passed. VerifiesAllLines R.File.remaining R.File.contents matches.now (I.remaining input.old)
         (O.contents output.old) all_passed (O.contents output.new)) }
-    ensures err { IfErr result (λ fault. (CannotBegin R.File.remaining matches.now fault × (O.contents output.new ≡ O.contents output.old))
+    ensures err { IfErr result (λ fault. (CannotBeginToVerify R.File.remaining matches.now fault × (O.contents output.new ≡ O.contents output.old))
         ⊎ VerifiesFirstLines R.File.remaining R.File.contents matches.now (I.remaining input.old) (O.contents output.old) fault
         (O.contents output.new)) }
 {

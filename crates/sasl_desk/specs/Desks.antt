@@ -76,9 +76,9 @@ IsStoredAt IsStored accounts calls halted book store = IsLostAfter IsStored acco
 IsStoredAt IsStored accounts calls place book store = HoldsBook IsStored book store
 
 -- the book after these replies, the latest of which comes first: each attempt was judged in the book before it
-abbrev pub IsBookWith : (start : BookFields) → (told : List LoggedReply) → (book : BookFields) → Type 0
-IsBookWith start [] book = book ≡ start
-IsBookWith start (t ∷ before) book = (old : BookFields) × IsBookWith start before old × IsAttemptJudged old t book
+abbrev pub IsBookAfterReplies : (start : BookFields) → (told : List LoggedReply) → (book : BookFields) → Type 0
+IsBookAfterReplies start [] book = book ≡ start
+IsBookAfterReplies start (t ∷ before) book = (old : BookFields) × IsBookAfterReplies start before old × IsAttemptJudged old t book
 
 -- the counters that replies use, with their accounts, the latest first
 abbrev pub spent_by_all : List LoggedReply → List (List ℕ × ℕ)
@@ -116,7 +116,7 @@ module _ {S : Type 0} (facts : S → StoreFacts) (IsStored : List ℕ → Type 0
     -- the session waits for what is due there, or the desk has halted
     pub is_state : IsStateAt (accounts_in start) (server_nonce_of calls) place desk.state
     -- the book has each attempt in it, and the store holds its text, except after a save in which the store failed
-    pub is_book : IsBookWith start (reverse told) desk.keeper.book
+    pub is_book : IsBookAfterReplies start (reverse told) desk.keeper.book
     pub is_stored : IsStoredAt IsStored (accounts_in start) calls place desk.keeper.book (facts desk.keeper.store)
     -- what was spent before is spent, and each counter that a reply used
     pub spent : (ps : List (List ℕ × ℕ)) → AreSpent ps start → AreSpent (spent_by_all (reverse told) ++ ps) desk.keeper.book

@@ -16,7 +16,7 @@ use Rattle.log_grammar.specs.Demands.{Accounts, demands}
 use Rattle.log_grammar.specs.Numbered.{Numbered, numbered, of_number, given_in, closed_in, SpellsNumbered}
 use Rattle.log_grammar.specs.Versions.{most_open}
 use Rattle.log_grammar.specs.NumberedLines.{numbered_text, IsNumberedWritable, last_session_number}
-use Rattle.sasl_desk.specs.Desks.{session_phase, IsStoredAt, HoldsBook, IsBookWith, spent_by_all}
+use Rattle.sasl_desk.specs.Desks.{session_phase, IsStoredAt, HoldsBook, IsBookAfterReplies, spent_by_all}
 use Rattle.sasl_desk.specs.Guests.{is_of}
 use Rattle.sasl_desk.specs.Runs.{Request, greets, Call, call_of, server_nonce_of, wire_bytes, IsRun}
 use Rattle.sasl_desk.specs.SavedCalls.{CountsSaves, AsksForSave, IsQuiet, FailsInSave}
@@ -139,7 +139,7 @@ module _ {S : Type 0} (facts : S → StoreFacts) (IsStored : List ℕ → Type 0
     -- each waits for what is due to it, or the hall has halted
     pub seated : hall.is_halted ≡ false → AllByRecursion (IsSeated (accounts_in start) calls places) hall.guests
     -- the book has each attempt in it, and the store holds its text, except after a save in which the store failed
-    pub is_book : IsBookWith start (reverse told) hall.keeper.book
+    pub is_book : IsBookAfterReplies start (reverse told) hall.keeper.book
     pub is_stored : IsStoredAfter IsStored (accounts_in start) calls places hall.keeper.book (facts hall.keeper.store)
     -- what was spent before is spent, and each counter that a reply used
     pub spent : (ps : List (List ℕ × ℕ)) → AreSpent ps start → AreSpent (spent_by_all (reverse told) ++ ps) hall.keeper.book

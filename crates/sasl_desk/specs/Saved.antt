@@ -10,12 +10,12 @@ use Rattle.log_grammar.specs.Numbered.{Numbered, SpellsNumbered}
 use Rattle.log_grammar.specs.Places.{Place}
 use Rattle.log_grammar.specs.LoggedReply.{LoggedReply}
 use Rattle.log_grammar.specs.Versions.{most_open}
-use Rattle.sasl_desk.specs.Desks.{IsBookWith}
+use Rattle.sasl_desk.specs.Desks.{IsBookAfterReplies}
 
 -- the store has saved the text of the book to which the replies that were told lead
 pub record IsToldSaved (IsStored : List ℕ → Type 0) (start : BookFields) (told : List LoggedReply) : Type 0 where
   pub last : BookFields
-  pub is_last : IsBookWith start (reverse told) last
+  pub is_last : IsBookAfterReplies start (reverse told) last
   pub saved : HasStoredText IsStored last
 
 -- the store has saved the text of the book to which the replies in a log of version 1 lead

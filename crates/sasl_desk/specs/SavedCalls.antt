@@ -4,7 +4,7 @@ use Rattle.book_format.specs.Book.{BookFields}
 use Rattle.book_format.specs.Trees.{IsBookText}
 use Rattle.account_book.specs.SavedBooks.{needs_save}
 use Rattle.account_book.specs.Store.{StoreFacts}
-use Rattle.log_grammar.specs.Lines.{LogLine, said, heard, replies, halt, asking}
+use Rattle.log_grammar.specs.Lines.{LogLine, said, heard, replies, halt, code_line}
 use Rattle.log_grammar.specs.LoggedReply.{LoggedReply}
 use Rattle.log_grammar.specs.Places.{Place, waits_code}
 use Rattle.sasl_desk.specs.Events.{ClientEvent}
@@ -25,7 +25,7 @@ pub record IsAttemptOf (request : Request) (at : Place) (lines : List LogLine) (
   pub answer : LogLine
   pub is_request : request ≡ hears event t.moment
   pub place : at ≡ waits_code t.account
-  pub lines_are : lines ≡ heard (asking t.sent) ∷ answer ∷ []
+  pub lines_are : lines ≡ heard (code_line t.sent) ∷ answer ∷ []
   pub to_save : needs_save t.reply ≡ true
 
 -- a keeper before and after calls, or a call: `facts` are those of its store

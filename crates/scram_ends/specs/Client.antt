@@ -36,7 +36,7 @@ pub record IsStarted (w : ClientOne) (l : Started) : Type 0 where
   pub first : ClientFirstParts
   pub is_first : IsHonestFirst l.name l.authzid l.nonce l.client_first first
   pub mechanism : w.mechanism ≡ l.mechanism
-  pub within : w.limits ≡ l.limits
+  pub limits : w.limits ≡ l.limits
   pub bare : w.bare.items ≡ bare_text first
   pub header : w.header.items ≡ header_text first
   pub nonce : w.nonce.items ≡ l.nonce

@@ -51,8 +51,8 @@ pub record Answered : Type 0 where
   pub client_final : List ℕ
 
 -- the login of this client
-abbrev pub started : Mechanism → Limits → (name : List ℕ) → (authzid : Option (List ℕ)) → (nonce client_first : List ℕ) → Started
-started mechanism limits name authzid nonce client_first = record {
+abbrev pub started_login : Mechanism → Limits → (name : List ℕ) → (authzid : Option (List ℕ)) → (nonce client_first : List ℕ) → Started
+started_login mechanism limits name authzid nonce client_first = record {
   mechanism = mechanism;
   limits = limits;
   name = name;
@@ -67,8 +67,8 @@ challenged_login entry mechanism client_first server_first =
     record { entry = entry; mechanism = mechanism; client_first = client_first; server_first = server_first }
 
 -- the login that was started, with this password and the two later messages
-abbrev pub answered : Started → (password server_first client_final : List ℕ) → Answered
-answered l password server_first client_final = record {
+abbrev pub answered_login : Started → (password server_first client_final : List ℕ) → Answered
+answered_login l password server_first client_final = record {
   mechanism = l.mechanism;
   password = password;
   name = l.name;

@@ -26,14 +26,14 @@ refusals_in_order = ExtensionsNotSupported ∷ OtherNonce ∷ Channel ∷ Invali
 -- what each row asks of the parts of client-final, given the opening: no mandatory extension; the nonce that was
 -- sent; the gs2-header of client-first as channel field; a proof by keys that the account has; a name that it may act as.
 -- InvalidEncoding is no row, and asks nothing.
-abbrev pub Asks : Refusal → Challenged → Opening → ClientFinalParts → Type 0
-Asks InvalidEncoding l o final = Unit {0}
-Asks ExtensionsNotSupported l o final = client_final_mandatory final ≡ false
-Asks OtherNonce l o final = final.nonce ≡ o.challenge.nonce
-Asks Channel l o final = final.channel ≡ header_text o.first
-Asks InvalidProof l o final =
+abbrev pub AsksOfFinal : Refusal → Challenged → Opening → ClientFinalParts → Type 0
+AsksOfFinal InvalidEncoding l o final = Unit {0}
+AsksOfFinal ExtensionsNotSupported l o final = client_final_mandatory final ≡ false
+AsksOfFinal OtherNonce l o final = final.nonce ≡ o.challenge.nonce
+AsksOfFinal Channel l o final = final.channel ≡ header_text o.first
+AsksOfFinal InvalidProof l o final =
     (keys : Keys) × (l.entry.keys ≡ Some keys) × IsProof l.mechanism keys (auth_message o.first l.server_first final) final.proof
-Asks NotAuthorised l o final = IsAllowed l.entry o.name o.authzid
+AsksOfFinal NotAuthorised l o final = IsAllowed l.entry o.name o.authzid
 
 -- what a server may answer to client-final
 pub data Due : Type 0 where
@@ -43,9 +43,9 @@ pub data Due : Type 0 where
 -- the verdict on the parts, given the opening: the refusal of the first row that they do not meet, or acceptance where they
 -- meet all, with the server's signature by keys that the account has
 abbrev pub IsVerdictOn : Challenged → Opening → ClientFinalParts → Due → Type 0
-IsVerdictOn l o final (refuse r) = IsFirstUnmet (λ row. Asks row l o final) refusals_in_order r
+IsVerdictOn l o final (refuse r) = IsFirstUnmet (λ row. AsksOfFinal row l o final) refusals_in_order r
 IsVerdictOn l o final (accept signature) =
-    AllByRecursion (λ row. Asks row l o final) refusals_in_order
+    AllByRecursion (λ row. AsksOfFinal row l o final) refusals_in_order
     × ((keys : Keys) × (l.entry.keys ≡ Some keys)
     × (signature ≡ server_signature l.mechanism keys (auth_message o.first l.server_first final)))
 

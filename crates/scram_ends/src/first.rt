@@ -82,7 +82,7 @@ pub(crate) struct AcceptedFirst<'a> {
 }
 
 /// Reads the message, and refuses it as `first_name` does.
-#[tactic(auto, using(scram_text::proofs::lemmas::FirstUnmet::first_found))]
+#[tactic(auto, using(scram_text::proofs::lemmas::FirstUnmet::found_is_first))]
 pub(crate) fn take_up(client_first: &[u8]) -> Result<AcceptedFirst<'_>, FirstFault>
     ensures ok { IfOk result (λ taken. (first : ClientFirstParts) × IsClientFirst client_first.now first
         × ShowsAcceptedFirst taken first) }

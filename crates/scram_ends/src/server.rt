@@ -203,7 +203,7 @@ impl ServerWait {
     }
 
     // The verdict on the parts.
-    #[tactic(auto, using(scram_text::proofs::lemmas::FirstUnmet::first_found))]
+    #[tactic(auto, using(scram_text::proofs::lemmas::FirstUnmet::found_is_first))]
     fn judge_final(&self, last: &ClientFinal<'_>) -> Judged
         ensures { (l : Challenged) (s : StandsFor self.now l) (p : ClientFinalParts)
             → ShowsClientFinal last.now p → IsVerdictOn l s.opening p (due_of result) }

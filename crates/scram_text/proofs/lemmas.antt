@@ -9,7 +9,7 @@ pub mod Decided
 pub mod Extensions
 pub mod FirstUnmet
 pub mod ListEnds
-pub mod Marked
+pub mod MextAndRest
 pub mod Names
 pub mod NamesDecided
 pub mod Parts

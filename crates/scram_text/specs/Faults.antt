@@ -102,12 +102,12 @@ first_of [] = []
 first_of (part ∷ pieces) = part
 
 -- the place of a mandatory extension, where the first part begins with "m=", and then the later places
-abbrev pub marked_places : List (List ℕ) → List TextWhy → List TextWhy
-marked_places pieces later = if is_named (byte "m") (first_of pieces) then Mandatory ∷ later else later
+abbrev pub places_with_mext : List (List ℕ) → List TextWhy → List TextWhy
+places_with_mext pieces later = if is_named (byte "m") (first_of pieces) then Mandatory ∷ later else later
 
 -- the places of client-first: its bare message is what follows the second part
 abbrev pub client_first_places : List (List ℕ) → List TextWhy
-client_first_places pieces = Flag ∷ Authzid ∷ marked_places (drop 2 pieces) (Name ∷ Nonce ∷ [])
+client_first_places pieces = Flag ∷ Authzid ∷ places_with_mext (drop 2 pieces) (Name ∷ Nonce ∷ [])
 
 -- the first fault of a text that is no client-first message
 abbrev pub IsClientFirstFault : List ℕ → TextFault → Type 0
@@ -115,7 +115,7 @@ IsClientFirstFault text f = IsFault longest_nonce_part (client_first_places (par
 
 -- the places of server-first
 abbrev pub server_first_places : List (List ℕ) → List TextWhy
-server_first_places pieces = marked_places pieces (Nonce ∷ Salt ∷ Count ∷ [])
+server_first_places pieces = places_with_mext pieces (Nonce ∷ Salt ∷ Count ∷ [])
 
 -- the first fault of a text that is no server-first message
 abbrev pub IsServerFirstFault : List ℕ → TextFault → Type 0
@@ -126,12 +126,12 @@ abbrev pub IsClientFinalFault : List ℕ → TextFault → Type 0
 IsClientFinalFault text f = IsFault longest_nonce (Channel ∷ Nonce ∷ []) (Proof ∷ []) text f
 
 -- the place of server-final's first part: ErrorValue, where it begins with "e=", else Verifier
-abbrev pub result_place : List ℕ → TextWhy
-result_place part = if is_named (byte "e") part then ErrorValue else Verifier
+abbrev pub outcome_place : List ℕ → TextWhy
+outcome_place part = if is_named (byte "e") part then ErrorValue else Verifier
 
 -- the places of server-final
 abbrev pub server_final_places : List (List ℕ) → List TextWhy
-server_final_places pieces = result_place (first_of pieces) ∷ []
+server_final_places pieces = outcome_place (first_of pieces) ∷ []
 
 -- the first fault of a text that is no server-final message. It has no nonce, so the limit of a nonce plays no part.
 abbrev pub IsServerFinalFault : List ℕ → TextFault → Type 0

@@ -8,7 +8,7 @@ use Rattle.scram_text.specs.Messages.{ClientFirstParts, bare_parts, client_first
 use Rattle.std.specs.declared.option.Option.{Option}
 use Rattle.scram_text.specs.Limits.{longest_message, longest_nonce_part}
 use Rattle.scram_text.specs.Parts.{parts, parts_of_some, mext_parts, joined, IsValue, is_named, AreExtensions}
-use Rattle.scram_text.specs.Faults.{IsFirstMisfit, places, first_of, marked_places}
+use Rattle.scram_text.specs.Faults.{IsFirstMisfit, places, first_of, places_with_mext}
 use Rattle.scram_text.specs.declared.client_final.Pieces.{Pieces}
 use Rattle.scram_text.specs.declared.server_first.Pieces.{Pieces as ServerPieces}
 use Rattle.scram_text.specs.declared.client_first.Pieces.{Pieces as FirstPieces}
@@ -47,7 +47,7 @@ pub record IsCutClientFinal (message : List ℕ) (pieces : Pieces) : Type 0 wher
   pub channel_len : length pieces.channel.now ≤ longest_message
 
 -- parts are a mandatory extension, where they begin with "m=", and the others
-pub record IsMarked (pieces rest : List (List ℕ)) (mext : Option (List ℕ)) : Type 0 where
+pub record IsMextAndRest (pieces rest : List (List ℕ)) (mext : Option (List ℕ)) : Type 0 where
   pub cut : pieces ≡ mext_parts mext ++ rest
   pub value : IfSome mext IsValue
   pub headed : is_named (byte "m") (first_of pieces) ≡ is_some mext
@@ -55,16 +55,16 @@ pub record IsMarked (pieces rest : List (List ℕ)) (mext : Option (List ℕ)) :
 -- the first part begins with "m=" and is no mandatory extension: it is the first misfit
 abbrev pub IsMextMisfit : ℕ → List (List ℕ) → TextFault → Type 0
 IsMextMisfit k pieces f =
-    (most : ℕ) (later : List TextWhy) → IsFirstMisfit most (places (marked_places pieces later) [] (length pieces)) k pieces f
+    (most : ℕ) (later : List TextWhy) → IsFirstMisfit most (places (places_with_mext pieces later) [] (length pieces)) k pieces f
 
 -- the parts of a text that may be server-first
 pub record IsCutServerFirst (message : List ℕ) (pieces : ServerPieces) : Type 0 where
   pub short : length message ≤ longest_message
   pub utf8_text : IsUtf8Text message
   pub mext : Option (List ℕ)
-  pub marked : IsMarked (parts message) (pieces.nonce.now ∷ pieces.salt.now ∷ pieces.count.now
+  pub mext_and_rest : IsMextAndRest (parts message) (pieces.nonce.now ∷ pieces.salt.now ∷ pieces.count.now
       ∷ parts_of_some (option_copied pieces.rest)) mext
-  pub is_marked : pieces.has_mext ≡ is_some mext
+  pub has_mext_is : pieces.has_mext ≡ is_some mext
   pub index : pieces.index ≡ length (mext_parts mext)
   pub few : length (parts message) ≤ most_parts
 
@@ -75,14 +75,14 @@ pub record IsCutClientFirst (message : List ℕ) (pieces : FirstPieces) : Type 0
   pub header : message ≡ pieces.header.now ++ pieces.bare.now
   pub header_parts : pieces.header.now ≡ pieces.flag.now ++ byte "," ∷ (pieces.authzid.now ++ byte "," ∷ [])
   pub cut : parts message ≡ pieces.flag.now ∷ pieces.authzid.now ∷ parts pieces.bare.now
-  pub enough : length (marked_places (parts pieces.bare.now) []) + 2 ≤ length (parts pieces.bare.now)
+  pub enough : length (places_with_mext (parts pieces.bare.now) []) + 2 ≤ length (parts pieces.bare.now)
   pub few : length (parts message) ≤ most_parts
 
 -- the parts of a text that may be client-first-bare, with parts counted from 2
 pub record IsCutBare (bare : List ℕ) (pieces : BarePieces) : Type 0 where
   pub mext : Option (List ℕ)
-  pub marked : IsMarked (parts bare) (pieces.name.now ∷ pieces.nonce.now ∷ parts_of_some (option_copied pieces.rest)) mext
-  pub is_marked : pieces.has_mext ≡ is_some mext
+  pub mext_and_rest : IsMextAndRest (parts bare) (pieces.name.now ∷ pieces.nonce.now ∷ parts_of_some (option_copied pieces.rest)) mext
+  pub has_mext_is : pieces.has_mext ≡ is_some mext
   pub index : pieces.index ≡ 2 + length (mext_parts mext)
 
 -- the parts of client-first-bare
@@ -104,4 +104,4 @@ pub record ShowsBare (m : Bare) (p : ClientFirstParts) : Type 0 where
 -- the first part of client-first-bare that does not fit, with parts counted from 2
 abbrev pub IsBareMisfit : List (List ℕ) → TextFault → Type 0
 IsBareMisfit pieces f =
-    IsFirstMisfit longest_nonce_part (places (marked_places pieces (Name ∷ Nonce ∷ [])) [] (length pieces)) 2 pieces f
+    IsFirstMisfit longest_nonce_part (places (places_with_mext pieces (Name ∷ Nonce ∷ [])) [] (length pieces)) 2 pieces f

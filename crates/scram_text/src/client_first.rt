@@ -15,7 +15,7 @@ ghost use Rattle.scram_text.specs.Pieces.{most_parts};
 ghost use Rattle.scram_text.specs.Name.{IsSaslName};
 ghost use Rattle.scram_text.specs.Parts.{parts, is_flag, authzid_text};
 ghost use Rattle.scram_text.specs.Messages.{ClientFirstParts, client_first_text, IsClientFirst};
-ghost use Rattle.scram_text.specs.Faults.{IsClientFirstFault, IsAuthzid, fault, marked_places};
+ghost use Rattle.scram_text.specs.Faults.{IsClientFirstFault, IsAuthzid, fault, places_with_mext};
 ghost use Rattle.scram_text.specs.Shown.{ShowsClientFirst, flag_text};
 ghost use Rattle.scram_text.specs.Draft.{IsDraftOf};
 ghost use Rattle.scram_text.specs.Written.{client_first_of, CanBeClientFirst};
@@ -191,7 +191,7 @@ struct Bare<'a> {
 }
 
 fn read_bare(bare: &[u8]) -> Result<Bare<'_>, TextFault>
-    requires enough { length (marked_places (parts bare.now) []) + 2 ≤ length (parts bare.now) }
+    requires enough { length (places_with_mext (parts bare.now) []) + 2 ≤ length (parts bare.now) }
     requires few { length (parts bare.now) ≤ most_parts }
     ensures found { IfOk result (λ m. (p : ClientFirstParts) × IsBare (parts bare.now) p
         × ShowsBare m p) }
@@ -230,7 +230,7 @@ struct BarePieces<'a> {
 }
 
 fn bare_pieces_of(bare: &[u8]) -> Result<BarePieces<'_>, TextFault>
-    requires { length (marked_places (parts bare.now) []) + 2 ≤ length (parts bare.now) }
+    requires { length (places_with_mext (parts bare.now) []) + 2 ≤ length (parts bare.now) }
     ensures cut { IfOk result (λ pieces. IsCutBare bare.now pieces) }
     ensures fault { IfErr result (λ f. IsBareMisfit (parts bare.now) f) }
 {

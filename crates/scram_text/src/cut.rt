@@ -9,9 +9,9 @@ ghost use Rattle.scram_text.specs.Class.{is_comma, IsUtf8Text};
 ghost use Rattle.scram_text.specs.Name.{LacksComma};
 ghost use Rattle.scram_text.specs.Parts.{parts, parts_of_some, joined, is_named, IsExtension, AreExtensions, have_mandatory};
 ghost use Rattle.scram_text.specs.Parts.{mext_parts};
-ghost use Rattle.scram_text.specs.Faults.{IsWholeFault, first_of, marked_places};
+ghost use Rattle.scram_text.specs.Faults.{IsWholeFault, first_of, places_with_mext};
 ghost use Rattle.scram_text.specs.Written.{IsExtensionText};
-ghost use Rattle.scram_text.specs.Pieces.{most_parts, is_attribute, IsExtensionMisfit, IsMarked, IsMextMisfit};
+ghost use Rattle.scram_text.specs.Pieces.{most_parts, is_attribute, IsExtensionMisfit, IsMextAndRest, IsMextMisfit};
 
 use crate::fault::{TextFault, TextWhy};
 use crate::{LONGEST_MESSAGE, class, field};
@@ -206,7 +206,7 @@ pub(crate) fn begins_with_mext(text: &[u8]) -> bool
 /// is the message from the place of reserved-mext on.
 pub(crate) fn least_of(text: &[u8], fixed: usize) -> usize
     requires { fixed < 10 }
-    ensures { result ≡ length (marked_places (parts text.now) []) + fixed }
+    ensures { result ≡ length (places_with_mext (parts text.now) []) + fixed }
 {
     if begins_with_mext(text) {
         fixed + 1
@@ -234,7 +234,7 @@ pub(crate) fn mext_of(text: &[u8], index: usize) -> Result<AfterMext<'_>, TextFa
     requires enough { is_named (byte "m") (first_of (parts text.now)) ≡ true
         → 2 ≤ length (parts text.now) }
     ensures found { IfOk result (λ m. (mext : Option (List ℕ))
-        × IsMarked (parts text.now) (parts m.rest.now) mext
+        × IsMextAndRest (parts text.now) (parts m.rest.now) mext
         × (m.has_mext ≡ is_some mext) × (m.index ≡ index + length (mext_parts mext))) }
     ensures rest_len { IfOk result (λ m. length m.rest.now ≤ length text.now) }
     ensures fault { IfErr result (λ f. IsMextMisfit index (parts text.now) f) }

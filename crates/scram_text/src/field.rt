@@ -133,7 +133,7 @@ fn long_field(text: &[u8]) -> Option<ArrayVec<u8, LONGEST_CHANNEL>>
 
 // The 1 to 64 bytes whose base64 this is. The base64 of 64 bytes has 88 characters, so a longer text is none. 88 characters
 // decode to 66 bytes at most.
-#[tactic(auto, using(crate::proofs::lemmas::Base64::short_text))]
+#[tactic(auto, using(crate::proofs::lemmas::Base64::base64_at_most_88))]
 fn short_bytes(text: &[u8]) -> Option<Tag>
     ensures none { IfNone result (SpellsField longest_tag text.now → ⊥) }
     ensures spelled { IfSome result (λ field. text.now ≡ base64 field.items) }

@@ -13,7 +13,7 @@ ghost use Rattle.scram_text.specs.Name.{LacksComma};
 ghost use Rattle.scram_text.specs.Base64Field.{base64};
 ghost use Rattle.scram_text.specs.Parts.{is_named};
 ghost use Rattle.scram_text.specs.Messages.{ServerFinalParts, IsServerFinal, IsVerifierOrError, verifier_or_error_text, server_final_text};
-ghost use Rattle.scram_text.specs.Faults.{IsServerFinalFault, Fits, fault, result_place};
+ghost use Rattle.scram_text.specs.Faults.{IsServerFinalFault, Fits, fault, outcome_place};
 ghost use Rattle.scram_text.specs.Shown.{ShowsServerFinal, verifier_or_error_of};
 ghost use Rattle.scram_text.specs.Draft.{IsDraftOf};
 ghost use Rattle.scram_text.specs.Written.{server_final_of, CanBeVerifierOrError, CanBeServerFinal};
@@ -86,8 +86,8 @@ fn result_of(part: &[u8]) -> Result<FinalResult<'_>, TextFault>
     requires { LacksComma part.now }
     ensures spelled { IfOk result (λ r. part.now ≡ verifier_or_error_text (verifier_or_error_of r)) }
     ensures class { IfOk result (λ r. IsVerifierOrError (verifier_or_error_of r)) }
-    ensures fault { IfErr result (λ f. (Fits longest_nonce (result_place part.now) part.now → ⊥) × (f
-        ≡ fault 0 (result_place part.now))) }
+    ensures fault { IfErr result (λ f. (Fits longest_nonce (outcome_place part.now) part.now → ⊥) × (f
+        ≡ fault 0 (outcome_place part.now))) }
 {
     if is_error(part) {
         match field::value_of(part, b'e') {

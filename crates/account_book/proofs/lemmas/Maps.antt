@@ -20,123 +20,123 @@ use Rattle.account_book.specs.Accounts.{name_cmp, account_at, accounts_of, with_
 use Rattle.account_book.specs.Laws.{AddedIsApart}
 
 -- a look-up of a name by `find` and one by `lookup` give one result
-looked_up : (name : List ℕ) (es : List (List ℕ × AccountFields))
+find_is_lookup : (name : List ℕ) (es : List (List ℕ × AccountFields))
     → find name_cmp name es ≡ lookup (is_at (name_cmp name)) es
-looked_up name [] = refl
-looked_up name (e ∷ es) = ap (cond (eq_by_cmp name_cmp name e.0) (Some e.1)) (looked_up name es)
+find_is_lookup name [] = refl
+find_is_lookup name (e ∷ es) = ap (cond (eq_by_cmp name_cmp name e.0) (Some e.1)) (find_is_lookup name es)
 
 -- in the map of a list of accounts a name has the account that a look-up in the list finds
-map_get : (es : List (List ℕ × AccountFields)) (name : List ℕ)
+map_get_is_lookup : (es : List (List ℕ × AccountFields)) (name : List ℕ)
     → map.get (from_entries {R = name_cmp} es) name ≡ lookup (is_at (name_cmp name)) es
-map_get es name = get-from_entries nat_list_cmp_total es name ∙ looked_up name es
+map_get_is_lookup es name = get-from_entries nat_list_cmp_total es name ∙ find_is_lookup name es
 
 -- an account that a look-up shows is the one that the map has
-pub map_found : (r : Option (Bor AccountFields)) (book : BookFields) (name : List ℕ) → option_copied r ≡ account_at book name
+pub account_is_in_map : (r : Option (Bor AccountFields)) (book : BookFields) (name : List ℕ) → option_copied r ≡ account_at book name
     → option_copied r ≡ map.get (accounts_of book) name
-map_found r book name found = found ∙ sym (map_get book.accounts name)
+account_is_in_map r book name found = found ∙ sym (map_get_is_lookup book.accounts name)
 
 -- a list and a map that answer each look-up alike are the same map
-map_same : (es : List (List ℕ × AccountFields)) (m : map.FinMap name_cmp AccountFields)
+maps_are_same : (es : List (List ℕ × AccountFields)) (m : map.FinMap name_cmp AccountFields)
     → ((name : List ℕ) → lookup (is_at (name_cmp name)) es ≡ map.get m name) → from_entries es ≡ m
-map_same es m alike =
-    same_map nat_list_cmp_total (slice_cmp-IsAntisymmetric nat_cmp-IsAntisymmetric) _ _ (λ name. map_get es name ∙ alike name)
+maps_are_same es m alike =
+    same_map nat_list_cmp_total (slice_cmp-IsAntisymmetric nat_cmp-IsAntisymmetric) _ _ (λ name. map_get_is_lookup es name ∙ alike name)
 
 -- where a list's look-ups are those of another but for one name, its map is the other's with this account inserted there
-put_map : (es new : List (List ℕ × AccountFields)) (name : List ℕ) (account : AccountFields)
+map_follows_insert : (es new : List (List ℕ × AccountFields)) (name : List ℕ) (account : AccountFields)
     → ((other : List ℕ) → lookup (is_at (name_cmp other)) new
     ≡ cond (is_at (name_cmp name) other) (Some account) (lookup (is_at (name_cmp other)) es))
     → from_entries {R = name_cmp} new ≡ map.insert (from_entries es) name account
-put_map es new name account alike =
-    map_same new _ (λ other. alike other
+map_follows_insert es new name account alike =
+    maps_are_same new _ (λ other. alike other
     ∙ sym (get-insert nat_list_cmp_total (from_entries es) name account other
     ∙ ap (λ b. cond b (Some account) (map.get (from_entries {R = name_cmp} es) other))
     ((eq_by_cmp_equiv nat_list_cmp_total).symm other name)
-    ∙ ap (cond (is_at (name_cmp name) other) (Some account)) (map_get es other)))
+    ∙ ap (cond (is_at (name_cmp name) other) (Some account)) (map_get_is_lookup es other)))
 
 -- where a list's look-ups are those of another but for one name, which it has not, its map is the other's without this name
-removed_map : (es new : List (List ℕ × AccountFields)) (name : List ℕ)
+map_follows_remove : (es new : List (List ℕ × AccountFields)) (name : List ℕ)
     → ((other : List ℕ) → lookup (is_at (name_cmp other)) new
     ≡ cond (is_at (name_cmp name) other) None (lookup (is_at (name_cmp other)) es))
     → from_entries {R = name_cmp} new ≡ map.remove (from_entries es) name
-removed_map es new name alike =
-    map_same new _ (λ other. alike other
+map_follows_remove es new name alike =
+    maps_are_same new _ (λ other. alike other
     ∙ sym (get-remove nat_list_cmp_total (from_entries es) name other
     ∙ ap (λ b. cond b None (map.get (from_entries {R = name_cmp} es) other)) ((eq_by_cmp_equiv nat_list_cmp_total).symm other name)
-    ∙ ap (cond (is_at (name_cmp name) other) None) (map_get es other)))
+    ∙ ap (cond (is_at (name_cmp name) other) None) (map_get_is_lookup es other)))
 
 -- where the account that a look-up finds is changed in the list, it is changed in the map; where none is found, neither changes
-map_of_changed : (es : List (List ℕ × AccountFields)) (name : List ℕ) (change : AccountFields → AccountFields)
+map_follows_change : (es : List (List ℕ × AccountFields)) (name : List ℕ) (change : AccountFields → AccountFields)
     (o : Option AccountFields) → lookup (is_at (name_cmp name)) es ≡ o
     → from_entries {R = name_cmp} (option_map_or (λ account. set_value (is_at (name_cmp name)) es (change account)) o es)
     ≡ option_map_or (λ account. map.insert (from_entries es) name (change account)) o (from_entries es)
-map_of_changed es name change None found = refl
-map_of_changed es name change (Some account) found =
-    put_map es _ name (change account) (λ other.
+map_follows_change es name change None found = refl
+map_follows_change es name change (Some account) found =
+    map_follows_insert es _ name (change account) (λ other.
     lookup-set_value (eq_by_cmp_equiv nat_list_cmp_total) (is_at (name_cmp name))
     (λ x y at. (eq_by_cmp_equiv nat_list_cmp_total).congr name x y at) other (change account) es
     (subst IsSome (sym found) refl))
 
 -- a book with the account of a name changed has it changed both in its order and as a map
-pub is_changed : (old : BookFields) (name : List ℕ) (change : AccountFields → AccountFields) (new : BookFields)
+pub account_is_changed : (old : BookFields) (name : List ℕ) (change : AccountFields → AccountFields) (new : BookFields)
     → new ≡ with_changed old name change → IsChanged old name change new
-is_changed old name change new same = record {
+account_is_changed old name change new same = record {
   book = same;
-  accounts = ap accounts_of same ∙ map_of_changed old.accounts name change _ refl
+  accounts = ap accounts_of same ∙ map_follows_change old.accounts name change _ refl
       ∙ ap (λ o. option_map_or (λ account. map.insert (accounts_of old) name (change account)) o (accounts_of old))
-      (sym (map_get old.accounts name));
+      (sym (map_get_is_lookup old.accounts name));
 }
 
 -- the two functions that choose one of three by an ordering choose the same
-in_order : {A : Type 0} (o : Ordering) (x y z : A) → match_ordering o x y z ≡ by_order o x y z
-in_order Less x y z = refl
-in_order Equal x y z = refl
-in_order Greater x y z = refl
+match_ordering_is_by_order : {A : Type 0} (o : Ordering) (x y z : A) → match_ordering o x y z ≡ by_order o x y z
+match_ordering_is_by_order Less x y z = refl
+match_ordering_is_by_order Equal x y z = refl
+match_ordering_is_by_order Greater x y z = refl
 
 -- `insert_entry` and `put` insert an account at the same place
-entry_put : (es : List (List ℕ × AccountFields)) (name : List ℕ) (account : AccountFields)
+insert_entry_is_put : (es : List (List ℕ × AccountFields)) (name : List ℕ) (account : AccountFields)
     → insert_entry name_cmp es name account ≡ put name_cmp name account es
-entry_put [] name account = refl
-entry_put (e ∷ es) name account =
-    in_order (name_cmp name e.0) _ _ _
+insert_entry_is_put [] name account = refl
+insert_entry_is_put (e ∷ es) name account =
+    match_ordering_is_by_order (name_cmp name e.0) _ _ _
     ∙ ap (λ rest. by_order (name_cmp name e.0) ((name, account) ∷ e ∷ es) ((e.0, account) ∷ es) (e ∷ rest))
-    (entry_put es name account)
+    (insert_entry_is_put es name account)
 
 -- after an account is added, its name has it, and each other name has what it had
-added_lookup : (es : List (List ℕ × AccountFields)) (name : List ℕ) (account : AccountFields) (other : List ℕ)
+lookup-insert_entry : (es : List (List ℕ × AccountFields)) (name : List ℕ) (account : AccountFields) (other : List ℕ)
     → lookup (is_at (name_cmp other)) (insert_entry name_cmp es name account)
     ≡ cond (is_at (name_cmp name) other) (Some account) (lookup (is_at (name_cmp other)) es)
-added_lookup es name account other =
-    sym (looked_up other _)
-    ∙ ap (find name_cmp other) (entry_put es name account)
+lookup-insert_entry es name account other =
+    sym (find_is_lookup other _)
+    ∙ ap (find name_cmp other) (insert_entry_is_put es name account)
     ∙ find-put name_cmp nat_list_cmp_total other name account es
     ∙ ap (λ b. cond b (Some account) (find name_cmp other es)) ((eq_by_cmp_equiv nat_list_cmp_total).symm other name)
-    ∙ ap (cond (is_at (name_cmp name) other) (Some account)) (looked_up other es)
+    ∙ ap (cond (is_at (name_cmp name) other) (Some account)) (find_is_lookup other es)
 
 -- a book with an account of a free name has it added both in its order and as a map
-pub is_added : (old : BookFields) (name : List ℕ) (account : AccountFields) (new : BookFields)
+pub account_is_added : (old : BookFields) (name : List ℕ) (account : AccountFields) (new : BookFields)
     → account_at old name ≡ None → new ≡ with_account old name account → IsAdded old name account new
-is_added old name account new free same = record {
+account_is_added old name account new free same = record {
   free = free;
   added = record {
     book = same;
-    accounts = ap accounts_of same ∙ put_map old.accounts _ name account (added_lookup old.accounts name account);
+    accounts = ap accounts_of same ∙ map_follows_insert old.accounts _ name account (lookup-insert_entry old.accounts name account);
   };
 }
 
 -- the law: after an account is added, its name has it, and each other name has what it had
 pub added_is_apart : AddedIsApart
 added_is_apart old name account other =
-    added_lookup old.accounts name account other
+    lookup-insert_entry old.accounts name account other
     ∙ ap (λ b. cond b (Some account) (account_at old other)) (is_eq-slice_cmp name other)
 
 -- a book without the account of a name has it removed both in its order and as a map
-pub is_removed : (inside old : BookFields) (name : List ℕ) (new : List (List ℕ × AccountFields)) → inside ≡ old
+pub account_is_removed : (inside old : BookFields) (name : List ℕ) (new : List (List ℕ × AccountFields)) → inside ≡ old
     → new ≡ remove_entry (is_at (name_cmp name)) inside.accounts
     → ((other : List ℕ) → lookup (is_at (name_cmp other)) new
     ≡ cond (is_at (name_cmp name) other) None (account_at inside other))
     → IsRemoved old name (record inside { accounts = new })
-is_removed inside old name new shown same alike =
+account_is_removed inside old name new shown same alike =
     subst (λ book. IsRemoved book name (record inside { accounts = new })) shown (record {
       book = ap (λ accounts. record inside { accounts = accounts }) same;
-      accounts = removed_map inside.accounts new name alike;
+      accounts = map_follows_remove inside.accounts new name alike;
     })

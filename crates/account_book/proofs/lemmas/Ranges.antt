@@ -16,68 +16,75 @@ use Rattle.account_book.specs.Accounts.{with_act_as}
 use Rattle.account_book.specs.Tokens.{with_token}
 
 -- what a test or an ordering chooses is in its ranges: of two lists of accounts, of three, and of an account and an optional one:
-either : (b : Bool) (es fs : List (List ℕ × AccountFields)) → AreAccounts es → AreAccounts fs → AreAccounts (cond b es fs)
-either true es fs h k = h
-either false es fs h k = k
+either_list_is_in_range : (b : Bool) (es fs : List (List ℕ × AccountFields)) → AreAccounts es → AreAccounts fs → AreAccounts (cond b es fs)
+either_list_is_in_range true es fs h k = h
+either_list_is_in_range false es fs h k = k
 
-one_of : (o : Ordering) (es fs gs : List (List ℕ × AccountFields)) → AreAccounts es → AreAccounts fs → AreAccounts gs
+chosen_list_is_in_range : (o : Ordering) (es fs gs : List (List ℕ × AccountFields)) → AreAccounts es → AreAccounts fs → AreAccounts gs
     → AreAccounts (match_ordering o es fs gs)
-one_of Less es fs gs h k l = h
-one_of Equal es fs gs h k l = k
-one_of Greater es fs gs h k l = l
+chosen_list_is_in_range Less es fs gs h k l = h
+chosen_list_is_in_range Equal es fs gs h k l = k
+chosen_list_is_in_range Greater es fs gs h k l = l
 
-some_either : (b : Bool) (account : AccountFields) (o : Option AccountFields) → IsAccount account → IfSome o IsAccount
+either_account_is_in_range : (b : Bool) (account : AccountFields) (o : Option AccountFields) → IsAccount account → IfSome o IsAccount
     → IfSome (cond b (Some account) o) IsAccount
-some_either true account o h k = h
-some_either false account o h k = k
+either_account_is_in_range true account o h k = h
+either_account_is_in_range false account o h k = k
 
 -- the account that a look-up finds among accounts in their ranges is in its ranges
-pub found : (test : List ℕ → Bool) (es : List (List ℕ × AccountFields)) → AreAccounts es → IfSome (lookup test es) IsAccount
-found test [] h = tt
-found test (e ∷ es) h = some_either (test e.0) e.1 (lookup test es) h.0 (found test es h.1)
+pub found_account_is_in_range : (test : List ℕ → Bool) (es : List (List ℕ × AccountFields)) → AreAccounts es
+    → IfSome (lookup test es) IsAccount
+found_account_is_in_range test [] h = tt
+found_account_is_in_range test (e ∷ es) h =
+    either_account_is_in_range (test e.0) e.1 (lookup test es) h.0 (found_account_is_in_range test es h.1)
 
 -- where an option holds only an account in its ranges, so does a reference that shows the same
-pub shown : (r : Option (Bor AccountFields)) (o : Option AccountFields) → option_copied r ≡ o → IfSome o IsAccount
+pub shown_account_is_in_range : (r : Option (Bor AccountFields)) (o : Option AccountFields) → option_copied r ≡ o → IfSome o IsAccount
     → IfSome r (λ account. IsAccount account.now)
-shown None o e h = tt
-shown (Some account) o e h = subst (λ found. IfSome found IsAccount) (sym e) h
+shown_account_is_in_range None o e h = tt
+shown_account_is_in_range (Some account) o e h = subst (λ found. IfSome found IsAccount) (sym e) h
 
 -- accounts remain in their ranges after one is removed
-pub all_removed : (test : List ℕ → Bool) (es : List (List ℕ × AccountFields)) → AreAccounts es → AreAccounts (remove_entry test es)
-all_removed test [] h = tt
-all_removed test (e ∷ es) h = either (test e.0) es (e ∷ remove_entry test es) h.1 (h.0, all_removed test es h.1)
+pub remove_entry_keeps_ranges : (test : List ℕ → Bool) (es : List (List ℕ × AccountFields)) → AreAccounts es
+    → AreAccounts (remove_entry test es)
+remove_entry_keeps_ranges test [] h = tt
+remove_entry_keeps_ranges test (e ∷ es) h =
+    either_list_is_in_range (test e.0) es (e ∷ remove_entry test es) h.1 (h.0, remove_entry_keeps_ranges test es h.1)
 
 -- accounts remain in their ranges where one of them is replaced by one in its ranges
-pub all_set : (test : List ℕ → Bool) (es : List (List ℕ × AccountFields)) (account : AccountFields)
+pub set_value_keeps_ranges : (test : List ℕ → Bool) (es : List (List ℕ × AccountFields)) (account : AccountFields)
     → AreAccounts es → IsAccount account → AreAccounts (set_value test es account)
-all_set test [] account h k = tt
-all_set test (e ∷ es) account h k =
-    either (test e.0) ((e.0, account) ∷ es) (e ∷ set_value test es account) (k, h.1) (h.0, all_set test es account h.1 k)
+set_value_keeps_ranges test [] account h k = tt
+set_value_keeps_ranges test (e ∷ es) account h k =
+    either_list_is_in_range (test e.0) ((e.0, account) ∷ es) (e ∷ set_value test es account) (k, h.1)
+        (h.0, set_value_keeps_ranges test es account h.1 k)
 
 -- accounts remain in their ranges with one more that is in its ranges
-pub all_put : (cmp : List ℕ → List ℕ → Ordering) (es : List (List ℕ × AccountFields)) (name : List ℕ) (account : AccountFields)
+pub insert_entry_keeps_ranges : (cmp : List ℕ → List ℕ → Ordering) (es : List (List ℕ × AccountFields)) (name : List ℕ)
+    (account : AccountFields)
     → AreAccounts es → IsAccount account → AreAccounts (insert_entry cmp es name account)
-all_put cmp [] name account h k = (k, tt)
-all_put cmp (e ∷ es) name account h k =
-    one_of (cmp name e.0) ((name, account) ∷ e ∷ es) ((e.0, account) ∷ es) (e ∷ insert_entry cmp es name account)
-    (k, h) (k, h.1) (h.0, all_put cmp es name account h.1 k)
+insert_entry_keeps_ranges cmp [] name account h k = (k, tt)
+insert_entry_keeps_ranges cmp (e ∷ es) name account h k =
+    chosen_list_is_in_range (cmp name e.0) ((name, account) ∷ e ∷ es) ((e.0, account) ∷ es) (e ∷ insert_entry cmp es name account)
+    (k, h) (k, h.1) (h.0, insert_entry_keeps_ranges cmp es name account h.1 k)
 
 -- accounts remain in their ranges after an insertion, whether there was memory for it or not
-pub all_inserted : {X Y : Type 0} (r : Result X Y) (cmp : List ℕ → List ℕ → Ordering) (es new : List (List ℕ × AccountFields))
+pub insertion_keeps_ranges : {X Y : Type 0} (r : Result X Y) (cmp : List ℕ → List ℕ → Ordering) (es new : List (List ℕ × AccountFields))
     (name : List ℕ) (account : AccountFields) → OnOk r (new ≡ insert_entry cmp es name account) → OnErr r (new ≡ es)
     → AreAccounts es → IsAccount account → AreAccounts new
-all_inserted (Ok old) cmp es new name account e f h k = subst AreAccounts (sym e) (all_put cmp es name account h k)
-all_inserted (Err fault) cmp es new name account e f h k = subst AreAccounts (sym f) h
+insertion_keeps_ranges (Ok old) cmp es new name account e f h k =
+    subst AreAccounts (sym e) (insert_entry_keeps_ranges cmp es name account h k)
+insertion_keeps_ranges (Err fault) cmp es new name account e f h k = subst AreAccounts (sym f) h
 
 -- an account remains in its ranges with another token
-pub token_put : (token : TokenFields) (account : AccountFields) → IsAccount account → IsAccount (with_token token account)
-token_put token account h = record { sha1 = h.sha1; sha256 = h.sha256; names = h.names }
+pub token_keeps_ranges : (token : TokenFields) (account : AccountFields) → IsAccount account → IsAccount (with_token token account)
+token_keeps_ranges token account h = record { sha1 = h.sha1; sha256 = h.sha256; names = h.names }
 
 -- an account remains in its ranges with other names to act as, where there are not too many
-pub act_as_set : (names : List (List ℕ)) (account : AccountFields) → length names ≤ most_names → IsAccount account
+pub act_as_keeps_ranges : (names : List (List ℕ)) (account : AccountFields) → length names ≤ most_names → IsAccount account
     → IsAccount (with_act_as names account)
-act_as_set names account few h = record { sha1 = h.sha1; sha256 = h.sha256; names = few }
+act_as_keeps_ranges names account few h = record { sha1 = h.sha1; sha256 = h.sha256; names = few }
 
 -- what holds of a value holds of what the option of that value holds
-pub for_some : {X : Type 0} (P : X → Type 0) (x : X) → P x → ForSome (Some x) P
-for_some P x h y e = subst P (ap (λ o. unwrap_or o x) e) h
+pub fact_holds_for_some : {X : Type 0} (P : X → Type 0) (x : X) → P x → ForSome (Some x) P
+fact_holds_for_some P x h y e = subst P (ap (λ o. unwrap_or o x) e) h

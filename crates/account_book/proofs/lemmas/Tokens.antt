@@ -25,11 +25,11 @@ use Rattle.account_book.specs.Tokens.{token_at, with_token}
 use Rattle.account_book.specs.Laws.{TokensAreApart, EntriesStay, TokensStay, TokensGoBack}
 
 -- where one account is changed, its name has the changed account, and each other name what it had
-changed_at : (old : BookFields) (name : List ℕ) (change : AccountFields → AccountFields) (account : AccountFields)
+account_at-with_changed : (old : BookFields) (name : List ℕ) (change : AccountFields → AccountFields) (account : AccountFields)
     → account_at old name ≡ Some account
     → (other : List ℕ) → account_at (with_changed old name change) other
     ≡ cond (bytes_eq name other) (Some (change account)) (account_at old other)
-changed_at old name change account found other =
+account_at-with_changed old name change account found other =
     let stepped = lookup-set_value (eq_by_cmp_equiv nat_list_cmp_total) (is_at (name_cmp name))
     (λ x y at. (eq_by_cmp_equiv nat_list_cmp_total).congr name x y at) other (change account) old.accounts
     (subst IsSome (sym found) refl) in
@@ -42,95 +42,97 @@ changed_at old name change account found other =
     whole ∙ ap (λ (b : Bool). cond b (Some (change account)) (account_at old other)) (is_eq-slice_cmp name other)
 
 -- what a server keeps of an account is the same with another token
-same_entry : (m : Mechanism) (token : TokenFields) (account : AccountFields) (decoy : Entry)
+token_keeps_entry : (m : Mechanism) (token : TokenFields) (account : AccountFields) (decoy : Entry)
     → unwrap_or (option_map (keys_entry (with_token token account).act_as) (mech_keys m (with_token token account))) decoy
     ≡ unwrap_or (option_map (keys_entry account.act_as) (mech_keys m account)) decoy
-same_entry ScramSha1 token account decoy = refl
-same_entry ScramSha256 token account decoy = refl
+token_keeps_entry ScramSha1 token account decoy = refl
+token_keeps_entry ScramSha256 token account decoy = refl
 
 -- the entry that a book has for a name, by its account of that name, or else the decoy
 abbrev entry_by : Mechanism → Entry → Option AccountFields → Entry
 entry_by m decoy o = unwrap_or (option_and_then (λ account. option_map (keys_entry account.act_as) (mech_keys m account)) o) decoy
 
 -- where an optional account has a token, the account is there
-pub owner : (o : Option AccountFields) (token : TokenFields) → option_and_then (λ account. account.token) o ≡ Some token
+pub token_has_account : (o : Option AccountFields) (token : TokenFields) → option_and_then (λ account. account.token) o ≡ Some token
     → (account : AccountFields) × (o ≡ Some account)
-owner None token has = absurd (cc has)
-owner (Some account) token has = (account, refl)
+token_has_account None token has = absurd (cc has)
+token_has_account (Some account) token has = (account, refl)
 
 -- where one account has another token, what a server keeps of each name is as before
-pub entry_kept : (old : BookFields) (name : List ℕ) (token : TokenFields) (account : AccountFields) → account_at old name ≡ Some account
+pub token_keeps_entries : (old : BookFields) (name : List ℕ) (token : TokenFields) (account : AccountFields)
+    → account_at old name ≡ Some account
     → (m : Mechanism) (other : List ℕ) → entry_in (with_changed old name (with_token token)) m other ≡ entry_in old m other
-entry_kept old name token account found m other =
+token_keeps_entries old name token account found m other =
     let decoy = decoy_entry old m other in
-    let changed = changed_at old name (with_token token) account found other in
+    let changed = account_at-with_changed old name (with_token token) account found other in
     elim (cases_Bool (bytes_eq name other)) [
       | inl is ↦
           let there : account_at (with_changed old name (with_token token)) other ≡ Some (with_token token account) = rw is at changed in
           let before = subst (λ (n : List ℕ). account_at old n ≡ Some account) ((bytes_eq-Decides name other).0 is) found in
-          ap (entry_by m decoy) there ∙ (same_entry m token account decoy ∙ sym (ap (entry_by m decoy) before))
+          ap (entry_by m decoy) there ∙ (token_keeps_entry m token account decoy ∙ sym (ap (entry_by m decoy) before))
       | inr apart ↦ let same : account_at (with_changed old name (with_token token)) other
           ≡ account_at old other = rw apart at changed in ap (entry_by m decoy) same
     ]
 
 -- where the token of an account is replaced, its name has the new one
-pub token_there : (old : BookFields) (name : List ℕ) (token : TokenFields) (account : AccountFields) → account_at old name ≡ Some account
+pub name_has_new_token : (old : BookFields) (name : List ℕ) (token : TokenFields) (account : AccountFields)
+    → account_at old name ≡ Some account
     → (other : List ℕ) → bytes_eq name other ≡ true → token_at (with_changed old name (with_token token)) other ≡ Some token
-token_there old name token account found other is =
-    let changed = changed_at old name (with_token token) account found other in
+name_has_new_token old name token account found other is =
+    let changed = account_at-with_changed old name (with_token token) account found other in
     let there : account_at (with_changed old name (with_token token)) other ≡ Some (with_token token account) = rw is at changed in
     ap (option_and_then (λ account. account.token)) there
 
 -- where the token of an account is replaced, each other name has the token that it had
-pub token_elsewhere : (old : BookFields) (name : List ℕ) (token : TokenFields) (account : AccountFields)
+pub others_keep_tokens : (old : BookFields) (name : List ℕ) (token : TokenFields) (account : AccountFields)
     → account_at old name ≡ Some account
     → (other : List ℕ) → bytes_eq name other ≡ false → token_at (with_changed old name (with_token token)) other ≡ token_at old other
-token_elsewhere old name token account found other apart =
-    let changed = changed_at old name (with_token token) account found other in
+others_keep_tokens old name token account found other apart =
+    let changed = account_at-with_changed old name (with_token token) account found other in
     let same : account_at (with_changed old name (with_token token)) other ≡ account_at old other = rw apart at changed in
     ap (option_and_then (λ account. account.token)) same
 
 -- the law: where the token of one name is replaced, this name has the new one, and each other name the token that it had
 pub tokens_are_apart : TokensAreApart
 tokens_are_apart old name token next has other =
-    let account = owner (account_at old name) token has in
+    let account = token_has_account (account_at old name) token has in
     elim (cases_Bool (bytes_eq name other)) [
-      | inl is ↦ rw is (token_there old name next account.0 account.1 other is)
-      | inr apart ↦ rw apart (token_elsewhere old name next account.0 account.1 other apart)
+      | inl is ↦ rw is (name_has_new_token old name next account.0 account.1 other is)
+      | inr apart ↦ rw apart (others_keep_tokens old name next account.0 account.1 other apart)
     ]
 
 -- the law: what a server keeps of each name is as it was after a token is replaced
 pub entries_stay : EntriesStay
 entries_stay old name token next has m other =
-    let account = owner (account_at old name) token has in entry_kept old name next account.0 account.1 m other
+    let account = token_has_account (account_at old name) token has in token_keeps_entries old name next account.0 account.1 m other
 
 -- where a value is set twice, the second stays
-set_twice : {K X : Type 0} (test : K → Bool) (es : List (K × X)) (first second : X)
+set_value-set_value : {K X : Type 0} (test : K → Bool) (es : List (K × X)) (first second : X)
     → set_value test (set_value test es first) second ≡ set_value test es second
-set_twice test [] first second = refl
-set_twice test (e ∷ es) first second =
+set_value-set_value test [] first second = refl
+set_value-set_value test (e ∷ es) first second =
     elim (cases_Bool (test e.0)) [
       | inl is ↦ rw is (rw is refl)
-      | inr apart ↦ rw apart (rw apart (ap (λ rest. e ∷ rest) (set_twice test es first second)))
+      | inr apart ↦ rw apart (rw apart (ap (λ rest. e ∷ rest) (set_value-set_value test es first second)))
     ]
 
 -- an account that is given the token that it has is the same account
-same_account : (account : AccountFields) (token : TokenFields) → account.token ≡ Some token → with_token token account ≡ account
-same_account account token has = ap (λ (o : Option TokenFields). record account { token = o }) (sym has)
+own_token_keeps_account : (account : AccountFields) (token : TokenFields) → account.token ≡ Some token → with_token token account ≡ account
+own_token_keeps_account account token has = ap (λ (o : Option TokenFields). record account { token = o }) (sym has)
 
 -- accounts of which one is given the token that it has are the same accounts
-set_back : (es : List (List ℕ × AccountFields)) (name : List ℕ) (account : AccountFields) (token : TokenFields)
+own_token_keeps_accounts : (es : List (List ℕ × AccountFields)) (name : List ℕ) (account : AccountFields) (token : TokenFields)
     → lookup (is_at (name_cmp name)) es ≡ Some account → account.token ≡ Some token
     → set_value (is_at (name_cmp name)) es (with_token token account) ≡ es
-set_back es name account token found has =
+own_token_keeps_accounts es name account token found has =
     set_value_same (is_at (name_cmp name)) es (with_token token account)
-    (found ∙ ap (λ (a : AccountFields). Some a) (sym (same_account account token has)))
+    (found ∙ ap (λ (a : AccountFields). Some a) (sym (own_token_keeps_account account token has)))
 
 -- to change an account that is there is to set the changed one at its name
-changed_is : (book : BookFields) (name : List ℕ) (change : AccountFields → AccountFields) (account : AccountFields)
+with_changed_is_set_value : (book : BookFields) (name : List ℕ) (change : AccountFields → AccountFields) (account : AccountFields)
     → account_at book name ≡ Some account
     → with_changed book name change ≡ record book { accounts = set_value (is_at (name_cmp name)) book.accounts (change account) }
-changed_is book name change account found =
+with_changed_is_set_value book name change account found =
     ap (λ (o : Option AccountFields). record book {
       accounts = option_map_or
           (λ account. set_value (is_at (name_cmp name)) book.accounts (change account)) o book.accounts;
@@ -138,31 +140,32 @@ changed_is book name change account found =
     found
 
 -- an optional account that is there has the token that was found in it
-own_token : (o : Option AccountFields) (token : TokenFields) (account : AccountFields)
+account_has_token : (o : Option AccountFields) (token : TokenFields) (account : AccountFields)
     → option_and_then (λ account. account.token) o ≡ Some token
     → o ≡ Some account → account.token ≡ Some token
-own_token None token account has found = absurd (cc has)
-own_token (Some other) token account has found = cc
+account_has_token None token account has found = absurd (cc has)
+account_has_token (Some other) token account has found = cc
 
 -- the law: a token that is put where it stands changes nothing
 pub tokens_stay : TokensStay
 tokens_stay old name token has =
-    let owned = owner (account_at old name) token has in
-    changed_is old name (with_token token) owned.0 owned.1
+    let owned = token_has_account (account_at old name) token has in
+    with_changed_is_set_value old name (with_token token) owned.0 owned.1
     ∙ ap (λ (es : List (List ℕ × AccountFields)). record old { accounts = es })
-    (set_back old.accounts name owned.0 token owned.1 (own_token (account_at old name) token owned.0 has owned.1))
+    (own_token_keeps_accounts old.accounts name owned.0 token owned.1 (account_has_token (account_at old name) token owned.0 has owned.1))
 
 -- the law: where a token is replaced and then put back, the book is as it was
 pub tokens_go_back : TokensGoBack
 tokens_go_back old name token next has =
-    let owned = owner (account_at old name) token has in
+    let owned = token_has_account (account_at old name) token has in
     let account = owned.0 in
-    let own : account.token ≡ Some token = own_token (account_at old name) token account has owned.1 in
+    let own : account.token ≡ Some token = account_has_token (account_at old name) token account has owned.1 in
     let x = with_token next account in
-    let changed = changed_at old name (with_token next) account owned.1 name in
+    let changed = account_at-with_changed old name (with_token next) account owned.1 name in
     let there : account_at (with_changed old name (with_token next)) name ≡ Some x = rw ((bytes_eq-Decides name name).1 refl) at changed in
-    changed_is (with_changed old name (with_token next)) name (with_token token) x there
+    with_changed_is_set_value (with_changed old name (with_token next)) name (with_token token) x there
     ∙ ap (λ (b : BookFields). record b { accounts = set_value (is_at (name_cmp name)) b.accounts (with_token token x) })
-    (changed_is old name (with_token next) account owned.1)
+    (with_changed_is_set_value old name (with_token next) account owned.1)
     ∙ ap (λ (es : List (List ℕ × AccountFields)). record old { accounts = es })
-    (set_twice (is_at (name_cmp name)) old.accounts x (with_token token x) ∙ set_back old.accounts name account token owned.1 own)
+    (set_value-set_value (is_at (name_cmp name)) old.accounts x (with_token token x)
+      ∙ own_token_keeps_accounts old.accounts name account token owned.1 own)

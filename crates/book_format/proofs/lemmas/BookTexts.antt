@@ -16,55 +16,58 @@ use Rattle.book_format.specs.Trees.{IsBookText}
 use Rattle.book_format.specs.declared.fault.BookFault.{BookFault}
 use Rattle.book_format.specs.declared.fault.BookWhy.{BookWhy}
 use Rattle.book_format.specs.declared.fault.BookWhy.TheVariants.{Toml}
-use Rattle.book_format.proofs.lemmas.Tables.{book_held, book_found, book_follows, in_range, at_top_ok}
-use Rattle.book_format.proofs.lemmas.Demands.{Follows, first_fault, fault_read}
-use Rattle.book_format.proofs.lemmas.Steps.{bind_ok, ok_or_ok}
+use Rattle.book_format.proofs.lemmas.Tables.{book_tree_is_read, read_book_tree_stands, book_follows, book_is_in_range, at_top_keeps_value}
+use Rattle.book_format.proofs.lemmas.Demands.{Follows, read_fault_is_first, first_fault_is_read}
+use Rattle.book_format.proofs.lemmas.Steps.{each_step_gives_value, option_holds_value}
 
 -- a text that has no tree is read as no book, for the tree's reason and with no account named
-pub no_tree : (bytes : List ℕ) (why : BookWhy) → tree_in bytes ≡ Err why → book_in bytes ≡ Err (record { why = why; account = None })
+pub tree_fault_is_books : (bytes : List ℕ) (why : BookWhy) → tree_in bytes ≡ Err why
+    → book_in bytes ≡ Err (record { why = why; account = None })
 unfolding book_in
-no_tree bytes why h = rw h refl
+tree_fault_is_books bytes why h = rw h refl
 
 -- a text whose top table is refused is read as no book, for that reason and with no account named
-pub no_top : (bytes : List ℕ) (ms : Members) (why : BookWhy) → tree_in bytes ≡ Ok ms → Err why ≡ top_of ms
+pub top_fault_is_books : (bytes : List ℕ) (ms : Members) (why : BookWhy) → tree_in bytes ≡ Ok ms → Err why ≡ top_of ms
     → book_in bytes ≡ Err (record { why = why; account = None })
 unfolding book_in book_of
-no_top bytes ms why read h = rw (read, ← h) refl
+top_fault_is_books bytes ms why read h = rw (read, ← h) refl
 
 -- a text whose accounts are refused is read as no book, with their fault
-pub no_accounts : (bytes : List ℕ) (ms : Members) (top : TopFields) (fault : BookFault) → tree_in bytes ≡ Ok ms → Ok top ≡ top_of ms
+pub accounts_fault_is_books : (bytes : List ℕ) (ms : Members) (top : TopFields) (fault : BookFault) → tree_in bytes ≡ Ok ms
+    → Ok top ≡ top_of ms
     → accounts_of_table top.accounts ≡ Err fault → book_in bytes ≡ Err fault
 unfolding book_in book_of
-no_accounts bytes ms top fault read h accounts = rw (read, ← h, accounts) refl
+accounts_fault_is_books bytes ms top fault read h accounts = rw (read, ← h, accounts) refl
 
 -- a text whose top table and accounts are read is read as the book of both
-pub whole : (bytes : List ℕ) (ms : Members) (top : TopFields) (entries : List (List ℕ × AccountFields)) → tree_in bytes ≡ Ok ms
+pub parts_are_read_as_book : (bytes : List ℕ) (ms : Members) (top : TopFields) (entries : List (List ℕ × AccountFields))
+    → tree_in bytes ≡ Ok ms
     → Ok top ≡ top_of ms → accounts_of_table top.accounts ≡ Ok entries
     → book_in bytes ≡ Ok (record { decoy_key = top.decoy_key; decoy_count = top.decoy_count; accounts = entries })
 unfolding book_in book_of
-whole bytes ms top entries read h accounts = rw (read, ← h, accounts) refl
+parts_are_read_as_book bytes ms top entries read h accounts = rw (read, ← h, accounts) refl
 
 -- where a document is read from a text, the text is UTF-8, and the parser gives this document
-tree_found : (bytes : List ℕ) (ms : Members) → tree_in bytes ≡ Ok ms → IsUtf8 bytes × (parse_document bytes ≡ Some ms)
+read_document_stands : (bytes : List ℕ) (ms : Members) → tree_in bytes ≡ Ok ms → IsUtf8 bytes × (parse_document bytes ≡ Some ms)
 unfolding tree_in
-tree_found bytes ms h = elim (cases_Bool (is_utf8 bytes)) [
-  | inl is ↦ (IsUtf8-from_is_utf8 bytes is, ok_or_ok (parse_document bytes) Toml ms (rw is at h))
+read_document_stands bytes ms h = elim (cases_Bool (is_utf8 bytes)) [
+  | inl is ↦ (IsUtf8-from_is_utf8 bytes is, option_holds_value (parse_document bytes) Toml ms (rw is at h))
   | inr not ↦
       let none = rw not at h in absurd (cc none)
 ]
 
 -- where a book is read from a text, the text is that of the book
-pub text_found : (bytes : List ℕ) (book : BookFields) → book_in bytes ≡ Ok book → IsBookText bytes book
+pub read_book_text_stands : (bytes : List ℕ) (book : BookFields) → book_in bytes ≡ Ok book → IsBookText bytes book
 unfolding book_in
-text_found bytes book h =
-    let (ms, tree, rest) = bind_ok _ book_of book h in
-    let (utf8, parsed) = tree_found bytes ms (at_top_ok (tree_in bytes) ms tree) in
-    record { tree = ms; utf8 = utf8; parsed = parsed; of_book = book_found ms book rest }
+read_book_text_stands bytes book h =
+    let (ms, tree, rest) = each_step_gives_value _ book_of book h in
+    let (utf8, parsed) = read_document_stands bytes ms (at_top_keeps_value (tree_in bytes) ms tree) in
+    record { tree = ms; utf8 = utf8; parsed = parsed; of_book = read_book_tree_stands ms book rest }
 
 -- the text of a book is read as that book
-pub text_held : (bytes : List ℕ) (book : BookFields) → IsBookText bytes book → book_in bytes ≡ Ok book
+pub book_text_is_read : (bytes : List ℕ) (book : BookFields) → IsBookText bytes book → book_in bytes ≡ Ok book
 unfolding book_in tree_in
-text_held bytes book h = rw (is_utf8-from_IsUtf8 bytes h.utf8, h.parsed) (book_held h.tree book h.of_book)
+book_text_is_read bytes book h = rw (is_utf8-from_IsUtf8 bytes h.utf8, h.parsed) (book_tree_is_read h.tree book h.of_book)
 
 -- a text is read as the demands on it are met
 text_follows : (bytes : List ℕ) → Follows (book_demands bytes) (book_in bytes)
@@ -81,15 +84,15 @@ text_follows bytes = follows (is_utf8 bytes) (parse_document bytes)
     follows false parsed = refl
 
 -- the fault that a text is refused for is its first
-pub first_of_text : (bytes : List ℕ) (fault : BookFault) → book_in bytes ≡ Err fault → IsFirstFault bytes fault
-first_of_text bytes fault h = first_fault (book_demands bytes) fault (book_in bytes) (text_follows bytes) h
+pub text_fault_is_first : (bytes : List ℕ) (fault : BookFault) → book_in bytes ≡ Err fault → IsFirstFault bytes fault
+text_fault_is_first bytes fault h = read_fault_is_first (book_demands bytes) fault (book_in bytes) (text_follows bytes) h
 
 -- a text is refused for its first fault
-pub text_refused : (bytes : List ℕ) (fault : BookFault) → IsFirstFault bytes fault → book_in bytes ≡ Err fault
-text_refused bytes fault first = fault_read (book_demands bytes) fault (book_in bytes) (text_follows bytes) first
+pub text_first_fault_is_read : (bytes : List ℕ) (fault : BookFault) → IsFirstFault bytes fault → book_in bytes ≡ Err fault
+text_first_fault_is_read bytes fault first = first_fault_is_read (book_demands bytes) fault (book_in bytes) (text_follows bytes) first
 
 -- a book that is read from a text is in its ranges
-pub text_in_range : (bytes : List ℕ) (book : BookFields) → book_in bytes ≡ Ok book → IsBook book
-text_in_range bytes book h =
-    let text = text_found bytes book h in
-    in_range text.tree book text.of_book
+pub read_book_is_in_range : (bytes : List ℕ) (book : BookFields) → book_in bytes ≡ Ok book → IsBook book
+read_book_is_in_range bytes book h =
+    let text = read_book_text_stands bytes book h in
+    book_is_in_range text.tree book text.of_book

@@ -42,95 +42,98 @@ AllFlat most [] = Unit {0}
 AllFlat most (e ∷ es) = IsFlatSome most e.1 × AllFlat most es
 
 -- a flat value before flat members makes flat members
-flat_member : (most : ℕ) (key : List ℕ) (d : Data) (rest : Members) → IsFlat most d → AreFlat most rest → AreFlat most (member key d rest)
-flat_member most key d rest here others = (omega (arith, here.0, others.0), rw (here.1, others.1) refl)
+member_is_flat : (most : ℕ) (key : List ℕ) (d : Data) (rest : Members) → IsFlat most d → AreFlat most rest
+    → AreFlat most (member key d rest)
+member_is_flat most key d rest here others = (omega (arith, here.0, others.0), rw (here.1, others.1) refl)
 
 -- of flat members the first value is flat, and so are the others
-flat_first : (most : ℕ) (key : List ℕ) (d : Data) (rest : Members) → AreFlat most (member key d rest) → IsFlat most d × AreFlat most rest
-flat_first most key d rest h =
+member_parts_are_flat : (most : ℕ) (key : List ℕ) (d : Data) (rest : Members) → AreFlat most (member key d rest)
+    → IsFlat most d × AreFlat most rest
+member_parts_are_flat most key d rest h =
     let (here, others) = and_parts (has_valid_dates d) (members_have_valid_dates rest) h.1 in
     ((omega (arith, h.0), here), (omega (arith, h.0), others))
 
 -- flat members stay flat with a flat value put at a key:
-flat_put : (most : ℕ) (key : List ℕ) (d : Data) (ms : Members) → IsFlat most d → AreFlat most ms → AreFlat most (put_member key d ms)
-flat_put most key d no_members is h = flat_member most key d no_members is h
-flat_put most key d (member k e rest) is h =
+put_member_is_flat : (most : ℕ) (key : List ℕ) (d : Data) (ms : Members) → IsFlat most d → AreFlat most ms
+    → AreFlat most (put_member key d ms)
+put_member_is_flat most key d no_members is h = member_is_flat most key d no_members is h
+put_member_is_flat most key d (member k e rest) is h =
     elim (slice_cmp nat_cmp key k) as (λ o.
     AreFlat most (match_ordering o (member key d (member k e rest)) (member k d rest) (member k e (put_member key d rest)))) [
-      | Less ↦ flat_member most key d (member k e rest) is h
-      | Equal ↦ flat_member most k d rest is (flat_first most k e rest h).1
-      | Greater ↦ flat_member most k e (put_member key d rest) (flat_first most k e rest h).0
-          (flat_put most key d rest is (flat_first most k e rest h).1)
+      | Less ↦ member_is_flat most key d (member k e rest) is h
+      | Equal ↦ member_is_flat most k d rest is (member_parts_are_flat most k e rest h).1
+      | Greater ↦ member_is_flat most k e (put_member key d rest) (member_parts_are_flat most k e rest h).0
+          (put_member_is_flat most key d rest is (member_parts_are_flat most k e rest h).1)
     ]
 
-flat_some : (most : ℕ) (key : List ℕ) (o : Option Data) (ms : Members) → IsFlatSome most o → AreFlat most ms
+put_some_is_flat : (most : ℕ) (key : List ℕ) (o : Option Data) (ms : Members) → IsFlatSome most o → AreFlat most ms
     → AreFlat most (put_some key o ms)
-flat_some most key None ms is h = h
-flat_some most key (Some d) ms is h = flat_put most key d ms is h
+put_some_is_flat most key None ms is h = h
+put_some_is_flat most key (Some d) ms is h = put_member_is_flat most key d ms is h
 
-flat_all : (most : ℕ) (es : Entries) (ms : Members) → AllFlat most es → AreFlat most ms → AreFlat most (put_all es ms)
-flat_all most [] ms all h = h
-flat_all most (e ∷ es) ms all h = flat_all most es (put_some e.0 e.1 ms) all.1 (flat_some most e.0 e.1 ms all.0 h)
+put_all_is_flat : (most : ℕ) (es : Entries) (ms : Members) → AllFlat most es → AreFlat most ms → AreFlat most (put_all es ms)
+put_all_is_flat most [] ms all h = h
+put_all_is_flat most (e ∷ es) ms all h = put_all_is_flat most es (put_some e.0 e.1 ms) all.1 (put_some_is_flat most e.0 e.1 ms all.0 h)
 
 -- where whatever is written of a value is flat, so is what is written of an optional one
-flat_option : {T : Type 0} (most : ℕ) (write : T → Data) (o : Option T) → ((v : T) → IsFlat most (write v))
+option_is_flat : {T : Type 0} (most : ℕ) (write : T → Data) (o : Option T) → ((v : T) → IsFlat most (write v))
     → IsFlatSome most (option_map write o)
-flat_option most write None each = tt
-flat_option most write (Some v) each = each v
+option_is_flat most write None each = tt
+option_is_flat most write (Some v) each = each v
 
 -- the table of a mechanism's keys has one level
-mech_flat : (len : ℕ) (m : MechKeys) → IsFlat 1 (table (written (mech len) m))
+mech_is_flat : (len : ℕ) (m : MechKeys) → IsFlat 1 (table (written (mech len) m))
 unfolding written
-mech_flat len m = (omega arith, refl)
+mech_is_flat len m = (omega arith, refl)
 
 -- the list of some names has no level below it, and no date:
-names_depth : (names : List (List ℕ)) → items_depth (items_of (map string names)) ≡ 0
-names_depth [] = refl
-names_depth (name ∷ names) = rw (names_depth names) refl
+names_have_no_depth : (names : List (List ℕ)) → items_depth (items_of (map string names)) ≡ 0
+names_have_no_depth [] = refl
+names_have_no_depth (name ∷ names) = rw (names_have_no_depth names) refl
 
-names_dates : (names : List (List ℕ)) → items_have_valid_dates (items_of (map string names)) ≡ true
-names_dates [] = refl
-names_dates (name ∷ names) = names_dates names
+names_have_valid_dates : (names : List (List ℕ)) → items_have_valid_dates (items_of (map string names)) ≡ true
+names_have_valid_dates [] = refl
+names_have_valid_dates (name ∷ names) = names_have_valid_dates names
 
 -- the tree of each part of a book is flat, from a TOTP token up to the accounts:
-totp_flat : (t : TotpFields) → AreFlat 0 (written totp t)
+totp_is_flat : (t : TotpFields) → AreFlat 0 (written totp t)
 unfolding written
-totp_flat t =
+totp_is_flat t =
     let leaf : (0 ≤ 0) × (true ≡ true) = (omega arith, refl) in
-    let last = flat_option 0 (λ n. integer (pos n)) t.last (λ n. leaf) in
-    flat_all 0 (entries totp t) no_members
+    let last = option_is_flat 0 (λ n. integer (pos n)) t.last (λ n. leaf) in
+    put_all_is_flat 0 (entries totp t) no_members
     (leaf, (leaf, (leaf, (leaf, (leaf, (leaf, (leaf, (leaf, (leaf, (last, (leaf, (leaf, (leaf, tt))))))))))))) leaf
 
-token_flat : (t : TokenFields) → IsFlat 1 (token_tree t)
+token_is_flat : (t : TokenFields) → IsFlat 1 (token_tree t)
 unfolding written
-token_flat (Hotp t) = (omega arith, refl)
-token_flat (Totp t) =
-    let flat = totp_flat t in
+token_is_flat (Hotp t) = (omega arith, refl)
+token_is_flat (Totp t) =
+    let flat = totp_is_flat t in
     (omega (arith, flat.0), flat.1)
 
-account_flat : (a : AccountFields) → IsFlat 2 (table (written account a))
+account_is_flat : (a : AccountFields) → IsFlat 2 (table (written account a))
 unfolding written
-account_flat a =
-    let flat = flat_all 1 (entries account a) no_members (
-      flat_option 1 (in_table sha1_keys).write a.sha1 (mech_flat (length_by ScramSha1)),
+account_is_flat a =
+    let flat = put_all_is_flat 1 (entries account a) no_members (
+      option_is_flat 1 (in_table sha1_keys).write a.sha1 (mech_is_flat (length_by ScramSha1)),
       (
-        flat_option 1 (in_table sha256_keys).write a.sha256 (mech_flat (length_by ScramSha256)),
+        option_is_flat 1 (in_table sha256_keys).write a.sha256 (mech_is_flat (length_by ScramSha256)),
         (
-          (omega (arith, names_depth a.act_as), names_dates a.act_as),
-          (flat_option 1 token.write a.token token_flat, tt),
+          (omega (arith, names_have_no_depth a.act_as), names_have_valid_dates a.act_as),
+          (option_is_flat 1 token.write a.token token_is_flat, tt),
         ),
       ),
     ) (omega arith, refl) in
     (omega (arith, flat.0), flat.1)
 
-accounts_flat : (entries : List (List ℕ × AccountFields)) → AreFlat 2 (accounts_tree entries)
+accounts_are_flat : (entries : List (List ℕ × AccountFields)) → AreFlat 2 (accounts_tree entries)
 unfolding accounts_tree
-accounts_flat [] = (omega arith, refl)
-accounts_flat (e ∷ entries) = flat_member 2 e.0 (table (written account e.1)) _ (account_flat e.1) (accounts_flat entries)
+accounts_are_flat [] = (omega arith, refl)
+accounts_are_flat (e ∷ entries) = member_is_flat 2 e.0 (table (written account e.1)) _ (account_is_flat e.1) (accounts_are_flat entries)
 
 -- the tree of a book is at most three levels deep below its top, and has no dates
-pub book_flat : (b : BookFields) → AreFlat 3 (book_tree b)
+pub book_is_flat : (b : BookFields) → AreFlat 3 (book_tree b)
 unfolding book_tree written
-book_flat b =
-    let flat = accounts_flat b.accounts in
+book_is_flat b =
+    let flat = accounts_are_flat b.accounts in
     (omega (arith, flat.0), rw flat.1 refl)

@@ -7,26 +7,28 @@ use Rattle.book_format.specs.reading.Values.{decoded}
 use Rattle.book_format.specs.declared.fault.BookWhy.{BookWhy}
 
 -- a text whose number of bytes is outside the bounds is refused
-outside : (why : BookWhy) (least most : ℕ) (text : List ℕ)
+digits_outside_are_refused : (why : BookWhy) (least most : ℕ) (text : List ℕ)
     → ((n : ℕ) → length text ≡ 2 * n → (nat_le least n && nat_le n most) ≡ false) → decoded why least most (decode_of text) ≡ Err why
-outside why least most text fails =
+digits_outside_are_refused why least most text fails =
     elim (decode_of text) as (λ r. decode_of text ≡ r → decoded why least most r ≡ Err why) [
       | Ok bytes ↦ λ is. rw (fails (length bytes) (decode_of-ok text bytes is).2) refl
       | Err e ↦ λ is. refl
     ] refl
 
 -- a text of fewer digits than the least number of bytes has is refused
-pub decoded-fewer : (why : BookWhy) (least most : ℕ) (text : List ℕ) → length text / 2 < least
+pub fewer_digits_are_refused : (why : BookWhy) (least most : ℕ) (text : List ℕ) → length text / 2 < least
     → decoded why least most (decode_of text) ≡ Err why
-decoded-fewer why least most text h = outside why least most text (λ n twice. few least most n (omega (arith, twice)))
+fewer_digits_are_refused why least most text h =
+    digits_outside_are_refused why least most text (λ n twice. few least most n (omega (arith, twice)))
   where
     few : (least most n : ℕ) → n < least → (nat_le least n && nat_le n most) ≡ false
     few least most n h = grind (arith, nat_tests)
 
 -- a text of more digits than the largest number of bytes has is refused
-pub decoded-more : (why : BookWhy) (least most : ℕ) (text : List ℕ) → most < length text / 2
+pub more_digits_are_refused : (why : BookWhy) (least most : ℕ) (text : List ℕ) → most < length text / 2
     → decoded why least most (decode_of text) ≡ Err why
-decoded-more why least most text h = outside why least most text (λ n twice. many least most n (omega (arith, twice)))
+more_digits_are_refused why least most text h =
+    digits_outside_are_refused why least most text (λ n twice. many least most n (omega (arith, twice)))
   where
     many : (least most n : ℕ) → most < n → (nat_le least n && nat_le n most) ≡ false
     many least most n h = grind (arith, nat_tests)

@@ -6,8 +6,8 @@ use Rattle.book_format.specs.Laws.{IsBookOrAtFault, BookIsNotAtFault, HasOneBook
 use Rattle.book_format.specs.Trees.{IsBookText}
 use Rattle.book_format.specs.reading.Books.{book_in}
 use Rattle.book_format.specs.declared.fault.BookFault.{BookFault}
-use Rattle.book_format.proofs.lemmas.Steps.{ok_same, err_same}
-use Rattle.book_format.proofs.lemmas.BookTexts.{text_found, text_held, first_of_text, text_refused}
+use Rattle.book_format.proofs.lemmas.Steps.{same_Ok, same_Err}
+use Rattle.book_format.proofs.lemmas.BookTexts.{read_book_text_stands, book_text_is_read, text_fault_is_first, text_first_fault_is_read}
 
 -- a text is that of a book, or it has a first fault
 pub is_book_or_at_fault : IsBookOrAtFault
@@ -15,19 +15,20 @@ is_book_or_at_fault text = by_reading (book_in text) refl
   where
     by_reading : (read : Result BookFields BookFault) → book_in text ≡ read
         → ((book : BookFields) × IsBookText text book) ⊎ ((fault : BookFault) × IsFirstFault text fault)
-    by_reading (Ok book) is = inl (book, text_found text book is)
-    by_reading (Err fault) is = inr (fault, first_of_text text fault is)
+    by_reading (Ok book) is = inl (book, read_book_text_stands text book is)
+    by_reading (Err fault) is = inr (fault, text_fault_is_first text fault is)
 
 -- the text of a book has no first fault
 pub book_is_not_at_fault : BookIsNotAtFault
 book_is_not_at_fault text book fault is first =
-    let both = sym (text_held text book is) ∙ text_refused text fault first in
+    let both = sym (book_text_is_read text book is) ∙ text_first_fault_is_read text fault first in
     cc both
 
 -- a text is that of one book at most
 pub has_one_book : HasOneBook
-has_one_book text one other is also = ok_same one other (sym (text_held text one is) ∙ text_held text other also)
+has_one_book text one other is also = same_Ok one other (sym (book_text_is_read text one is) ∙ book_text_is_read text other also)
 
 -- a text has one first fault at most
 pub has_one_first_fault : HasOneFirstFault
-has_one_first_fault text one other first also = err_same one other (sym (text_refused text one first) ∙ text_refused text other also)
+has_one_first_fault text one other first also =
+    same_Err one other (sym (text_first_fault_is_read text one first) ∙ text_first_fault_is_read text other also)

@@ -19,25 +19,25 @@ item_count-view (v ∷ vs) =
     omega (arith, rest)
 
 -- to put a value before what is left to read, and others before both, is to put it at the end of those others
-pub moved : {A E : Type 0} (front : List A) (x : A) (rest : Result (List A) E)
+pub value_moves_to_front : {A E : Type 0} (front : List A) (x : A) (rest : Result (List A) E)
     → ((rest >>= λ xs. Ok (x ∷ xs)) >>= λ xs. Ok (front ++ xs)) ≡ (rest >>= λ xs. Ok ((front ++ x ∷ []) ++ xs))
-moved front x (Ok xs) = rw append_assoc refl
-moved front x (Err e) = refl
+value_moves_to_front front x (Ok xs) = rw append_assoc refl
+value_moves_to_front front x (Err e) = refl
 
 -- a list in which not all are texts is refused for its key
-pub names_of-untyped : (list : Items) → are_texts list ≡ false → names_of list ≡ Err Key
+pub untyped_names_are_refused : (list : Items) → are_texts list ≡ false → names_of list ≡ Err Key
 unfolding names_of
-names_of-untyped list untyped = rw untyped refl
+untyped_names_are_refused list untyped = rw untyped refl
 
 -- a list of more texts than an account may have names is refused for its names
-pub names_of-many : (list : Items) → are_texts list ≡ true → most_names < item_count list → names_of list ≡ Err Name
+pub many_names_are_refused : (list : Items) → are_texts list ≡ true → most_names < item_count list → names_of list ≡ Err Name
 unfolding names_of
-names_of-many list typed many = rw (typed, too_many (item_count list) many) refl
+many_names_are_refused list typed many = rw (typed, too_many (item_count list) many) refl
   where
     too_many : (n : ℕ) → most_names < n → nat_le n most_names ≡ false
     too_many n h = grind (arith, nat_tests)
 
 -- a list of no more texts than an account may have names is read name by name
-pub names_of-few : (list : Items) → are_texts list ≡ true → item_count list ≤ most_names → names_of list ≡ names_in list
+pub few_names_are_read : (list : Items) → are_texts list ≡ true → item_count list ≤ most_names → names_of list ≡ names_in list
 unfolding names_of
-names_of-few list typed few = rw (typed, le-leb (item_count list) most_names few) refl
+few_names_are_read list typed few = rw (typed, le-leb (item_count list) most_names few) refl

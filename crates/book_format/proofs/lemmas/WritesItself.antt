@@ -27,32 +27,33 @@ use Rattle.book_format.specs.Trees.{AreAccountTrees, IsBookTree}
 use Rattle.book_format.specs.Written.{accounts_tree, book_tree}
 use Rattle.book_format.specs.declared.account.MechKeys.{MechKeys}
 use Rattle.book_format.specs.declared.fault.BookWhy.TheVariants.{Token}
-use Rattle.book_format.proofs.lemmas.ValueTypes.{ComesBack, number_again, bytes_again}
-use Rattle.book_format.proofs.lemmas.Put.{HasAll, are_new, has_all, none_yet, all_known, known_all}
+use Rattle.book_format.proofs.lemmas.ValueTypes.{ComesBack, written_number_stands, written_bytes_stand}
+use Rattle.book_format.proofs.lemmas.Put.{HasAll, are_distinct, put_all_is_found, empty_table_has_none, all_known, put_all_keeps_known}
 
 -- a table is written as that of its T, where what is written at each key makes it so
-writes_itself : {T : Type 0} (t : Table T) (x : T) → are_new (entries t x) ≡ true → all_known (is_among (table_keys t)) (entries t x) ≡ true
+table_writes_itself : {T : Type 0} (t : Table T) (x : T) → are_distinct (entries t x) ≡ true
+    → all_known (is_among (table_keys t)) (entries t x) ≡ true
     → ((ms : Members) → HasAll (entries t x) ms → HasMarks t.marks ms × HasRows t.rows ms x) → IsTable t (written t x) x
 unfolding written has_only
-writes_itself t x new known each =
-    let (marks, rows) = each (written t x) (has_all (entries t x) no_members new (none_yet (entries t x))) in
-    record { marks = marks; known = known_all (is_among (table_keys t)) (entries t x) no_members known refl; rows = rows }
+table_writes_itself t x new known each =
+    let (marks, rows) = each (written t x) (put_all_is_found (entries t x) no_members new (empty_table_has_none (entries t x))) in
+    record { marks = marks; known = put_all_keeps_known (is_among (table_keys t)) (entries t x) no_members known refl; rows = rows }
 
 -- a key that may be missing has the option that was written there
-some_writes_itself : {V : Type 0} (values : ValueType V) (key : List ℕ) (ms : Members) (o : Option V)
+optional_writes_itself : {V : Type 0} (values : ValueType V) (key : List ℕ) (ms : Members) (o : Option V)
     → get_member key ms ≡ option_map values.write o → ForSome o (WritesItself values) → HasSome key values ms o
-some_writes_itself values key ms None at h = at
-some_writes_itself k key ms (Some v) at h = (k.write v, at, h v refl)
+optional_writes_itself values key ms None at h = at
+optional_writes_itself k key ms (Some v) at h = (k.write v, at, h v refl)
 
 -- where the bound stands at another key, a number from 0 to it is that of the value that it is written as
-bound_again : (key : List ℕ) (ms : Members) (most n : ℕ) → get_member key ms ≡ Some (integer (pos most)) → n ≤ most
+bounded_number_stands : (key : List ℕ) (ms : Members) (most n : ℕ) → get_member key ms ≡ Some (integer (pos most)) → n ≤ most
     → IsNumber 0 (bound_at key ms) (integer (pos n)) n
-bound_again key ms most n there few = rw there (number_again 0 most n (omega arith) few)
+bounded_number_stands key ms most n there few = rw there (written_number_stands 0 most n (omega arith) few)
 
 -- where the bound stands at another key, a number within it to either side of 0 is that of the value that it is written as
-sides_again : (key : List ℕ) (ms : Members) (most : ℕ) (z : ℤ) → get_member key ms ≡ Some (integer (pos most)) → nat_abs z ≤ most
+bounded_signed_stands : (key : List ℕ) (ms : Members) (most : ℕ) (z : ℤ) → get_member key ms ≡ Some (integer (pos most)) → nat_abs z ≤ most
     → IsSigned (bound_at key ms) (integer z) z
-sides_again key ms most z there few = rw there (record { there = refl; at_most = few })
+bounded_signed_stands key ms most z there few = rw there (record { there = refl; at_most = few })
 
 -- keys in their ranges whose bytes come back from their texts are written as their table
 pub mech_writes_itself : (len : ℕ) (m : MechKeys) → AreKeys len m → ComesBack m.salt → ComesBack m.keys.stored.items
@@ -62,15 +63,15 @@ mech_writes_itself len m fits salt stored server =
     let lengths : (n : ℕ) → n ≡ len → (len ≤ n) × (n ≤ len) = λ n is. (omega (arith, is), omega (arith, is)) in (
       _,
       refl,
-      writes_itself (mech len) m refl refl (λ ms at. (
+      table_writes_itself (mech len) m refl refl (λ ms at. (
         tt,
         (
-          (_, at.0, bytes_again 1 64 m.salt salt fits.salt.at_least fits.salt.at_most),
+          (_, at.0, written_bytes_stand 1 64 m.salt salt fits.salt.at_least fits.salt.at_most),
           (
-            (_, at.1.0, number_again 1 most_count m.count fits.count.at_least fits.count.at_most),
+            (_, at.1.0, written_number_stands 1 most_count m.count fits.count.at_least fits.count.at_most),
             (
-              (_, at.1.1.0, bytes_again len len _ stored (lengths _ fits.stored).0 (lengths _ fits.stored).1),
-              ((_, at.1.1.1.0, bytes_again len len _ server (lengths _ fits.server).0 (lengths _ fits.server).1), tt),
+              (_, at.1.1.0, written_bytes_stand len len _ stored (lengths _ fits.stored).0 (lengths _ fits.stored).1),
+              ((_, at.1.1.1.0, written_bytes_stand len len _ server (lengths _ fits.server).0 (lengths _ fits.server).1), tt),
             ),
           ),
         ),
@@ -83,22 +84,22 @@ pub hotp_writes_itself : (t : HotpFields) → IsHotpInRange t → IsSecretLength
 hotp_writes_itself t (next, (look_ahead, (sync_ahead, (limit, (failures, end))))) secret digits back = (
   _,
   refl,
-  writes_itself hotp t refl refl (λ ms at.
+  table_writes_itself hotp t refl refl (λ ms at.
       let rows = at.1 in (
         (at.0, tt),
         (
-          (_, rows.0, bytes_again least_secret most_secret t.secret back secret.0 secret.1),
+          (_, rows.0, written_bytes_stand least_secret most_secret t.secret back secret.0 secret.1),
           (
-            (_, rows.1.0, number_again least_digits most_digits t.digits digits.0 digits.1),
+            (_, rows.1.0, written_number_stands least_digits most_digits t.digits digits.0 digits.1),
             (
-              (_, rows.1.1.0, number_again 0 _ t.next (omega arith) next),
+              (_, rows.1.1.0, written_number_stands 0 _ t.next (omega arith) next),
               (
-                (_, rows.1.1.1.0, number_again 0 most_look_ahead t.look_ahead (omega arith) look_ahead),
+                (_, rows.1.1.1.0, written_number_stands 0 most_look_ahead t.look_ahead (omega arith) look_ahead),
                 (
-                  inr (_, rows.1.1.1.1.0, number_again 0 most_sync_ahead t.sync_ahead (omega arith) sync_ahead),
+                  inr (_, rows.1.1.1.1.0, written_number_stands 0 most_sync_ahead t.sync_ahead (omega arith) sync_ahead),
                   (
-                    (_, rows.1.1.1.1.1.0, number_again 1 most_limit t.limit limit.0 limit.1),
-                    ((_, rows.1.1.1.1.1.1.0, bound_again (codes "limit") ms t.limit t.failures rows.1.1.1.1.1.0 failures), tt),
+                    (_, rows.1.1.1.1.1.0, written_number_stands 1 most_limit t.limit limit.0 limit.1),
+                    ((_, rows.1.1.1.1.1.1.0, bounded_number_stands (codes "limit") ms t.limit t.failures rows.1.1.1.1.1.0 failures), tt),
                   ),
                 ),
               ),
@@ -112,8 +113,8 @@ hotp_writes_itself t (next, (look_ahead, (sync_ahead, (limit, (failures, end))))
 last_writes_itself : (ms : Members) (last : Option ℕ) → get_member (codes "last") ms ≡ option_map (λ n. integer (pos n)) last
     → ForSome last (λ l. l ≤ most_counter)
     → HasSome (codes "last") (number Token 0 most_counter) ms last
-last_writes_itself ms last there few = some_writes_itself (number Token 0 most_counter) (codes "last") ms last there
-    (λ l is. number_again 0 _ l (omega arith) (few l is))
+last_writes_itself ms last there few = optional_writes_itself (number Token 0 most_counter) (codes "last") ms last there
+    (λ l is. written_number_stands 0 _ l (omega arith) (few l is))
 
 -- a TOTP token in its ranges whose secret comes back from its text is written as its table
 pub totp_writes_itself : (t : TotpFields) → IsTotpInRange t → IsSecretLength (length t.secret) → IsDigitCount t.digits → IsMoment t.t0
@@ -122,33 +123,33 @@ pub totp_writes_itself : (t : TotpFields) → IsTotpInRange t → IsSecretLength
 totp_writes_itself t (step, (back, (ahead, (max_drift, (last, (drift, (limit, (failures, end)))))))) secret digits t0 hex = (
   _,
   refl,
-  writes_itself totp t refl refl (λ ms at.
+  table_writes_itself totp t refl refl (λ ms at.
       let first = at.1 in
       let then = first.1.1.1.1.1.1.1 in (
         (at.0, tt),
         (
           (_, first.0, refl),
           (
-            (_, first.1.0, bytes_again least_secret most_secret t.secret hex secret.0 secret.1),
+            (_, first.1.0, written_bytes_stand least_secret most_secret t.secret hex secret.0 secret.1),
             (
-              (_, first.1.1.0, number_again least_digits most_digits t.digits digits.0 digits.1),
+              (_, first.1.1.0, written_number_stands least_digits most_digits t.digits digits.0 digits.1),
               (
-                (_, first.1.1.1.0, number_again 0 last_moment t.t0 (omega arith) t0),
+                (_, first.1.1.1.0, written_number_stands 0 last_moment t.t0 (omega arith) t0),
                 (
-                  (_, first.1.1.1.1.0, number_again 1 longest_step t.step step.0 step.1),
+                  (_, first.1.1.1.1.0, written_number_stands 1 longest_step t.step step.0 step.1),
                   (
-                    (_, first.1.1.1.1.1.0, number_again 0 most_steps_aside t.back (omega arith) back),
+                    (_, first.1.1.1.1.1.0, written_number_stands 0 most_steps_aside t.back (omega arith) back),
                     (
-                      (_, first.1.1.1.1.1.1.0, number_again 0 most_steps_aside t.ahead (omega arith) ahead),
+                      (_, first.1.1.1.1.1.1.0, written_number_stands 0 most_steps_aside t.ahead (omega arith) ahead),
                       (
-                        (_, then.0, number_again 0 most_drift t.max_drift (omega arith) max_drift),
+                        (_, then.0, written_number_stands 0 most_drift t.max_drift (omega arith) max_drift),
                         (
                           last_writes_itself ms t.last then.1.0 last,
                           (
-                            (_, then.1.1.0, sides_again (codes "max_drift") ms t.max_drift t.drift then.0 drift),
+                            (_, then.1.1.0, bounded_signed_stands (codes "max_drift") ms t.max_drift t.drift then.0 drift),
                             (
-                              (_, then.1.1.1.0, number_again 1 most_limit t.limit limit.0 limit.1),
-                              ((_, then.1.1.1.1.0, bound_again (codes "limit") ms t.limit t.failures then.1.1.1.0 failures), tt),
+                              (_, then.1.1.1.0, written_number_stands 1 most_limit t.limit limit.0 limit.1),
+                              ((_, then.1.1.1.1.0, bounded_number_stands (codes "limit") ms t.limit t.failures then.1.1.1.0 failures), tt),
                             ),
                           ),
                         ),
@@ -164,18 +165,18 @@ totp_writes_itself t (step, (back, (ahead, (max_drift, (last, (drift, (limit, (f
 )
 
 -- to put the last step after all other keys is to write the token with it
-with_last : (t : TotpFields) (last : Option ℕ)
+any_last_goes_last : (t : TotpFields) (last : Option ℕ)
     → put_some (codes "last") (option_map (λ n. integer (pos n)) last) (written totp (record t { last = None }))
     ≡ written totp (record t { last = last })
 unfolding written
-with_last t None = refl
-with_last t (Some last) = refl
+any_last_goes_last t None = refl
+any_last_goes_last t (Some last) = refl
 
 -- to put the last step of a TOTP token after all its other keys is to write the token
-pub last_put_last : (t : TotpFields) → put_some (codes "last") (option_map (λ n. integer (pos n)) t.last)
+pub last_goes_last : (t : TotpFields) → put_some (codes "last") (option_map (λ n. integer (pos n)) t.last)
     (written totp (record t { last = None }))
     ≡ written totp t
-last_put_last t = with_last t t.last
+last_goes_last t = any_last_goes_last t t.last
 
 -- an account in its ranges each of whose parts writes itself is written as its table
 pub account_writes_itself : (a : AccountFields) → IsAccount a → AreNames a.act_as
@@ -185,15 +186,15 @@ pub account_writes_itself : (a : AccountFields) → IsAccount a → AreNames a.a
 account_writes_itself a fits plain sha1 sha256 of_token = (
   _,
   refl,
-  writes_itself account a refl refl (λ ms at. (
+  table_writes_itself account a refl refl (λ ms at. (
     tt,
     (
-      some_writes_itself (in_table sha1_keys) (codes "sha1") ms a.sha1 at.0 sha1,
+      optional_writes_itself (in_table sha1_keys) (codes "sha1") ms a.sha1 at.0 sha1,
       (
-        some_writes_itself (in_table sha256_keys) (codes "sha256") ms a.sha256 at.1.0 sha256,
+        optional_writes_itself (in_table sha256_keys) (codes "sha256") ms a.sha256 at.1.0 sha256,
         (
           inr (_, at.1.1.0, record { there = refl; plain = plain; few = fits.names }),
-          (some_writes_itself token (codes "token") ms a.token at.1.1.1.0 of_token, tt),
+          (optional_writes_itself token (codes "token") ms a.token at.1.1.1.0 of_token, tt),
         ),
       ),
     ),
@@ -201,17 +202,18 @@ account_writes_itself a fits plain sha1 sha256 of_token = (
 )
 
 -- an account in the middle of accounts in their ranges is in its ranges
-pub account_among : (done : List (List ℕ × AccountFields)) (e : List ℕ × AccountFields) (more : List (List ℕ × AccountFields))
+pub middle_account_is_in_range : (done : List (List ℕ × AccountFields)) (e : List ℕ × AccountFields) (more : List (List ℕ × AccountFields))
     → AreAccounts (done ++ e ∷ more) → IsAccount e.1
-account_among [] e more h = h.0
-account_among (first ∷ done) e more h = account_among done e more h.1
+middle_account_is_in_range [] e more h = h.0
+middle_account_is_in_range (first ∷ done) e more h = middle_account_is_in_range done e more h.1
 
 -- accounts and one more, whose name is plain and which writes itself, are the trees of all of them
-pub one_more_account : (done : List (List ℕ × AccountFields)) (e : List ℕ × AccountFields) → AreAccountTrees (accounts_tree done) done
+pub more_accounts_are_trees : (done : List (List ℕ × AccountFields)) (e : List ℕ × AccountFields)
+    → AreAccountTrees (accounts_tree done) done
     → IsPlainName e.0 → WritesItself (in_table account) e.1 → AreAccountTrees (accounts_tree (done ++ e ∷ [])) (done ++ e ∷ [])
 unfolding accounts_tree
-one_more_account [] e h plain tree = (refl, plain, tree, tt)
-one_more_account (first ∷ done) e h plain tree = (h.0, h.1, h.2, one_more_account done e h.3 plain tree)
+more_accounts_are_trees [] e h plain tree = (refl, plain, tree, tt)
+more_accounts_are_trees (first ∷ done) e h plain tree = (h.0, h.1, h.2, more_accounts_are_trees done e h.3 plain tree)
 
 -- a book in its ranges whose accounts are their trees is written as its tree
 pub book_writes_itself : (b : BookFields) → IsBook b → length b.decoy_key ≡ length_by ScramSha256 → ComesBack b.decoy_key
@@ -219,16 +221,16 @@ pub book_writes_itself : (b : BookFields) → IsBook b → length b.decoy_key �
 unfolding book_tree
 book_writes_itself b fits key back accounts = record {
   named = Some (accounts_tree b.accounts);
-  top = writes_itself document _ refl refl (λ ms at. (
+  top = table_writes_itself document _ refl refl (λ ms at. (
     (at.0, tt),
     (
       (
         _,
         at.1.0,
-        bytes_again (length_by ScramSha256) (length_by ScramSha256) b.decoy_key back (omega (arith, key)) (omega (arith, key)),
+        written_bytes_stand (length_by ScramSha256) (length_by ScramSha256) b.decoy_key back (omega (arith, key)) (omega (arith, key)),
       ),
       (
-        (_, at.1.1.0, number_again 1 most_count b.decoy_count fits.count.at_least fits.count.at_most),
+        (_, at.1.1.0, written_number_stands 1 most_count b.decoy_count fits.count.at_least fits.count.at_most),
         ((_, at.1.1.1.0, refl), tt),
       ),
     ),
@@ -237,6 +239,6 @@ book_writes_itself b fits key back accounts = record {
 }
 
 -- plain names and one more plain name are plain names
-pub names_more : (done : List (List ℕ)) (name : List ℕ) → AreNames done → IsPlainName name → AreNames (done ++ name ∷ [])
-names_more [] name h plain = (plain, tt)
-names_more (first ∷ done) name h plain = (h.0, names_more done name h.1 plain)
+pub more_names_are_plain : (done : List (List ℕ)) (name : List ℕ) → AreNames done → IsPlainName name → AreNames (done ++ name ∷ [])
+more_names_are_plain [] name h plain = (plain, tt)
+more_names_are_plain (first ∷ done) name h plain = (h.0, more_names_are_plain done name h.1 plain)

@@ -12,23 +12,23 @@ use Rattle.book_format.specs.declared.fault.BookWhy.{BookWhy}
 use Rattle.book_format.specs.declared.fault.BookWhy.TheVariants.{Key, Name, Token}
 
 -- the value where it passes a test, else the fault
-abbrev pub such : {V : Type 0} → (fits : Bool) → V → BookWhy → Result V BookWhy
-such fits v why = if fits then Ok v else Err why
+abbrev pub value_or : {V : Type 0} → (fits : Bool) → V → BookWhy → Result V BookWhy
+value_or fits v why = if fits then Ok v else Err why
 
 -- a whole number from `least` to `most`
 unfoldable pub number_in : (why : BookWhy) → (least most : ℕ) → Data → Result ℕ BookWhy
-number_in why least most (integer (pos n)) = such (nat_le least n && nat_le n most) n why
+number_in why least most (integer (pos n)) = value_or (nat_le least n && nat_le n most) n why
 number_in why least most (integer (negsuc n)) = Err why
 number_in why least most d = Err Key
 
 -- a whole number of at most `most` to either side of 0
 unfoldable pub signed_in : (why : BookWhy) → (most : ℕ) → Data → Result ℤ BookWhy
-signed_in why most (integer z) = such (nat_le (nat_abs z) most) z why
+signed_in why most (integer z) = value_or (nat_le (nat_abs z) most) z why
 signed_in why most d = Err Key
 
 -- bytes that were decoded, `least` to `most` of them
 abbrev pub decoded : {E : Type 0} → (why : BookWhy) → (least most : ℕ) → Result (List ℕ) E → Result (List ℕ) BookWhy
-decoded why least most (Ok bytes) = such (nat_le least (length bytes) && nat_le (length bytes) most) bytes why
+decoded why least most (Ok bytes) = value_or (nat_le least (length bytes) && nat_le (length bytes) most) bytes why
 decoded why least most (Err e) = Err why
 
 -- the hexadecimal text, in either case, of `least` to `most` bytes
@@ -46,7 +46,7 @@ hash_in d = text_in d >>= λ name. ok_or (hash_named name) Token
 
 -- the name, where it is plain
 abbrev pub plain_name_of : List ℕ → Result (List ℕ) BookWhy
-plain_name_of name = such (is_plain_name name) name Name
+plain_name_of name = value_or (is_plain_name name) name Name
 
 -- the names in a list of texts
 unfoldable pub names_in : Items → Result (List (List ℕ)) BookWhy

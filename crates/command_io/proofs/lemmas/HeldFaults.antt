@@ -8,7 +8,7 @@ use Rattle.std.specs.declared.io.ErrorKind.{ErrorKind}
 use Rattle.std.specs.declared.io.ErrorKind.TheVariants.{OutOfMemory}
 use Rattle.book_file.specs.Text.{IsRead}
 use Rattle.book_format.specs.Faults.{book_why_number}
-use Rattle.scram_text.proofs.lemmas.FirstUnmet.{first_found}
+use Rattle.scram_text.proofs.lemmas.FirstUnmet.{found_is_first}
 use Rattle.book_format.specs.Demands.{must}
 use Rattle.book_format.specs.FirstFault.{book_demands, IsFirstFault}
 use Rattle.book_format.specs.declared.fault.BookFault.{BookFault}
@@ -20,67 +20,72 @@ use Rattle.command_io.specs.File.{IsFileUnread}
 use Rattle.command_io.specs.HeldBook.{CannotHold, IsFaultOfText, CannotOpenBook}
 
 -- a kind of error is that memory ran out, or it is another
-is_memory : (kind : ErrorKind) → (kind ≡ OutOfMemory) ⊎ (kind ≢ OutOfMemory)
-is_memory OutOfMemory = inl refl
-is_memory other = inr (λ same. cc same)
+decided_out_of_memory : (kind : ErrorKind) → (kind ≡ OutOfMemory) ⊎ (kind ≢ OutOfMemory)
+decided_out_of_memory OutOfMemory = inl refl
+decided_out_of_memory other = inr (λ same. cc same)
 
 -- after a failed read of a file the fault is that this file can't be read, or that memory ran out
-pub file_unread : (path : List ℕ) (kind : ErrorKind) (file : _) (fault : Fault) → string_bytes file ≡ path
+pub failed_read_leaves_file_unread : (path : List ℕ) (kind : ErrorKind) (file : _) (fault : Fault) → string_bytes file ≡ path
     → (kind ≡ OutOfMemory → fault ≡ NoMemory) → (kind ≢ OutOfMemory → fault ≡ CannotRead file) → IsFileUnread path fault
-file_unread path kind file fault named memory plain = elim (is_memory kind) [
+failed_read_leaves_file_unread path kind file fault named memory plain = elim (decided_out_of_memory kind) [
   | inl same ↦ subst (IsFileUnread path) (sym (memory same)) refl
   | inr other ↦ subst (IsFileUnread path) (sym (plain other)) named
 ]
 
 -- the fault of a book's file that can't be read is one of a book that can't be held
-pub held_unread : (path : List ℕ) (fault : Fault) → IsFileUnread path fault → CannotHold path fault
-held_unread path (CannotRead file) is = is
-held_unread path (CannotWrite file) is = tt
-held_unread path fault is = is
+pub unread_file_prevents_holding : (path : List ℕ) (fault : Fault) → IsFileUnread path fault → CannotHold path fault
+unread_file_prevents_holding path (CannotRead file) is = is
+unread_file_prevents_holding path (CannotWrite file) is = tt
+unread_file_prevents_holding path fault is = is
 
 -- a failed read of the book's file gives a fault of a book that can't be held
-pub unread : (path : List ℕ) (kind : ErrorKind) (file : _) (fault : Fault) → string_bytes file ≡ path
+pub failed_read_prevents_holding : (path : List ℕ) (kind : ErrorKind) (file : _) (fault : Fault) → string_bytes file ≡ path
     → (kind ≡ OutOfMemory → fault ≡ NoMemory) → (kind ≢ OutOfMemory → fault ≡ CannotRead file) → CannotHold path fault
-unread path kind file fault named memory plain = held_unread path fault (file_unread path kind file fault named memory plain)
+failed_read_prevents_holding path kind file fault named memory plain =
+    unread_file_prevents_holding path fault (failed_read_leaves_file_unread path kind file fault named memory plain)
 
 -- where a text was read that is no book, the fault is that the file can't be read, or that of the text
-pub book_unread : {File : Type 0} (bytes_of : File → Option (List ℕ)) (path text : List ℕ) (found : BookFault) (fault : Fault)
+pub bad_text_leaves_book_unread : {File : Type 0} (bytes_of : File → Option (List ℕ)) (path text : List ℕ) (found : BookFault)
+    (fault : Fault)
     → IsRead bytes_of text
-    → fault ≡ fault_of_book found → (found.why ≡ why.NoMemory) ⊎ IsFirstFault text found → IsFileUnread path fault ⊎ IsFaultOfText bytes_of fault
-book_unread bytes_of path text found fault read is (inl memory) =
+    → fault ≡ fault_of_book found → (found.why ≡ why.NoMemory) ⊎ IsFirstFault text found
+    → IsFileUnread path fault ⊎ IsFaultOfText bytes_of fault
+bad_text_leaves_book_unread bytes_of path text found fault read is (inl memory) =
     inl (subst (IsFileUnread path) (sym (is ∙ ap fault_of_book_why memory)) refl)
-book_unread bytes_of path text found fault read is (inr first) = inr (text, found, read, first, is)
+bad_text_leaves_book_unread bytes_of path text found fault read is (inr first) = inr (text, found, read, first, is)
 
 -- where a text was read that is no book, the fault is one of a book that can't be held
-pub no_book : {File : Type 0} (bytes_of : File → Option (List ℕ)) (path text : List ℕ) (found : BookFault) (fault : Fault)
+pub bad_text_prevents_opening : {File : Type 0} (bytes_of : File → Option (List ℕ)) (path text : List ℕ) (found : BookFault) (fault : Fault)
     → IsRead bytes_of text
     → fault ≡ fault_of_book found → (found.why ≡ why.NoMemory) ⊎ IsFirstFault text found → CannotOpenBook bytes_of path fault
-no_book bytes_of path text found fault read is reason = elim (book_unread bytes_of path text found fault read is reason) [
-  | inl file ↦ inl (held_unread path fault file)
+bad_text_prevents_opening bytes_of path text found fault read is reason =
+    elim (bad_text_leaves_book_unread bytes_of path text found fault read is reason) [
+  | inl file ↦ inl (unread_file_prevents_holding path fault file)
   | inr of_text ↦ inr of_text
 ]
 
 -- the first fault of bytes that are not UTF-8 is that they are no TOML
-not_utf8 : (bytes : List ℕ) → (IsUtf8 bytes → ⊥) → IsFirstFault bytes (record { why = why.Toml; account = None })
+non_utf8_is_no_toml : (bytes : List ℕ) → (IsUtf8 bytes → ⊥) → IsFirstFault bytes (record { why = why.Toml; account = None })
 unfolding book_demands
-not_utf8 bytes none = elim (cases_Bool (is_utf8 bytes)) [
+non_utf8_is_no_toml bytes none = elim (cases_Bool (is_utf8 bytes)) [
   | inl is ↦ absurd (none (IsUtf8-from_is_utf8 bytes is))
   | inr not ↦
       let toml : BookFault = record { why = why.Toml; account = None } in
-      first_found (λ demand. IsTrue demand.met) (book_demands bytes) (must false toml)
+      found_is_first (λ demand. IsTrue demand.met) (book_demands bytes) (must false toml)
       (inl (ap (λ test. must test toml) not, λ met. both_ways (is_utf8 bytes) not met))
 ]
 
 -- where bytes were read that are not UTF-8, the fault is one of a book that can't be held
-pub no_utf8 : {File T E : Type 0} (bytes_of : File → Option (List ℕ)) (path bytes : List ℕ) (number : ℕ) (result : Result T E) (error : E)
+pub non_utf8_prevents_opening : {File T E : Type 0} (bytes_of : File → Option (List ℕ)) (path bytes : List ℕ) (number : ℕ)
+    (result : Result T E) (error : E)
     → IsRead bytes_of bytes
     → (IsUtf8 bytes → IsOk result) → result ≡ Err error → number ≡ book_why_number why.Toml → CannotOpenBook bytes_of path (BadBook number)
-no_utf8 bytes_of path bytes number result error read all is numbered =
+non_utf8_prevents_opening bytes_of path bytes number result error read all is numbered =
     inr (
       bytes,
       record { why = why.Toml; account = None },
       read,
-      not_utf8 bytes (λ utf8. let there = rw is at all utf8 in cc there),
+      non_utf8_is_no_toml bytes (λ utf8. let there = rw is at all utf8 in cc there),
       ap
           (λ n. BadBook n) numbered,
     )

@@ -5,21 +5,21 @@ use Rattle.std.specs.declared.result.Result.{Result}
 use Rattle.std.specs.declared.result.Result.TheVariants.{Ok, Err}
 
 -- where a result is Ok, a fact that follows from two others, each of which holds of an Ok, holds of it
-pub on_ok_both : {T E P Q R : Type 0} (result : Result T E) → OnOk result P → OnOk result Q → (P → Q → R) → OnOk result R
-on_ok_both (Ok x) p q follows = follows p q
-on_ok_both (Err e) p q follows = tt
+pub on_ok_from_both : {T E P Q R : Type 0} (result : Result T E) → OnOk result P → OnOk result Q → (P → Q → R) → OnOk result R
+on_ok_from_both (Ok x) p q follows = follows p q
+on_ok_from_both (Err e) p q follows = tt
 
 -- where a result is Ok, what follows from a fact of its value, and from another fact that holds then, holds of its value
-pub if_ok_and : {T E : Type 0} (result : Result T E) (fact more : T → Type 0) (done : Type 0) → IfOk result fact → OnOk result done
+pub if_ok_from_both : {T E : Type 0} (result : Result T E) (fact more : T → Type 0) (done : Type 0) → IfOk result fact → OnOk result done
     → ((x : T) → fact x → done → more x) → IfOk result more
-if_ok_and (Ok x) fact more done is did follows = follows x is did
-if_ok_and (Err e) fact more done is did follows = tt
+if_ok_from_both (Ok x) fact more done is did follows = follows x is did
+if_ok_from_both (Err e) fact more done is did follows = tt
 
 -- what holds of each Ok, and what holds of `Ok true` alone, hold together
-pub if_ok_both_ways : {R E : Type 0} (P : Type 0) (result : Result Bool E) → OnOk result P → (result ≡ Ok true → R)
+pub if_ok_and_if_true : {R E : Type 0} (P : Type 0) (result : Result Bool E) → OnOk result P → (result ≡ Ok true → R)
     → IfOk result (λ answer. P × (answer ≡ true → R))
-if_ok_both_ways P (Ok answer) always true_alone = (always, λ is. true_alone (ap (λ (b : Bool). Ok b) is))
-if_ok_both_ways P (Err e) always true_alone = tt
+if_ok_and_if_true P (Ok answer) always true_alone = (always, λ is. true_alone (ap (λ (b : Bool). Ok b) is))
+if_ok_and_if_true P (Err e) always true_alone = tt
 
 -- two facts that each error has hold together of the error
 pub if_err_both : {T E : Type 0} (P S : E → Type 0) (result : Result T E) → IfErr result P → IfErr result S
@@ -28,12 +28,13 @@ if_err_both P S (Ok x) one two = tt
 if_err_both P S (Err e) one two = (one, two)
 
 -- a fact of every error, one of this error alone, and one more of every error hold together
-pub all_of_error : {T E Q : Type 0} (r : Result T E) (one : E) (P S : E → Type 0) → IfErr r P → (r ≡ Err one → Q) → IfErr r S
+pub if_err_all_three : {T E Q : Type 0} (r : Result T E) (one : E) (P S : E → Type 0) → IfErr r P → (r ≡ Err one → Q) → IfErr r S
     → IfErr r (λ e. P e × (e ≡ one → Q) × S e)
-all_of_error (Ok value) one P S all this more = tt
-all_of_error (Err e) one P S all this more = (all, (λ is. this (ap Err is)), more)
+if_err_all_three (Ok value) one P S all this more = tt
+if_err_all_three (Err e) one P S all this more = (all, (λ is. this (ap Err is)), more)
 
 -- what holds of a fault holds of it where it is handed on
-pub handed_on : {T E : Type 0} (r : Result T E) (fault : E) (Fact : E → Type 0) → IsErrAnd r (λ e. e ≡ fault) → Fact fault → IfErr r Fact
-handed_on (Ok value) fault Fact is fact = absurd is
-handed_on (Err e) fault Fact is fact = subst Fact (sym is) fact
+pub handed_fault_keeps_fact : {T E : Type 0} (r : Result T E) (fault : E) (Fact : E → Type 0) → IsErrAnd r (λ e. e ≡ fault) → Fact fault
+    → IfErr r Fact
+handed_fault_keeps_fact (Ok value) fault Fact is fact = absurd is
+handed_fault_keeps_fact (Err e) fault Fact is fact = subst Fact (sym is) fact

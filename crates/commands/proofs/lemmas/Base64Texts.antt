@@ -10,60 +10,61 @@ use Rattle.scram_text.specs.Base64Field.{base64}
 use Rattle.std.proofs.lemmas.Bool.{and_parts}
 
 -- where all symbols of a list pass a test, the one at each index does
-symbol_is : (test : ℕ → Bool) (symbols : List ℕ) (k : ℕ) → k < length symbols → list_all test symbols ≡ true
+symbol_at_index_passes_test : (test : ℕ → Bool) (symbols : List ℕ) (k : ℕ) → k < length symbols → list_all test symbols ≡ true
     → test (slice_index symbols k) ≡ true
-symbol_is test [] k short all = absurd (omega (arith, short))
-symbol_is test (c ∷ symbols) zero short all = (and_parts (test c) (list_all test symbols) all).0
-symbol_is test (c ∷ symbols) (suc k) short all =
-    symbol_is test symbols k (omega (arith, short)) (and_parts (test c) (list_all test symbols) all).1
+symbol_at_index_passes_test test [] k short all = absurd (omega (arith, short))
+symbol_at_index_passes_test test (c ∷ symbols) zero short all = (and_parts (test c) (list_all test symbols) all).0
+symbol_at_index_passes_test test (c ∷ symbols) (suc k) short all =
+    symbol_at_index_passes_test test symbols k (omega (arith, short)) (and_parts (test c) (list_all test symbols) all).1
 
 -- the 64 symbols
 abbrev table : List ℕ
 table = standard.encode_table
 
 -- where the 64 symbols pass a test, the one at each index does
-standard_symbol : (test : ℕ → Bool) → list_all test table ≡ true → (k : ℕ) → k < 64 → test (slice_index table k) ≡ true
-standard_symbol test all k short = symbol_is test table k short all
+standard_symbol_passes_test : (test : ℕ → Bool) → list_all test table ≡ true → (k : ℕ) → k < 64 → test (slice_index table k) ≡ true
+standard_symbol_passes_test test all k short = symbol_at_index_passes_test test table k short all
 
 -- where the 64 symbols pass a test, so do those of the text of bytes
-symbols_are : (test : ℕ → Bool) → list_all test table ≡ true → (bytes : List ℕ) → IsBytes bytes
+symbols_pass_test : (test : ℕ → Bool) → list_all test table ≡ true → (bytes : List ℕ) → IsBytes bytes
     → list_all test (encode_symbols table bytes) ≡ true
 unfolding encode_symbols
-symbols_are test all [] fits = refl
-symbols_are test all (a ∷ []) fits =
+symbols_pass_test test all [] fits = refl
+symbols_pass_test test all (a ∷ []) fits =
     let a_fits : a < 256 = fits 0 in
-    rw (standard_symbol test all (a / 4) (omega (arith, a_fits)), standard_symbol test all (a % 4 * 16) (omega arith)) refl
-symbols_are test all (a ∷ b ∷ []) fits =
+    rw (standard_symbol_passes_test test all (a / 4) (omega (arith, a_fits)), standard_symbol_passes_test test all (a % 4 * 16)
+        (omega arith)) refl
+symbols_pass_test test all (a ∷ b ∷ []) fits =
     let a_fits : a < 256 = fits 0 in
     let b_fits : b < 256 = fits 1 in
     rw (
-      standard_symbol test all (a / 4) (omega (arith, a_fits)),
-      standard_symbol test all (a % 4 * 16 + b / 16) (omega (arith, b_fits)),
-      standard_symbol test all (b % 16 * 4) (omega arith),
+      standard_symbol_passes_test test all (a / 4) (omega (arith, a_fits)),
+      standard_symbol_passes_test test all (a % 4 * 16 + b / 16) (omega (arith, b_fits)),
+      standard_symbol_passes_test test all (b % 16 * 4) (omega arith),
     ) refl
-symbols_are test all (a ∷ b ∷ c ∷ rest) fits =
+symbols_pass_test test all (a ∷ b ∷ c ∷ rest) fits =
     let a_fits : a < 256 = fits 0 in
     let b_fits : b < 256 = fits 1 in
     let c_fits : c < 256 = fits 2 in
     rw (
-      standard_symbol test all (a / 4) (omega (arith, a_fits)),
-      standard_symbol test all (a % 4 * 16 + b / 16) (omega (arith, b_fits)),
-      standard_symbol test all (b % 16 * 4 + c / 64) (omega (arith, c_fits)),
-      standard_symbol test all (c % 64) (omega arith),
-    ) (symbols_are test all rest (λ i. fits (suc (suc (suc i)))))
+      standard_symbol_passes_test test all (a / 4) (omega (arith, a_fits)),
+      standard_symbol_passes_test test all (a % 4 * 16 + b / 16) (omega (arith, b_fits)),
+      standard_symbol_passes_test test all (b % 16 * 4 + c / 64) (omega (arith, c_fits)),
+      standard_symbol_passes_test test all (c % 64) (omega arith),
+    ) (symbols_pass_test test all rest (λ i. fits (suc (suc (suc i)))))
 
 -- where the padding's byte passes a test, so does the padding
-padding_is : (test : ℕ → Bool) → test 61 ≡ true → (n : ℕ) → list_all test (replicate n 61) ≡ true
-padding_is test pads zero = refl
-padding_is test pads (suc n) = rw pads (padding_is test pads n)
+padding_passes_test : (test : ℕ → Bool) → test 61 ≡ true → (n : ℕ) → list_all test (replicate n 61) ≡ true
+padding_passes_test test pads zero = refl
+padding_passes_test test pads (suc n) = rw pads (padding_passes_test test pads n)
 
 -- where the 64 symbols and the padding's byte pass a test, so does the base64 of bytes
-pub base64_all : (test : ℕ → Bool) → list_all test standard.encode_table ≡ true → test 61 ≡ true → (bytes : List ℕ) → IsBytes bytes
+pub base64_passes_test : (test : ℕ → Bool) → list_all test standard.encode_table ≡ true → test 61 ≡ true → (bytes : List ℕ) → IsBytes bytes
     → list_all test (base64 bytes) ≡ true
 unfolding base64
-base64_all test all pads bytes fits =
+base64_passes_test test all pads bytes fits =
     rw (
       list_all-append test (encode_symbols table bytes) (replicate (padding_len (length bytes)) 61),
-      symbols_are test all bytes fits,
-      padding_is test pads (padding_len (length bytes)),
+      symbols_pass_test test all bytes fits,
+      padding_passes_test test pads (padding_len (length bytes)),
     ) refl

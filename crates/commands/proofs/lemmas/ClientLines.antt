@@ -24,10 +24,11 @@ use Rattle.commands.specs.declared.login.client_end.Stage.{Stage}
 use Rattle.commands.specs.declared.login.client_end.Stage.TheVariants.{Silent, Begun, Proved, Over}
 
 -- the mechanism that is asked for, or else the best one that is offered, is the one that is to be taken
-pub chosen : (asked best : Option Mechanism) (names : List ℕ) (mechanism : Mechanism) → option_or asked best ≡ Some mechanism
+pub asked_or_best_is_chosen : (asked best : Option Mechanism) (names : List ℕ) (mechanism : Mechanism)
+    → option_or asked best ≡ Some mechanism
     → IfSome best (λ one. IsOffered one names) → (IsOffered ScramSha256 names → best ≡ Some ScramSha256) → IsChosen asked names mechanism
-chosen (Some asked) best names mechanism is offered preferred = cc is
-chosen None best names mechanism is offered preferred = (
+asked_or_best_is_chosen (Some asked) best names mechanism is offered preferred = cc is
+asked_or_best_is_chosen None best names mechanism is offered preferred = (
   subst (λ (o : Option Mechanism). IfSome o (λ one. IsOffered one names)) is offered,
   λ has. cc (is, preferred has),
 )
@@ -40,10 +41,11 @@ says_weaker LoggedIn fact other follows says = tt
 says_weaker Leaves fact other follows says = tt
 
 -- what a client may say from the stage where it stands, it may say from an equal stage
-may_say : (client : ClientEnd) (old stage new : Stage) (told : List ℕ) (result : Result Next Fault) (fact : List ℕ → Type 0) → old ≡ stage
+next_may_be_said : (client : ClientEnd) (old stage new : Stage) (told : List ℕ) (result : Result Next Fault) (fact : List ℕ → Type 0)
+    → old ≡ stage
     → ((said : List ℕ) → fact said → MaySay client stage told said new) → IfOk result (λ next. IfSays next fact)
     → IfOk result (λ next. IfSays next (λ said. MaySay client old told said new))
-may_say client old stage new told result fact is follows says =
+next_may_be_said client old stage new told result fact is follows says =
     IfOk-weaker result _ _
     (λ next. says_weaker next _ _ (λ said holds. subst (λ (s : Stage). MaySay client s told said new) (sym is) (follows said holds)))
     says
@@ -54,7 +56,7 @@ pub beginning_may_be_said : (client : ClientEnd) (old new : Stage) (told names :
     → IfOk result (λ next. IfSays next (λ said. BeginsLogin client.user client.nonce names said new))
     → IfOk result (λ next. IfSays next (λ said. MaySay client old told said new))
 beginning_may_be_said client old new told names result is line says =
-    may_say client old Silent new told result _ is (λ said begins. (names, line, begins)) says
+    next_may_be_said client old Silent new told result _ is (λ said begins. (names, line, begins)) says
 
 -- a client that waits for the challenge may say its answer to the one that it was told
 pub answer_may_be_said : (client : ClientEnd) (one : ClientOne) (old new : Stage) (told server_first : List ℕ) (result : Result Next Fault)
@@ -64,20 +66,20 @@ pub answer_may_be_said : (client : ClientEnd) (one : ClientOne) (old new : Stage
     → AnswersChallenge login client.password server_first said new))
     → IfOk result (λ next. IfSays next (λ said. MaySay client old told said new))
 answer_may_be_said client one old new told server_first result is line says =
-    may_say client old (Begun one) new told result _ is (λ said answers. (server_first, line, answers)) says
+    next_may_be_said client old (Begun one) new told result _ is (λ said answers. (server_first, line, answers)) says
 
 -- a client that says nothing says only what it may
-pub silence_may_be : (client : ClientEnd) (old new : Stage) (told : List ℕ) (result : Result Next Fault)
+pub silence_may_be_kept : (client : ClientEnd) (old new : Stage) (told : List ℕ) (result : Result Next Fault)
     → IfOk result (λ next. IfSays next (λ said. ⊥)) → IfOk result (λ next. IfSays next (λ said. MaySay client old told said new))
-silence_may_be client old new told result silent =
+silence_may_be_kept client old new told result silent =
     IfOk-weaker result _ _ (λ next. says_weaker next _ _ (λ said never. absurd never)) silent
 
 -- no mechanism is taken where none is asked for and none is offered
-pub none_chosen : (asked best : Option Mechanism) (names : List ℕ) (mechanism : Mechanism) → option_or asked best ≡ None
+pub no_mechanism_is_chosen : (asked best : Option Mechanism) (names : List ℕ) (mechanism : Mechanism) → option_or asked best ≡ None
     → IfNone best ((one : Mechanism) → IsOffered one names → ⊥) → IsChosen asked names mechanism → ⊥
-none_chosen (Some one) best names mechanism is none chosen = cc is
-none_chosen None None names mechanism is none chosen = none mechanism chosen.0
-none_chosen None (Some one) names mechanism is none chosen = cc is
+no_mechanism_is_chosen (Some one) best names mechanism is none chosen = cc is
+no_mechanism_is_chosen None None names mechanism is none chosen = none mechanism chosen.0
+no_mechanism_is_chosen None (Some one) names mechanism is none chosen = cc is
 
 -- a client at this stage may go on at this line of the server
 abbrev pub IsDueTo : Stage → ServerLine → Type 0
@@ -92,39 +94,39 @@ LeavesAt client stage told = HasItsLogin stage → ((said : List ℕ) (new : Sta
     × (ShowsKeys stage told → ⊥)
 
 -- what makes a client leave at a stage makes it leave where it stands at that stage
-leaves_at : (client : ClientEnd) (stage : Stage) (told : List ℕ) → client.stage ≡ stage → LeavesAt client stage told
+stage_makes_client_leave : (client : ClientEnd) (stage : Stage) (told : List ℕ) → client.stage ≡ stage → LeavesAt client stage told
     → HasToLeave client told
-leaves_at client stage told is leaves = subst (λ (s : Stage). LeavesAt client s told) (sym is) leaves
+stage_makes_client_leave client stage told is leaves = subst (λ (s : Stage). LeavesAt client s told) (sym is) leaves
 
 -- a client that was told no line at which it may go on has to leave
-not_due : (client : ClientEnd) (stage : Stage) (told : List ℕ)
+undue_line_makes_client_leave : (client : ClientEnd) (stage : Stage) (told : List ℕ)
     → ((line : ServerLine) → IsLine told (from_server line) → IsDueTo stage line → ⊥)
     → LeavesAt client stage told
-not_due client Silent told none stands = (λ said new may. none (mechs may.0) may.1 tt, λ shows. shows)
-not_due client (Begun one) told none stands = (λ said new may. none (cont may.0) may.1 tt, λ shows. shows)
-not_due client (Proved two) told none stands = (λ said new never. never, λ shows. none (accepts shows.0) shows.1 tt)
-not_due client Over told none stands = (λ said new never. never, λ shows. shows)
+undue_line_makes_client_leave client Silent told none stands = (λ said new may. none (mechs may.0) may.1 tt, λ shows. shows)
+undue_line_makes_client_leave client (Begun one) told none stands = (λ said new may. none (cont may.0) may.1 tt, λ shows. shows)
+undue_line_makes_client_leave client (Proved two) told none stands = (λ said new never. never, λ shows. none (accepts shows.0) shows.1 tt)
+undue_line_makes_client_leave client Over told none stands = (λ said new never. never, λ shows. shows)
 
 -- a client has to leave where it is told something that is no line of the server
-pub leaves_at_no_line : (client : ClientEnd) (told : List ℕ) → ((line : ServerLine) → IsLine told (from_server line) → ⊥)
+pub no_line_makes_client_leave : (client : ClientEnd) (told : List ℕ) → ((line : ServerLine) → IsLine told (from_server line) → ⊥)
     → HasToLeave client told
-leaves_at_no_line client told none = not_due client client.stage told (λ line is due. none line is)
+no_line_makes_client_leave client told none = undue_line_makes_client_leave client client.stage told (λ line is due. none line is)
 
 -- a text is one line of the server at most
-same_told : (told : List ℕ) (one other : ServerLine) → IsLine told (from_server one) → IsLine told (from_server other) → one ≡ other
-same_told told one other is also = let same = one_line told (from_server one) (from_server other) is also in cc same
+one_server_line : (told : List ℕ) (one other : ServerLine) → IsLine told (from_server one) → IsLine told (from_server other) → one ≡ other
+one_server_line told one other is also = let same = one_line told (from_server one) (from_server other) is also in cc same
 
 -- a client that leaves after an offer leaves where it has to: the offer has no mechanism that it takes
-pub leaves_unoffered : (client : ClientEnd) (told names : List ℕ) (result : Result Next Fault) → client.stage ≡ Silent
+pub offer_leaver_has_to_leave : (client : ClientEnd) (told names : List ℕ) (result : Result Next Fault) → client.stage ≡ Silent
     → IsLine told (from_server (mechs names))
     → IfOk result (λ next. next ≡ Leaves → (mechanism : Mechanism) → IsChosen client.user.mechanism names mechanism → ⊥)
     → IfOk result (λ next. next ≡ Leaves → HasToLeave client told)
-leaves_unoffered client told names result is line leaves =
+offer_leaver_has_to_leave client told names result is line leaves =
     IfOk-weaker result _ _
-    (λ next none left. leaves_at client Silent told is (λ stands. (
+    (λ next none left. stage_makes_client_leave client Silent told is (λ stands. (
       λ said new may.
           let (others, also, begins) = may in
-          let same = same_told told (mechs others) (mechs names) also line in
+          let same = one_server_line told (mechs others) (mechs names) also line in
           let are : others ≡ names = cc same in
           none left begins.login.mechanism
           (subst (λ (n : List ℕ). IsChosen client.user.mechanism n begins.login.mechanism) are begins.is_mechanism),
@@ -132,19 +134,19 @@ leaves_unoffered client told names result is line leaves =
     ))) leaves
 
 -- a client that leaves after a challenge leaves where it has to: the challenge is none that it answers
-pub leaves_unanswered : (client : ClientEnd) (one : ClientOne) (told server_first : List ℕ) (result : Result Next Fault)
+pub challenge_leaver_has_to_leave : (client : ClientEnd) (one : ClientOne) (told server_first : List ℕ) (result : Result Next Fault)
     → client.stage ≡ Begun one
     → IsLine told (from_server (cont server_first))
     → IfOk result (λ next. next ≡ Leaves → (login : Started) → IsStarted one login
     → (parts : ServerFirstParts) → IsAnswerable login.limits login.nonce server_first parts → ⊥)
     → IfOk result (λ next. next ≡ Leaves → HasToLeave client told)
-leaves_unanswered client one told server_first result is line leaves =
+challenge_leaver_has_to_leave client one told server_first result is line leaves =
     IfOk-weaker result _ _
-    (λ next none left. leaves_at client (Begun one) told is (λ stands. (
+    (λ next none left. stage_makes_client_leave client (Begun one) told is (λ stands. (
       λ said new may.
           let (login, started) = stands in
           let (other, also, answers) = may in
-          let same = same_told told (cont other) (cont server_first) also line in
+          let same = one_server_line told (cont other) (cont server_first) also line in
           let are : other ≡ server_first = cc same in
           let answer = answers login started in
           none left login started answer.challenge
@@ -153,19 +155,19 @@ leaves_unanswered client one told server_first result is line leaves =
     ))) leaves
 
 -- a client that leaves after an acceptance leaves where it has to: the message bears no signature that it expects
-pub leaves_unproved : (client : ClientEnd) (two : ClientTwo) (told message : List ℕ) (result : Result Next Fault)
+pub acceptance_leaver_has_to_leave : (client : ClientEnd) (two : ClientTwo) (told message : List ℕ) (result : Result Next Fault)
     → client.stage ≡ Proved two
     → IsLine told (from_server (accepts message))
     → IfOk result (λ next. next ≡ Leaves → (l : Answered) (x : IsExpecting two l) → IsAuthentic message x.signature → ⊥)
     → IfOk result (λ next. next ≡ Leaves → HasToLeave client told)
-leaves_unproved client two told message result is line leaves =
+acceptance_leaver_has_to_leave client two told message result is line leaves =
     IfOk-weaker result _ _
-    (λ next none left. leaves_at client (Proved two) told is (λ stands. (
+    (λ next none left. stage_makes_client_leave client (Proved two) told is (λ stands. (
       λ said new never. never,
       λ shows.
           let (login, expecting) = stands in
           let (other, also, keys) = shows in
-          let same = same_told told (accepts other) (accepts message) also line in
+          let same = one_server_line told (accepts other) (accepts message) also line in
           let are : other ≡ message = cc same in
           none left login expecting (subst (λ (text : List ℕ). IsAuthentic text expecting.signature) are (keys login expecting)),
     ))) leaves

@@ -3,7 +3,7 @@
 use Rattle.std.proofs.Common.{◌≡◌, ◌⊎◌, inl, inr, ℕ, List, Option, ap, ◌∙◌, sym, subst}
 use Rattle.book_format.specs.declared.fault.BookWhy.{BookWhy}
 use Rattle.book_format.specs.declared.fault.BookWhy.TheVariants as why
-use Rattle.command_line.specs.Fault.{IsUnwritten, fault_of_book_why}
+use Rattle.command_line.specs.Fault.{IsFileUnwritten, fault_of_book_why}
 use Rattle.command_line.specs.declared.fault.Fault.{Fault}
 use Rattle.command_line.specs.declared.fault.Fault.TheVariants.{BadEvent}
 use Rattle.sasl_log.specs.Sink.{SinkFacts}
@@ -12,38 +12,42 @@ use Rattle.commands.specs.Hall.{StopsHearing}
 use Rattle.commands.specs.PrintedLog.{FailsToBegin, IsUnsavedOrUnlogged, StopsAfter}
 
 -- where a desk or a hall can't begin, nothing was printed, or the output can't be written, by the output before and after
-pub fails_to_begin : (path : List ℕ) (old new : SinkFacts) (fault : Fault) (before after : Option (List ℕ)) (Printed : Type 0)
+pub failed_begin_prints_nothing : (path : List ℕ) (old new : SinkFacts) (fault : Fault) (before after : Option (List ℕ)) (Printed : Type 0)
     → old.given ≡ before
     → after ≡ new.given → FailsToBegin path old new fault → StopsAfter fault before after Printed
-fails_to_begin path old new fault before after Printed was is (inl (output, failed)) = inl (inl output)
-fails_to_begin path old new fault before after Printed was is (inr (same, unwritten)) =
+failed_begin_prints_nothing path old new fault before after Printed was is (inl (output, failed)) = inl (inl output)
+failed_begin_prints_nothing path old new fault before after Printed was is (inr (same, unwritten)) =
     inl (inr (is ∙ (ap (λ (f : SinkFacts). f.given) same ∙ was)))
 
 -- the fault of a desk or a hall that can't begin is not that of a bad event
-pub begins_with_no_event : (path : List ℕ) (old new : SinkFacts) (fault : Fault) → FailsToBegin path old new fault → fault ≡ BadEvent → ⊥
-begins_with_no_event path old new fault (inl (output, failed)) is = cc (output, is)
-begins_with_no_event path old new fault (inr (same, unwritten)) is = let wrong = subst (IsUnwritten path) is unwritten in cc wrong
+pub failed_begin_excludes_bad_event : (path : List ℕ) (old new : SinkFacts) (fault : Fault) → FailsToBegin path old new fault
+    → fault ≡ BadEvent → ⊥
+failed_begin_excludes_bad_event path old new fault (inl (output, failed)) is = cc (output, is)
+failed_begin_excludes_bad_event path old new fault (inr (same, unwritten)) is =
+    let wrong = subst (IsFileUnwritten path) is unwritten in cc wrong
 
 -- no fault that says why a text is no book is that of a bad event
-no_why : (reason : BookWhy) → fault_of_book_why reason ≡ BadEvent → ⊥
-no_why why.NoMemory is = cc is
-no_why reason is = cc is
+book_why_excludes_bad_event : (reason : BookWhy) → fault_of_book_why reason ≡ BadEvent → ⊥
+book_why_excludes_bad_event why.NoMemory is = cc is
+book_why_excludes_bad_event reason is = cc is
 
 -- the fault of a book that can't be held or read is not that of a bad event
-pub holds_no_event : {File : Type 0} (bytes_of : File → Option (List ℕ)) (path : List ℕ) (fault : Fault) → CannotOpenBook bytes_of path fault
+pub unopened_book_excludes_bad_event : {File : Type 0} (bytes_of : File → Option (List ℕ)) (path : List ℕ) (fault : Fault)
+    → CannotOpenBook bytes_of path fault
     → fault ≡ BadEvent → ⊥
-holds_no_event bytes_of path fault (inl held) is = let wrong = subst (CannotHold path) is held in cc wrong
-holds_no_event bytes_of path fault (inr (text, found, read, first, by)) is = no_why found.why (sym by ∙ is)
+unopened_book_excludes_bad_event bytes_of path fault (inl held) is = let wrong = subst (CannotHold path) is held in cc wrong
+unopened_book_excludes_bad_event bytes_of path fault (inr (text, found, read, first, by)) is =
+    book_why_excludes_bad_event found.why (sym by ∙ is)
 
 -- the fault of a bad event, of an unsaved book or of a failed log is one at which a hall stops hearing
-pub stops_hearing : (path : List ℕ) (log : SinkFacts) (fault : Fault) → (fault ≡ BadEvent) ⊎ IsUnsavedOrUnlogged path log fault
+pub line_fault_stops_hearing : (path : List ℕ) (log : SinkFacts) (fault : Fault) → (fault ≡ BadEvent) ⊎ IsUnsavedOrUnlogged path log fault
     → StopsHearing path fault
-stops_hearing path log fault (inl bad) = inr (inl bad)
-stops_hearing path log fault (inr (inl unwritten)) = inr (inr (inl unwritten))
-stops_hearing path log fault (inr (inr (output, failed))) = inr (inr (inr output))
+line_fault_stops_hearing path log fault (inl bad) = inr (inl bad)
+line_fault_stops_hearing path log fault (inr (inl unwritten)) = inr (inr (inl unwritten))
+line_fault_stops_hearing path log fault (inr (inr (output, failed))) = inr (inr (inr output))
 
 -- a fault by which a hall can't begin is one at which it stops hearing
-pub cannot_begin_stops_hearing : (path : List ℕ) (old new : SinkFacts) (fault : Fault) → FailsToBegin path old new fault
+pub failed_begin_stops_hearing : (path : List ℕ) (old new : SinkFacts) (fault : Fault) → FailsToBegin path old new fault
     → StopsHearing path fault
-cannot_begin_stops_hearing path old new fault (inl (output, failed)) = inr (inr (inr output))
-cannot_begin_stops_hearing path old new fault (inr (same, unwritten)) = inr (inr (inl unwritten))
+failed_begin_stops_hearing path old new fault (inl (output, failed)) = inr (inr (inr output))
+failed_begin_stops_hearing path old new fault (inr (same, unwritten)) = inr (inr (inl unwritten))

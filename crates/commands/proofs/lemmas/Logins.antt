@@ -20,7 +20,7 @@ use Rattle.sasl_desk.specs.declared.desk.state.State.{State}
 use Rattle.sasl_desk.specs.declared.fault.ServeFault.{ServeFault}
 use Rattle.sasl_desk.specs.declared.fault.ServeFault.TheVariants.{Halted, Unwritable, NoMemory, WriteFault, LogFault}
 use Rattle.sasl_desk.proofs.lemmas.runs.Bytes.{log_bytes-append}
-use Rattle.command_line.specs.Fault.{IsUnwritten}
+use Rattle.command_line.specs.Fault.{IsFileUnwritten}
 use Rattle.command_line.specs.declared.fault.Fault.{Fault}
 use Rattle.command_line.specs.declared.fault.Fault.TheVariants.{NoMemory as OutOfMemory}
 use Rattle.commands.specs.DeskLog.{HasSavedLog, IsRequestWith, IsDeskLog, StaysItsLog, StaysItsLogWith, IsLogAfterFault, IsLogAfterFaultWith}
@@ -31,13 +31,13 @@ use Rattle.commands.specs.Talked.{Talked}
 use Rattle.commands.specs.declared.login.client_end.User.{User}
 
 -- where a log took the lines of one more call of its desk, it stays the desk's log
-one_more : {S : Type 0} (facts : S → StoreFacts) (IsStored : List ℕ → Type 0) (IsNow : ℕ → Type 0) (server_nonce : List ℕ)
+next_call_keeps_log : {S : Type 0} (facts : S → StoreFacts) (IsStored : List ℕ → Type 0) (IsNow : ℕ → Type 0) (server_nonce : List ℕ)
     (old new : Desk S)
     (request : Request) (lines : List LogLine) (log log' : SinkFacts)
     → IsRequestWith server_nonce IsNow request → ((start : BookFields) (calls : List Call) → IsDeskAfter facts IsStored start calls old
     → IsDeskAfter facts IsStored start (call_of request lines ∷ calls) new)
     → Appends log.given log'.given (log_bytes lines) → StaysItsLogWith facts IsStored IsNow server_nonce old log new log'
-one_more facts IsStored IsNow server_nonce old new request lines log log' is stands more start before l = record {
+next_call_keeps_log facts IsStored IsNow server_nonce old new request lines log log' is stands more start before l = record {
   calls = call_of request lines ∷ l.calls;
   stands = stands start l.calls l.stands;
   requests = (is, l.requests);
@@ -46,14 +46,14 @@ one_more facts IsStored IsNow server_nonce old new request lines log log' is sta
 }
 
 -- where a log took what its desk wrote into an empty buffer, it stays the desk's log
-pub answered_log : {S : Type 0} (facts : S → StoreFacts) (IsStored : List ℕ → Type 0) (IsNow : ℕ → Type 0) (server_nonce : List ℕ)
+pub greeting_keeps_log : {S : Type 0} (facts : S → StoreFacts) (IsStored : List ℕ → Type 0) (IsNow : ℕ → Type 0) (server_nonce : List ℕ)
     (old new : Desk S)
     (wire wire' none written : List ℕ) (log log' : SinkFacts)
     → Answers facts IsStored old (greets server_nonce) wire wire' none written new → none ≡ [] → Appends log.given log'.given written
     → StaysItsLogWith facts IsStored IsNow server_nonce old log new log'
-answered_log facts IsStored IsNow server_nonce old new wire wire' none written log log' a empty put =
+greeting_keeps_log facts IsStored IsNow server_nonce old new wire wire' none written log log' a empty put =
     let are : written ≡ log_bytes a.lines = a.logged ∙ ap (λ (l : List ℕ). l ++ log_bytes a.lines) empty in
-    one_more facts IsStored IsNow server_nonce old new (greets server_nonce) a.lines log log' refl a.stands
+    next_call_keeps_log facts IsStored IsNow server_nonce old new (greets server_nonce) a.lines log log' refl a.stands
     (subst (λ (bytes : List ℕ). Appends log.given log'.given bytes) are put)
 
 -- a desk with this book, store and state
@@ -61,9 +61,10 @@ abbrev desk_with : {S : Type 0} → (book : BookFields) → (store : S) → Stat
 desk_with book store state = record { keeper = record { book = book; store = store }; state = state }
 
 -- where a desk stays the same and its log took nothing, it stays the desk's log
-same_log : {S : Type 0} (facts : S → StoreFacts) (IsStored : List ℕ → Type 0) (IsNow : ℕ → Type 0) (old new : Desk S) (log log' : SinkFacts)
+same_desk_keeps_log : {S : Type 0} (facts : S → StoreFacts) (IsStored : List ℕ → Type 0) (IsNow : ℕ → Type 0) (old new : Desk S)
+    (log log' : SinkFacts)
     → IsSameDesk old new → log' ≡ log → StaysItsLog facts IsStored IsNow old log new log'
-same_log {S} facts IsStored IsNow old new log log' same unlogged server_nonce start before l =
+same_desk_keeps_log {S} facts IsStored IsNow old new log log' same unlogged server_nonce start before l =
     let book = ap (λ (b : BookFields). desk_with b new.keeper.store new.state) same.book in
     let store = ap (λ (s : S). desk_with old.keeper.book s new.state) same.store in
     let state = ap (λ (s : State). desk_with old.keeper.book old.keeper.store s) same.state in
@@ -72,79 +73,89 @@ same_log {S} facts IsStored IsNow old new log log' same unlogged server_nonce st
     subst (λ (k : SinkFacts). IsDeskLog facts IsStored IsNow start before server_nonce new k) (sym unlogged) kept
 
 -- a log stays the desk's after a turn that was served
-pub served_log : {S : Type 0} (facts : S → StoreFacts) (IsStored : List ℕ → Type 0) (IsNow : ℕ → Type 0) (moment : ℕ) (old new : Desk S)
+pub served_turn_keeps_log : {S : Type 0} (facts : S → StoreFacts) (IsStored : List ℕ → Type 0) (IsNow : ℕ → Type 0) (moment : ℕ)
+    (old new : Desk S)
     (input input' : SourceFacts) (wire wire' log log' : SinkFacts)
     → IsTurnServed facts IsStored moment (service_of old input wire log) (service_of new input' wire' log') → IsNow moment
     → StaysItsLog facts IsStored IsNow old log new log'
-served_log facts IsStored IsNow moment old new input input' wire wire' log log' served now server_nonce =
-    one_more facts IsStored IsNow server_nonce old new _ served.done.lines log log' now served.done.answers.stands
+served_turn_keeps_log facts IsStored IsNow moment old new input input' wire wire' log log' served now server_nonce =
+    next_call_keeps_log facts IsStored IsNow server_nonce old new _ served.done.lines log log' now served.done.answers.stands
     served.done.written.by_log
 
 -- after an event that was not done the log is still the desk's, or the fault is that the log has failed
-undone_log : {S : Type 0} (facts : S → StoreFacts) (IsStored : List ℕ → Type 0) (IsNow : ℕ → Type 0) (event : ClientEvent) (moment : ℕ)
+undone_turn_leaves_log : {S : Type 0} (facts : S → StoreFacts) (IsStored : List ℕ → Type 0) (IsNow : ℕ → Type 0) (event : ClientEvent)
+    (moment : ℕ)
     (old new : Desk S) (wire wire' log log' : SinkFacts) (path : List ℕ) (why : ServeFault)
     (fault : Fault) → (why ≢ Halted → IsNow moment) → IsFaultOfServing path why fault
     → IsUndone facts IsStored (hears event moment) old new wire wire' log log' why
     → IsLogAfterFault facts IsStored IsNow old log new log' fault
-undone_log facts IsStored IsNow event moment old new wire wire' log log' path Halted fault now is (same, unsent, unlogged) = inr
-    (same_log facts IsStored IsNow old new log log' same unlogged)
-undone_log facts IsStored IsNow event moment old new wire wire' log log' path NoMemory fault now is (same, unsent, unlogged) = inr
-    (same_log facts IsStored IsNow old new log log' same unlogged)
-undone_log facts IsStored IsNow event moment old new wire wire' log log' path Unwritable fault now never undone = absurd never
-undone_log facts IsStored IsNow event moment old new wire wire' log log' path WriteFault fault now is undone =
-    inr (λ server_nonce. one_more facts IsStored IsNow server_nonce old new (hears event moment) undone.lines log log'
+undone_turn_leaves_log facts IsStored IsNow event moment old new wire wire' log log' path Halted fault now is (same, unsent, unlogged) = inr
+    (same_desk_keeps_log facts IsStored IsNow old new log log' same unlogged)
+undone_turn_leaves_log facts IsStored IsNow event moment old new wire wire' log log' path NoMemory fault now is (same, unsent, unlogged) =
+    inr
+    (same_desk_keeps_log facts IsStored IsNow old new log log' same unlogged)
+undone_turn_leaves_log facts IsStored IsNow event moment old new wire wire' log log' path Unwritable fault now never undone = absurd never
+undone_turn_leaves_log facts IsStored IsNow event moment old new wire wire' log log' path WriteFault fault now is undone =
+    inr (λ server_nonce. next_call_keeps_log facts IsStored IsNow server_nonce old new (hears event moment) undone.lines log log'
     (now (λ same. cc same)) undone.answers.stands undone.logged)
-undone_log facts IsStored IsNow event moment old new wire wire' log log' path LogFault fault now is undone = inl (is, undone.failed)
+undone_turn_leaves_log facts IsStored IsNow event moment old new wire wire' log log' path LogFault fault now is undone =
+    inl (is, undone.failed)
 
 -- where nothing of a service has changed, its log is still the desk's
-unchanged_log : {S : Type 0} (facts : S → StoreFacts) (IsStored : List ℕ → Type 0) (IsNow : ℕ → Type 0) (old new : Service S)
+unchanged_service_leaves_log : {S : Type 0} (facts : S → StoreFacts) (IsStored : List ℕ → Type 0) (IsNow : ℕ → Type 0) (old new : Service S)
     (fault : Fault) → new ≡ old
     → IsLogAfterFault facts IsStored IsNow old.desk old.log new.desk new.log fault
-unchanged_log {S} facts IsStored IsNow old new fault same =
+unchanged_service_leaves_log {S} facts IsStored IsNow old new fault same =
     subst (λ (s : Service S). IsLogAfterFault facts IsStored IsNow old.desk old.log s.desk s.log fault) (sym same)
     (inr (λ server_nonce start before l. l))
 
 -- after a turn that was not served the log is still the desk's, or the fault is that it has failed
-pub unserved_log : {S : Type 0} (facts : S → StoreFacts) (IsStored : List ℕ → Type 0) (IsNow : ℕ → Type 0) (moment : ℕ)
+pub unserved_turn_leaves_log : {S : Type 0} (facts : S → StoreFacts) (IsStored : List ℕ → Type 0) (IsNow : ℕ → Type 0) (moment : ℕ)
     (old new : Service S) (path : List ℕ) (why : ServeFault) (fault : Fault)
     → (why ≢ Halted → IsNow moment) → IsTurnFault facts IsStored moment old new why → IsFaultOfServing path why fault
     → IsLogAfterFault facts IsStored IsNow old.desk old.log new.desk new.log fault
-unserved_log facts IsStored IsNow moment old new path Halted fault now same is = unchanged_log facts IsStored IsNow old new fault same
-unserved_log facts IsStored IsNow moment old new path NoMemory fault now (read, reads, undone) is =
-    undone_log facts IsStored IsNow (event_read read) moment old.desk new.desk old.wire new.wire old.log new.log path NoMemory fault now
+unserved_turn_leaves_log facts IsStored IsNow moment old new path Halted fault now same is =
+    unchanged_service_leaves_log facts IsStored IsNow old new fault same
+unserved_turn_leaves_log facts IsStored IsNow moment old new path NoMemory fault now (read, reads, undone) is =
+    undone_turn_leaves_log facts IsStored IsNow (event_read read) moment old.desk new.desk old.wire new.wire old.log new.log path NoMemory
+        fault now
     is undone
-unserved_log facts IsStored IsNow moment old new path Unwritable fault now served never = absurd never
-unserved_log facts IsStored IsNow moment old new path WriteFault fault now (read, reads, undone) is =
-    undone_log facts IsStored IsNow (event_read read) moment old.desk new.desk old.wire new.wire old.log new.log path WriteFault fault now
+unserved_turn_leaves_log facts IsStored IsNow moment old new path Unwritable fault now served never = absurd never
+unserved_turn_leaves_log facts IsStored IsNow moment old new path WriteFault fault now (read, reads, undone) is =
+    undone_turn_leaves_log facts IsStored IsNow (event_read read) moment old.desk new.desk old.wire new.wire old.log new.log path WriteFault
+        fault now
     is undone
-unserved_log facts IsStored IsNow moment old new path LogFault fault now (read, reads, undone) is =
-    undone_log facts IsStored IsNow (event_read read) moment old.desk new.desk old.wire new.wire old.log new.log path LogFault fault now
+unserved_turn_leaves_log facts IsStored IsNow moment old new path LogFault fault now (read, reads, undone) is =
+    undone_turn_leaves_log facts IsStored IsNow (event_read read) moment old.desk new.desk old.wire new.wire old.log new.log path LogFault
+        fault now
     is undone
 
 -- what stays a desk's log in two steps, one after the other, stays its log
-pub stays_twice : {S : Type 0} (facts : S → StoreFacts) (IsStored : List ℕ → Type 0) (IsNow : ℕ → Type 0) (server_nonce : List ℕ)
+pub two_steps_keep_log : {S : Type 0} (facts : S → StoreFacts) (IsStored : List ℕ → Type 0) (IsNow : ℕ → Type 0) (server_nonce : List ℕ)
     (old middle new : Desk S) (a b c : SinkFacts)
     → StaysItsLogWith facts IsStored IsNow server_nonce old a middle b → StaysItsLog facts IsStored IsNow middle b new c
     → StaysItsLogWith facts IsStored IsNow server_nonce old a new c
-stays_twice facts IsStored IsNow server_nonce old middle new a b c first second start before l = second server_nonce start before
+two_steps_keep_log facts IsStored IsNow server_nonce old middle new a b c first second start before l = second server_nonce start before
     (first start before l)
 
 -- a fault after a step that keeps the log the desk's, with this part of the nonce, leaves it so, or is that the log has failed
-pub fails_with : {S : Type 0} (facts : S → StoreFacts) (IsStored : List ℕ → Type 0) (IsNow : ℕ → Type 0) (server_nonce : List ℕ)
+pub later_fault_leaves_nonce_log : {S : Type 0} (facts : S → StoreFacts) (IsStored : List ℕ → Type 0) (IsNow : ℕ → Type 0)
+    (server_nonce : List ℕ)
     (old middle new : Desk S) (a b c : SinkFacts) (fault : Fault)
     → StaysItsLogWith facts IsStored IsNow server_nonce old a middle b → IsLogAfterFault facts IsStored IsNow middle b new c fault
     → IsLogAfterFaultWith facts IsStored IsNow server_nonce old a new c fault
-fails_with facts IsStored IsNow server_nonce old middle new a b c fault first (inl failed) = inl failed
-fails_with facts IsStored IsNow server_nonce old middle new a b c fault first (inr second) = inr
-    (stays_twice facts IsStored IsNow server_nonce old middle new a b c first second)
+later_fault_leaves_nonce_log facts IsStored IsNow server_nonce old middle new a b c fault first (inl failed) = inl failed
+later_fault_leaves_nonce_log facts IsStored IsNow server_nonce old middle new a b c fault first (inr second) = inr
+    (two_steps_keep_log facts IsStored IsNow server_nonce old middle new a b c first second)
 
 -- whatever the part of the nonce, a fault after a step that keeps the log the desk's leaves it so, or is that the log has failed
-pub fails_then : {S : Type 0} (facts : S → StoreFacts) (IsStored : List ℕ → Type 0) (IsNow : ℕ → Type 0) (old middle new : Desk S)
+pub later_fault_leaves_log : {S : Type 0} (facts : S → StoreFacts) (IsStored : List ℕ → Type 0) (IsNow : ℕ → Type 0)
+    (old middle new : Desk S)
     (a b c : SinkFacts) (fault : Fault) → StaysItsLog facts IsStored IsNow old a middle b
     → IsLogAfterFault facts IsStored IsNow middle b new c fault → IsLogAfterFault facts IsStored IsNow old a new c fault
-fails_then facts IsStored IsNow old middle new a b c fault first (inl failed) = inl failed
-fails_then facts IsStored IsNow old middle new a b c fault first (inr second) = inr
-    (λ server_nonce. stays_twice facts IsStored IsNow server_nonce old middle new a b c (first server_nonce) second)
+later_fault_leaves_log facts IsStored IsNow old middle new a b c fault first (inl failed) = inl failed
+later_fault_leaves_log facts IsStored IsNow old middle new a b c fault first (inr second) = inr
+    (λ server_nonce. two_steps_keep_log facts IsStored IsNow server_nonce old middle new a b c (first server_nonce) second)
 
 -- after a fault a login has printed nothing, or its saved log, which is a front, or the output can't be written
 pub login_stops_after : {S : Type 0} (facts : S → StoreFacts) (IsStored : List ℕ → Type 0) (IsNow : ℕ → Type 0) (book : BookFields)
@@ -173,21 +184,21 @@ login_stops_after facts IsStored IsNow book server_nonce given before after old 
     )
 
 -- where the log is the desk's and clean, it is printed as the saved log
-pub printed_clean : {S : Type 0} (facts : S → StoreFacts) (IsStored : List ℕ → Type 0) (IsNow : ℕ → Type 0) (book : BookFields)
+pub clean_log_is_printed : {S : Type 0} (facts : S → StoreFacts) (IsStored : List ℕ → Type 0) (IsNow : ℕ → Type 0) (book : BookFields)
     (server_nonce : List ℕ) (given before after : Option (List ℕ)) (old : Desk S) (log : SinkFacts)
     (logged : Option (List ℕ)) → given ≡ before → after ≡ logged → IsDeskLog facts IsStored IsNow book given server_nonce old log
     → ((start : BookFields) (earlier : Option (List ℕ)) → IsDeskLog facts IsStored IsNow start earlier server_nonce old log
     → HasSavedLog IsStored IsNow IsClean start server_nonce earlier logged)
     → HasSavedLog IsStored IsNow IsClean book server_nonce before after
-printed_clean facts IsStored IsNow book server_nonce given before after old log logged was is begun clean =
+clean_log_is_printed facts IsStored IsNow book server_nonce given before after old log logged was is begun clean =
     subst (λ (o : Option (List ℕ)). HasSavedLog IsStored IsNow IsClean book server_nonce before o) (sym is)
     (subst (λ (o : Option (List ℕ)). HasSavedLog IsStored IsNow IsClean book server_nonce o logged) was (clean book given begun))
 
 -- a talk whose codes passed has printed them, after the lines with which the log began
-pub passes_printed : (user : User) (nonce password : List ℕ) (input : Option (List ℕ)) (first last : Talked) (begun : List LogLine)
+pub passing_talk_is_printed : (user : User) (nonce password : List ℕ) (input : Option (List ℕ)) (first last : Talked) (begun : List LogLine)
     (before given after : Option (List ℕ)) → TalkPasses user nonce password input first last → given ≡ before
     → Appends given first.logged (log_bytes begun) → after ≡ last.logged → PrintsPasses user nonce password input before after
-passes_printed user nonce password input first last begun before given after passes was begins is = record {
+passing_talk_is_printed user nonce password input first last begun before given after passes was begins is = record {
   begun = begun;
   first = first;
   last = last;
@@ -197,28 +208,29 @@ passes_printed user nonce password input first last begun before given after pas
 }
 
 -- the fault that memory ran out is one of a file that can't be written, whatever its path
-unwritten : (path : List ℕ) (fault : Fault) → fault ≡ OutOfMemory → IsUnwritten path fault
-unwritten path fault is = subst (λ (f : Fault). IsUnwritten path f) (sym is) refl
+no_memory_is_unwritten : (path : List ℕ) (fault : Fault) → fault ≡ OutOfMemory → IsFileUnwritten path fault
+no_memory_is_unwritten path fault is = subst (λ (f : Fault). IsFileUnwritten path f) (sym is) refl
 
 -- a fault of serving a turn is one of the turn
-pub turn_fault : {S : Type 0} (facts : S → StoreFacts) (IsStored : List ℕ → Type 0) (moment : ℕ) (old new : Service S) (path : List ℕ)
+pub serving_fault_is_in_turn : {S : Type 0} (facts : S → StoreFacts) (IsStored : List ℕ → Type 0) (moment : ℕ) (old new : Service S)
+    (path : List ℕ)
     (fault : ServeFault) (result : Fault)
     → IsTurnFault facts IsStored moment old new fault → IsFaultOfServing path fault result → IsFaultInTurn path new.log result
-turn_fault facts IsStored moment old new path Halted result served is = inr (inl is)
-turn_fault facts IsStored moment old new path Unwritable result served never = absurd never
-turn_fault facts IsStored moment old new path NoMemory result served is = inr (inl (unwritten path result is))
-turn_fault facts IsStored moment old new path WriteFault result served is = inr (inl (unwritten path result is))
-turn_fault facts IsStored moment old new path LogFault result (read, reads, undone) is = inr (inr (is, undone.failed))
+serving_fault_is_in_turn facts IsStored moment old new path Halted result served is = inr (inl is)
+serving_fault_is_in_turn facts IsStored moment old new path Unwritable result served never = absurd never
+serving_fault_is_in_turn facts IsStored moment old new path NoMemory result served is = inr (inl (no_memory_is_unwritten path result is))
+serving_fault_is_in_turn facts IsStored moment old new path WriteFault result served is = inr (inl (no_memory_is_unwritten path result is))
+serving_fault_is_in_turn facts IsStored moment old new path LogFault result (read, reads, undone) is = inr (inr (is, undone.failed))
 
 -- no turn fails for the reason that what is due can't be written
-pub always_writable : {S : Type 0} (facts : S → StoreFacts) (IsStored : List ℕ → Type 0) (moment : ℕ) (old new : Service S)
+pub no_turn_is_unwritable : {S : Type 0} (facts : S → StoreFacts) (IsStored : List ℕ → Type 0) (moment : ℕ) (old new : Service S)
     (fault : ServeFault)
     → IsTurnFault facts IsStored moment old new fault → fault ≢ Unwritable
-always_writable facts IsStored moment old new Unwritable (read, reads, never) same = never
-always_writable facts IsStored moment old new fault served same = cc same
+no_turn_is_unwritable facts IsStored moment old new Unwritable (read, reads, never) same = never
+no_turn_is_unwritable facts IsStored moment old new fault served same = cc same
 
 -- a fault of a turn ends the talk
-pub stops_in_turn : (path : List ℕ) (log : SinkFacts) (fault : Fault) → IsFaultInTurn path log fault → StopsTalking path fault
-stops_in_turn path log fault (inl socket) = inr (inl socket)
-stops_in_turn path log fault (inr (inl unwritten)) = inr (inr (inl unwritten))
-stops_in_turn path log fault (inr (inr (output, failed))) = inr (inr (inr output))
+pub turn_fault_stops_talking : (path : List ℕ) (log : SinkFacts) (fault : Fault) → IsFaultInTurn path log fault → StopsTalking path fault
+turn_fault_stops_talking path log fault (inl socket) = inr (inl socket)
+turn_fault_stops_talking path log fault (inr (inl unwritten)) = inr (inr (inl unwritten))
+turn_fault_stops_talking path log fault (inr (inr (output, failed))) = inr (inr (inr output))

@@ -15,61 +15,67 @@ use Rattle.command_line.specs.declared.fault.Fault.{Fault}
 use Rattle.command_line.specs.declared.fault.Fault.TheVariants.{CannotWriteOutput}
 use Rattle.command_words.specs.Commands.CommandName.{Keys, Enrol, Code, Verify, Unlock, Login, Hall, Audit, Upgrade}
 use Rattle.command_words.specs.Commands.{CommandName, NamesCommand, program, word_of}
-use Rattle.command_words.proofs.lemmas.Naming.{names_command}
+use Rattle.command_words.proofs.lemmas.Naming.{faultless_line_names_command}
 use Rattle.commands.specs.Program.{EndsCommand, EndsRun, HasDone, IsWordsError, Names, RunsCommand, RunsUntil, StopsAt, exit_status, found_in}
 
 -- what follows from a fact of a command's answer, or from one of its fault, holds where the command ends
-pub ends_as : {T : Type 0} {P : T → Type 0} {S : Fault → Type 0} (Q : T → Type 0) (R : Fault → Type 0) (ended : Result T Fault)
+pub command_ends_as_known : {T : Type 0} {P : T → Type 0} {S : Fault → Type 0} (Q : T → Type 0) (R : Fault → Type 0)
+    (ended : Result T Fault)
     → IfOk ended P → IfErr ended S
     → ((x : T) → P x → Q x) → ((fault : Fault) → S fault → R fault) → MatchResult ended Q R
-ends_as Q R (Ok x) did stopped runs stops = runs x did
-ends_as Q R (Err fault) did stopped runs stops = stops fault stopped
+command_ends_as_known Q R (Ok x) did stopped runs stops = runs x did
+command_ends_as_known Q R (Err fault) did stopped runs stops = stops fault stopped
 
 -- what follows so holds where a command ends whose exit status is computed from its answer
-pub ends_by : {T : Type 0} {P : T → Type 0} {S : Fault → Type 0} (Q : ℕ → Type 0) (R : Fault → Type 0) (value : T → ℕ)
+pub computed_status_ends_as_known : {T : Type 0} {P : T → Type 0} {S : Fault → Type 0} (Q : ℕ → Type 0) (R : Fault → Type 0) (value : T → ℕ)
     (ended : Result T Fault)
     (result : Result ℕ Fault) → MatchResult ended (λ x. result ≡ Ok (value x)) (λ fault. result ≡ Err fault) → IfOk ended P → IfErr ended S
     → ((x : T) → P x → Q (value x)) → ((fault : Fault) → S fault → R fault) → MatchResult result Q R
-ends_by Q R value (Ok x) result is did stopped runs stops = subst (λ (r : Result ℕ Fault). MatchResult r Q R) (sym is) (runs x did)
-ends_by Q R value (Err fault) result is did stopped runs stops = subst (λ (r : Result ℕ Fault). MatchResult r Q R) (sym is)
+computed_status_ends_as_known Q R value (Ok x) result is did stopped runs stops =
+    subst (λ (r : Result ℕ Fault). MatchResult r Q R) (sym is) (runs x did)
+computed_status_ends_as_known Q R value (Err fault) result is did stopped runs stops =
+    subst (λ (r : Result ℕ Fault). MatchResult r Q R) (sym is)
     (stops fault stopped)
 
 -- the subcommand that a parse has entered, by its name and the values of its options
-entered : {Z : Type 0} (o : Option (Box SubCommand Z)) (name word : Text) (rows : List Row)
+entered_subcommand_has_rows : {Z : Type 0} (o : Option (Box SubCommand Z)) (name word : Text) (rows : List Row)
     → Some name ≡ option_map (λ b. (out-SubCommand (box_value b)).name.now) o → Some rows ≡ option_map (λ p. p.1) (subcommand_rows o)
     → name ≡ word → subcommand_rows o ≡ Some (word, rows)
-entered None name word rows is are known = absurd (cc is)
-entered (Some b) name word rows is are known = cc
+entered_subcommand_has_rows None name word rows is are known = absurd (cc is)
+entered_subcommand_has_rows (Some b) name word rows is are known = cc
 
 -- what a parse finds is this word and these values of its options, where it has entered a subcommand of that name with those values
-pub named : (matches words : ArgMatches) (name word : Text) → Some name ≡ subcommand_name_of matches
+pub parse_finds_named_command : (matches words : ArgMatches) (name word : Text) → Some name ≡ subcommand_name_of matches
     → Some (rows_of (found_of words)) ≡ option_map (λ p. p.1) (subcommand_rows (out-ArgMatches matches).subcommand)
     → name ≡ word → subcommand_rows_of matches ≡ Some (word, rows_of (found_of words))
-named matches words name word is are known = entered (out-ArgMatches matches).subcommand name word (rows_of (found_of words)) is are known
+parse_finds_named_command matches words name word is are known =
+    entered_subcommand_has_rows (out-ArgMatches matches).subcommand name word (rows_of (found_of words)) is are known
 
 -- a command that was named and has done what it does is a run of a named command
-pub runs : {File : Type 0} {bytes_of written_to : File
+pub done_command_has_run : {File : Type 0} {bytes_of written_to : File
     → Option (List ℕ)} {found : Option (Text × List Row)} {status : ℕ} {input old new : Option (List ℕ)}
     (name : CommandName) (words : ArgMatches) → Names found name words → HasDone bytes_of written_to name words status input old new
     → RunsCommand bytes_of written_to found status input old new
-runs name words is done = record { name = name; words = words; is_named = is; printed = _; has_done = done; kept = Keeps-refl _ }
+done_command_has_run name words is done =
+    record { name = name; words = words; is_named = is; printed = _; has_done = done; kept = Keeps-refl _ }
 
 -- a command that was named and has a fault is a run until the fault, or the output can't be written
-pub stops : {File : Type 0} {bytes_of written_to : File
+pub stopped_command_has_run : {File : Type 0} {bytes_of written_to : File
     → Option (List ℕ)} {found : Option (Text × List Row)} {fault : Fault} {input old new : Option (List ℕ)}
     (name : CommandName) (words : ArgMatches) → Names found name words → StopsAt bytes_of written_to name words fault input old new
     → (fault ≡ CannotWriteOutput) ⊎ RunsUntil bytes_of written_to found fault input old new
-stops name words is stopped = inr (record { name = name; words = words; is_named = is; stops = stopped })
+stopped_command_has_run name words is stopped = inr (record { name = name; words = words; is_named = is; stops = stopped })
 
 -- where no subcommand was entered, no command is found
-none_entered : {Z : Type 0} (o : Option (Box SubCommand Z)) (word : Text) (rows : List Row)
+unentered_finds_no_command : {Z : Type 0} (o : Option (Box SubCommand Z)) (word : Text) (rows : List Row)
     → None ≡ option_map (λ b. (out-SubCommand (box_value b)).name.now) o → subcommand_rows o ≡ Some (word, rows) → ⊥
-none_entered None word rows is are = cc
-none_entered (Some b) word rows is are = cc
+unentered_finds_no_command None word rows is are = cc
+unentered_finds_no_command (Some b) word rows is are = cc
 
 -- a parse that finds a command has entered a subcommand
-pub not_unnamed : (matches : ArgMatches) → NamesCommand (subcommand_rows_of matches) → None ≡ subcommand_name_of matches → ⊥
-not_unnamed matches (name, values, are) is = none_entered (out-ArgMatches matches).subcommand (word_of name) values is are
+pub found_command_has_name : (matches : ArgMatches) → NamesCommand (subcommand_rows_of matches) → None ≡ subcommand_name_of matches → ⊥
+found_command_has_name matches (name, values, are) is =
+    unentered_finds_no_command (out-ArgMatches matches).subcommand (word_of name) values is are
 
 -- the name of the entered subcommand is the word that the parse finds
 name_is_word : {Z : Type 0} (o : Option (Box SubCommand Z)) (name word : Text) (rows : List Row)
@@ -79,64 +85,68 @@ name_is_word (Some b) name word rows is are =
     let named : Some (out-SubCommand (box_value b)).name.now ≡ Some word = ap (option_map (λ (p : Text × List Row). p.0)) are in cc
 
 -- the name is that of no command
-abbrev pub IsOther : Text → Type 0
-IsOther name = (name ≢ codes "keys") × (name ≢ codes "enrol") × (name ≢ codes "code") × (name ≢ codes "verify") × (name ≢ codes "unlock")
+abbrev pub IsUnknownName : Text → Type 0
+IsUnknownName name =
+    (name ≢ codes "keys") × (name ≢ codes "enrol") × (name ≢ codes "code") × (name ≢ codes "verify") × (name ≢ codes "unlock")
     × (name ≢ codes "login") × (name ≢ codes "hall") × (name ≢ codes "audit") × (name ≢ codes "upgrade")
 
 -- a name that is that of no command is no command's word
-other : (name : Text) (command : CommandName) → IsOther name → name ≡ word_of command → ⊥
-other name Keys (keys, enrol, code, verify, unlock, login, hall, audit, upgrade) is = keys is
-other name Enrol (keys, enrol, code, verify, unlock, login, hall, audit, upgrade) is = enrol is
-other name Code (keys, enrol, code, verify, unlock, login, hall, audit, upgrade) is = code is
-other name Verify (keys, enrol, code, verify, unlock, login, hall, audit, upgrade) is = verify is
-other name Unlock (keys, enrol, code, verify, unlock, login, hall, audit, upgrade) is = unlock is
-other name Login (keys, enrol, code, verify, unlock, login, hall, audit, upgrade) is = login is
-other name Hall (keys, enrol, code, verify, unlock, login, hall, audit, upgrade) is = hall is
-other name Audit (keys, enrol, code, verify, unlock, login, hall, audit, upgrade) is = audit is
-other name Upgrade (keys, enrol, code, verify, unlock, login, hall, audit, upgrade) is = upgrade is
+unknown_name_is_no_word : (name : Text) (command : CommandName) → IsUnknownName name → name ≡ word_of command → ⊥
+unknown_name_is_no_word name Keys (keys, enrol, code, verify, unlock, login, hall, audit, upgrade) is = keys is
+unknown_name_is_no_word name Enrol (keys, enrol, code, verify, unlock, login, hall, audit, upgrade) is = enrol is
+unknown_name_is_no_word name Code (keys, enrol, code, verify, unlock, login, hall, audit, upgrade) is = code is
+unknown_name_is_no_word name Verify (keys, enrol, code, verify, unlock, login, hall, audit, upgrade) is = verify is
+unknown_name_is_no_word name Unlock (keys, enrol, code, verify, unlock, login, hall, audit, upgrade) is = unlock is
+unknown_name_is_no_word name Login (keys, enrol, code, verify, unlock, login, hall, audit, upgrade) is = login is
+unknown_name_is_no_word name Hall (keys, enrol, code, verify, unlock, login, hall, audit, upgrade) is = hall is
+unknown_name_is_no_word name Audit (keys, enrol, code, verify, unlock, login, hall, audit, upgrade) is = audit is
+unknown_name_is_no_word name Upgrade (keys, enrol, code, verify, unlock, login, hall, audit, upgrade) is = upgrade is
 
 -- where a parse finds a command, the subcommand that it has entered has the name of one
-pub not_other : (matches : ArgMatches) (name : Text) → NamesCommand (subcommand_rows_of matches) → Some name ≡ subcommand_name_of matches
-    → IsOther name → ⊥
-not_other matches name (command, values, are) is others =
-    other name command others (name_is_word (out-ArgMatches matches).subcommand name (word_of command) values is are)
+pub found_command_is_known : (matches : ArgMatches) (name : Text) → NamesCommand (subcommand_rows_of matches)
+    → Some name ≡ subcommand_name_of matches
+    → IsUnknownName name → ⊥
+found_command_is_known matches name (command, values, are) is others =
+    unknown_name_is_no_word name command others (name_is_word (out-ArgMatches matches).subcommand name (word_of command) values is are)
 
 -- the program's app is simple, and free of conflicts; of such an app the functions of `clap` tell all:
-is_simple_program : is_simple program ≡ true
+program_is_simple : is_simple program ≡ true
 unfolding clap_on_literals
-is_simple_program = refl
+program_is_simple = refl
 
-is_free_program : is_simple_and_free program ≡ true
+program_is_free : is_simple_and_free program ≡ true
 unfolding clap_on_literals
-is_free_program = refl
+program_is_free = refl
 
 -- the subcommand and the values that a parse of a command line gives are those found in that line
-pub found_by : (app : App) (line : List Text) (matches : ArgMatches) → app ≡ program → HasMatchesOf app line matches
+pub parse_agrees_with_line : (app : App) (line : List Text) (matches : ArgMatches) → app ≡ program → HasMatchesOf app line matches
     → subcommand_rows_of matches ≡ found_in line
-found_by app line matches is has = (has (ap is_simple is ∙ is_simple_program)).1 ∙ ap (λ (a : App). subcommand_of a line) is
+parse_agrees_with_line app line matches is has = (has (ap is_simple is ∙ program_is_simple)).1 ∙ ap (λ (a : App). subcommand_of a line) is
 
 -- nothing is wrong with a line that is parsed
-pub understood : (app : App) (line : List Text) → app ≡ program → (is_simple_and_free app ≡ true → fault_of app line ≡ [])
+pub parsed_line_has_no_fault : (app : App) (line : List Text) → app ≡ program → (is_simple_and_free app ≡ true → fault_of app line ≡ [])
     → fault_of program line ≡ []
-understood app line is fails = sym (ap (λ (a : App). fault_of a line) is) ∙ fails (ap is_simple_and_free is ∙ is_free_program)
+parsed_line_has_no_fault app line is fails = sym (ap (λ (a : App). fault_of a line) is) ∙ fails (ap is_simple_and_free is ∙ program_is_free)
 
 -- a line that is parsed names a command
-pub line_names_command : (app : App) (line : List Text) (matches : ArgMatches) → app ≡ program → HasMatchesOf app line matches
+pub parsed_line_names_command : (app : App) (line : List Text) (matches : ArgMatches) → app ≡ program → HasMatchesOf app line matches
     → (is_simple_and_free app ≡ true → fault_of app line ≡ []) → NamesCommand (subcommand_rows_of matches)
-line_names_command app line matches is has fails =
-    subst NamesCommand (sym (found_by app line matches is has)) (names_command line (understood app line is fails))
+parsed_line_names_command app line matches is has fails =
+    subst NamesCommand (sym (parse_agrees_with_line app line matches is has)) (faultless_line_names_command line
+        (parsed_line_has_no_fault app line is fails))
 
 -- an error of the parser is an error in the words of the line
-pub error_of : (app : App) (line : List Text) (error : Error) → app ≡ program
+pub parse_error_is_words_error : (app : App) (line : List Text) (error : Error) → app ≡ program
     → (is_simple_and_free app ≡ true → HasKind (fault_of app line) error)
     → IsWordsError line (kind_of error)
-error_of app line error is fails =
-    subst (λ (a : App). HasKind (fault_of a line) error) is (fails (ap is_simple_and_free is ∙ is_free_program))
+parse_error_is_words_error app line error is fails =
+    subst (λ (a : App). HasKind (fault_of a line) error) is (fails (ap is_simple_and_free is ∙ program_is_free))
 
 -- a run whose command has ended has ended with the status of that end
-pub has_ended : {File : Type 0} (bytes_of written_to : File → Option (List ℕ)) (found : Option (Text × List Row)) (line : List Text)
+pub ended_command_ends_run : {File : Type 0} (bytes_of written_to : File → Option (List ℕ)) (found : Option (Text × List Row))
+    (line : List Text)
     (ended : Result ℕ Fault)
     (status : ℕ) (input old new : Option (List ℕ)) → found ≡ found_in line → fault_of program line ≡ [] → status ≡ exit_status ended
     → EndsCommand bytes_of written_to found ended input old new → EndsRun bytes_of written_to line status input old new
-has_ended bytes_of written_to found line ended status input old new is right goes ends =
+ended_command_ends_run bytes_of written_to found line ended status input old new is right goes ends =
     inl (right, (ended, goes, subst (λ (f : Option (Text × List Row)). EndsCommand bytes_of written_to f ended input old new) is ends))

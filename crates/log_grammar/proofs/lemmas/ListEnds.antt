@@ -3,36 +3,36 @@ use Rattle.std.proofs.Common.{◌≡◌, ◌⊎◌, inl, inr, ℕ, zero, suc, �
 use Rattle.std.proofs.Common.{length-append, append_assoc}
 use Rattle.std.specs.List.{AllByRecursion, AllZip}
 use Rattle.std.proofs.Math.Seq.{take-append-add}
-use Rattle.scram_text.proofs.lemmas.ListEnds.{last_same, with_last}
+use Rattle.scram_text.proofs.lemmas.ListEnds.{same_front_and_last, nonempty_has_last}
 
 -- an empty list has no element
-pub no_element : {A : Type 0} (before : List A) (x : A) (rest : List A) → [] ≡ before ++ x ∷ rest → ⊥
-no_element [] x rest e = cc e
-no_element (y ∷ before) x rest e = cc e
+pub empty_has_no_element : {A : Type 0} (before : List A) (x : A) (rest : List A) → [] ≡ before ++ x ∷ rest → ⊥
+empty_has_no_element [] x rest e = cc e
+empty_has_no_element (y ∷ before) x rest e = cc e
 
 -- an element of a list with a last element is that one, or stands before it
 pub last_or_earlier : {A : Type 0} (log : List A) (x : A) (before : List A) (y : A) (rest : List A) → log ++ x ∷ [] ≡ before ++ y ∷ rest
     → ((log ≡ before) × (x ≡ y)) ⊎ ((less : List A) × (log ≡ before ++ y ∷ less))
-last_or_earlier log x before y [] e = inl (last_same log before x y e)
+last_or_earlier log x before y [] e = inl (same_front_and_last log before x y e)
 last_or_earlier log x before y (z ∷ rest) e =
-    let last = with_last z rest in
+    let last = nonempty_has_last z rest in
     let moved = ap (λ l. before ++ y ∷ l) last.2 ∙ sym (append_assoc before (y ∷ last.0) (last.1 ∷ [])) in
-    inr (last.0, (last_same log (before ++ y ∷ last.0) x last.1 (e ∙ moved)).0)
+    inr (last.0, (same_front_and_last log (before ++ y ∷ last.0) x last.1 (e ∙ moved)).0)
 
 -- what stands before a list's end stands in a longer list
-pub stands_on : {A : Type 0} (log more before : List A) (y : A) (rest : List A) → log ≡ before ++ y ∷ rest
+pub element_stays_in_place : {A : Type 0} (log more before : List A) (y : A) (rest : List A) → log ≡ before ++ y ∷ rest
     → log ++ more ≡ before ++ y ∷ (rest ++ more)
-stands_on log more before y rest e = ap (λ l. l ++ more) e ∙ append_assoc before (y ∷ rest) more
+element_stays_in_place log more before y rest e = ap (λ l. l ++ more) e ∙ append_assoc before (y ∷ rest) more
 
 -- where a list with a last element is related to another, the other has a last element too, and they are related part by part
-pub split_last : {A B : Type 0} (R : A → B → Type 0) (xs : List A) (x : A) (ys : List B) → AllZip R (xs ++ x ∷ []) ys
+pub related_list_has_last : {A B : Type 0} (R : A → B → Type 0) (xs : List A) (x : A) (ys : List B) → AllZip R (xs ++ x ∷ []) ys
     → (front : List B) × (y : B) × (ys ≡ front ++ y ∷ []) × AllZip R xs front × R x y
-split_last R [] x [] all = absurd all
-split_last R [] x (y ∷ []) all = ([], y, refl, tt, all.0)
-split_last R [] x (y ∷ z ∷ ys) all = absurd all.1
-split_last R (a ∷ xs) x [] all = absurd all
-split_last R (a ∷ xs) x (y ∷ ys) all =
-    let (front, z, same, those, this) = split_last R xs x ys all.1 in
+related_list_has_last R [] x [] all = absurd all
+related_list_has_last R [] x (y ∷ []) all = ([], y, refl, tt, all.0)
+related_list_has_last R [] x (y ∷ z ∷ ys) all = absurd all.1
+related_list_has_last R (a ∷ xs) x [] all = absurd all
+related_list_has_last R (a ∷ xs) x (y ∷ ys) all =
+    let (front, z, same, those, this) = related_list_has_last R xs x ys all.1 in
     (y ∷ front, z, ap (λ l. y ∷ l) same, (all.0, those), this)
 
 -- a list with one more element at its end is longer by one
@@ -45,16 +45,17 @@ take_none [] = refl
 take_none (x ∷ xs) = refl
 
 -- the elements of a list up to a given one are those before it, and this one
-pub with_next : {A : Type 0} (xs : List A) (x : A) (more : List A) → take (length xs + 1) (xs ++ x ∷ more) ≡ xs ++ x ∷ []
-with_next xs x more = take-append-add xs (x ∷ more) 1 ∙ ap (λ l. xs ++ x ∷ l) (take_none more)
+pub take-append_next : {A : Type 0} (xs : List A) (x : A) (more : List A) → take (length xs + 1) (xs ++ x ∷ more) ≡ xs ++ x ∷ []
+take-append_next xs x more = take-append-add xs (x ∷ more) 1 ∙ ap (λ l. xs ++ x ∷ l) (take_none more)
 
 -- a list has an element at each index below its length, with as many elements before it
-pub parted : {A : Type 0} (xs : List A) (n : ℕ) → n < length xs → (before : List A) × (x : A) × (more : List A) × (xs ≡ before ++ x ∷ more)
+pub index_has_element : {A : Type 0} (xs : List A) (n : ℕ) → n < length xs
+    → (before : List A) × (x : A) × (more : List A) × (xs ≡ before ++ x ∷ more)
     × (n ≡ length before)
-parted [] n less = absurd (omega (arith, less))
-parted (a ∷ xs) zero less = ([], a, xs, refl, refl)
-parted (a ∷ xs) (suc n) less =
-    let (before, x, more, same, at) = parted xs n (omega (arith, less)) in
+index_has_element [] n less = absurd (omega (arith, less))
+index_has_element (a ∷ xs) zero less = ([], a, xs, refl, refl)
+index_has_element (a ∷ xs) (suc n) less =
+    let (before, x, more, same, at) = index_has_element xs n (omega (arith, less)) in
     (a ∷ before, x, more, ap (λ l. a ∷ l) same, ap suc at)
 
 -- what holds of each of two lists holds of each of both
@@ -64,14 +65,14 @@ all_append P [] back h k = k
 all_append P (a ∷ front) back h k = (h.0, all_append P front back h.1 k)
 
 -- what holds of each element of a list holds of each in front, of each after the front, and of any one within:
-pub each_first : {A : Type 0} (P : A → Type 0) (front back : List A) → AllByRecursion P (front ++ back) → AllByRecursion P front
-each_first P [] back each = tt
-each_first P (a ∷ front) back each = (each.0, each_first P front back each.1)
+pub all_front : {A : Type 0} (P : A → Type 0) (front back : List A) → AllByRecursion P (front ++ back) → AllByRecursion P front
+all_front P [] back each = tt
+all_front P (a ∷ front) back each = (each.0, all_front P front back each.1)
 
-pub each_rest : {A : Type 0} (P : A → Type 0) (front back : List A) → AllByRecursion P (front ++ back) → AllByRecursion P back
-each_rest P [] back each = each
-each_rest P (a ∷ front) back each = each_rest P front back each.1
+pub all_back : {A : Type 0} (P : A → Type 0) (front back : List A) → AllByRecursion P (front ++ back) → AllByRecursion P back
+all_back P [] back each = each
+all_back P (a ∷ front) back each = all_back P front back each.1
 
-pub each_at : {A : Type 0} (P : A → Type 0) (front : List A) (a : A) (back : List A) → AllByRecursion P (front ++ a ∷ back) → P a
-each_at P [] a back each = each.0
-each_at P (other ∷ front) a back each = each_at P front a back each.1
+pub all_at : {A : Type 0} (P : A → Type 0) (front : List A) (a : A) (back : List A) → AllByRecursion P (front ++ a ∷ back) → P a
+all_at P [] a back each = each.0
+all_at P (other ∷ front) a back each = all_at P front a back each.1

@@ -5,7 +5,7 @@ use Rattle.std.specs.Str.{byte}
 use Rattle.log_grammar.specs.Bytes.{LacksLf}
 use Rattle.log_grammar.specs.Lines.{LogLine, IsLogLine, IsWritable}
 use Rattle.log_grammar.specs.Numbered.{Numbered, numbered}
-use Rattle.log_grammar.specs.NumberedLines.{IsSessionNumber, MayHaveNumber, numbered_text, longest_numbered_line, IsNumberedLine}
+use Rattle.log_grammar.specs.NumberedLines.{IsSessionNumber, IsNoFirstLine, numbered_text, longest_numbered_line, IsNumberedLine}
 use Rattle.log_grammar.specs.NumberedLines.{IsNoNumberedLine}
 
 -- each text is one numbered line or none
@@ -21,7 +21,7 @@ UnnumberedLinesAreNone = (text : List ℕ) (line : LogLine) → IsLogLine text l
 -- the text of a number in its range and of a line that may have one and can be written is read as this numbered line and
 -- as no other, has no LF, and is not too long
 abbrev pub WrittenNumberedLinesAreRead : Type 0
-WrittenNumberedLinesAreRead = (x : Numbered LogLine) → IsSessionNumber x.number → MayHaveNumber x.value → IsWritable x.value
+WrittenNumberedLinesAreRead = (x : Numbered LogLine) → IsSessionNumber x.number → IsNoFirstLine x.value → IsWritable x.value
     → IsNumberedLine (numbered_text x) x × ((other : Numbered LogLine) → IsNumberedLine (numbered_text x) other → other ≡ x)
     × LacksLf (numbered_text x) × (length (numbered_text x) ≤ longest_numbered_line)
 
@@ -29,5 +29,5 @@ WrittenNumberedLinesAreRead = (x : Numbered LogLine) → IsSessionNumber x.numbe
 -- they have this number
 abbrev pub NumbersGoBeforeLines : Type 0
 NumbersGoBeforeLines = (n : ℕ) (text : List ℕ) → IsSessionNumber n
-    → ((line : LogLine) → MayHaveNumber line → IsLogLine text line ↔ IsNumberedLine (decimal n ++ (byte " " ∷ text)) (numbered n line))
+    → ((line : LogLine) → IsNoFirstLine line → IsLogLine text line ↔ IsNumberedLine (decimal n ++ (byte " " ∷ text)) (numbered n line))
     × ((x : Numbered LogLine) → IsNumberedLine (decimal n ++ (byte " " ∷ text)) x → x.number ≡ n)

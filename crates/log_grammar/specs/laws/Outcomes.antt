@@ -7,7 +7,7 @@ use Rattle.scram_ends.specs.declared.verdict.Refusal.{Refusal}
 use Rattle.otp_core.specs.Attempt.{CodeTexts}
 use Rattle.otp_core.specs.declared.token.reply.Reply.{Reply}
 use Rattle.log_grammar.specs.Words.{offered_names}
-use Rattle.log_grammar.specs.Lines.{LogLine, said, heard, mechs, cont, refuses, replies, halt, auth, auth_with, resp, asking, EndsWith}
+use Rattle.log_grammar.specs.Lines.{LogLine, said, heard, mechs, cont, refuses, replies, halt, auth, auth_with, resp, code_line, EndsWith}
 use Rattle.log_grammar.specs.LoggedReply.{LoggedReply, logged_reply_of}
 use Rattle.log_grammar.specs.Places.{Place, between, offered, asks_bare, waits_first, got_first, waits_final, got_final, waits_code}
 use Rattle.log_grammar.specs.Places.{got_code, leaving, over, halted}
@@ -40,7 +40,7 @@ HasItsMessages (waits_final mechanism account client_first server_first) log =
 HasItsMessages (got_final mechanism account client_first server_first client_final) log =
     (lines : List LogLine) × IsSentBy mechanism client_first lines
     × EndsWith log (lines ++ said (cont server_first) ∷ heard (resp client_final) ∷ [])
-HasItsMessages (got_code account sent) log = EndsWith log (heard (asking sent) ∷ [])
+HasItsMessages (got_code account sent) log = EndsWith log (heard (code_line sent) ∷ [])
 HasItsMessages place log = Unit {0}
 
 -- the messages that a log's place has are those of its lines

@@ -10,9 +10,9 @@ abbrev pub Decided : Type 0 → Type 0
 Decided P = P ⊎ (P → ⊥)
 
 -- a fact that holds exactly where a decided one does is decided
-pub decided_by : (P Q : Type 0) → (P → Q) → (Q → P) → Decided P → Decided Q
-decided_by P Q to from (inl p) = inl (to p)
-decided_by P Q to from (inr other) = inr (λ q. other (from q))
+pub decided_equivalent : (P Q : Type 0) → (P → Q) → (Q → P) → Decided P → Decided Q
+decided_equivalent P Q to from (inl p) = inl (to p)
+decided_equivalent P Q to from (inr other) = inr (λ q. other (from q))
 
 -- whether two facts hold is decided
 pub decided_both : (P Q : Type 0) → Decided P → Decided Q → Decided (P × Q)
@@ -30,12 +30,12 @@ decided_le m n = elim (cases_lt n m) [ inl over ↦ inr (λ h. omega (arith, ove
 pub decided_lt : (m n : ℕ) → Decided (m < n)
 decided_lt m n = elim (cases_lt m n) [ inl under ↦ inl under | inr over ↦ inr (λ h. omega (arith, over, h)) ]
 
-pub decided_nat : (m n : ℕ) → Decided (m ≡ n)
-decided_nat m n = elim (eqb_tells m n) [ inl same ↦ inl same.1 | inr other ↦ inr other.1 ]
+pub decided_same_number : (m n : ℕ) → Decided (m ≡ n)
+decided_same_number m n = elim (eqb_tells m n) [ inl same ↦ inl same.1 | inr other ↦ inr other.1 ]
 
 -- whether two texts are the same is decided
-pub decided_same : (xs ys : List ℕ) → Decided (xs ≡ ys)
-decided_same xs ys = elim (cases_Bool (bytes_eq xs ys)) [
+pub decided_same_text : (xs ys : List ℕ) → Decided (xs ≡ ys)
+decided_same_text xs ys = elim (cases_Bool (bytes_eq xs ys)) [
   | inl is ↦ inl ((bytes_eq-Decides xs ys).0 is)
   | inr other ↦ inr (λ e. let is = (bytes_eq-Decides xs ys).1 e in absurd (cc))
 ]

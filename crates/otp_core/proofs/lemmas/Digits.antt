@@ -18,11 +18,11 @@ length-last_digits (suc count) number =
     omega (arith, length-last_digits count (number / 10), length-append (last_digits count (number / 10)) ((byte "0" + number % 10) ∷ []))
 
 -- each of the last digits of a number is an ASCII digit
-digits-last_digits : (count number : ℕ) → All IsAsciiDigit (last_digits count number)
+last_digits_are_digits : (count number : ℕ) → All IsAsciiDigit (last_digits count number)
 unfolding last_digits
-digits-last_digits zero number = search rules
-digits-last_digits (suc count) number =
-    All-push IsAsciiDigit _ _ (digits-last_digits count (number / 10)) (search (rules, arith))
+last_digits_are_digits zero number = search rules
+last_digits_are_digits (suc count) number =
+    All-push IsAsciiDigit _ _ (last_digits_are_digits count (number / 10)) (search (rules, arith))
 
 -- the last of the digits that are left moves to the front of those that were found
 pub last_digits-more : (more number : ℕ) (rest : List ℕ)
@@ -38,5 +38,5 @@ IsUtf8-from_digits text all = IsUtf8-from_ascii text (grind (arith, common_steps
 pub IsCodeText-last_digits : (count number : ℕ) → IsDigitCount count → IsCodeText (last_digits count number)
 IsCodeText-last_digits count number range = record {
   count = rw (length-last_digits count number) range;
-  digits = digits-last_digits count number;
+  digits = last_digits_are_digits count number;
 }

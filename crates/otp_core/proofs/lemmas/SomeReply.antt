@@ -5,7 +5,7 @@ use Rattle.std.proofs.Common.{subst}
 use Rattle.std.proofs.lemmas.Bool.{cases_Bool, cases_lt}
 use Rattle.std.specs.Prelude.{◌≤ℤ◌, ◌+ℤ◌, ◌-ℤ◌, pos}
 use Rattle.std.specs.Option.{ForSome}
-use Rattle.mac_core.proofs.lemmas.Decided.{Decided, decided_by, decided_both, decided_le, decided_lt, decided_same}
+use Rattle.mac_core.proofs.lemmas.Decided.{Decided, decided_equivalent, decided_both, decided_le, decided_lt, decided_same_text}
 use Rattle.otp_core.specs.Ranges.{most_counter}
 use Rattle.otp_core.specs.Attempt.{Attempt, CodeTexts, used_in}
 use Rattle.otp_core.specs.Window.{IsAbove, IsCandidate, IsPairCandidate, IsInHotpWindow, IsInTotpWindow, first_in_window}
@@ -30,10 +30,10 @@ decided_above : (counters : List ℕ) (w : ℕ) → Decided (IsAbove counters w)
 decided_above [] w = inl tt
 decided_above (p ∷ counters) w = decided_both (p < w) (IsAbove counters w) (decided_lt p w) (decided_above counters w)
 
-decided_last : (last : Option ℕ) (w : ℕ) → Decided (ForSome last (λ l. l < w))
-decided_last None w = inl (λ x e. absurd (cc))
-decided_last (Some last) w =
-    decided_by (last < w) (ForSome (Some last) (λ l. l < w))
+decided_above_last : (last : Option ℕ) (w : ℕ) → Decided (ForSome last (λ l. l < w))
+decided_above_last None w = inl (λ x e. absurd (cc))
+decided_above_last (Some last) w =
+    decided_equivalent (last < w) (ForSome (Some last) (λ l. l < w))
     (λ h x e. let same : last ≡ x = cc in omega (arith, h, same))
     (λ f. f last refl)
     (decided_lt last w)
@@ -41,14 +41,14 @@ decided_last (Some last) w =
 -- whether a counter is in HOTP's window, and whether a step is in TOTP's, is decided:
 decided_hotp_window : (first look_ahead c : ℕ) → Decided (IsInHotpWindow first look_ahead c)
 decided_hotp_window first look_ahead c =
-    decided_by ((first ≤ c) × ((c ≤ first + look_ahead) × (c ≤ most_counter))) (IsInHotpWindow first look_ahead c)
+    decided_equivalent ((first ≤ c) × ((c ≤ first + look_ahead) × (c ≤ most_counter))) (IsInHotpWindow first look_ahead c)
     (λ h. record { not_before = h.0; within = h.1.0; most = h.1.1 })
     (λ d. (d.not_before, (d.within, d.most)))
     (decided_both _ _ (decided_le first c) (decided_both _ _ (decided_le c (first + look_ahead)) (decided_le c most_counter)))
 
 decided_totp_window : (now : ℕ) (drift : ℤ) (back ahead max_drift w : ℕ) → Decided (IsInTotpWindow now drift back ahead max_drift w)
 decided_totp_window now drift back ahead max_drift w =
-    decided_by
+    decided_equivalent
     (((((pos now +ℤ drift) -ℤ pos back) ≤ℤ pos w) × (pos w ≤ℤ ((pos now +ℤ drift) +ℤ pos ahead)))
     × ((now ≤ w + max_drift) × (w ≤ now + max_drift)))
     (IsInTotpWindow now drift back ahead max_drift w)
@@ -63,41 +63,41 @@ decided_candidate : (s : TokenFields) (h : List Attempt) (m c : ℕ) → Decided
 decided_candidate (Hotp t) h m c = decided_hotp_window (first_in_window t.next (used_in h)) t.look_ahead c
 decided_candidate (Totp t) h m w =
     let near : Type 0 = IsInTotpWindow (step_at t m) (drift_after t h) t.back t.ahead t.max_drift w in
-    decided_by ((t.t0 ≤ m) × (near × (ForSome t.last (λ l. l < w) × IsAbove (used_in h) w))) (IsCandidate (Totp t) h m w)
+    decided_equivalent ((t.t0 ≤ m) × (near × (ForSome t.last (λ l. l < w) × IsAbove (used_in h) w))) (IsCandidate (Totp t) h m w)
     (λ d. (d.0, d.1.0, d.1.1.0, d.1.1.1))
     (λ d. (d.0, (d.1, (d.2, d.3))))
     (decided_both _ _ (decided_le t.t0 m)
     (decided_both _ _ (decided_totp_window (step_at t m) (drift_after t h) t.back t.ahead t.max_drift w)
-    (decided_both _ _ (decided_last t.last w) (decided_above (used_in h) w))))
+    (decided_both _ _ (decided_above_last t.last w) (decided_above (used_in h) w))))
 
 -- whether a counter can be the first of a pair is decided
-decided_pair : (s : TokenFields) (h : List Attempt) (w : ℕ) → Decided (IsPairCandidate s h w)
-decided_pair (Hotp t) h w = decided_both _ _ (decided_hotp_window (first_in_window t.next (used_in h)) t.sync_ahead w)
+decided_pair_candidate : (s : TokenFields) (h : List Attempt) (w : ℕ) → Decided (IsPairCandidate s h w)
+decided_pair_candidate (Hotp t) h w = decided_both _ _ (decided_hotp_window (first_in_window t.next (used_in h)) t.sync_ahead w)
     (decided_le (w + 1) most_counter)
-decided_pair (Totp t) h w = inr (λ pair. pair)
+decided_pair_candidate (Totp t) h w = inr (λ pair. pair)
 
 -- whether a counter fits what was sent is decided
 decided_fitting : (s : TokenFields) (h : List Attempt) (m : ℕ) (sent : CodeTexts) (c : ℕ) → Decided (IsFitting s h m sent c)
 decided_fitting s h m (CodeTexts.OneText text) c =
-    decided_both _ _ (decided_candidate s h m c) (decided_same (code_text s c) text)
+    decided_both _ _ (decided_candidate s h m c) (decided_same_text (code_text s c) text)
 decided_fitting s h m (CodeTexts.TwoTexts first second) zero = inr (λ fits. let wrong : zero ≡ fits.0 + 1 = fits.1 in omega arith)
 decided_fitting s h m (CodeTexts.TwoTexts first second) (suc w) =
-    decided_by (IsPairCandidate s h w × ((code_text s w ≡ first) × (code_text s (w + 1) ≡ second)))
+    decided_equivalent (IsPairCandidate s h w × ((code_text s w ≡ first) × (code_text s (w + 1) ≡ second)))
     (IsFitting s h m (CodeTexts.TwoTexts first second) (suc w))
     (λ is. (w, omega arith, is.0, is.1.0, is.1.1))
     (λ fits. by_first fits.0 (omega (arith, fits.1)) (fits.2, (fits.3, fits.4)))
-    (decided_both _ _ (decided_pair s h w)
-    (decided_both _ _ (decided_same (code_text s w) first) (decided_same (code_text s (w + 1)) second)))
+    (decided_both _ _ (decided_pair_candidate s h w)
+    (decided_both _ _ (decided_same_text (code_text s w) first) (decided_same_text (code_text s (w + 1)) second)))
   where
     by_first : (v : ℕ) → v ≡ w → IsPairCandidate s h v × ((code_text s v ≡ first) × (code_text s (v + 1) ≡ second))
         → IsPairCandidate s h w × ((code_text s w ≡ first) × (code_text s (w + 1) ≡ second))
     by_first v same is = subst (λ (n : ℕ). IsPairCandidate s h n × ((code_text s n ≡ first) × (code_text s (n + 1) ≡ second))) same is
 
 -- below a number there is a least one for which a decided fact holds, or it holds for none
-least : (P : ℕ → Type 0) → ((k : ℕ) → Decided (P k)) → (n : ℕ)
+least_or_none : (P : ℕ → Type 0) → ((k : ℕ) → Decided (P k)) → (n : ℕ)
     → ((c : ℕ) × P c × ((k : ℕ) → P k → c ≤ k)) ⊎ ((k : ℕ) → k < n → P k → ⊥)
-least P decided zero = inr (λ k low p. absurd (omega arith))
-least P decided (suc n) = elim (least P decided n) [
+least_or_none P decided zero = inr (λ k low p. absurd (omega arith))
+least_or_none P decided (suc n) = elim (least_or_none P decided n) [
   | inl found ↦ inl found
   | inr none ↦ elim (decided n) [
     | inl here ↦ inl (n, here, λ k p. elim (cases_lt k n) [ inl low ↦ absurd (none k low p) | inr h ↦ h ])
@@ -109,10 +109,10 @@ least P decided (suc n) = elim (least P decided n) [
 ]
 
 -- some reply is due, where the counters that fit are below a bound
-due_below : (s : TokenFields) (h : List Attempt) (m : ℕ) (sent : CodeTexts) (n : ℕ)
+some_reply_under_bound : (s : TokenFields) (h : List Attempt) (m : ℕ) (sent : CodeTexts) (n : ℕ)
     → ((k : ℕ) → IsFitting s h m sent k → k < n) → (reply : Reply) × IsDueReply s h m sent reply
-due_below s h m sent n bound = elim (cases_lt (failures_after s h) (limit_of s)) [
-  | inl below ↦ elim (least (λ k. IsFitting s h m sent k) (decided_fitting s h m sent) n) [
+some_reply_under_bound s h m sent n bound = elim (cases_lt (failures_after s h) (limit_of s)) [
+  | inl below ↦ elim (least_or_none (λ k. IsFitting s h m sent k) (decided_fitting s h m sent) n) [
     | inl found ↦ (Pass found.0, (below, found.1, found.2))
     | inr none ↦ (Fail, (below, λ k fits. none k (bound k fits) fits))
   ]
@@ -122,10 +122,11 @@ due_below s h m sent n bound = elim (cases_lt (failures_after s h) (limit_of s))
 -- the law: some reply is due to each attempt
 pub some_reply_is_due : SomeReplyIsDue
 some_reply_is_due (Hotp t) h m (CodeTexts.OneText text) =
-    due_below (Hotp t) h m (CodeTexts.OneText text) (2 ^ 63) (λ k fits. omega (arith, fits.0.most))
+    some_reply_under_bound (Hotp t) h m (CodeTexts.OneText text) (2 ^ 63) (λ k fits. omega (arith, fits.0.most))
 some_reply_is_due (Hotp t) h m (CodeTexts.TwoTexts first second) =
-    due_below (Hotp t) h m (CodeTexts.TwoTexts first second) (2 ^ 63) (λ k fits. omega (arith, fits.1, fits.2.1))
+    some_reply_under_bound (Hotp t) h m (CodeTexts.TwoTexts first second) (2 ^ 63) (λ k fits. omega (arith, fits.1, fits.2.1))
 some_reply_is_due (Totp t) h m (CodeTexts.TwoTexts first second) =
-    due_below (Totp t) h m (CodeTexts.TwoTexts first second) 0 (λ k fits. absurd fits.2)
+    some_reply_under_bound (Totp t) h m (CodeTexts.TwoTexts first second) 0 (λ k fits. absurd fits.2)
 some_reply_is_due (Totp t) h m (CodeTexts.OneText text) =
-    due_below (Totp t) h m (CodeTexts.OneText text) (step_at t m + t.max_drift + 1) (λ w fits. omega (arith, fits.0.1.not_late))
+    some_reply_under_bound (Totp t) h m (CodeTexts.OneText text) (step_at t m + t.max_drift + 1)
+        (λ w fits. omega (arith, fits.0.1.not_late))

@@ -19,131 +19,133 @@ use Rattle.otp_core.specs.declared.token.kinds.TokenFields.{TokenFields}
 use Rattle.otp_core.specs.declared.token.kinds.TokenFields.TheVariants.{Hotp, Totp}
 
 -- a token's limit is one of its settings
-limit_settled : (s : TokenFields) → limit_of (settings_of s) ≡ limit_of s
-limit_settled (Hotp s) = refl
-limit_settled (Totp s) = refl
+settings_keep_limit : (s : TokenFields) → limit_of (settings_of s) ≡ limit_of s
+settings_keep_limit (Hotp s) = refl
+settings_keep_limit (Totp s) = refl
 
 -- a token's codes depend on its settings alone
-code_settled : (s : TokenFields) (c : ℕ) → code_text (settings_of s) c ≡ code_text s c
-code_settled (Hotp s) c = refl
-code_settled (Totp s) c = refl
+settings_keep_codes : (s : TokenFields) (c : ℕ) → code_text (settings_of s) c ≡ code_text s c
+settings_keep_codes (Hotp s) c = refl
+settings_keep_codes (Totp s) c = refl
 
 -- tokens with the same settings have the same limit, and the same codes:
-limit_alike : (s t : TokenFields) → settings_of s ≡ settings_of t → limit_of s ≡ limit_of t
-limit_alike s t e = sym (limit_settled s) ∙ (ap limit_of e ∙ limit_settled t)
+same_settings_same_limit : (s t : TokenFields) → settings_of s ≡ settings_of t → limit_of s ≡ limit_of t
+same_settings_same_limit s t e = sym (settings_keep_limit s) ∙ (ap limit_of e ∙ settings_keep_limit t)
 
-code_alike : (s t : TokenFields) (c : ℕ) → settings_of s ≡ settings_of t → code_text s c ≡ code_text t c
-code_alike s t c e = sym (code_settled s c) ∙ (ap (λ f. code_text f c) e ∙ code_settled t c)
+same_settings_same_codes : (s t : TokenFields) (c : ℕ) → settings_of s ≡ settings_of t → code_text s c ≡ code_text t c
+same_settings_same_codes s t c e = sym (settings_keep_codes s c) ∙ (ap (λ f. code_text f c) e ∙ settings_keep_codes t c)
 
 -- an equivalence holds the other way round too, and two that follow one another make one:
-back : {A B : Type 0} → A ↔ B → B ↔ A
-back one = (one.1, one.0)
+iff_symmetric : {A B : Type 0} → A ↔ B → B ↔ A
+iff_symmetric one = (one.1, one.0)
 
-onward : {A B C : Type 0} → A ↔ B → B ↔ C → A ↔ C
-onward one other = ((λ x. other.0 (one.0 x)), (λ x. one.1 (other.1 x)))
+iff_transitive : {A B C : Type 0} → A ↔ B → B ↔ C → A ↔ C
+iff_transitive one other = ((λ x. other.0 (one.0 x)), (λ x. one.1 (other.1 x)))
 
 -- two pasts that are alike are so the other way round
-alike_back : (s t : TokenFields) (h k : List Attempt) → AreAlike s h t k → AreAlike t k s h
-alike_back s t h k alike = record {
+alike_symmetric : (s t : TokenFields) (h k : List Attempt) → AreAlike s h t k → AreAlike t k s h
+alike_symmetric s t h k alike = record {
   settings = sym alike.settings;
   failures = sym alike.failures;
-  candidates = λ m c is. back (alike.candidates m c is);
-  pairs = λ w. back (alike.pairs w);
+  candidates = λ m c is. iff_symmetric (alike.candidates m c is);
+  pairs = λ w. iff_symmetric (alike.pairs w);
 }
 
 -- a past that is alike to a second, which is alike to a third, is alike to the third
-pub alike_onward : (s t u : TokenFields) (h k l : List Attempt) → AreAlike s h t k → AreAlike t k u l → AreAlike s h u l
-alike_onward s t u h k l one other = record {
+pub alike_transitive : (s t u : TokenFields) (h k l : List Attempt) → AreAlike s h t k → AreAlike t k u l → AreAlike s h u l
+alike_transitive s t u h k l one other = record {
   settings = one.settings ∙ other.settings;
   failures = one.failures ∙ other.failures;
-  candidates = λ m c is. onward (one.candidates m c is) (other.candidates m c is);
-  pairs = λ w. onward (one.pairs w) (other.pairs w);
+  candidates = λ m c is. iff_transitive (one.candidates m c is) (other.candidates m c is);
+  pairs = λ w. iff_transitive (one.pairs w) (other.pairs w);
 }
 
 -- a counter that fits after one of two alike pasts fits after the other
-fits_alike : (s t : TokenFields) (h k : List Attempt) (m : ℕ) (sent : CodeTexts) (c : ℕ) → AreAlike s h t k → IsMoment m
+alike_pasts_share_fitting : (s t : TokenFields) (h k : List Attempt) (m : ℕ) (sent : CodeTexts) (c : ℕ) → AreAlike s h t k → IsMoment m
     → IsFitting s h m sent c → IsFitting t k m sent c
-fits_alike s t h k m (OneText text) c alike is fits =
-    ((alike.candidates m c is).0 fits.0, sym (code_alike s t c alike.settings) ∙ fits.1)
-fits_alike s t h k m (TwoTexts one other) c alike is (w, next, pair, first, second) = (
+alike_pasts_share_fitting s t h k m (OneText text) c alike is fits =
+    ((alike.candidates m c is).0 fits.0, sym (same_settings_same_codes s t c alike.settings) ∙ fits.1)
+alike_pasts_share_fitting s t h k m (TwoTexts one other) c alike is (w, next, pair, first, second) = (
   w,
   next,
   (alike.pairs w).0 pair,
-  sym (code_alike s t w alike.settings) ∙ first,
-  sym (code_alike s t (w + 1) alike.settings) ∙ second,
+  sym (same_settings_same_codes s t w alike.settings) ∙ first,
+  sym (same_settings_same_codes s t (w + 1) alike.settings) ∙ second,
 )
 
 -- a reply that is due after one of two alike pasts is due after the other
-pub due_alike : (s t : TokenFields) (h k : List Attempt) (m : ℕ) (sent : CodeTexts) (reply : Reply) → AreAlike s h t k → IsMoment m
+pub alike_pasts_share_reply : (s t : TokenFields) (h k : List Attempt) (m : ℕ) (sent : CodeTexts) (reply : Reply) → AreAlike s h t k
+    → IsMoment m
     → IsDueReply t k m sent reply → IsDueReply s h m sent reply
-due_alike s t h k m sent Locked alike is due =
-    let limit = limit_alike s t alike.settings in
+alike_pasts_share_reply s t h k m sent Locked alike is due =
+    let limit = same_settings_same_limit s t alike.settings in
     let failures = alike.failures in omega arith
-due_alike s t h k m sent Fail alike is due =
-    let limit = limit_alike s t alike.settings in
+alike_pasts_share_reply s t h k m sent Fail alike is due =
+    let limit = same_settings_same_limit s t alike.settings in
     let failures = alike.failures in
     let below_limit : failures_after t k < limit_of t = due.0 in
-    (omega arith, λ c fits. due.1 c (fits_alike s t h k m sent c alike is fits))
-due_alike s t h k m sent (Pass p) alike is due =
-    let limit = limit_alike s t alike.settings in
+    (omega arith, λ c fits. due.1 c (alike_pasts_share_fitting s t h k m sent c alike is fits))
+alike_pasts_share_reply s t h k m sent (Pass p) alike is due =
+    let limit = same_settings_same_limit s t alike.settings in
     let failures = alike.failures in
     let below_limit : failures_after t k < limit_of t = due.0 in (
       (omega arith),
-      fits_alike t s k h m sent p (alike_back s t h k alike) is due.1,
-      λ c fits. due.2 c (fits_alike s t h k m sent c alike is fits),
+      alike_pasts_share_fitting t s k h m sent p (alike_symmetric s t h k alike) is due.1,
+      λ c fits. due.2 c (alike_pasts_share_fitting s t h k m sent c alike is fits),
     )
 
 -- after a reply a token has the settings that it had, and as many failures as the reply leaves
-parts_after_reply : (t : TokenFields) (m : ℕ) (reply : Reply)
+settings_and_failures_after_reply : (t : TokenFields) (m : ℕ) (reply : Reply)
     → (settings_of t ≡ settings_of (after_reply t m reply))
     × (failures_after_reply reply (failures_of t) ≡ failures_of (after_reply t m reply))
-parts_after_reply (Hotp t) m (Pass p) = (refl, refl)
-parts_after_reply (Hotp t) m Fail = (refl, refl)
-parts_after_reply (Hotp t) m Locked = (refl, refl)
-parts_after_reply (Totp t) m (Pass p) = (refl, refl)
-parts_after_reply (Totp t) m Fail = (refl, refl)
-parts_after_reply (Totp t) m Locked = (refl, refl)
+settings_and_failures_after_reply (Hotp t) m (Pass p) = (refl, refl)
+settings_and_failures_after_reply (Hotp t) m Fail = (refl, refl)
+settings_and_failures_after_reply (Hotp t) m Locked = (refl, refl)
+settings_and_failures_after_reply (Totp t) m (Pass p) = (refl, refl)
+settings_and_failures_after_reply (Totp t) m Fail = (refl, refl)
+settings_and_failures_after_reply (Totp t) m Locked = (refl, refl)
 
 -- after a pass of one code HOTP's first counter is one more than the counter that passed, which was not before the first
-first_after_one : (o : Option ℕ) (next p : ℕ) → option_map_or (λ m. m + 1) o next ≤ p
+one_code_moves_first : (o : Option ℕ) (next p : ℕ) → option_map_or (λ m. m + 1) o next ≤ p
     → option_map_or (λ m. m + 1) (Some (option_map_or (λ most. max p most) o p)) next ≡ p + 1
-first_after_one None next p h = refl
-first_after_one (Some m) next p h = omega arith
+one_code_moves_first None next p h = refl
+one_code_moves_first (Some m) next p h = omega arith
 
 -- after a pass of a pair, HOTP's first counter is one more than the second of the pair
-first_after_two : (o : Option ℕ) (next w : ℕ) → option_map_or (λ m. m + 1) o next ≤ w
+pair_moves_first : (o : Option ℕ) (next w : ℕ) → option_map_or (λ m. m + 1) o next ≤ w
     → option_map_or (λ m. m + 1) (Some (max (w + 1) (option_map_or (λ most. max (w + 1 - 1) most) o (w + 1 - 1)))) next ≡ w + 1 + 1
-first_after_two None next w h = omega arith
-first_after_two (Some m) next w h = omega arith
+pair_moves_first None next w h = omega arith
+pair_moves_first (Some m) next w h = omega arith
 
 -- after a pass, HOTP's first counter is one more than the counter that passed
-pub first_after : (t : HotpFields) (h : List Attempt) (m : ℕ) (sent : CodeTexts) (p : ℕ) → IsFitting (Hotp t) h m sent p
+pub pass_moves_first : (t : HotpFields) (h : List Attempt) (m : ℕ) (sent : CodeTexts) (p : ℕ) → IsFitting (Hotp t) h m sent p
     → first_in_window t.next (counters_of sent p ++ used_in h) ≡ p + 1
-first_after t h m (OneText text) p fits = first_after_one (greatest (used_in h)) t.next p fits.0.not_before
-first_after t h m (TwoTexts one other) p (w, next, pair, first, second) =
+pass_moves_first t h m (OneText text) p fits = one_code_moves_first (greatest (used_in h)) t.next p fits.0.not_before
+pass_moves_first t h m (TwoTexts one other) p (w, next, pair, first, second) =
     subst (λ (n : ℕ). first_in_window t.next (counters_of (TwoTexts one other) n ++ used_in h) ≡ n + 1) (sym next)
-    (first_after_two (greatest (used_in h)) t.next w pair.0.not_before)
+    (pair_moves_first (greatest (used_in h)) t.next w pair.0.not_before)
 
 -- no pair of TOTP codes fits
-no_pair : (t : TotpFields) (h : List Attempt) (m : ℕ) (one other : List ℕ) (c : ℕ) → IsFitting (Totp t) h m (TwoTexts one other) c → ⊥
-no_pair t h m one other c (w, next, pair, first, second) = pair
+no_totp_pair_fits : (t : TotpFields) (h : List Attempt) (m : ℕ) (one other : List ℕ) (c : ℕ) → IsFitting (Totp t) h m (TwoTexts one other) c
+    → ⊥
+no_totp_pair_fits t h m one other c (w, next, pair, first, second) = pair
 
 -- a counter above one that is above all of these is above all of them
-above_more : (counters : List ℕ) (p c : ℕ) → IsAbove counters p → p < c → IsAbove counters c
-above_more [] p c h more = h
-above_more (x ∷ counters) p c h more =
-    let below : x < p = h.0 in (omega arith, above_more counters p c h.1 more)
+above_transitive : (counters : List ℕ) (p c : ℕ) → IsAbove counters p → p < c → IsAbove counters c
+above_transitive [] p c h more = h
+above_transitive (x ∷ counters) p c h more =
+    let below : x < p = h.0 in (omega arith, above_transitive counters p c h.1 more)
 
 -- a counter is in the window that the settings give at a later moment, after a pass of p at m
-window_by : TokenFields → ℕ → ℕ → ℕ → ℕ → Type 0
-window_by (Hotp t) m p later c = IsInHotpWindow (p + 1) t.look_ahead c
-window_by (Totp t) m p later c =
+IsInWindowAfter : TokenFields → ℕ → ℕ → ℕ → ℕ → Type 0
+IsInWindowAfter (Hotp t) m p later c = IsInHotpWindow (p + 1) t.look_ahead c
+IsInWindowAfter (Totp t) m p later c =
     (t.t0 ≤ later) × IsInTotpWindow (step_at t later) (pos p -ℤ pos (step_at t m)) t.back t.ahead t.max_drift c
 
 -- a counter can be the first of a pair by the window that the settings give after a pass of p
-pairs_by : TokenFields → ℕ → ℕ → Type 0
-pairs_by (Hotp t) p w = IsInHotpWindow (p + 1) t.sync_ahead w × (w + 1 ≤ most_counter)
-pairs_by (Totp t) p w = ⊥
+IsPairCandidateAfter : TokenFields → ℕ → ℕ → Type 0
+IsPairCandidateAfter (Hotp t) p w = IsInHotpWindow (p + 1) t.sync_ahead w × (w + 1 ≤ most_counter)
+IsPairCandidateAfter (Totp t) p w = ⊥
 
 -- the same counters can pass after two pasts, alone and in pairs
 abbrev CanPassAlike : TokenFields → List Attempt → TokenFields → List Attempt → Type 0
@@ -152,38 +154,40 @@ CanPassAlike s h t k =
     × ((w : ℕ) → IsPairCandidate s h w ↔ IsPairCandidate t k w)
 
 -- what can pass after a pass of a fitting counter is what can pass in the token that the pass makes, whatever the past
-can_pass_after_pass : (s t : TokenFields) (h : List Attempt) (m : ℕ) (sent : CodeTexts) (p : ℕ) → settings_of s ≡ settings_of t
+token_agrees_after_pass : (s t : TokenFields) (h : List Attempt) (m : ℕ) (sent : CodeTexts) (p : ℕ) → settings_of s ≡ settings_of t
     → IsFitting s h m sent p → CanPassAlike s (attempt_of m sent (Pass p) ∷ h) (after_pass t m p) []
-unfolding window_by pairs_by
-can_pass_after_pass (Hotp s) (Hotp t) h m sent p e fits =
-    let first : first_in_window s.next (counters_of sent p ++ used_in h) ≡ p + 1 = first_after s h m sent p fits in (
+unfolding IsInWindowAfter IsPairCandidateAfter
+token_agrees_after_pass (Hotp s) (Hotp t) h m sent p e fits =
+    let first : first_in_window s.next (counters_of sent p ++ used_in h) ≡ p + 1 = pass_moves_first s h m sent p fits in (
       (λ later c when. (
-        (λ w. subst (λ f. window_by f m p later c) e (subst (λ n. IsInHotpWindow n s.look_ahead c) first w)),
-        (λ w. subst (λ n. IsInHotpWindow n s.look_ahead c) (sym first) (subst (λ f. window_by f m p later c) (sym e) w)),
+        (λ w. subst (λ f. IsInWindowAfter f m p later c) e (subst (λ n. IsInHotpWindow n s.look_ahead c) first w)),
+        (λ w. subst (λ n. IsInHotpWindow n s.look_ahead c) (sym first) (subst (λ f. IsInWindowAfter f m p later c) (sym e) w)),
       )),
       (λ w. (
-        (λ x. subst (λ f. pairs_by f p w) e (subst (λ n. IsInHotpWindow n s.sync_ahead w × (w + 1 ≤ most_counter)) first x)),
-        (λ x. subst (λ n. IsInHotpWindow n s.sync_ahead w × (w + 1 ≤ most_counter)) (sym first) (subst (λ f. pairs_by f p w) (sym e) x)),
+        (λ x. subst (λ f. IsPairCandidateAfter f p w) e (subst (λ n. IsInHotpWindow n s.sync_ahead w × (w + 1 ≤ most_counter)) first x)),
+        (λ x. subst (λ n. IsInHotpWindow n s.sync_ahead w × (w + 1 ≤ most_counter)) (sym first)
+          (subst (λ f. IsPairCandidateAfter f p w) (sym e) x)),
       )),
     )
-can_pass_after_pass (Totp s) (Totp t) h m (OneText text) p e fits = (
+token_agrees_after_pass (Totp s) (Totp t) h m (OneText text) p e fits = (
   (λ later c when. (
-    (λ w. let near = subst (λ f. window_by f m p later c) e (w.0, w.1) in
+    (λ w. let near = subst (λ f. IsInWindowAfter f m p later c) e (w.0, w.1) in
         let above : p < c = w.3.0 in
         (near.0, near.1, (λ l is. let same : p ≡ l = cc in omega arith), tt)),
-    (λ w. let near = subst (λ f. window_by f m p later c) (sym e) (w.0, w.1) in
+    (λ w. let near = subst (λ f. IsInWindowAfter f m p later c) (sym e) (w.0, w.1) in
         let above : p < c = w.2 p refl in
-        (near.0, near.1, (λ l is. let below : l < p = fits.0.2 l is in omega arith), (above, above_more (used_in h) p c fits.0.3 above))),
+        (near.0, near.1, (λ l is. let below : l < p = fits.0.2 l is in omega arith),
+          (above, above_transitive (used_in h) p c fits.0.3 above))),
   )),
   (λ w. ((λ x. x), (λ x. x))),
 )
-can_pass_after_pass (Totp s) (Totp t) h m (TwoTexts one other) p e fits = absurd (no_pair s h m one other p fits)
-can_pass_after_pass (Hotp s) (Totp t) h m sent p e fits = absurd (cc)
-can_pass_after_pass (Totp s) (Hotp t) h m sent p e fits = absurd (cc)
+token_agrees_after_pass (Totp s) (Totp t) h m (TwoTexts one other) p e fits = absurd (no_totp_pair_fits s h m one other p fits)
+token_agrees_after_pass (Hotp s) (Totp t) h m sent p e fits = absurd (cc)
+token_agrees_after_pass (Totp s) (Hotp t) h m sent p e fits = absurd (cc)
 
 -- `CanPassAlike` holds of a past and itself
-can_pass_same : (s : TokenFields) (h : List Attempt) → CanPassAlike s h s h
-can_pass_same s h = ((λ m c is. ((λ x. x), (λ x. x))), (λ w. ((λ x. x), (λ x. x))))
+can_pass_reflexive : (s : TokenFields) (h : List Attempt) → CanPassAlike s h s h
+can_pass_reflexive s h = ((λ m c is. ((λ x. x), (λ x. x))), (λ w. ((λ x. x), (λ x. x))))
 
 -- a reply that passes no counter
 abbrev IsNoPass : Reply → Type 0
@@ -192,39 +196,45 @@ IsNoPass Fail = Unit {0}
 IsNoPass Locked = Unit {0}
 
 -- a reply that passes no counter leaves what can pass as it was, after the history and in the token that it makes
-can_pass_kept : (s : TokenFields) (h : List Attempt) (m : ℕ) (sent : CodeTexts) (reply : Reply) → IsNoPass reply
+no_pass_keeps_candidates : (s : TokenFields) (h : List Attempt) (m : ℕ) (sent : CodeTexts) (reply : Reply) → IsNoPass reply
     → CanPassAlike s (attempt_of m sent reply ∷ h) s h × CanPassAlike s (attempt_of m sent reply ∷ h) (after_reply s m reply) h
-can_pass_kept s h m sent (Pass p) idle = absurd idle
-can_pass_kept (Hotp s) h m sent Fail idle = (can_pass_same (Hotp s) h, can_pass_same (Hotp s) h)
-can_pass_kept (Totp s) h m sent Fail idle = (can_pass_same (Totp s) h, can_pass_same (Totp s) h)
-can_pass_kept (Hotp s) h m sent Locked idle = (can_pass_same (Hotp s) h, can_pass_same (Hotp s) h)
-can_pass_kept (Totp s) h m sent Locked idle = (can_pass_same (Totp s) h, can_pass_same (Totp s) h)
+no_pass_keeps_candidates s h m sent (Pass p) idle = absurd idle
+no_pass_keeps_candidates (Hotp s) h m sent Fail idle = (can_pass_reflexive (Hotp s) h, can_pass_reflexive (Hotp s) h)
+no_pass_keeps_candidates (Totp s) h m sent Fail idle = (can_pass_reflexive (Totp s) h, can_pass_reflexive (Totp s) h)
+no_pass_keeps_candidates (Hotp s) h m sent Locked idle = (can_pass_reflexive (Hotp s) h, can_pass_reflexive (Hotp s) h)
+no_pass_keeps_candidates (Totp s) h m sent Locked idle = (can_pass_reflexive (Totp s) h, can_pass_reflexive (Totp s) h)
 
 -- an attempt that passes no counter keeps equal what can pass after two alike pasts
-can_pass_still : (s t : TokenFields) (h k : List Attempt) (m : ℕ) (sent : CodeTexts) (reply : Reply) → IsNoPass reply → AreAlike s h t k
+no_pass_keeps_candidates_alike : (s t : TokenFields) (h k : List Attempt) (m : ℕ) (sent : CodeTexts) (reply : Reply) → IsNoPass reply
+    → AreAlike s h t k
     → CanPassAlike s (attempt_of m sent reply ∷ h) t (attempt_of m sent reply ∷ k)
-can_pass_still s t h k m sent reply idle alike =
-    let one = (can_pass_kept s h m sent reply idle).0 in
-    let other = (can_pass_kept t k m sent reply idle).0 in (
-      (λ later c when. onward (one.0 later c when) (onward (alike.candidates later c when) (back (other.0 later c when)))),
-      (λ w. onward (one.1 w) (onward (alike.pairs w) (back (other.1 w)))),
+no_pass_keeps_candidates_alike s t h k m sent reply idle alike =
+    let one = (no_pass_keeps_candidates s h m sent reply idle).0 in
+    let other = (no_pass_keeps_candidates t k m sent reply idle).0 in (
+      (λ later c when. iff_transitive (one.0 later c when) (iff_transitive (alike.candidates later c when)
+        (iff_symmetric (other.0 later c when)))),
+      (λ w. iff_transitive (one.1 w) (iff_transitive (alike.pairs w) (iff_symmetric (other.1 w)))),
     )
 
 -- what can pass after a due reply is the same in two alike pasts
-can_pass_more : (s t : TokenFields) (h k : List Attempt) (m : ℕ) (sent : CodeTexts) (reply : Reply) → AreAlike s h t k → IsMoment m
+reply_keeps_candidates_alike : (s t : TokenFields) (h k : List Attempt) (m : ℕ) (sent : CodeTexts) (reply : Reply) → AreAlike s h t k
+    → IsMoment m
     → IsDueReply t k m sent reply → CanPassAlike s (attempt_of m sent reply ∷ h) t (attempt_of m sent reply ∷ k)
-can_pass_more s t h k m sent (Pass p) alike is due =
-    let one = can_pass_after_pass s t h m sent p alike.settings (fits_alike t s k h m sent p (alike_back s t h k alike) is due.1) in
-    let other = can_pass_after_pass t t k m sent p refl due.1 in
-    ((λ later c when. onward (one.0 later c when) (back (other.0 later c when))), (λ w. onward (one.1 w) (back (other.1 w))))
-can_pass_more s t h k m sent Fail alike is due = can_pass_still s t h k m sent Fail tt alike
-can_pass_more s t h k m sent Locked alike is due = can_pass_still s t h k m sent Locked tt alike
+reply_keeps_candidates_alike s t h k m sent (Pass p) alike is due =
+    let one = token_agrees_after_pass s t h m sent p alike.settings (alike_pasts_share_fitting t s k h m sent p
+        (alike_symmetric s t h k alike) is due.1) in
+    let other = token_agrees_after_pass t t k m sent p refl due.1 in
+    ((λ later c when. iff_transitive (one.0 later c when) (iff_symmetric (other.0 later c when))),
+      (λ w. iff_transitive (one.1 w) (iff_symmetric (other.1 w))))
+reply_keeps_candidates_alike s t h k m sent Fail alike is due = no_pass_keeps_candidates_alike s t h k m sent Fail tt alike
+reply_keeps_candidates_alike s t h k m sent Locked alike is due = no_pass_keeps_candidates_alike s t h k m sent Locked tt alike
 
 -- one more attempt keeps two pasts alike
-pub alike_more : (s t : TokenFields) (h k : List Attempt) (m : ℕ) (sent : CodeTexts) (reply : Reply) → AreAlike s h t k → IsMoment m
+pub attempt_keeps_pasts_alike : (s t : TokenFields) (h k : List Attempt) (m : ℕ) (sent : CodeTexts) (reply : Reply) → AreAlike s h t k
+    → IsMoment m
     → IsDueReply t k m sent reply → AreAlike s (attempt_of m sent reply ∷ h) t (attempt_of m sent reply ∷ k)
-alike_more s t h k m sent reply alike is due =
-    let passing = can_pass_more s t h k m sent reply alike is due in record {
+attempt_keeps_pasts_alike s t h k m sent reply alike is due =
+    let passing = reply_keeps_candidates_alike s t h k m sent reply alike is due in record {
       settings = alike.settings;
       failures = ap (failures_after_reply reply) alike.failures;
       candidates = passing.0;
@@ -232,39 +242,39 @@ alike_more s t h k m sent reply alike is due =
     }
 
 -- what can pass in a token after a due reply is what can pass after that attempt
-can_pass_after_reply : (t : TokenFields) (m : ℕ) (sent : CodeTexts) (reply : Reply) → IsDueReply t [] m sent reply
+token_agrees_after_reply : (t : TokenFields) (m : ℕ) (sent : CodeTexts) (reply : Reply) → IsDueReply t [] m sent reply
     → CanPassAlike t (attempt_of m sent reply ∷ []) (after_reply t m reply) []
-can_pass_after_reply t m sent (Pass p) due = can_pass_after_pass t t [] m sent p refl due.1
-can_pass_after_reply t m sent Fail due = (can_pass_kept t [] m sent Fail tt).1
-can_pass_after_reply t m sent Locked due = (can_pass_kept t [] m sent Locked tt).1
+token_agrees_after_reply t m sent (Pass p) due = token_agrees_after_pass t t [] m sent p refl due.1
+token_agrees_after_reply t m sent Fail due = (no_pass_keeps_candidates t [] m sent Fail tt).1
+token_agrees_after_reply t m sent Locked due = (no_pass_keeps_candidates t [] m sent Locked tt).1
 
 -- a due reply leads from a past to that past with the attempt added
-pub after_attempt : (s t : TokenFields) (h : List Attempt) (m : ℕ) (sent : CodeTexts) (reply : Reply) → IsMoment m
+pub due_reply_leads_on : (s t : TokenFields) (h : List Attempt) (m : ℕ) (sent : CodeTexts) (reply : Reply) → IsMoment m
     → IsAfter s h t → IsDueReply t [] m sent reply → IsAfter s (attempt_of m sent reply ∷ h) (after_reply t m reply)
-after_attempt s t h m sent reply is after due =
-    let passing = can_pass_after_reply t m sent reply due in record {
-      legal = (is, due_alike s t h [] m sent reply after.alike is due, after.legal);
-      alike = alike_onward s t (after_reply t m reply) (attempt_of m sent reply ∷ h) (attempt_of m sent reply ∷ []) []
-          (alike_more s t h [] m sent reply after.alike is due) (record {
-            settings = (parts_after_reply t m reply).0;
-            failures = (parts_after_reply t m reply).1;
+due_reply_leads_on s t h m sent reply is after due =
+    let passing = token_agrees_after_reply t m sent reply due in record {
+      legal = (is, alike_pasts_share_reply s t h [] m sent reply after.alike is due, after.legal);
+      alike = alike_transitive s t (after_reply t m reply) (attempt_of m sent reply ∷ h) (attempt_of m sent reply ∷ []) []
+          (attempt_keeps_pasts_alike s t h [] m sent reply after.alike is due) (record {
+            settings = (settings_and_failures_after_reply t m reply).0;
+            failures = (settings_and_failures_after_reply t m reply).1;
             candidates = passing.0;
             pairs = passing.1;
           });
     }
 
 -- where the token after a pass is in its ranges, the counter that passed is at most the greatest that can pass
-passed_in_range : (t : TokenFields) (m c : ℕ) → IsInRange (after_pass t m c) → c ≤ most_counter
-passed_in_range (Hotp t) m c range = let next : c + 1 ≤ most_counter + 1 = range.0 in omega arith
-passed_in_range (Totp t) m c range = range.1.1.1.1.0 c refl
+passed_counter_in_range : (t : TokenFields) (m c : ℕ) → IsInRange (after_pass t m c) → c ≤ most_counter
+passed_counter_in_range (Hotp t) m c range = let next : c + 1 ≤ most_counter + 1 = range.0 in omega arith
+passed_counter_in_range (Totp t) m c range = range.1.1.1.1.0 c refl
 
 -- a due reply, and the token after it in its ranges, are what an attempt gives
-pub token_attempt : (old : TokenFields) (m : ℕ) (sent : CodeTexts) (reply : Reply) (new : TokenFields) → IsMoment m
+pub due_reply_is_attempt : (old : TokenFields) (m : ℕ) (sent : CodeTexts) (reply : Reply) (new : TokenFields) → IsMoment m
     → IsDueReply old [] m sent reply → new ≡ after_reply old m reply → IsInRange new → IsTokenAttempt old m sent reply new
-token_attempt old m sent reply new is due state range = record {
-  due = λ start history after. due_alike start old history [] m sent reply after.alike is due;
+due_reply_is_attempt old m sent reply new is due state range = record {
+  due = λ start history after. alike_pasts_share_reply start old history [] m sent reply after.alike is due;
   after = λ start history after. subst (λ (t : TokenFields). IsAfter start (attempt_of m sent reply ∷ history) t) (sym state)
-      (after_attempt start old history m sent reply is after due);
+      (due_reply_leads_on start old history m sent reply is after due);
   state = state;
-  counter = λ c same. passed_in_range old m c (subst IsInRange (state ∙ ap (after_reply old m) same) range);
+  counter = λ c same. passed_counter_in_range old m c (subst IsInRange (state ∙ ap (after_reply old m) same) range);
 }

@@ -4,8 +4,8 @@ use Rattle.std.specs.Prelude.{◌≢◌}
 use Rattle.std.proofs.lemmas.Bool.{eqb-true, eqb-false}
 use Rattle.scram_text.specs.FirstUnmet.{IsFirstUnmet}
 use Rattle.scram_text.specs.Messages.{ServerFirstParts}
-use Rattle.scram_text.proofs.lemmas.FirstUnmet.{none_unmet}
-use Rattle.scram_text.proofs.lemmas.ServerFirst.{server_first_once}
+use Rattle.scram_text.proofs.lemmas.FirstUnmet.{no_first_unmet}
+use Rattle.scram_text.proofs.lemmas.ServerFirst.{has_one_server_first}
 use Rattle.scram_ends.specs.Stages.{Started}
 use Rattle.scram_ends.specs.Client.{IsStarted, challenge_faults_in_order, AsksOfChallenge, IsAnswerable, IsChallengeFault}
 use Rattle.scram_ends.specs.declared.client.Limits.{Limits}
@@ -14,40 +14,42 @@ use Rattle.scram_ends.specs.declared.client.ClientFault.{ClientFault}
 use Rattle.scram_ends.specs.declared.client.ClientFault.TheVariants.{Text}
 
 -- a challenge's nonce that does not begin with the client's is not the client's with more after it
-pub not_mine : (client_nonce nonce sent prefix : List ℕ) → sent ≡ nonce → prefix ≡ client_nonce → ((rest : List ℕ) → sent ≢ prefix ++ rest)
+pub nonce_begins_otherwise : (client_nonce nonce sent prefix : List ℕ) → sent ≡ nonce → prefix ≡ client_nonce
+    → ((rest : List ℕ) → sent ≢ prefix ++ rest)
     → (more : List ℕ) → nonce ≡ client_nonce ++ more → ⊥
-not_mine client_nonce nonce sent prefix same is none more cut =
+nonce_begins_otherwise client_nonce nonce sent prefix same is none more cut =
     none more (same ∙ (cut ∙ ap (λ (front : List ℕ). front ++ more) (sym is)))
 
 -- a challenge's nonce that begins with the client's is the client's with the rest after it
-pub begins : (client_nonce nonce sent prefix rest : List ℕ) → sent ≡ nonce → prefix ≡ client_nonce → sent ≡ prefix ++ rest
+pub nonce_begins_with_clients : (client_nonce nonce sent prefix rest : List ℕ) → sent ≡ nonce → prefix ≡ client_nonce
+    → sent ≡ prefix ++ rest
     → nonce ≡ client_nonce ++ rest
-begins client_nonce nonce sent prefix rest same is cut = sym same ∙ (cut ∙ ap (λ (front : List ℕ). front ++ rest) is)
+nonce_begins_with_clients client_nonce nonce sent prefix rest same is cut = sym same ∙ (cut ∙ ap (λ (front : List ℕ). front ++ rest) is)
 
 -- where a challenge's nonce is the client's and no more, it is not longer
-pub not_longer : (client_nonce nonce rest : List ℕ) → nonce ≡ client_nonce ++ rest → eqb (length rest) 0 ≡ true
+pub nonce_is_not_longer : (client_nonce nonce rest : List ℕ) → nonce ≡ client_nonce ++ rest → eqb (length rest) 0 ≡ true
     → length client_nonce < length nonce → ⊥
-not_longer client_nonce nonce rest is empty long =
+nonce_is_not_longer client_nonce nonce rest is empty long =
     omega (arith, long, ap length is, length-append client_nonce rest, eqb-true (length rest) 0 empty)
 
 -- where a challenge's nonce is the client's and more, it is longer
-pub longer : (client_nonce nonce rest : List ℕ) → nonce ≡ client_nonce ++ rest → eqb (length rest) 0 ≡ false
+pub nonce_is_longer : (client_nonce nonce rest : List ℕ) → nonce ≡ client_nonce ++ rest → eqb (length rest) 0 ≡ false
     → length client_nonce < length nonce
-longer client_nonce nonce rest is some =
+nonce_is_longer client_nonce nonce rest is some =
     omega (arith, ap length is, length-append client_nonce rest, eqb-false (length rest) 0 some)
 
 -- a challenge that is refused is not one to answer
-pub not_refused : (limits : Limits) (client_nonce server_first : List ℕ) (fault : ClientFault) (c : ServerFirstParts)
+pub refused_is_not_answerable : (limits : Limits) (client_nonce server_first : List ℕ) (fault : ClientFault) (c : ServerFirstParts)
     → IsChallengeFault limits client_nonce server_first fault → IsAnswerable limits client_nonce server_first c → ⊥
-not_refused limits client_nonce server_first (Text fault) c h a = h.0 c a.is_challenge
-not_refused limits client_nonce server_first fault c h a =
-    none_unmet (λ row. AsksOfChallenge row limits client_nonce c) challenge_faults_in_order fault a.asked
+refused_is_not_answerable limits client_nonce server_first (Text fault) c h a = h.0 c a.is_challenge
+refused_is_not_answerable limits client_nonce server_first fault c h a =
+    no_first_unmet (λ row. AsksOfChallenge row limits client_nonce c) challenge_faults_in_order fault a.asked
     (subst (λ (p : ServerFirstParts). IsFirstUnmet (λ row. AsksOfChallenge row limits client_nonce p) challenge_faults_in_order fault)
-    (server_first_once server_first h.0 c h.1 a.is_challenge) h.2)
+    (has_one_server_first server_first h.0 c h.1 a.is_challenge) h.2)
 
 -- a challenge's fault by the limits and the nonce that the client keeps is a fault by those of its login
-pub fault_of_started : (w : ClientOne) (l : Started) (server_first : List ℕ) (fault : ClientFault)
+pub login_has_challenge_fault : (w : ClientOne) (l : Started) (server_first : List ℕ) (fault : ClientFault)
     → IsStarted w l → IsChallengeFault w.limits w.nonce.items server_first fault → IsChallengeFault l.limits l.nonce server_first fault
-fault_of_started w l server_first fault started is =
-    subst (λ (limits : Limits). IsChallengeFault limits l.nonce server_first fault) started.within
+login_has_challenge_fault w l server_first fault started is =
+    subst (λ (limits : Limits). IsChallengeFault limits l.nonce server_first fault) started.limits
     (subst (λ (nonce : List ℕ). IsChallengeFault w.limits nonce server_first fault) started.nonce is)

@@ -20,43 +20,43 @@ abbrev pub AreBytes : List ℕ → Type 0
 AreBytes bytes = (i : ℕ) → slice_index bytes i < 256
 
 -- each byte of a number is below 256, so a number's bytes, the highest first, are bytes:
-byte_below : (k n : ℕ) → byte_at k n < 256
-byte_below zero n = mod-lt n (omega arith)
-byte_below (suc k) n = mod-lt (n / 256 ^ suc k) (omega arith)
+byte_at_is_byte : (k n : ℕ) → byte_at k n < 256
+byte_at_is_byte zero n = mod-lt n (omega arith)
+byte_at_is_byte (suc k) n = mod-lt (n / 256 ^ suc k) (omega arith)
 
-high_bytes : (k n : ℕ) → AreBytes (bytes_high_first k n)
-high_bytes zero n i = omega arith
-high_bytes (suc k) n zero = byte_below k n
-high_bytes (suc k) n (suc i) = high_bytes k n i
+number_is_bytes : (k n : ℕ) → AreBytes (bytes_high_first k n)
+number_is_bytes zero n i = omega arith
+number_is_bytes (suc k) n zero = byte_at_is_byte k n
+number_is_bytes (suc k) n (suc i) = number_is_bytes k n i
 
 -- two lists of bytes joined are bytes
-bytes-append : (front back : List ℕ) → AreBytes front → AreBytes back → AreBytes (front ++ back)
-bytes-append [] back is also i = also i
-bytes-append (b ∷ front) back is also zero = is 0
-bytes-append (b ∷ front) back is also (suc i) = bytes-append front back (λ j. is (suc j)) also i
+joined_is_bytes : (front back : List ℕ) → AreBytes front → AreBytes back → AreBytes (front ++ back)
+joined_is_bytes [] back is also i = also i
+joined_is_bytes (b ∷ front) back is also zero = is 0
+joined_is_bytes (b ∷ front) back is also (suc i) = joined_is_bytes front back (λ j. is (suc j)) also i
 
 -- the digests of SHA-1 and of SHA-256 are bytes:
-short_bytes : (words : List ℕ) (n : ℕ) → AreBytes (short.digest_bytes words n)
+sha1_digest_is_bytes : (words : List ℕ) (n : ℕ) → AreBytes (short.digest_bytes words n)
 unfolding short.digest_bytes
-short_bytes words zero i = omega arith
-short_bytes words (suc n) i =
-    bytes-append (short.digest_bytes words n) _ (short_bytes words n) (high_bytes 4 (slice_index words n)) i
+sha1_digest_is_bytes words zero i = omega arith
+sha1_digest_is_bytes words (suc n) i =
+    joined_is_bytes (short.digest_bytes words n) _ (sha1_digest_is_bytes words n) (number_is_bytes 4 (slice_index words n)) i
 
-long_bytes : (words : List ℕ) (n : ℕ) → AreBytes (long.digest_bytes words n)
+sha256_digest_is_bytes : (words : List ℕ) (n : ℕ) → AreBytes (long.digest_bytes words n)
 unfolding long.digest_bytes
-long_bytes words zero i = omega arith
-long_bytes words (suc n) i =
-    bytes-append (long.digest_bytes words n) _ (long_bytes words n) (high_bytes 4 (slice_index words n)) i
+sha256_digest_is_bytes words zero i = omega arith
+sha256_digest_is_bytes words (suc n) i =
+    joined_is_bytes (long.digest_bytes words n) _ (sha256_digest_is_bytes words n) (number_is_bytes 4 (slice_index words n)) i
 
 -- a mechanism's digest of a text, and its MAC, are bytes:
-hash_bytes : (m : Mechanism) (text : List ℕ) → AreBytes (hash_by m text)
+digest_is_bytes : (m : Mechanism) (text : List ℕ) → AreBytes (hash_by m text)
 unfolding sha1 sha256
-hash_bytes ScramSha1 text i = short_bytes _ 5 i
-hash_bytes ScramSha256 text i = long_bytes _ 8 i
+digest_is_bytes ScramSha1 text i = sha1_digest_is_bytes _ 5 i
+digest_is_bytes ScramSha256 text i = sha256_digest_is_bytes _ 8 i
 
-pub mac_bytes : (m : Mechanism) (key text : List ℕ) → AreBytes (hmac_by m key text)
+pub mac_is_bytes : (m : Mechanism) (key text : List ℕ) → AreBytes (hmac_by m key text)
 unfolding hmac
-mac_bytes m key text i = hash_bytes m _ i
+mac_is_bytes m key text i = digest_is_bytes m _ i
 
 -- the xor of two lists of the same length has that length
 pub length-xor : (a b : List ℕ) → length a ≡ length b → length (xor_bytes a b) ≡ length a
@@ -66,11 +66,11 @@ length-xor (x ∷ xs) [] same = absurd (omega (arith, same))
 length-xor (x ∷ xs) (y ∷ ys) same = ap suc (length-xor xs ys (omega (arith, same)))
 
 -- to xor a number with another twice gives the number again, and so with lists of the same length:
-xor_twice : (x y : ℕ) → bit_xor (bit_xor x y) y ≡ x
-xor_twice x y = xor_assoc x y y ∙ (ap (bit_xor x) (xor_self y) ∙ xor_zero_r x)
+xor_cancels : (x y : ℕ) → bit_xor (bit_xor x y) y ≡ x
+xor_cancels x y = xor_assoc x y y ∙ (ap (bit_xor x) (xor_self y) ∙ xor_zero_r x)
 
-pub xor_back : (a b : List ℕ) → length a ≡ length b → xor_bytes (xor_bytes a b) b ≡ a
+pub xor_bytes_cancels : (a b : List ℕ) → length a ≡ length b → xor_bytes (xor_bytes a b) b ≡ a
 unfolding xor_bytes
-xor_back [] ys same = refl
-xor_back (x ∷ xs) [] same = absurd (omega (arith, same))
-xor_back (x ∷ xs) (y ∷ ys) same = same_cons _ x _ xs (xor_twice x y) (xor_back xs ys (omega (arith, same)))
+xor_bytes_cancels [] ys same = refl
+xor_bytes_cancels (x ∷ xs) [] same = absurd (omega (arith, same))
+xor_bytes_cancels (x ∷ xs) (y ∷ ys) same = same_cons _ x _ xs (xor_cancels x y) (xor_bytes_cancels xs ys (omega (arith, same)))

@@ -7,10 +7,10 @@ use Rattle.mac_core.specs.declared.mechanism.Mechanism.{Mechanism}
 use Rattle.mac_core.specs.declared.mechanism.Mechanism.TheVariants.{ScramSha1, ScramSha256}
 use Rattle.scram_text.specs.Parts.{have_mandatory}
 use Rattle.scram_text.specs.Messages.{ClientFirstParts, ServerFirstParts, server_first_mandatory, verifier}
-use Rattle.scram_text.proofs.lemmas.Base64.{field_of_bytes}
-use Rattle.scram_text.proofs.lemmas.Composed.{signature_text, server_final_related}
-use Rattle.scram_text.proofs.lemmas.ClientFirst.{client_first_once}
-use Rattle.scram_text.proofs.lemmas.ServerFirst.{server_first_once}
+use Rattle.scram_text.proofs.lemmas.Base64.{bytes_are_field}
+use Rattle.scram_text.proofs.lemmas.Composed.{signature_is_text, written_is_server_final}
+use Rattle.scram_text.proofs.lemmas.ClientFirst.{has_one_client_first}
+use Rattle.scram_text.proofs.lemmas.ServerFirst.{has_one_server_first}
 use Rattle.scram_ends.specs.Entry.{Entry, password_keys}
 use Rattle.scram_ends.specs.Stages.{Answered, challenged_login}
 use Rattle.scram_ends.specs.Auth.{auth_message, client_signature, server_signature, IsProof, proof_of}
@@ -20,32 +20,32 @@ use Rattle.scram_ends.specs.Login.{IsAuthentic, IsValidLogin}
 use Rattle.scram_ends.specs.First.{IsChallengeTo}
 use Rattle.scram_ends.specs.Honest.{IsHonest, honest_signature}
 use Rattle.scram_ends.specs.Laws.{HonestLogsIn}
-use Rattle.scram_ends.proofs.lemmas.Clients.{honest_taken_up, same_proof, same_signature}
-use Rattle.scram_ends.proofs.lemmas.Verdicts.{due_of_valid}
-use Rattle.scram_ends.proofs.lemmas.Written.{can_be_signature, signature_short}
+use Rattle.scram_ends.proofs.lemmas.Clients.{honest_is_taken_up, proofs_are_same, signatures_are_same}
+use Rattle.scram_ends.proofs.lemmas.Verdicts.{acceptance_is_due}
+use Rattle.scram_ends.proofs.lemmas.Written.{signature_can_be_written, signature_is_short}
 use Rattle.mac_core.proofs.lemmas.Lengths.{length-hmac_by}
-use Rattle.scram_ends.proofs.lemmas.Digests.{AreBytes, mac_bytes, length-xor, xor_back}
+use Rattle.scram_ends.proofs.lemmas.Digests.{AreBytes, mac_is_bytes, length-xor, xor_bytes_cancels}
 
 -- a mechanism's digests have from 1 to 32 bytes
-pub length_range : (m : Mechanism) → (1 ≤ length_by m) × (length_by m ≤ 32)
-length_range ScramSha1 = (omega arith, omega arith)
-length_range ScramSha256 = (omega arith, omega arith)
+pub digest_length_is_in_range : (m : Mechanism) → (1 ≤ length_by m) × (length_by m ≤ 32)
+digest_length_is_in_range ScramSha1 = (omega arith, omega arith)
+digest_length_is_in_range ScramSha256 = (omega arith, omega arith)
 
 -- the server-final message that accepts with a signature bears this signature as verifier
-shown : (signature : List ℕ) → AreBytes signature → 1 ≤ length signature → length signature ≤ 64
+due_text_is_authentic : (signature : List ℕ) → AreBytes signature → 1 ≤ length signature → length signature ≤ 64
     → IsAuthentic (due_text (accept signature)) signature
-shown signature fits some within = record {
+due_text_is_authentic signature fits some within = record {
   last = final_due (accept signature);
-  is_last = server_final_related (verifier signature) [] (signature_text signature fits)
-      (can_be_signature signature (field_of_bytes 64 signature fits some within)) (signature_short signature within);
+  is_last = written_is_server_final (verifier signature) [] (signature_is_text signature fits)
+      (signature_can_be_written signature (bytes_are_field 64 signature fits some within)) (signature_is_short signature within);
   not_mandatory = refl;
   is_verifier = refl;
 }
 
 -- the proof of a password is a proof by the keys of this password
-proved : (m : Mechanism) (password salt auth proof : List ℕ) (count : ℕ) → proof ≡ proof_of m password salt count auth
+password_proof_passes : (m : Mechanism) (password salt auth proof : List ℕ) (count : ℕ) → proof ≡ proof_of m password salt count auth
     → IsProof m (password_keys m password salt count) auth proof
-proved m password salt auth proof count is =
+password_proof_passes m password salt auth proof count is =
     let key = client_key_by m (hi_by m password salt count) in
     let signature = client_signature m (password_keys m password salt count) auth in
     let key_length : length key ≡ length_by m = length-hmac_by m (hi_by m password salt count) (codes "Client Key") in
@@ -53,22 +53,22 @@ proved m password salt auth proof count is =
     record {
       len = ap length is ∙ (length-xor key signature same ∙ key_length);
       opens = ap (λ (p : List ℕ). stored_key_by m (xor_bytes p signature)) is ∙ ap (λ (k : List ℕ). stored_key_by m k)
-          (xor_back key signature same);
+          (xor_bytes_cancels key signature same);
     }
 
 -- an honest client's first message and a challenge of the account to it open its login
-honest_opens : (e : Entry) (server_nonce : List ℕ) (l : Answered) → 1 ≤ length server_nonce
+honest_login_opens : (e : Entry) (server_nonce : List ℕ) (l : Answered) → 1 ≤ length server_nonce
     → IsChallengeTo e l.client_first server_nonce l.server_first
     → (honest : IsHonest l)
     → IsOpening e l.client_first l.server_first
     (record { first = honest.first; name = l.name; authzid = l.authzid; challenge = honest.challenge })
-honest_opens e server_nonce l some challenge honest =
-    let first : challenge.first ≡ honest.first = client_first_once l.client_first challenge.first honest.first challenge.is_first
+honest_login_opens e server_nonce l some challenge honest =
+    let first : challenge.first ≡ honest.first = has_one_client_first l.client_first challenge.first honest.first challenge.is_first
     honest.is_first.is_first in
-    let same = server_first_once l.server_first honest.challenge _ honest.is_challenge challenge.is_challenge in
+    let same = has_one_server_first l.server_first honest.challenge _ honest.is_challenge challenge.is_challenge in
     record {
       is_first = honest.is_first.is_first;
-      taken_up = honest_taken_up l.name l.authzid l.nonce l.client_first honest.first honest.is_first;
+      taken_up = honest_is_taken_up l.name l.authzid l.nonce l.client_first honest.first honest.is_first;
       is_challenge = honest.is_challenge;
       not_mandatory = ap (λ (p : ServerFirstParts). server_first_mandatory p) same;
       longer = (
@@ -88,13 +88,13 @@ honest_logs_in e server_nonce l has_keys allowed some challenge honest =
     let auth = auth_message honest.first l.server_first honest.final in
     let keys = password_keys m l.password e.salt e.count in
     let signature = honest_signature l honest in
-    let is_opening = honest_opens e server_nonce l some challenge honest in
-    let same : signature ≡ server_signature m keys auth = same_signature m m l.password _ e.salt auth auth _ e.count
+    let is_opening = honest_login_opens e server_nonce l some challenge honest in
+    let same : signature ≡ server_signature m keys auth = signatures_are_same m m l.password _ e.salt auth auth _ e.count
     refl is_opening.salt is_opening.count refl in
     let long : length signature ≡ length_by m = length-hmac_by m _ auth in
-    let range = length_range m in
+    let range = digest_length_is_in_range m in
     let authentic : IsAuthentic (due_text (accept signature)) signature =
-    shown signature (mac_bytes m _ auth) (omega (arith, long, range.0)) (omega (arith, long, range.1)) in
+    due_text_is_authentic signature (mac_is_bytes m _ auth) (omega (arith, long, range.0)) (omega (arith, long, range.1)) in
     let valid : IsValidLogin login l.client_final (due_text (accept signature)) = record {
       opening = record { first = honest.first; name = l.name; authzid = l.authzid; challenge = honest.challenge };
       final = honest.final;
@@ -105,12 +105,12 @@ honest_logs_in e server_nonce l has_keys allowed some challenge honest =
       nonce = honest.is_final.sent_nonce;
       channel = honest.is_final.channel;
       has_keys = has_keys;
-      proof = proved m l.password e.salt auth honest.final.proof e.count
-          (honest.is_final.proof ∙ same_proof m m l.password _ e.salt auth auth _ e.count refl is_opening.salt is_opening.count refl);
+      proof = password_proof_passes m l.password e.salt auth honest.final.proof e.count
+          (honest.is_final.proof ∙ proofs_are_same m m l.password _ e.salt auth auth _ e.count refl is_opening.salt is_opening.count refl);
       allowed = allowed;
       authentic = subst (λ (s : List ℕ). IsAuthentic (due_text (accept signature)) s) same authentic;
     } in (
-      subst (λ (s : List ℕ). IsDue login l.client_final (accept s)) (sym same) (due_of_valid login l.client_final _ valid),
+      subst (λ (s : List ℕ). IsDue login l.client_final (accept s)) (sym same) (acceptance_is_due login l.client_final _ valid),
       authentic,
       valid,
     )

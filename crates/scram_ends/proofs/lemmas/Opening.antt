@@ -6,10 +6,10 @@ use Rattle.std.specs.declared.option.Option.TheVariants.{None, Some}
 use Rattle.std.proofs.lemmas.Option.{same_Some}
 use Rattle.scram_text.specs.FirstUnmet.{IsFirstUnmet}
 use Rattle.scram_text.specs.Messages.{ClientFirstParts, ServerFirstParts}
-use Rattle.scram_text.proofs.lemmas.FirstUnmet.{none_unmet}
-use Rattle.scram_text.proofs.lemmas.Names.{name_once}
-use Rattle.scram_text.proofs.lemmas.ClientFirst.{client_first_once}
-use Rattle.scram_text.proofs.lemmas.ServerFirst.{server_first_once}
+use Rattle.scram_text.proofs.lemmas.FirstUnmet.{no_first_unmet}
+use Rattle.scram_text.proofs.lemmas.Names.{one_name_per_spelling}
+use Rattle.scram_text.proofs.lemmas.ClientFirst.{has_one_client_first}
+use Rattle.scram_text.proofs.lemmas.ServerFirst.{has_one_server_first}
 use Rattle.scram_ends.specs.Entry.{Entry}
 use Rattle.scram_ends.specs.Laws.{RefusedIsNotTakenUp}
 use Rattle.scram_ends.specs.Opening.{IsNameOf, IsAuthzidOf, IsTakenUp, Opening, IsOpening}
@@ -17,53 +17,54 @@ use Rattle.scram_ends.specs.First.{first_faults_in_order, AsksOfFirst}
 use Rattle.scram_ends.specs.declared.first.FirstFault.TheVariants.{Text}
 
 -- a saslname spells one plain name
-pub same_name : (one other part also : List ℕ) → part ≡ also → IsNameOf one part → IsNameOf other also → one ≡ other
-same_name one other part also same is is_also = name_once one other (sym is.spelled ∙ (same ∙ is_also.spelled))
+pub one_name : (one other part also : List ℕ) → part ≡ also → IsNameOf one part → IsNameOf other also → one ≡ other
+one_name one other part also same is is_also = one_name_per_spelling one other (sym is.spelled ∙ (same ∙ is_also.spelled))
 
 -- the saslname of a name to act as spells one plain name, where there is one
-pub same_authzid : (one other part also : Option (List ℕ)) → part ≡ also → IsAuthzidOf one part → IsAuthzidOf other also → one ≡ other
-same_authzid None None part also same is is_also = refl
-same_authzid (Some one) (Some other) (Some part) (Some also) same is is_also =
-    ap (λ (name : List ℕ). Some name) (same_name one other part also (same_Some part also same) is is_also)
-same_authzid None (Some other) None (Some also) same is is_also = cc
-same_authzid (Some one) None (Some part) None same is is_also = cc
-same_authzid None (Some other) None None same is is_also = absurd is_also
-same_authzid None (Some other) (Some part) also same is is_also = absurd is
-same_authzid (Some one) (Some other) None also same is is_also = absurd is
-same_authzid (Some one) (Some other) (Some part) None same is is_also = absurd is_also
-same_authzid (Some one) None None also same is is_also = absurd is
-same_authzid (Some one) None (Some part) (Some also) same is is_also = absurd is_also
+pub one_authzid : (one other part also : Option (List ℕ)) → part ≡ also → IsAuthzidOf one part → IsAuthzidOf other also → one ≡ other
+one_authzid None None part also same is is_also = refl
+one_authzid (Some one) (Some other) (Some part) (Some also) same is is_also =
+    ap (λ (name : List ℕ). Some name) (one_name one other part also (same_Some part also same) is is_also)
+one_authzid None (Some other) None (Some also) same is is_also = cc
+one_authzid (Some one) None (Some part) None same is is_also = cc
+one_authzid None (Some other) None None same is is_also = absurd is_also
+one_authzid None (Some other) (Some part) also same is is_also = absurd is
+one_authzid (Some one) (Some other) None also same is is_also = absurd is
+one_authzid (Some one) (Some other) (Some part) None same is is_also = absurd is_also
+one_authzid (Some one) None None also same is is_also = absurd is
+one_authzid (Some one) None (Some part) (Some also) same is is_also = absurd is_also
 
 -- the opening of these parts and names
-abbrev opened : ClientFirstParts → List ℕ → Option (List ℕ) → ServerFirstParts → Opening
-opened first name authzid challenge = record { first = first; name = name; authzid = authzid; challenge = challenge }
+abbrev opening_from : ClientFirstParts → List ℕ → Option (List ℕ) → ServerFirstParts → Opening
+opening_from first name authzid challenge = record { first = first; name = name; authzid = authzid; challenge = challenge }
 
 -- openings of the same parts and names are the same
-opening_of : (a b : ClientFirstParts) (name other : List ℕ) (authzid also : Option (List ℕ)) (x y : ServerFirstParts)
-    → a ≡ b → name ≡ other → authzid ≡ also → x ≡ y → opened a name authzid x ≡ opened b other also y
-opening_of a b name other authzid also x y e f g h = cc
+openings_are_same : (a b : ClientFirstParts) (name other : List ℕ) (authzid also : Option (List ℕ)) (x y : ServerFirstParts)
+    → a ≡ b → name ≡ other → authzid ≡ also → x ≡ y → opening_from a name authzid x ≡ opening_from b other also y
+openings_are_same a b name other authzid also x y e f g h = cc
 
 -- two texts are one opening of an account at most
-pub same_opening : (e : Entry) (client_first server_first : List ℕ) (o other : Opening) → IsOpening e client_first server_first o
+pub one_opening : (e : Entry) (client_first server_first : List ℕ) (o other : Opening) → IsOpening e client_first server_first o
     → IsOpening e client_first server_first other → o ≡ other
-same_opening e client_first server_first o other is also =
-    let first : o.first ≡ other.first = client_first_once client_first o.first other.first is.is_first also.is_first in
-    opening_of o.first other.first o.name other.name o.authzid other.authzid o.challenge other.challenge first
-    (same_name o.name other.name o.first.name other.first.name
+one_opening e client_first server_first o other is also =
+    let first : o.first ≡ other.first = has_one_client_first client_first o.first other.first is.is_first also.is_first in
+    openings_are_same o.first other.first o.name other.name o.authzid other.authzid o.challenge other.challenge first
+    (one_name o.name other.name o.first.name other.first.name
     (ap (λ (p : ClientFirstParts). p.name) first) is.taken_up.is_name also.taken_up.is_name)
-    (same_authzid o.authzid other.authzid o.first.authzid other.first.authzid
+    (one_authzid o.authzid other.authzid o.first.authzid other.first.authzid
     (ap (λ (p : ClientFirstParts). p.authzid) first) is.taken_up.is_authzid also.taken_up.is_authzid)
-    (server_first_once server_first o.challenge other.challenge is.is_challenge also.is_challenge)
+    (has_one_server_first server_first o.challenge other.challenge is.is_challenge also.is_challenge)
 
 -- parts of which a server takes up a login meet every row
-taken_up_asks : (first : ClientFirstParts) (name : List ℕ) (authzid : Option (List ℕ)) → IsTakenUp first name authzid
+taken_up_meets_rows : (first : ClientFirstParts) (name : List ℕ) (authzid : Option (List ℕ)) → IsTakenUp first name authzid
     → AllByRecursion (λ row. AsksOfFirst row first) first_faults_in_order
-taken_up_asks first name authzid taken = (taken.not_mandatory, (taken.unbound, ((name, authzid, taken.is_name, taken.is_authzid), tt)))
+taken_up_meets_rows first name authzid taken =
+    (taken.not_mandatory, (taken.unbound, ((name, authzid, taken.is_name, taken.is_authzid), tt)))
 
 -- the law: what is refused is not taken up
 pub refused_is_not_taken_up : RefusedIsNotTakenUp
 refused_is_not_taken_up text (Text fault) p name authzid refused is taken = refused.0 p is
 refused_is_not_taken_up text fault p name authzid refused is taken =
-    none_unmet (λ row. AsksOfFirst row p) first_faults_in_order fault (taken_up_asks p name authzid taken)
+    no_first_unmet (λ row. AsksOfFirst row p) first_faults_in_order fault (taken_up_meets_rows p name authzid taken)
     (subst (λ (q : ClientFirstParts). IsFirstUnmet (λ row. AsksOfFirst row q) first_faults_in_order fault)
-    (client_first_once text refused.0 p refused.1 is) refused.2)
+    (has_one_client_first text refused.0 p refused.1 is) refused.2)

@@ -14,7 +14,7 @@ use Rattle.scram_ends.specs.Verdict.{Due, accept, IsDue}
 use Rattle.scram_ends.specs.Opening.{Opening, IsOpening}
 use Rattle.scram_ends.specs.TakenFirst.{ShowsAcceptedFirst, ShowsOpening}
 use Rattle.scram_ends.specs.declared.first.AcceptedFirst.{AcceptedFirst}
-use Rattle.scram_ends.proofs.lemmas.Verdicts.{signature_due}
+use Rattle.scram_ends.proofs.lemmas.Verdicts.{due_signature_is_servers}
 
 -- a client-first message that is taken up and a challenge to it are an opening, of the parts that were taken
 pub challenge_opens : (e : Entry) (client_first server_nonce server_first sent : List ℕ) (first : ClientFirstParts) (taken : AcceptedFirst)
@@ -43,17 +43,17 @@ challenge_opens e client_first server_nonce server_first sent first taken is_fir
     )
 
 -- a signature as long as a MAC is not empty
-is_signed : (m : Mechanism) (mac signature : List ℕ) → length mac ≡ length_by m → signature ≡ mac → length signature ≡ 0 → ⊥
-is_signed ScramSha1 mac signature len same none = omega (arith, len, ap length same, none)
-is_signed ScramSha256 mac signature len same none = omega (arith, len, ap length same, none)
+signature_is_not_empty : (m : Mechanism) (mac signature : List ℕ) → length mac ≡ length_by m → signature ≡ mac → length signature ≡ 0 → ⊥
+signature_is_not_empty ScramSha1 mac signature len same none = omega (arith, len, ap length same, none)
+signature_is_not_empty ScramSha256 mac signature len same none = omega (arith, len, ap length same, none)
 
 -- a verdict that is due fails to be written only where memory runs out
-pub verdict_fails : (l : Challenged) (client_final : List ℕ) (d : Due) (fault : WriteFault) → IsDue l client_final d
+pub verdict_fault_is_memory : (l : Challenged) (client_final : List ℕ) (d : Due) (fault : WriteFault) → IsDue l client_final d
     → (fault ≡ Unwritable → (signature : List ℕ) × (d ≡ accept signature) × (length signature ≡ 0)) → (fault ≡ OverLimit → ⊥)
     → fault ≡ NoMemory
-verdict_fails l client_final d NoMemory due empty over = refl
-verdict_fails l client_final d OverLimit due empty over = absurd (over refl)
-verdict_fails l client_final d Unwritable due empty over =
+verdict_fault_is_memory l client_final d NoMemory due empty over = refl
+verdict_fault_is_memory l client_final d OverLimit due empty over = absurd (over refl)
+verdict_fault_is_memory l client_final d Unwritable due empty over =
     let none = empty refl in
-    let (keys, auth, signed) = signature_due l client_final none.0 (subst (λ (x : Due). IsDue l client_final x) none.1 due) in
-    absurd (is_signed l.mechanism (hmac_by l.mechanism keys.server auth) none.0 (length-hmac_by l.mechanism _ _) signed none.2)
+    let (keys, auth, signed) = due_signature_is_servers l client_final none.0 (subst (λ (x : Due). IsDue l client_final x) none.1 due) in
+    absurd (signature_is_not_empty l.mechanism (hmac_by l.mechanism keys.server auth) none.0 (length-hmac_by l.mechanism _ _) signed none.2)

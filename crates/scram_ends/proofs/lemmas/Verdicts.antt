@@ -2,20 +2,20 @@
 use Rattle.std.proofs.Common.{◌≡◌, ◌↔◌, ℕ, inl, inr, List, sym, ◌∙◌, ap, subst, refl}
 use Rattle.std.proofs.lemmas.Option.{same_Some}
 use Rattle.scram_text.specs.Messages.{ClientFinalParts, IsClientFinal, IsServerFinal}
-use Rattle.scram_text.proofs.lemmas.ClientFinal.{client_final_once}
+use Rattle.scram_text.proofs.lemmas.ClientFinal.{has_one_client_final}
 use Rattle.scram_ends.specs.Entry.{Keys}
 use Rattle.scram_ends.specs.Stages.{Challenged}
 use Rattle.scram_ends.specs.Auth.{auth_message, server_signature}
 use Rattle.scram_ends.specs.Opening.{Opening, IsOpening}
-use Rattle.scram_ends.specs.Verdict.{refusals_in_order, Asks, Due, accept, refuse, IsVerdictOn, IsDueToParts, IsDue, final_due}
+use Rattle.scram_ends.specs.Verdict.{refusals_in_order, AsksOfFinal, Due, accept, refuse, IsVerdictOn, IsDueToParts, IsDue, final_due}
 use Rattle.scram_ends.specs.Verdict.{due_text, verdict_of}
 use Rattle.scram_ends.specs.Login.{IsAuthentic, IsValidLogin}
 use Rattle.scram_ends.specs.Laws.{AtMostOneVerdictIsDue, AcceptsExactlyValid}
 use Rattle.scram_ends.specs.declared.verdict.Refusal.{Refusal}
 use Rattle.scram_ends.specs.declared.verdict.Refusal.TheVariants.{InvalidEncoding}
 use Rattle.scram_ends.specs.declared.verdict.Verdict.TheVariants as verdict
-use Rattle.scram_ends.proofs.lemmas.Opening.{same_opening}
-use Rattle.scram_text.proofs.lemmas.FirstUnmet.{none_unmet, one_first}
+use Rattle.scram_ends.proofs.lemmas.Opening.{one_opening}
+use Rattle.scram_text.proofs.lemmas.FirstUnmet.{no_first_unmet, one_first_unmet}
 
 -- a refusal is no acceptance
 refusal_is_not_acceptance : (r : Refusal) (signature : List ℕ) → refuse r ≡ accept signature → ⊥
@@ -28,18 +28,20 @@ one_verdict_on_parts l o p (accept one) (accept other) is also =
     let signed : Keys → List ℕ = λ keys. server_signature l.mechanism keys (auth_message o.first l.server_first p) in
     let keys : is.1.0 ≡ also.1.0 = same_Some is.1.0 also.1.0 (sym is.1.1 ∙ also.1.1) in
     ap (λ (s : List ℕ). accept s) (is.1.2 ∙ (ap signed keys ∙ sym also.1.2))
-one_verdict_on_parts l o p (accept one) (refuse q) is also = absurd (none_unmet (λ r. Asks r l o p) refusals_in_order q is.0 also)
-one_verdict_on_parts l o p (refuse r) (accept other) is also = absurd (none_unmet (λ r. Asks r l o p) refusals_in_order r also.0 is)
+one_verdict_on_parts l o p (accept one) (refuse q) is also =
+    absurd (no_first_unmet (λ r. AsksOfFinal r l o p) refusals_in_order q is.0 also)
+one_verdict_on_parts l o p (refuse r) (accept other) is also =
+    absurd (no_first_unmet (λ r. AsksOfFinal r l o p) refusals_in_order r also.0 is)
 one_verdict_on_parts l o p (refuse r) (refuse q) is also = ap (λ (x : Refusal). refuse x)
-    (one_first (λ r. Asks r l o p) refusals_in_order r q is also)
+    (one_first_unmet (λ r. AsksOfFinal r l o p) refusals_in_order r q is also)
 
 -- what is due to the messages is the verdict on the parts that they have
-verdict_of_opening : (l : Challenged) (client_final : List ℕ) (o : Opening) (p : ClientFinalParts) (d : Due)
+due_is_verdict_on_parts : (l : Challenged) (client_final : List ℕ) (o : Opening) (p : ClientFinalParts) (d : Due)
     → IsOpening l.entry l.client_first l.server_first o → IsClientFinal client_final p → IsDueToParts l client_final d → IsVerdictOn l o p d
-verdict_of_opening l client_final o p d is_opening is_final due =
-    subst (λ (q : ClientFinalParts). IsVerdictOn l o q d) (client_final_once client_final due.final p due.is_final is_final)
+due_is_verdict_on_parts l client_final o p d is_opening is_final due =
+    subst (λ (q : ClientFinalParts). IsVerdictOn l o q d) (has_one_client_final client_final due.final p due.is_final is_final)
     (subst (λ (q : Opening). IsVerdictOn l q due.final d)
-    (same_opening l.entry l.client_first l.server_first due.opening o due.is_opening is_opening) due.is_verdict)
+    (one_opening l.entry l.client_first l.server_first due.opening o due.is_opening is_opening) due.is_verdict)
 
 -- the law: at most one verdict is due
 pub at_most_one_verdict_is_due : AtMostOneVerdictIsDue
@@ -48,12 +50,12 @@ at_most_one_verdict_is_due l client_final d other (inl none) (inr also) = absurd
 at_most_one_verdict_is_due l client_final d other (inr due) (inl none) = absurd (none.0 due.final due.is_final)
 at_most_one_verdict_is_due l client_final d other (inr due) (inr also) =
     one_verdict_on_parts l also.opening also.final d other
-    (verdict_of_opening l client_final also.opening also.final d also.is_opening also.is_final due) also.is_verdict
+    (due_is_verdict_on_parts l client_final also.opening also.final d also.is_opening also.is_final due) also.is_verdict
 
 -- a valid login makes acceptance due, with the signature that its last message bears
-pub due_of_valid : (l : Challenged) (client_final server_final : List ℕ) (v : IsValidLogin l client_final server_final)
+pub acceptance_is_due : (l : Challenged) (client_final server_final : List ℕ) (v : IsValidLogin l client_final server_final)
     → IsDue l client_final (accept (server_signature l.mechanism v.keys (auth_message v.opening.first l.server_first v.final)))
-due_of_valid l client_final server_final v = inr (record {
+acceptance_is_due l client_final server_final v = inr (record {
   opening = v.opening;
   final = v.final;
   is_opening = v.is_opening;
@@ -65,19 +67,19 @@ due_of_valid l client_final server_final v = inr (record {
 })
 
 -- where acceptance is due, its signature is the server's
-pub signature_due : (l : Challenged) (client_final signature : List ℕ) → IsDue l client_final (accept signature)
+pub due_signature_is_servers : (l : Challenged) (client_final signature : List ℕ) → IsDue l client_final (accept signature)
     → (keys : Keys) × (auth : List ℕ) × (signature ≡ server_signature l.mechanism keys auth)
-signature_due l client_final signature (inl none) = absurd (refusal_is_not_acceptance InvalidEncoding signature (sym none.1))
-signature_due l client_final signature (inr due) =
+due_signature_is_servers l client_final signature (inl none) = absurd (refusal_is_not_acceptance InvalidEncoding signature (sym none.1))
+due_signature_is_servers l client_final signature (inr due) =
     let signed = due.is_verdict.1 in
     (signed.0, auth_message due.opening.first l.server_first due.final, signed.2)
 
 -- where acceptance is due, a text that shows the signature makes a valid login
-valid_of : (l : Challenged) (client_final server_final signature : List ℕ)
+accepted_login_is_valid : (l : Challenged) (client_final server_final signature : List ℕ)
     → IsDue l client_final (accept signature) → IsAuthentic server_final signature → IsValidLogin l client_final server_final
-valid_of l client_final server_final signature (inl none) authentic = absurd
+accepted_login_is_valid l client_final server_final signature (inl none) authentic = absurd
     (refusal_is_not_acceptance InvalidEncoding signature (sym none.1))
-valid_of l client_final server_final signature (inr due) authentic =
+accepted_login_is_valid l client_final server_final signature (inr due) authentic =
     let (mandatory, (nonce, (channel, (proof, (allowed, rest))))) = due.is_verdict.0 in
     let signed = due.is_verdict.1 in
     let keys : signed.0 ≡ proof.0 = same_Some signed.0 proof.0 (sym signed.1 ∙ proof.1) in
@@ -101,10 +103,10 @@ valid_of l client_final server_final signature (inr due) authentic =
 -- the law: acceptance is due exactly to a valid login
 pub accepts_exactly_valid : AcceptsExactlyValid
 accepts_exactly_valid l client_final server_final = (
-  (λ (signature, due, authentic). valid_of l client_final server_final signature due authentic),
+  (λ (signature, due, authentic). accepted_login_is_valid l client_final server_final signature due authentic),
   λ v. (
     server_signature l.mechanism v.keys (auth_message v.opening.first l.server_first v.final),
-    due_of_valid l client_final server_final v,
+    acceptance_is_due l client_final server_final v,
     v.authentic,
   ),
 )
@@ -114,13 +116,14 @@ refused_is_not_accepted : (r : Refusal) → verdict.Refused r ≡ verdict.Accept
 refused_is_not_accepted r same = cc
 
 -- acceptance by the message due makes a valid login, and a refusal makes none
-pub valid_iff : (l : Challenged) (client_final : List ℕ) (d : Due) → IsDue l client_final d → IsServerFinal (due_text d) (final_due d)
+pub accepted_iff_valid : (l : Challenged) (client_final : List ℕ) (d : Due) → IsDue l client_final d
+    → IsServerFinal (due_text d) (final_due d)
     → (verdict_of d ≡ verdict.Accepted) ↔ IsValidLogin l client_final (due_text d)
-valid_iff l client_final (accept signature) due is_last =
+accepted_iff_valid l client_final (accept signature) due is_last =
     let authentic : IsAuthentic (due_text (accept signature)) signature =
     record { last = final_due (accept signature); is_last = is_last; not_mandatory = refl; is_verifier = refl } in
     ((λ _. (accepts_exactly_valid l client_final (due_text (accept signature))).0 (signature, due, authentic)), λ _. refl)
-valid_iff l client_final (refuse r) due is_last = (
+accepted_iff_valid l client_final (refuse r) due is_last = (
   (λ same. absurd (refused_is_not_accepted r same)),
   λ valid. let accepted = (accepts_exactly_valid l client_final (due_text (refuse r))).1 valid in
       absurd (refusal_is_not_acceptance r accepted.0

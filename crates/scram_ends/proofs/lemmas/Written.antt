@@ -10,7 +10,7 @@ use Rattle.scram_text.specs.Messages.{server_first_text, verifier, server_error,
 use Rattle.scram_text.specs.Written.{server_first_of, server_final_of, IsExtensionText, CanBeVerifierOrError, CanBeServerFirst}
 use Rattle.scram_text.specs.Written.{CanBeServerFinal}
 use Rattle.scram_text.proofs.lemmas.Base64.{length-base64}
-use Rattle.scram_text.proofs.lemmas.Texts.{text_nil, plain_text}
+use Rattle.scram_text.proofs.lemmas.Texts.{empty_is_text, plain_is_text}
 use Rattle.scram_text.proofs.lemmas.Composed.{server_first_composed, server_final_composed}
 use Rattle.scram_ends.specs.Verdict.{error_value}
 use Rattle.scram_ends.specs.declared.verdict.Refusal.{Refusal}
@@ -18,23 +18,24 @@ use Rattle.scram_ends.specs.declared.verdict.Refusal.TheVariants.{InvalidEncodin
 use Rattle.scram_ends.specs.declared.verdict.Refusal.TheVariants.{InvalidProof, NotAuthorised}
 
 -- where a buffer is a front and a text after it, its slice from the front's end on is that text
-pub after_front : (items front text : List ℕ) (start : ℕ) → items ≡ front ++ text → start ≡ length front
+pub slice_after_front_is_text : (items front text : List ℕ) (start : ℕ) → items ≡ front ++ text → start ≡ length front
     → take (length items - start) (drop start items) ≡ text
-after_front items front text start same at = rw (same, at) (grind (arith, common_steps))
+slice_after_front_is_text items front text start same at = rw (same, at) (grind (arith, common_steps))
 
 -- the empty text is a text of extensions: of none
-pub no_extensions : IsExtensionText []
-no_extensions = record { utf8_text = text_nil; each = tt }
+pub empty_is_extension_text : IsExtensionText []
+empty_is_extension_text = record { utf8_text = empty_is_text; each = tt }
 
 -- a nonce, a salt and a count within their bounds can be written as server-first, and are within the limit:
-pub can_be_challenge : (nonce salt : List ℕ) (count : ℕ) → IsNonce longest_nonce nonce → IsField 64 salt → 1 ≤ count → count < 2 ^ 32
+pub challenge_can_be_written : (nonce salt : List ℕ) (count : ℕ) → IsNonce longest_nonce nonce → IsField 64 salt → 1 ≤ count
+    → count < 2 ^ 32
     → CanBeServerFirst nonce salt count []
-can_be_challenge nonce salt count is_nonce is_salt least most =
+challenge_can_be_written nonce salt count is_nonce is_salt least most =
     record {
       nonce_class = is_nonce;
       salt_class = is_salt;
       count_class = record { at_least = least; at_most = omega arith };
-      extensions_class = no_extensions;
+      extensions_class = empty_is_extension_text;
     }
 
 pub challenge_fits : (nonce salt : List ℕ) (count : ℕ) → IsNonce longest_nonce nonce → IsField 64 salt → count < 2 ^ 32
@@ -45,42 +46,42 @@ challenge_fits nonce salt count is_nonce is_salt most over =
     omega (arith, composed, digits, over, is_nonce.at_most, is_salt.at_most, length-base64 salt)
 
 -- a signature of 1 to 64 bytes can be written as server-final, and is within the limit:
-pub can_be_signature : (signature : List ℕ) → IsField 64 signature → CanBeServerFinal (verifier signature) []
-can_be_signature signature is_field = record { outcome_class = is_field; extensions_class = no_extensions }
+pub signature_can_be_written : (signature : List ℕ) → IsField 64 signature → CanBeServerFinal (verifier signature) []
+signature_can_be_written signature is_field = record { outcome_class = is_field; extensions_class = empty_is_extension_text }
 
-pub signature_short : (signature : List ℕ) → length signature ≤ 64
+pub signature_is_short : (signature : List ℕ) → length signature ≤ 64
     → length (server_final_text (server_final_of (verifier signature) [])) ≤ longest_message
 unfolding server_final_text
-signature_short signature most = omega (arith, most, length-base64 signature)
+signature_is_short signature most = omega (arith, most, length-base64 signature)
 
 pub signature_fits : (signature : List ℕ) → length signature ≤ 64
     → longest_message < length (server_final_text (server_final_of (verifier signature) [])) → ⊥
-signature_fits signature most over = omega (arith, over, signature_short signature most)
+signature_fits signature most over = omega (arith, over, signature_is_short signature most)
 
 -- a refusal's value can be the outcome of server-final
-can_be_told : (r : Refusal) → CanBeVerifierOrError (server_error (error_value r))
-can_be_told InvalidEncoding = (record { at_least = omega arith; no_comma = refl }, plain_text _ refl)
-can_be_told ExtensionsNotSupported = (record { at_least = omega arith; no_comma = refl }, plain_text _ refl)
-can_be_told OtherNonce = (record { at_least = omega arith; no_comma = refl }, plain_text _ refl)
-can_be_told Channel = (record { at_least = omega arith; no_comma = refl }, plain_text _ refl)
-can_be_told InvalidProof = (record { at_least = omega arith; no_comma = refl }, plain_text _ refl)
-can_be_told NotAuthorised = (record { at_least = omega arith; no_comma = refl }, plain_text _ refl)
+error_value_can_be_outcome : (r : Refusal) → CanBeVerifierOrError (server_error (error_value r))
+error_value_can_be_outcome InvalidEncoding = (record { at_least = omega arith; no_comma = refl }, plain_is_text _ refl)
+error_value_can_be_outcome ExtensionsNotSupported = (record { at_least = omega arith; no_comma = refl }, plain_is_text _ refl)
+error_value_can_be_outcome OtherNonce = (record { at_least = omega arith; no_comma = refl }, plain_is_text _ refl)
+error_value_can_be_outcome Channel = (record { at_least = omega arith; no_comma = refl }, plain_is_text _ refl)
+error_value_can_be_outcome InvalidProof = (record { at_least = omega arith; no_comma = refl }, plain_is_text _ refl)
+error_value_can_be_outcome NotAuthorised = (record { at_least = omega arith; no_comma = refl }, plain_is_text _ refl)
 
 -- a refusal's value can be written as server-final
-pub can_be_refusal : (r : Refusal) → CanBeServerFinal (server_error (error_value r)) []
-can_be_refusal r = record { outcome_class = can_be_told r; extensions_class = no_extensions }
+pub refusal_can_be_written : (r : Refusal) → CanBeServerFinal (server_error (error_value r)) []
+refusal_can_be_written r = record { outcome_class = error_value_can_be_outcome r; extensions_class = empty_is_extension_text }
 
 -- a refusal's value has at most 30 bytes
-length_of_value : (r : Refusal) → length (error_value r) ≤ 30
-length_of_value InvalidEncoding = omega arith
-length_of_value ExtensionsNotSupported = omega arith
-length_of_value OtherNonce = omega arith
-length_of_value Channel = omega arith
-length_of_value InvalidProof = omega arith
-length_of_value NotAuthorised = omega arith
+error_value_is_short : (r : Refusal) → length (error_value r) ≤ 30
+error_value_is_short InvalidEncoding = omega arith
+error_value_is_short ExtensionsNotSupported = omega arith
+error_value_is_short OtherNonce = omega arith
+error_value_is_short Channel = omega arith
+error_value_is_short InvalidProof = omega arith
+error_value_is_short NotAuthorised = omega arith
 
 -- the server-final message of a refusal is within the limit
 pub refusal_fits : (r : Refusal) → longest_message < length (server_final_text (server_final_of (server_error (error_value r)) [])) → ⊥
 refusal_fits r over =
     let composed = simp length-append at (ap length (server_final_composed (server_error (error_value r)) [])) in
-    omega (arith, composed, over, length_of_value r)
+    omega (arith, composed, over, error_value_is_short r)

@@ -5,7 +5,7 @@ ghost use Rattle.mac_core.specs.Mechanism.{hmac_by, length_by};
 ghost use Rattle.scram_text.specs.Messages.{ClientFirstParts, bare_text, ServerFirstParts, IsServerFirst};
 ghost use Rattle.scram_text.specs.Shown.{ShowsServerFirst};
 ghost use Rattle.scram_text.specs.Appended.{UnchangedOnErr, KeepsRoom, LacksRoom};
-ghost use Rattle.scram_ends.specs.Stages.{Started, answered};
+ghost use Rattle.scram_ends.specs.Stages.{Started, answered_login};
 ghost use Rattle.scram_ends.specs.Auth.{auth_to_challenge, proof_of, expected_signature};
 ghost use Rattle.scram_ends.specs.Honest.{IsHonest};
 ghost use Rattle.scram_ends.specs.Client.{IsStarted, IsAnswerable, IsExpecting, IsChallengeFault, IsUnspent, IfSpent, IfBack};
@@ -34,7 +34,7 @@ impl ClientOne {
     ) -> Result<ClientTwo, OneRefused>
         ensures ok { IfOk result (λ two. (l : Started) → IsStarted self l
             → (client_final : List ℕ) × (out.new.items ≡ out.old.items ++ client_final)
-            × IsExpecting two (answered l password.now server_first.now client_final)) }
+            × IsExpecting two (answered_login l password.now server_first.now client_final)) }
         ensures unchanged { UnchangedOnErr result out.old out.new }
         ensures room { KeepsRoom out.old out.new }
         // Where it is answered, or would have been, it is a challenge to this client with nothing wrong.
@@ -48,7 +48,7 @@ impl ClientOne {
         ensures back { IfBack result (λ client _. client ≡ self) }
         ensures no_memory { IfBack result (λ _ fault. (l : Started) → IsStarted self l
             → (fault ≡ WriteFault.NoMemory) × ((client_final : List ℕ)
-            × IsHonest (answered l password.now server_first.now client_final)
+            × IsHonest (answered_login l password.now server_first.now client_final)
             × LacksRoom out.old client_final)) }
     {
         let challenge = match self.take_up(server_first) {
@@ -62,7 +62,7 @@ impl ClientOne {
     }
 
     // Reads the challenge, or says what is wrong with it.
-    #[tactic(auto, using(scram_text::proofs::lemmas::FirstUnmet::first_found))]
+    #[tactic(auto, using(scram_text::proofs::lemmas::FirstUnmet::found_is_first))]
     fn take_up<'a>(&self, server_first: &'a [u8]) -> Result<ServerFirst<'a>, ClientFault>
         ensures ok { IfOk result (λ challenge. (p : ServerFirstParts) × ShowsServerFirst challenge p
             × IsAnswerable self.now.limits self.now.nonce.items server_first.now p) }
@@ -97,13 +97,13 @@ impl ClientOne {
         ensures ok { IfOk result (λ two. (l : Started) (p : ServerFirstParts) → IsStarted self.now l
             → IsServerFirst server_first.now p → ShowsServerFirst challenge.now p
             → (client_final : List ℕ) × (out.new.items ≡ out.old.items ++ client_final)
-            × IsExpecting two (answered l password.now server_first.now client_final)) }
+            × IsExpecting two (answered_login l password.now server_first.now client_final)) }
         ensures unchanged { UnchangedOnErr result out.old out.new }
         ensures room { KeepsRoom out.old out.new }
         ensures no_memory { IfErr result (λ fault. (l : Started) (p : ServerFirstParts) → IsStarted self.now l
             → IsServerFirst server_first.now p → ShowsServerFirst challenge.now p
             → (fault ≡ WriteFault.NoMemory) × ((client_final : List ℕ)
-            × IsHonest (answered l password.now server_first.now client_final)
+            × IsHonest (answered_login l password.now server_first.now client_final)
             × LacksRoom out.old client_final)) }
     {
         let header = self.header.as_slice();

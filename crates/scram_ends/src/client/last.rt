@@ -14,7 +14,7 @@ impl ClientTwo {
     /// server signature of the three messages before it. Else the fault is the first of these: 24 for a
     /// text that is no server-final message, 25 for one that asks for a mandatory extension, 29 for an
     /// error and 30 for another verifier.
-    #[tactic(auto, using(scram_text::proofs::lemmas::FirstUnmet::first_found))]
+    #[tactic(auto, using(scram_text::proofs::lemmas::FirstUnmet::found_is_first))]
     pub fn last(self, server_final: &[u8]) -> Result<Authenticated, ClientFault>
         ensures ok { OnOk result ((l : Answered) (x : IsExpecting self l)
             → IsAuthentic server_final.now x.signature) }

@@ -4,7 +4,7 @@ ghost use Rattle.std.specs.Option.{option_copied};
 ghost use Rattle.scram_text.specs.Class.{IsPlainName, IsNoncePart};
 ghost use Rattle.scram_text.specs.Messages.{ClientFirstParts};
 ghost use Rattle.scram_text.specs.Appended.{UnchangedOnErr, KeepsRoom, LacksRoom};
-ghost use Rattle.scram_ends.specs.Stages.{started};
+ghost use Rattle.scram_ends.specs.Stages.{started_login};
 ghost use Rattle.scram_ends.specs.Honest.{IsHonestFirst};
 ghost use Rattle.scram_ends.specs.Client.{IsStarted};
 
@@ -29,7 +29,7 @@ impl Client {
         requires { 1 ≤ limits.least }
         ensures ok { IfOk result (λ client. (client_first : List ℕ)
             × (out.new.items ≡ out.old.items ++ client_first)
-            × IsStarted client (started mechanism limits name.now (option_copied authzid.entry)
+            × IsStarted client (started_login mechanism limits name.now (option_copied authzid.entry)
             nonce.now client_first)) }
         ensures unchanged { UnchangedOnErr result out.old out.new }
         ensures room { KeepsRoom out.old out.new }

@@ -8,41 +8,41 @@ use Rattle.scram_text.specs.Class.{is_letter, is_comma}
 use Rattle.scram_text.specs.Name.{LacksComma}
 use Rattle.scram_text.specs.Parts.{IsExtension}
 use Rattle.scram_text.specs.Pieces.{is_attribute}
-use Rattle.scram_text.proofs.lemmas.ListEnds.{heads}
+use Rattle.scram_text.proofs.lemmas.ListEnds.{same_head_and_tail}
 
 -- a part without a comma that passes the code's test is an extension
-attribute_extension : (part : List ℕ) → LacksComma part → IsTrue (is_attribute part) → IsExtension part
-attribute_extension [] lacks h = absurd (cc h)
-attribute_extension (a ∷ []) lacks h = absurd (cc h)
-attribute_extension (a ∷ b ∷ []) lacks h = absurd (cc h)
-attribute_extension (a ∷ b ∷ c ∷ value) lacks h =
+attribute_is_extension : (part : List ℕ) → LacksComma part → IsTrue (is_attribute part) → IsExtension part
+attribute_is_extension [] lacks h = absurd (cc h)
+attribute_is_extension (a ∷ []) lacks h = absurd (cc h)
+attribute_is_extension (a ∷ b ∷ []) lacks h = absurd (cc h)
+attribute_is_extension (a ∷ b ∷ c ∷ value) lacks h =
     let (letter, equals) = and_parts (is_letter a) (b == 61) h in
     let (first, others) = and_parts (not (is_comma a)) (list_all (λ x. not (is_comma x)) (b ∷ c ∷ value)) lacks in
     let (second, rest) = and_parts (not (is_comma b)) (list_all (λ x. not (is_comma x)) (c ∷ value)) others in
     (a, letter, (c ∷ value, ap (λ (n : ℕ). a ∷ n ∷ c ∷ value) (eqb-true b 61 equals), record { at_least = omega arith; no_comma = rest }))
 
 -- an extension passes the code's test
-extension_attribute : (part : List ℕ) → IsExtension part → IsTrue (is_attribute part)
-extension_attribute [] (letter, is_one, (value, spelled, is)) = absurd (cc spelled)
-extension_attribute (a ∷ []) (letter, is_one, (value, spelled, is)) =
-    let none = (heads a letter [] (61 ∷ value) spelled).1 in absurd (cc none)
-extension_attribute (a ∷ b ∷ []) (letter, is_one, (value, spelled, is)) =
-    let second = heads b 61 [] value (heads a letter (b ∷ []) (61 ∷ value) spelled).1 in
+extension_is_attribute : (part : List ℕ) → IsExtension part → IsTrue (is_attribute part)
+extension_is_attribute [] (letter, is_one, (value, spelled, is)) = absurd (cc spelled)
+extension_is_attribute (a ∷ []) (letter, is_one, (value, spelled, is)) =
+    let none = (same_head_and_tail a letter [] (61 ∷ value) spelled).1 in absurd (cc none)
+extension_is_attribute (a ∷ b ∷ []) (letter, is_one, (value, spelled, is)) =
+    let second = same_head_and_tail b 61 [] value (same_head_and_tail a letter (b ∷ []) (61 ∷ value) spelled).1 in
     let none : 0 ≡ length value = ap length second.1 in
     absurd (omega (arith, none, is.at_least))
-extension_attribute (a ∷ b ∷ c ∷ rest) (letter, is_one, (value, spelled, is)) =
-    let first = heads a letter (b ∷ c ∷ rest) (61 ∷ value) spelled in
-    let second = heads b 61 (c ∷ rest) value first.1 in
+extension_is_attribute (a ∷ b ∷ c ∷ rest) (letter, is_one, (value, spelled, is)) =
+    let first = same_head_and_tail a letter (b ∷ c ∷ rest) (61 ∷ value) spelled in
+    let second = same_head_and_tail b 61 (c ∷ rest) value first.1 in
     both_true (subst (λ (n : ℕ). is_letter n ≡ true) (sym first.0) is_one)
     (subst (λ (n : ℕ). (n == 61) ≡ true) (sym second.0) refl)
 
 -- the code's test of a part without a comma is that of an extension
-pub extension_iff : (part : List ℕ) → LacksComma part → IsTrue (is_attribute part) ↔ IsExtension part
-extension_iff part lacks = (attribute_extension part lacks, extension_attribute part)
+pub attribute_iff_extension : (part : List ℕ) → LacksComma part → IsTrue (is_attribute part) ↔ IsExtension part
+attribute_iff_extension part lacks = (attribute_is_extension part lacks, extension_is_attribute part)
 
 -- an extension has no comma
-pub extension_lacks : (part : List ℕ) → IsExtension part → LacksComma part
-extension_lacks part (letter, is_one, (value, spelled, is)) = elim (cases_Bool (is_comma letter)) [
+pub extension_lacks_comma : (part : List ℕ) → IsExtension part → LacksComma part
+extension_lacks_comma part (letter, is_one, (value, spelled, is)) = elim (cases_Bool (is_comma letter)) [
   | inl hit ↦ absurd (both_ways (is_letter 44) refl (rw (eqb-true letter 44 hit) at is_one))
   | inr miss ↦ subst LacksComma (sym spelled) (rw miss is.no_comma)
 ]

@@ -21,41 +21,43 @@ use Rattle.scram_text.specs.Laws.{HasUsualBase64}
 use Rattle.scram_text.specs.Parts.{SpellsField}
 
 -- no element of a list without commas is a comma, nor is 0, which is what an index past the end reads
-symbol_lacks : (symbols : List ℕ) (k : ℕ) → LacksComma symbols → not (is_comma (slice_index symbols k)) ≡ true
-symbol_lacks [] k h = refl
-symbol_lacks (c ∷ symbols) zero h = (and_parts (not (is_comma c)) (list_all (λ c. not (is_comma c)) symbols) h).0
-symbol_lacks (c ∷ symbols) (suc k) h =
-    symbol_lacks symbols k (and_parts (not (is_comma c)) (list_all (λ c. not (is_comma c)) symbols) h).1
+element_is_no_comma : (symbols : List ℕ) (k : ℕ) → LacksComma symbols → not (is_comma (slice_index symbols k)) ≡ true
+element_is_no_comma [] k h = refl
+element_is_no_comma (c ∷ symbols) zero h = (and_parts (not (is_comma c)) (list_all (λ c. not (is_comma c)) symbols) h).0
+element_is_no_comma (c ∷ symbols) (suc k) h =
+    element_is_no_comma symbols k (and_parts (not (is_comma c)) (list_all (λ c. not (is_comma c)) symbols) h).1
 
 -- the 64 symbols
 abbrev table : List ℕ
 table = standard.encode_table
 
 -- no symbol of base64, no text of bytes in it and no padding has a comma:
-standard_symbol : (k : ℕ) → not (is_comma (slice_index table k)) ≡ true
-standard_symbol k = symbol_lacks table k refl
+symbol_is_no_comma : (k : ℕ) → not (is_comma (slice_index table k)) ≡ true
+symbol_is_no_comma k = element_is_no_comma table k refl
 
-symbols_lack : (bytes : List ℕ) → LacksComma (encode_symbols table bytes)
+symbols_lack_comma : (bytes : List ℕ) → LacksComma (encode_symbols table bytes)
 unfolding encode_symbols
-symbols_lack [] = refl
-symbols_lack (a ∷ []) = rw (standard_symbol (a / 4), standard_symbol (a % 4 * 16)) refl
-symbols_lack (a ∷ b ∷ []) = rw (standard_symbol (a / 4), standard_symbol (a % 4 * 16 + b / 16), standard_symbol (b % 16 * 4)) refl
-symbols_lack (a ∷ b ∷ c ∷ rest) =
-    rw (standard_symbol (a / 4), standard_symbol (a % 4 * 16 + b / 16), standard_symbol (b % 16 * 4 + c / 64), standard_symbol (c % 64))
-    (symbols_lack rest)
+symbols_lack_comma [] = refl
+symbols_lack_comma (a ∷ []) = rw (symbol_is_no_comma (a / 4), symbol_is_no_comma (a % 4 * 16)) refl
+symbols_lack_comma (a ∷ b ∷ []) =
+    rw (symbol_is_no_comma (a / 4), symbol_is_no_comma (a % 4 * 16 + b / 16), symbol_is_no_comma (b % 16 * 4)) refl
+symbols_lack_comma (a ∷ b ∷ c ∷ rest) =
+    rw (symbol_is_no_comma (a / 4), symbol_is_no_comma (a % 4 * 16 + b / 16), symbol_is_no_comma (b % 16 * 4 + c / 64), symbol_is_no_comma
+        (c % 64))
+    (symbols_lack_comma rest)
 
-padding_lacks : (n : ℕ) → LacksComma (replicate n 61)
-padding_lacks zero = refl
-padding_lacks (suc n) = padding_lacks n
+padding_lacks_comma : (n : ℕ) → LacksComma (replicate n 61)
+padding_lacks_comma zero = refl
+padding_lacks_comma (suc n) = padding_lacks_comma n
 
 -- the base64 of bytes has no comma
-pub base64_lacks : (bytes : List ℕ) → LacksComma (base64 bytes)
+pub base64_lacks_comma : (bytes : List ℕ) → LacksComma (base64 bytes)
 unfolding base64
-base64_lacks bytes =
+base64_lacks_comma bytes =
     rw (
       list_all-append (λ c. not (is_comma c)) (encode_symbols table bytes) (replicate (padding_len (length bytes)) 61),
-      symbols_lack bytes,
-      padding_lacks (padding_len (length bytes)),
+      symbols_lack_comma bytes,
+      padding_lacks_comma (padding_len (length bytes)),
     ) refl
 
 -- a text of base64 with its padding has four characters for each three bytes, or part of three:
@@ -69,61 +71,62 @@ length-base64 bytes =
     ∙ rw (length-encode_symbols table bytes, length-replicate) (padded_length (length bytes))
 
 -- the base64 of bytes is decoded to them
-pub base64_back : (bytes : List ℕ) → IsBytes bytes → base64_decoded (base64 bytes) ≡ Ok bytes
+pub base64_decodes_back : (bytes : List ℕ) → IsBytes bytes → base64_decoded (base64 bytes) ≡ Ok bytes
 unfolding base64_decoded base64
-base64_back bytes fits = decode_of-encode_of standard bytes refl fits
+base64_decodes_back bytes fits = decode_of-encode_of standard bytes refl fits
 
 -- a text that is decoded is the base64 of what it is decoded to
-pub base64_read : (text bytes : List ℕ) → IsBytes text → base64_decoded text ≡ Ok bytes → text ≡ base64 bytes
+pub decoded_text_is_base64 : (text bytes : List ℕ) → IsBytes text → base64_decoded text ≡ Ok bytes → text ≡ base64 bytes
 unfolding base64_decoded base64
-base64_read text bytes fits read = decode_of_strict standard text bytes (refl, refl) fits read
+decoded_text_is_base64 text bytes fits read = decode_of_strict standard text bytes (refl, refl) fits read
 
 -- the law: base64 has its usual form
 pub has_usual_base64 : HasUsualBase64
 has_usual_base64 bytes fits least most =
-    record { decoded = base64_back bytes fits; no_comma = base64_lacks bytes; len = length-base64 bytes }
+    record { decoded = base64_decodes_back bytes fits; no_comma = base64_lacks_comma bytes; len = length-base64 bytes }
 
 -- the front of bytes is bytes
-pub taken_bytes : (n : ℕ) (bytes : List ℕ) → IsBytes bytes → IsBytes (take n bytes)
-taken_bytes n bytes fits = front_bytes (take n bytes) (drop n bytes) (subst IsBytes (sym (take-append-drop n bytes)) fits)
+pub taken_are_bytes : (n : ℕ) (bytes : List ℕ) → IsBytes bytes → IsBytes (take n bytes)
+taken_are_bytes n bytes fits = front_bytes (take n bytes) (drop n bytes) (subst IsBytes (sym (take-append-drop n bytes)) fits)
 
 -- 1 to `most` bytes to which a text was decoded are what a field may hold, and the text is their base64
-pub read_field : (most : ℕ) (text bytes : List ℕ) → IsBytes text → IsBytes bytes → decode_of standard text ≡ Ok bytes
+pub decoded_bytes_are_field : (most : ℕ) (text bytes : List ℕ) → IsBytes text → IsBytes bytes → decode_of standard text ≡ Ok bytes
     → 1 ≤ length bytes → length bytes ≤ most → IsField most bytes × (text ≡ base64 bytes)
 unfolding base64_decoded
-read_field most text bytes fits read_fits read least within =
-    (record { at_least = least; at_most = within; each = read_fits }, base64_read text bytes fits read)
+decoded_bytes_are_field most text bytes fits read_fits read least within =
+    (record { at_least = least; at_most = within; each = read_fits }, decoded_text_is_base64 text bytes fits read)
 
 -- the bytes of a field are those that it is decoded to
-pub field_read : (most : ℕ) (text bytes : List ℕ) → decode_of standard text ≡ Ok bytes → SpellsField most text → IsField most bytes
+pub spelled_field_is_decoded : (most : ℕ) (text bytes : List ℕ) → decode_of standard text ≡ Ok bytes → SpellsField most text
+    → IsField most bytes
 unfolding base64_decoded
-field_read most text bytes read (spelt, spelled, field) =
-    let also = subst (λ (t : List ℕ). base64_decoded t ≡ Ok spelt) (sym spelled) (base64_back spelt field.each) in
+spelled_field_is_decoded most text bytes read (spelt, spelled, field) =
+    let also = subst (λ (t : List ℕ). base64_decoded t ≡ Ok spelt) (sym spelled) (base64_decodes_back spelt field.each) in
     let same : spelt ≡ bytes = cc (also, read) in
     subst (IsField most) same field
 
 -- a text that is not decoded is no field
-pub field_error : (most : ℕ) (text : List ℕ) (e : DecodeError) → decode_of standard text ≡ Err e → SpellsField most text → ⊥
+pub undecoded_spells_no_field : (most : ℕ) (text : List ℕ) (e : DecodeError) → decode_of standard text ≡ Err e → SpellsField most text → ⊥
 unfolding base64_decoded
-field_error most text e read (spelt, spelled, field) =
-    let also = subst (λ (t : List ℕ). base64_decoded t ≡ Ok spelt) (sym spelled) (base64_back spelt field.each) in
+undecoded_spells_no_field most text e read (spelt, spelled, field) =
+    let also = subst (λ (t : List ℕ). base64_decoded t ≡ Ok spelt) (sym spelled) (base64_decodes_back spelt field.each) in
     cc (also, read)
 
 -- the base64 of a field that is too long spells no field
-pub too_long : (most other : ℕ) (text bytes : List ℕ) → IsField other bytes → text ≡ base64 bytes → most < length bytes
+pub long_base64_spells_no_field : (most other : ℕ) (text bytes : List ℕ) → IsField other bytes → text ≡ base64 bytes → most < length bytes
     → SpellsField most text → ⊥
-too_long most other text bytes field is long (spelt, spelled, within) =
-    let read = subst (λ (t : List ℕ). base64_decoded t ≡ Ok spelt) (sym spelled ∙ is) (base64_back spelt within.each) in
-    let back = base64_back bytes field.each in
+long_base64_spells_no_field most other text bytes field is long (spelt, spelled, within) =
+    let read = subst (λ (t : List ℕ). base64_decoded t ≡ Ok spelt) (sym spelled ∙ is) (base64_decodes_back spelt within.each) in
+    let back = base64_decodes_back bytes field.each in
     let same : spelt ≡ bytes = cc (read, back) in
     omega (arith, long, within.at_most, ap length same)
 
 -- the base64 of at most 64 bytes has at most 88 characters
-pub short_text : (text bytes : List ℕ) → text ≡ base64 bytes → IsField 64 bytes → length text ≤ 88
-short_text text bytes spelled field =
+pub base64_at_most_88 : (text bytes : List ℕ) → text ≡ base64 bytes → IsField 64 bytes → length text ≤ 88
+base64_at_most_88 text bytes spelled field =
     let whole : length text ≡ length (base64 bytes) = ap length spelled in
     omega (arith, whole, length-base64 bytes, field.at_most)
 
 -- 1 to `most` bytes are what a field may hold
-pub field_of_bytes : (most : ℕ) (bytes : List ℕ) → IsBytes bytes → 1 ≤ length bytes → length bytes ≤ most → IsField most bytes
-field_of_bytes most bytes fits least within = record { at_least = least; at_most = within; each = fits }
+pub bytes_are_field : (most : ℕ) (bytes : List ℕ) → IsBytes bytes → 1 ≤ length bytes → length bytes ≤ most → IsField most bytes
+bytes_are_field most bytes fits least within = record { at_least = least; at_most = within; each = fits }

@@ -16,83 +16,85 @@ use Rattle.scram_text.specs.Shown.{ShowsClientFinal}
 use Rattle.scram_text.specs.declared.client_final.ClientFinal.{ClientFinal}
 use Rattle.scram_text.specs.declared.fault.TextFault.{TextFault}
 use Rattle.scram_text.specs.declared.fault.TextWhy.TheVariants.{Channel, Nonce, Extension, Proof}
-use Rattle.scram_text.proofs.lemmas.ListEnds.{last_same}
-use Rattle.scram_text.proofs.lemmas.Base64.{base64_lacks}
-use Rattle.scram_text.proofs.lemmas.Parts.{parts-append, parts_whole, misfit_here, misfit_later}
-use Rattle.scram_text.proofs.lemmas.Places.{AllFit, fits_cons, fits_end, places_of, misfit-append, misfit_after, fit_after, no_fault}
-use Rattle.scram_text.proofs.lemmas.Places.{nonce_lacks, extensions_lack, parts-joined, field_fits, field_once}
+use Rattle.scram_text.proofs.lemmas.ListEnds.{same_front_and_last}
+use Rattle.scram_text.proofs.lemmas.Base64.{base64_lacks_comma}
+use Rattle.scram_text.proofs.lemmas.Parts.{parts-append, no_comma_one_part, misfit_here, misfit_later}
+use Rattle.scram_text.proofs.lemmas.Places.{AllFit, AllFit-cons, AllFit-nil, places_unfold, misfit-append, extensions_keep_misfit, extensions_keep_fit, no_fault}
+use Rattle.scram_text.proofs.lemmas.Places.{nonce_lacks_comma, extensions_lack_comma, parts-joined, field_fits, one_field_per_base64}
 
 -- the parts, with their letters, of the client-final message that has these values
-abbrev pub final_parts : ClientFinalParts → List (List ℕ)
-final_parts p =
+abbrev pub client_final_parts : ClientFinalParts → List (List ℕ)
+client_final_parts p =
     (codes "c=" ++ base64 p.channel) ∷ (codes "r=" ++ p.nonce) ∷ (p.extensions ++ (codes "p=" ++ base64 p.proof) ∷ [])
 
 -- client-final before its proof is cut into its channel field, its nonce and its extensions
-front_parts : (p : ClientFinalParts) → IsNonce longest_nonce p.nonce → AreExtensions p.extensions
+parts_without_proof : (p : ClientFinalParts) → IsNonce longest_nonce p.nonce → AreExtensions p.extensions
     → parts (client_final_without_proof p) ≡ (codes "c=" ++ base64 p.channel) ∷ (codes "r=" ++ p.nonce) ∷ p.extensions
 unfolding client_final_without_proof
-front_parts p nonce extensions =
+parts_without_proof p nonce extensions =
     parts-joined (codes "c=" ++ base64 p.channel) ((codes "r=" ++ p.nonce) ∷ p.extensions)
-    (base64_lacks p.channel, (nonce_lacks longest_nonce p.nonce nonce, extensions_lack p.extensions extensions))
+    (base64_lacks_comma p.channel, (nonce_lacks_comma longest_nonce p.nonce nonce, extensions_lack_comma p.extensions extensions))
 
 -- a client-final message is cut into its parts
-pub parts_final : (text : List ℕ) (p : ClientFinalParts) → IsClientFinal text p → parts text ≡ final_parts p
+pub parts_client_final : (text : List ℕ) (p : ClientFinalParts) → IsClientFinal text p → parts text ≡ client_final_parts p
 unfolding client_final_text
-parts_final text p is =
+parts_client_final text p is =
     rw (is.spelled) (rw (
       parts-append (client_final_without_proof p) (codes "p=" ++ base64 p.proof),
-      front_parts p is.nonce is.extensions,
-      parts_whole (codes "p=" ++ base64 p.proof) (base64_lacks p.proof),
+      parts_without_proof p is.nonce is.extensions,
+      no_comma_one_part (codes "p=" ++ base64 p.proof) (base64_lacks_comma p.proof),
     ) refl)
 
 -- client-final messages with the same parts are the same
-parts_once : (p q : ClientFinalParts) → p.channel ≡ q.channel → p.nonce ≡ q.nonce → p.extensions ≡ q.extensions → p.proof ≡ q.proof → p ≡ q
-parts_once p q channel nonce extensions proof =
+same_fields_same_parts : (p q : ClientFinalParts) → p.channel ≡ q.channel → p.nonce ≡ q.nonce → p.extensions ≡ q.extensions
+    → p.proof ≡ q.proof → p ≡ q
+same_fields_same_parts p q channel nonce extensions proof =
     λ i. record { channel = channel i; nonce = nonce i; extensions = extensions i; proof = proof i }
 
 -- the law: a text is client-final with one list of parts
-pub client_final_once : HasOneClientFinal
-client_final_once text p q is also =
-    let same : final_parts p ≡ final_parts q = sym (parts_final text p is) ∙ parts_final text q also in
+pub has_one_client_final : HasOneClientFinal
+has_one_client_final text p q is also =
+    let same : client_final_parts p ≡ client_final_parts q = sym (parts_client_final text p is) ∙ parts_client_final text q also in
     let channels : base64 p.channel ≡ base64 q.channel = cc same in
     let nonces : p.nonce ≡ q.nonce = cc same in
     let rest : p.extensions ++ (codes "p=" ++ base64 p.proof) ∷ [] ≡ q.extensions ++ (codes "p=" ++ base64 q.proof) ∷ [] = cc same in
-    let ends = last_same p.extensions q.extensions _ _ rest in
+    let ends = same_front_and_last p.extensions q.extensions _ _ rest in
     let proofs : base64 p.proof ≡ base64 q.proof = cc (ends.1) in
-    let channel = field_once longest_channel p.channel q.channel is.channel also.channel channels in
-    let proof = field_once 64 p.proof q.proof is.proof also.proof proofs in
-    parts_once p q channel nonces ends.0 proof
+    let channel = one_field_per_base64 longest_channel p.channel q.channel is.channel also.channel channels in
+    let proof = one_field_per_base64 64 p.proof q.proof is.proof also.proof proofs in
+    same_fields_same_parts p q channel nonces ends.0 proof
 
 -- the places of client-final's parts are Channel, Nonce, one Extension for each extension, and Proof
-pub final_places : (channel nonce proof : List ℕ) (extensions : List (List ℕ))
+pub client_final_places_unfold : (channel nonce proof : List ℕ) (extensions : List (List ℕ))
     → places (Channel ∷ Nonce ∷ []) (Proof ∷ []) (length (channel ∷ nonce ∷ (extensions ++ proof ∷ [])))
     ≡ Channel ∷ Nonce ∷ (replicate (length extensions) Extension ++ Proof ∷ [])
-final_places channel nonce proof extensions =
-    places_of (Channel ∷ Nonce ∷ []) (Proof ∷ []) _ (length extensions) (omega (arith, length-append extensions (proof ∷ [])))
+client_final_places_unfold channel nonce proof extensions =
+    places_unfold (Channel ∷ Nonce ∷ []) (Proof ∷ []) _ (length extensions) (omega (arith, length-append extensions (proof ∷ [])))
 
 -- where the channel field, the nonce and the proof of client-final fit, and the parts between are extensions, all fit their places
-final_fit : (channel nonce proof : List ℕ) (extensions : List (List ℕ))
+channel_nonce_proof_fit : (channel nonce proof : List ℕ) (extensions : List (List ℕ))
     → Fits longest_nonce Channel channel → Fits longest_nonce Nonce nonce → AreExtensions extensions → Fits longest_nonce Proof proof
     → AllFit longest_nonce (places (Channel ∷ Nonce ∷ []) (Proof ∷ []) (length (channel ∷ nonce ∷ (extensions ++ proof ∷ []))))
     (channel ∷ nonce ∷ (extensions ++ proof ∷ []))
-final_fit channel nonce proof extensions is_channel is_nonce are is_proof =
-    rw (final_places channel nonce proof extensions)
-    (fits_cons longest_nonce Channel _ channel _ is_channel (fits_cons longest_nonce Nonce _ nonce _ is_nonce
-    (fit_after longest_nonce (Proof ∷ []) extensions (proof ∷ []) are
-    (fits_cons longest_nonce Proof [] proof [] is_proof (fits_end longest_nonce [])))))
+channel_nonce_proof_fit channel nonce proof extensions is_channel is_nonce are is_proof =
+    rw (client_final_places_unfold channel nonce proof extensions)
+    (AllFit-cons longest_nonce Channel _ channel _ is_channel (AllFit-cons longest_nonce Nonce _ nonce _ is_nonce
+    (extensions_keep_fit longest_nonce (Proof ∷ []) extensions (proof ∷ []) are
+    (AllFit-cons longest_nonce Proof [] proof [] is_proof (AllFit-nil longest_nonce [])))))
 
 -- the parts of a client-final message fit their places
 pub client_final_fit : (p : ClientFinalParts) → IsField longest_channel p.channel → IsNonce longest_nonce p.nonce
     → AreExtensions p.extensions → IsField 64 p.proof
-    → AllFit longest_nonce (places (Channel ∷ Nonce ∷ []) (Proof ∷ []) (length (final_parts p))) (final_parts p)
+    → AllFit longest_nonce (places (Channel ∷ Nonce ∷ []) (Proof ∷ []) (length (client_final_parts p))) (client_final_parts p)
 client_final_fit p channel nonce extensions proof =
-    final_fit _ _ _ p.extensions (field_fits 99 longest_channel _ p.channel refl channel) (p.nonce, refl, nonce) extensions
+    channel_nonce_proof_fit _ _ _ p.extensions (field_fits 99 longest_channel _ p.channel refl channel) (p.nonce, refl, nonce) extensions
     (field_fits 112 64 _ p.proof refl proof)
 
 -- a client-final message has no fault
 pub client_final_no_fault : (text : List ℕ) (p : ClientFinalParts) (f : TextFault) → IsClientFinal text p → IsClientFinalFault text f → ⊥
 client_final_no_fault text p f is =
-    no_fault longest_nonce (Channel ∷ Nonce ∷ []) (Proof ∷ []) text (final_parts p) f is.short is.utf8_text (parts_final text p is)
+    no_fault longest_nonce (Channel ∷ Nonce ∷ []) (Proof ∷ []) text (client_final_parts p) f is.short is.utf8_text
+        (parts_client_final text p is)
     (omega (arith, length-append p.extensions ((codes "p=" ++ base64 p.proof) ∷ [])))
     (client_final_fit p is.channel is.nonce is.extensions is.proof)
 
@@ -109,12 +111,12 @@ client_final_spelled text front last channel_part nonce_part p whole cut is_chan
     (front_is, rw (whole, front_is, is_proof) refl)
 
 -- a text that is client-final is read, and what is read shows its parts
-pub client_final_only : (text : List ℕ) (r : Result ClientFinal TextFault)
+pub client_final_is_read : (text : List ℕ) (r : Result ClientFinal TextFault)
     → IfOk r (λ m. (p : ClientFinalParts) × IsClientFinal text p × ShowsClientFinal m p) → IfErr r (λ f. IsClientFinalFault text f)
     → (p : ClientFinalParts) → IsClientFinal text p → IsOkAnd r (λ m. ShowsClientFinal m p)
-client_final_only text (Ok m) found fault p is =
-    subst (λ (q : ClientFinalParts). ShowsClientFinal m q) (client_final_once text found.0 p found.1 is) found.2
-client_final_only text (Err f) found fault p is = client_final_no_fault text p f is fault
+client_final_is_read text (Ok m) found fault p is =
+    subst (λ (q : ClientFinalParts). ShowsClientFinal m q) (has_one_client_final text found.0 p found.1 is) found.2
+client_final_is_read text (Err f) found fault p is = client_final_no_fault text p f is fault
 
 -- the first part of client-final that does not fit is a fault of the parts: Channel, Nonce, an extension or Proof:
 pub channel_fault : (channel nonce proof : List ℕ) (extensions : List (List ℕ)) → (Fits longest_nonce Channel channel → ⊥)
@@ -122,7 +124,7 @@ pub channel_fault : (channel nonce proof : List ℕ) (extensions : List (List �
 channel_fault channel nonce proof extensions no_channel =
     inr (
       omega (arith, length-append extensions (proof ∷ [])),
-      rw (final_places channel nonce proof extensions)
+      rw (client_final_places_unfold channel nonce proof extensions)
           (misfit_here longest_nonce 0 Channel _ channel _ no_channel),
     )
 
@@ -132,7 +134,7 @@ pub nonce_fault : (channel nonce proof : List ℕ) (extensions : List (List ℕ)
 nonce_fault channel nonce proof extensions is_channel no_nonce =
     inr (
       omega (arith, length-append extensions (proof ∷ [])),
-      rw (final_places channel nonce proof extensions)
+      rw (client_final_places_unfold channel nonce proof extensions)
           (misfit_later longest_nonce 0 Channel _ channel _ _ is_channel (misfit_here longest_nonce 1 Nonce _ nonce _ no_nonce)),
     )
 
@@ -142,7 +144,7 @@ pub extension_fault : (channel nonce proof : List ℕ) (extensions : List (List 
 extension_fault channel nonce proof extensions f is_channel is_nonce misfit =
     inr (
       omega (arith, length-append extensions (proof ∷ [])),
-      rw (final_places channel nonce proof extensions)
+      rw (client_final_places_unfold channel nonce proof extensions)
           (misfit_later longest_nonce 0 Channel _ channel _ f is_channel (misfit_later longest_nonce 1 Nonce _ nonce _ f is_nonce
           (misfit-append longest_nonce (replicate (length extensions) Extension) (Proof ∷ []) 2 extensions (proof ∷ []) f
           (misfit longest_nonce)))),
@@ -155,8 +157,8 @@ pub proof_fault : (channel nonce proof : List ℕ) (extensions : List (List ℕ)
 proof_fault channel nonce proof extensions k is_channel is_nonce are no_proof at =
     inr (
       omega (arith, length-append extensions (proof ∷ [])),
-      rw (final_places channel nonce proof extensions)
+      rw (client_final_places_unfold channel nonce proof extensions)
           (misfit_later longest_nonce 0 Channel _ channel _ _ is_channel (misfit_later longest_nonce 1 Nonce _ nonce _ _ is_nonce
-          (misfit_after longest_nonce (Proof ∷ []) 2 k extensions (proof ∷ []) _ at are
+          (extensions_keep_misfit longest_nonce (Proof ∷ []) 2 k extensions (proof ∷ []) _ at are
           (misfit_here longest_nonce k Proof [] proof [] no_proof)))),
     )

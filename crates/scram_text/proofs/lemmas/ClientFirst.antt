@@ -15,41 +15,41 @@ use Rattle.scram_text.specs.Name.{LacksComma, IsSaslName}
 use Rattle.scram_text.specs.Parts.{parts, joined, is_flag, is_cb_name, authzid_text, mext_parts, is_named, IsValue, AreExtensions}
 use Rattle.scram_text.specs.Messages.{ClientFirstParts, header_text, bare_parts, bare_text, client_first_text, IsClientFirst}
 use Rattle.scram_text.specs.Laws.{HasOneClientFirst}
-use Rattle.scram_text.specs.Faults.{Fits, fault, places, IsAuthzid, IsFirstMisfit, marked_places, first_of}
+use Rattle.scram_text.specs.Faults.{Fits, fault, places, IsAuthzid, IsFirstMisfit, places_with_mext, first_of}
 use Rattle.scram_text.specs.Pieces.{IsExtensionMisfit}
 use Rattle.scram_text.specs.Faults.{client_first_places, IsClientFirstFault}
 use Rattle.scram_text.specs.Shown.{ShowsClientFirst}
-use Rattle.scram_text.specs.Pieces.{IsMarked, IsBareMisfit}
+use Rattle.scram_text.specs.Pieces.{IsMextAndRest, IsBareMisfit}
 use Rattle.scram_text.specs.declared.client_first.ClientFirst.{ClientFirst}
 use Rattle.scram_text.specs.declared.fault.TextFault.{TextFault}
 use Rattle.scram_text.specs.declared.fault.TextWhy.{TextWhy}
 use Rattle.scram_text.specs.declared.fault.TextWhy.TheVariants.{Flag, Authzid, Name, Nonce, Extension}
-use Rattle.scram_text.proofs.lemmas.Parts.{parts_front, misfit_here, misfit_later}
-use Rattle.scram_text.proofs.lemmas.Places.{AllFit, fits_cons, fits_end, fit_after, fault_at, no_fault_at, nonce_lacks}
-use Rattle.scram_text.proofs.lemmas.Places.{extensions_lack, parts-joined_list, misfit_at}
-use Rattle.scram_text.proofs.lemmas.Marked.{places-cons, places_front, marked_of, marked_lack, marked_some, marked_once, marked_fit}
-use Rattle.scram_text.proofs.lemmas.Marked.{marked_misfit, marked_length}
-use Rattle.scram_text.proofs.lemmas.WithoutByte.{class_without}
+use Rattle.scram_text.proofs.lemmas.Parts.{first_part_precedes_comma, misfit_here, misfit_later}
+use Rattle.scram_text.proofs.lemmas.Places.{AllFit, AllFit-cons, AllFit-nil, extensions_keep_fit, placed_fault_is_fault, no_placed_fault, nonce_lacks_comma}
+use Rattle.scram_text.proofs.lemmas.Places.{extensions_lack_comma, parts-joined_list, same_index_same_misfit}
+use Rattle.scram_text.proofs.lemmas.MextAndRest.{places-cons, front_places_unfold, mext_and_rest_joined, mext_and_rest_lack_comma, mext_and_rest_nonempty, one_mext_and_rest, mext_and_rest_fit}
+use Rattle.scram_text.proofs.lemmas.MextAndRest.{rest_misfit, mext_and_rest_lengths}
+use Rattle.scram_text.proofs.lemmas.WithoutByte.{class_lacks_byte}
 
 -- the parts after the mandatory extension, if there is one
-abbrev pub later_parts : ClientFirstParts → List (List ℕ)
-later_parts p = (codes "n=" ++ p.name) ∷ (codes "r=" ++ p.nonce) ∷ p.extensions
+abbrev pub client_first_rest : ClientFirstParts → List (List ℕ)
+client_first_rest p = (codes "n=" ++ p.name) ∷ (codes "r=" ++ p.nonce) ∷ p.extensions
 
 -- the name of a channel binding, the flag and the part of the name to act as have no comma:
-cb_name_lacks : (name : List ℕ) → is_cb_name name ≡ true → LacksComma name
-cb_name_lacks name is = class_without 44 is_cb_char name refl (and_parts (nat_le 1 (length name)) (list_all is_cb_char name) is).1
+cb_name_lacks_comma : (name : List ℕ) → is_cb_name name ≡ true → LacksComma name
+cb_name_lacks_comma name is = class_lacks_byte 44 is_cb_char name refl (and_parts (nat_le 1 (length name)) (list_all is_cb_char name) is).1
 
-pub flag_lacks : (flag : List ℕ) → is_flag flag ≡ true → LacksComma flag
-flag_lacks [] is = refl
-flag_lacks (c ∷ []) is = class_without 44 (λ b. (b == 110) || (b == 121)) (c ∷ []) refl (rw is refl)
-flag_lacks (a ∷ b ∷ name) is =
+pub flag_lacks_comma : (flag : List ℕ) → is_flag flag ≡ true → LacksComma flag
+flag_lacks_comma [] is = refl
+flag_lacks_comma (c ∷ []) is = class_lacks_byte 44 (λ b. (b == 110) || (b == 121)) (c ∷ []) refl (rw is refl)
+flag_lacks_comma (a ∷ b ∷ name) is =
     let front = and_parts ((a == 112) && (b == 61)) (is_cb_name name) is in
     let letters = and_parts (a == 112) (b == 61) front.0 in
-    rw (eqb-true a 112 letters.0, eqb-true b 61 letters.1) (cb_name_lacks name front.1)
+    rw (eqb-true a 112 letters.0, eqb-true b 61 letters.1) (cb_name_lacks_comma name front.1)
 
-pub authzid_lacks : (authzid : Option (List ℕ)) → IfSome authzid IsSaslName → LacksComma (authzid_text authzid)
-authzid_lacks None is = refl
-authzid_lacks (Some spelled) is = is.no_comma
+pub authzid_lacks_comma : (authzid : Option (List ℕ)) → IfSome authzid IsSaslName → LacksComma (authzid_text authzid)
+authzid_lacks_comma None is = refl
+authzid_lacks_comma (Some spelled) is = is.no_comma
 
 -- the bare message is cut into its parts
 pub parts_bare : (p : ClientFirstParts) → IfSome p.mext IsValue → IsSaslName p.name → IsNonce longest_nonce_part p.nonce
@@ -57,13 +57,13 @@ pub parts_bare : (p : ClientFirstParts) → IfSome p.mext IsValue → IsSaslName
     → parts (bare_text p) ≡ bare_parts p
 unfolding bare_text
 parts_bare p mext name nonce extensions =
-    parts-joined_list (bare_parts p) (marked_some p.mext (codes "n=" ++ p.name) _)
-    (marked_lack p.mext (later_parts p) mext
-    (name.no_comma, (nonce_lacks longest_nonce_part p.nonce nonce, extensions_lack p.extensions extensions)))
+    parts-joined_list (bare_parts p) (mext_and_rest_nonempty p.mext (codes "n=" ++ p.name) _)
+    (mext_and_rest_lack_comma p.mext (client_first_rest p) mext
+    (name.no_comma, (nonce_lacks_comma longest_nonce_part p.nonce nonce, extensions_lack_comma p.extensions extensions)))
 
 -- a header of two parts and what follows it are the parts, with a comma after each, and what follows
-pub regroup : (flag authzid rest : List ℕ) → (flag ++ 44 ∷ (authzid ++ 44 ∷ [])) ++ rest ≡ flag ++ 44 ∷ (authzid ++ 44 ∷ rest)
-regroup flag authzid rest =
+pub header_pieces_regroup : (flag authzid rest : List ℕ) → (flag ++ 44 ∷ (authzid ++ 44 ∷ [])) ++ rest ≡ flag ++ 44 ∷ (authzid ++ 44 ∷ rest)
+header_pieces_regroup flag authzid rest =
     append_assoc flag (44 ∷ (authzid ++ 44 ∷ [])) rest
     ∙ ap (λ (t : List ℕ). flag ++ 44 ∷ t) (append_assoc authzid (44 ∷ []) rest)
 
@@ -72,65 +72,70 @@ pub parts_client_first : (text : List ℕ) (p : ClientFirstParts) → IsClientFi
     → parts text ≡ p.flag ∷ authzid_text p.authzid ∷ bare_parts p
 unfolding client_first_text header_text
 parts_client_first text p is =
-    let whole : text ≡ p.flag ++ 44 ∷ (authzid_text p.authzid ++ 44 ∷ bare_text p) = is.spelled ∙ regroup p.flag (authzid_text p.authzid)
+    let whole : text ≡ p.flag ++ 44 ∷ (authzid_text p.authzid ++ 44 ∷ bare_text p) = is.spelled
+        ∙ header_pieces_regroup p.flag (authzid_text p.authzid)
     (bare_text p) in
-    ap parts whole ∙ parts_front p.flag (authzid_text p.authzid ++ 44 ∷ bare_text p) (flag_lacks p.flag is.flag)
-    ∙ ap (λ (ps : List (List ℕ)). p.flag ∷ ps) (parts_front (authzid_text p.authzid) (bare_text p) (authzid_lacks p.authzid is.authzid))
+    ap parts whole ∙ first_part_precedes_comma p.flag (authzid_text p.authzid ++ 44 ∷ bare_text p) (flag_lacks_comma p.flag is.flag)
+    ∙ ap (λ (ps : List (List ℕ)). p.flag ∷ ps) (first_part_precedes_comma (authzid_text p.authzid) (bare_text p)
+        (authzid_lacks_comma p.authzid is.authzid))
     ∙ ap (λ (ps : List (List ℕ)). p.flag ∷ authzid_text p.authzid ∷ ps) (parts_bare p is.mext is.name is.nonce is.extensions)
 
 -- the name to act as is read from its part in one way
-authzid_once : (one other : Option (List ℕ)) → authzid_text one ≡ authzid_text other → one ≡ other
-authzid_once None None same = refl
-authzid_once None (Some v) same = absurd (cc same)
-authzid_once (Some v) None same = absurd (cc same)
-authzid_once (Some v) (Some w) same = let names : v ≡ w = cc same in ap Some names
+one_authzid_per_part : (one other : Option (List ℕ)) → authzid_text one ≡ authzid_text other → one ≡ other
+one_authzid_per_part None None same = refl
+one_authzid_per_part None (Some v) same = absurd (cc same)
+one_authzid_per_part (Some v) None same = absurd (cc same)
+one_authzid_per_part (Some v) (Some w) same = let names : v ≡ w = cc same in ap Some names
 
 -- client-first messages with the same parts are the same
-parts_once : (p q : ClientFirstParts) → p.flag ≡ q.flag → p.authzid ≡ q.authzid → p.mext ≡ q.mext → p.name ≡ q.name → p.nonce ≡ q.nonce
+same_fields_same_parts : (p q : ClientFirstParts) → p.flag ≡ q.flag → p.authzid ≡ q.authzid → p.mext ≡ q.mext → p.name ≡ q.name
+    → p.nonce ≡ q.nonce
     → p.extensions ≡ q.extensions → p ≡ q
-parts_once p q flag authzid mext name nonce extensions =
+same_fields_same_parts p q flag authzid mext name nonce extensions =
     λ i. record { flag = flag i; authzid = authzid i; mext = mext i; name = name i; nonce = nonce i; extensions = extensions i }
 
 -- the law: a text is client-first with one list of parts
-pub client_first_once : HasOneClientFirst
-client_first_once text p q is also =
+pub has_one_client_first : HasOneClientFirst
+has_one_client_first text p q is also =
     let same : p.flag ∷ authzid_text p.authzid ∷ bare_parts p ≡ q.flag ∷ authzid_text q.authzid ∷ bare_parts q =
     sym (parts_client_first text p is) ∙ parts_client_first text q also in
     let flags : p.flag ≡ q.flag = cc same in
     let authzids : authzid_text p.authzid ≡ authzid_text q.authzid = cc same in
     let bares : bare_parts p ≡ bare_parts q = cc same in
-    let rest = marked_once p.mext q.mext (codes "n=" ++ p.name) (codes "n=" ++ q.name) _ _ refl refl bares in
-    let later : later_parts p ≡ later_parts q = rest.1 in
+    let rest = one_mext_and_rest p.mext q.mext (codes "n=" ++ p.name) (codes "n=" ++ q.name) _ _ refl refl bares in
+    let later : client_first_rest p ≡ client_first_rest q = rest.1 in
     let names : p.name ≡ q.name = cc later in
     let nonces : p.nonce ≡ q.nonce = cc later in
     let extensions : p.extensions ≡ q.extensions = cc later in
-    parts_once p q flags (authzid_once p.authzid q.authzid authzids) rest.0 names nonces extensions
+    same_fields_same_parts p q flags (one_authzid_per_part p.authzid q.authzid authzids) rest.0 names nonces extensions
 
 -- the places of the parts after the mandatory extension are Name, Nonce and one Extension for each extension
-pub later_places : (name nonce : List ℕ) (extensions : List (List ℕ))
+pub client_first_rest_places_unfold : (name nonce : List ℕ) (extensions : List (List ℕ))
     → places (Name ∷ Nonce ∷ []) [] (length (name ∷ nonce ∷ extensions)) ≡ Name ∷ Nonce ∷ replicate (length extensions) Extension
-later_places name nonce extensions =
-    places_front (Name ∷ Nonce ∷ []) (length (name ∷ nonce ∷ extensions)) (length extensions) (omega arith)
+client_first_rest_places_unfold name nonce extensions =
+    front_places_unfold (Name ∷ Nonce ∷ []) (length (name ∷ nonce ∷ extensions)) (length extensions) (omega arith)
 
 -- where the name and the nonce of client-first fit, and the parts after them are extensions, all fit their places
-pub later_fit : (name nonce : List ℕ) (extensions : List (List ℕ)) → Fits longest_nonce_part Name name → Fits longest_nonce_part Nonce nonce
+pub name_and_nonce_fit : (name nonce : List ℕ) (extensions : List (List ℕ)) → Fits longest_nonce_part Name name
+    → Fits longest_nonce_part Nonce nonce
     → AreExtensions extensions
     → AllFit longest_nonce_part (places (Name ∷ Nonce ∷ []) [] (length (name ∷ nonce ∷ extensions))) (name ∷ nonce ∷ extensions)
-later_fit name nonce extensions is_name is_nonce are =
-    let after = fit_after longest_nonce_part [] extensions [] are (fits_end longest_nonce_part []) in
-    rw (later_places name nonce extensions)
-    (fits_cons longest_nonce_part Name _ name _ is_name (fits_cons longest_nonce_part Nonce _ nonce _ is_nonce
+name_and_nonce_fit name nonce extensions is_name is_nonce are =
+    let after = extensions_keep_fit longest_nonce_part [] extensions [] are (AllFit-nil longest_nonce_part []) in
+    rw (client_first_rest_places_unfold name nonce extensions)
+    (AllFit-cons longest_nonce_part Name _ name _ is_name (AllFit-cons longest_nonce_part Nonce _ nonce _ is_nonce
     (rw (append-nil (replicate (length extensions) Extension), append-nil extensions) at after)))
 
 -- the places of the header's parts and of those after it are Flag, Authzid and the places of those after it
-pub header_places : (later : List TextWhy) (n : ℕ) → places (Flag ∷ Authzid ∷ later) [] (suc (suc n)) ≡ Flag ∷ Authzid ∷ places later [] n
-header_places later n =
+pub header_places_unfold : (later : List TextWhy) (n : ℕ)
+    → places (Flag ∷ Authzid ∷ later) [] (suc (suc n)) ≡ Flag ∷ Authzid ∷ places later [] n
+header_places_unfold later n =
     places-cons Flag (Authzid ∷ later) [] (suc n) ∙ ap (λ (ps : List TextWhy). Flag ∷ ps) (places-cons Authzid later [] n)
 
 -- there are as many fixed places as the later ones, and one for a mandatory extension where the parts begin with one
-pub marked_count : (pieces : List (List ℕ)) (later : List TextWhy)
-    → length (marked_places pieces later) ≡ length (marked_places pieces []) + length later
-marked_count pieces later = elim (cases_Bool (is_named 109 (first_of pieces))) [
+pub later_places_add_up : (pieces : List (List ℕ)) (later : List TextWhy)
+    → length (places_with_mext pieces later) ≡ length (places_with_mext pieces []) + length later
+later_places_add_up pieces later = elim (cases_Bool (is_named 109 (first_of pieces))) [
   | inl hit ↦ rw hit (omega arith)
   | inr miss ↦ rw miss (omega arith)
 ]
@@ -138,70 +143,70 @@ marked_count pieces later = elim (cases_Bool (is_named 109 (first_of pieces))) [
 -- where the flag, the name to act as and the parts of the bare message fit their places, all parts of client-first do
 pub header_fit : (flag authzid : List ℕ) (bare : List (List ℕ)) → Fits longest_nonce_part Flag flag
     → Fits longest_nonce_part Authzid authzid
-    → AllFit longest_nonce_part (places (marked_places bare (Name ∷ Nonce ∷ [])) [] (length bare)) bare
+    → AllFit longest_nonce_part (places (places_with_mext bare (Name ∷ Nonce ∷ [])) [] (length bare)) bare
     → AllFit longest_nonce_part (places (client_first_places (flag ∷ authzid ∷ bare)) [] (length (flag ∷ authzid ∷ bare)))
     (flag ∷ authzid ∷ bare)
 header_fit flag authzid bare is_flag is_authzid fit =
     subst (λ (ps : List TextWhy). AllFit longest_nonce_part ps (flag ∷ authzid ∷ bare))
-    (sym (header_places (marked_places bare (Name ∷ Nonce ∷ [])) (length bare)))
-    (fits_cons longest_nonce_part Flag _ flag _ is_flag (fits_cons longest_nonce_part Authzid _ authzid _ is_authzid fit))
+    (sym (header_places_unfold (places_with_mext bare (Name ∷ Nonce ∷ [])) (length bare)))
+    (AllFit-cons longest_nonce_part Flag _ flag _ is_flag (AllFit-cons longest_nonce_part Authzid _ authzid _ is_authzid fit))
 
 -- the parts of the bare message are its mandatory extension, where it has one, and the others
-pub bare_marked : (p : ClientFirstParts) → IfSome p.mext IsValue → IsMarked (bare_parts p) (later_parts p) p.mext
-bare_marked p mext = marked_of p.mext (codes "n=" ++ p.name) _ refl mext
+pub bare_mext_and_rest : (p : ClientFirstParts) → IfSome p.mext IsValue → IsMextAndRest (bare_parts p) (client_first_rest p) p.mext
+bare_mext_and_rest p mext = mext_and_rest_joined p.mext (codes "n=" ++ p.name) _ refl mext
 
 -- the parts of a bare message fit their places
 pub bare_fit : (p : ClientFirstParts) → IfSome p.mext IsValue → IsSaslName p.name → IsNonce longest_nonce_part p.nonce
     → AreExtensions p.extensions
-    → AllFit longest_nonce_part (places (marked_places (bare_parts p) (Name ∷ Nonce ∷ [])) [] (length (bare_parts p))) (bare_parts p)
+    → AllFit longest_nonce_part (places (places_with_mext (bare_parts p) (Name ∷ Nonce ∷ [])) [] (length (bare_parts p))) (bare_parts p)
 bare_fit p mext name nonce extensions =
-    marked_fit longest_nonce_part (Name ∷ Nonce ∷ []) (bare_parts p) (later_parts p) p.mext (bare_marked p mext)
-    (later_fit (codes "n=" ++ p.name) (codes "r=" ++ p.nonce) p.extensions (p.name, refl, name) (p.nonce, refl, nonce) extensions)
+    mext_and_rest_fit longest_nonce_part (Name ∷ Nonce ∷ []) (bare_parts p) (client_first_rest p) p.mext (bare_mext_and_rest p mext)
+    (name_and_nonce_fit (codes "n=" ++ p.name) (codes "r=" ++ p.nonce) p.extensions (p.name, refl, name) (p.nonce, refl, nonce) extensions)
 
 -- a client-first message has no fault
 pub client_first_no_fault : (text : List ℕ) (p : ClientFirstParts) (f : TextFault) → IsClientFirst text p → IsClientFirstFault text f → ⊥
 client_first_no_fault text p f is =
-    let lengths = marked_length (Name ∷ Nonce ∷ []) (bare_parts p) (later_parts p) p.mext (bare_marked p is.mext) in
-    no_fault_at longest_nonce_part client_first_places text (p.flag ∷ authzid_text p.authzid ∷ bare_parts p) f is.short is.utf8_text
+    let lengths = mext_and_rest_lengths (Name ∷ Nonce ∷ []) (bare_parts p) (client_first_rest p) p.mext (bare_mext_and_rest p is.mext) in
+    no_placed_fault longest_nonce_part client_first_places text (p.flag ∷ authzid_text p.authzid ∷ bare_parts p) f is.short is.utf8_text
     (parts_client_first text p is)
     (omega (arith, lengths.0, lengths.1))
     (header_fit p.flag (authzid_text p.authzid) (bare_parts p) is.flag (p.authzid, refl, is.authzid)
     (bare_fit p is.mext is.name is.nonce is.extensions))
 
 -- a text that is client-first is read, and what is read shows its parts
-pub client_first_only : (text : List ℕ) (r : Result ClientFirst TextFault)
+pub client_first_is_read : (text : List ℕ) (r : Result ClientFirst TextFault)
     → IfOk r (λ m. (p : ClientFirstParts) × IsClientFirst text p × ShowsClientFirst m p) → IfErr r (λ f. IsClientFirstFault text f)
     → (p : ClientFirstParts) → IsClientFirst text p → IsOkAnd r (λ m. ShowsClientFirst m p)
-client_first_only text (Ok m) found fault p is =
-    subst (λ (q : ClientFirstParts). ShowsClientFirst m q) (client_first_once text found.0 p found.1 is) found.2
-client_first_only text (Err f) found fault p is = client_first_no_fault text p f is fault
+client_first_is_read text (Ok m) found fault p is =
+    subst (λ (q : ClientFirstParts). ShowsClientFirst m q) (has_one_client_first text found.0 p found.1 is) found.2
+client_first_is_read text (Err f) found fault p is = client_first_no_fault text p f is fault
 
 -- the first misfit of all parts is a fault of the text
 header_fault : (text flag authzid : List ℕ) (bare : List (List ℕ)) (f : TextFault) → length text ≤ longest_message → IsUtf8Text text
     → parts text ≡ flag ∷ authzid ∷ bare
-    → length (marked_places bare []) + 2 ≤ length bare
-    → IsFirstMisfit longest_nonce_part (Flag ∷ Authzid ∷ places (marked_places bare (Name ∷ Nonce ∷ [])) [] (length bare)) 0
+    → length (places_with_mext bare []) + 2 ≤ length bare
+    → IsFirstMisfit longest_nonce_part (Flag ∷ Authzid ∷ places (places_with_mext bare (Name ∷ Nonce ∷ [])) [] (length bare)) 0
     (flag ∷ authzid ∷ bare) f
     → IsClientFirstFault text f
 header_fault text flag authzid bare f short utf8_text cut enough misfit =
-    fault_at longest_nonce_part client_first_places text (flag ∷ authzid ∷ bare) f short utf8_text cut
+    placed_fault_is_fault longest_nonce_part client_first_places text (flag ∷ authzid ∷ bare) f short utf8_text cut
     (inr (
-      omega (arith, enough, marked_count bare (Name ∷ Nonce ∷ [])),
+      omega (arith, enough, later_places_add_up bare (Name ∷ Nonce ∷ [])),
       subst (λ (ps : List TextWhy). IsFirstMisfit longest_nonce_part ps 0 (flag ∷ authzid ∷ bare) f)
-          (sym (header_places (marked_places bare (Name ∷ Nonce ∷ [])) (length bare))) misfit,
+          (sym (header_places_unfold (places_with_mext bare (Name ∷ Nonce ∷ [])) (length bare))) misfit,
     ))
 
 -- the first part of client-first that does not fit is a fault of the text: the flag, the name to act as, or one of the bare message:
 pub flag_fault : (text flag authzid : List ℕ) (bare : List (List ℕ)) → length text ≤ longest_message → IsUtf8Text text
     → parts text ≡ flag ∷ authzid ∷ bare
-    → length (marked_places bare []) + 2 ≤ length bare → is_flag flag ≡ false → IsClientFirstFault text (fault 0 Flag)
+    → length (places_with_mext bare []) + 2 ≤ length bare → is_flag flag ≡ false → IsClientFirstFault text (fault 0 Flag)
 flag_fault text flag authzid bare short utf8_text cut enough no_flag =
     header_fault text flag authzid bare _ short utf8_text cut enough
     (misfit_here longest_nonce_part 0 Flag _ flag _ (λ is. both_ways (is_flag flag) no_flag is))
 
 pub authzid_fault : (text flag authzid : List ℕ) (bare : List (List ℕ)) (f : TextFault) → length text ≤ longest_message → IsUtf8Text text
     → parts text ≡ flag ∷ authzid ∷ bare
-    → length (marked_places bare []) + 2 ≤ length bare → is_flag flag ≡ true → (IsAuthzid authzid → ⊥) × (f ≡ fault 1 Authzid)
+    → length (places_with_mext bare []) + 2 ≤ length bare → is_flag flag ≡ true → (IsAuthzid authzid → ⊥) × (f ≡ fault 1 Authzid)
     → IsClientFirstFault text f
 authzid_fault text flag authzid bare f short utf8_text cut enough is_a_flag (no_authzid, is) =
     subst (λ (g : TextFault). IsClientFirstFault text g) (sym is)
@@ -210,7 +215,7 @@ authzid_fault text flag authzid bare f short utf8_text cut enough is_a_flag (no_
 
 pub bare_fault : (text flag authzid : List ℕ) (bare : List (List ℕ)) (f : TextFault) → length text ≤ longest_message → IsUtf8Text text
     → parts text ≡ flag ∷ authzid ∷ bare
-    → length (marked_places bare []) + 2 ≤ length bare → is_flag flag ≡ true → IsAuthzid authzid → IsBareMisfit bare f
+    → length (places_with_mext bare []) + 2 ≤ length bare → is_flag flag ≡ true → IsAuthzid authzid → IsBareMisfit bare f
     → IsClientFirstFault text f
 bare_fault text flag authzid bare f short utf8_text cut enough is_a_flag is_authzid misfit =
     header_fault text flag authzid bare f short utf8_text cut enough
@@ -218,44 +223,46 @@ bare_fault text flag authzid bare f short utf8_text cut enough is_a_flag is_auth
     (misfit_later longest_nonce_part 1 Authzid _ authzid _ f is_authzid misfit))
 
 -- a misfit after the mandatory extension is one of the bare message; k is the index of the name
-later_misfit : (pieces : List (List ℕ)) (name nonce : List ℕ) (extensions : List (List ℕ)) (mext : Option (List ℕ)) (k : ℕ) (f : TextFault)
-    → IsMarked pieces (name ∷ nonce ∷ extensions) mext → k ≡ 2 + length (mext_parts mext)
+client_first_rest_misfit : (pieces : List (List ℕ)) (name nonce : List ℕ) (extensions : List (List ℕ)) (mext : Option (List ℕ)) (k : ℕ)
+    (f : TextFault)
+    → IsMextAndRest pieces (name ∷ nonce ∷ extensions) mext → k ≡ 2 + length (mext_parts mext)
     → IsFirstMisfit longest_nonce_part (Name ∷ Nonce ∷ replicate (length extensions) Extension) k (name ∷ nonce ∷ extensions) f
     → IsBareMisfit pieces f
-later_misfit pieces name nonce extensions mext k f marked at misfit =
-    marked_misfit longest_nonce_part 2 k (Name ∷ Nonce ∷ []) pieces (name ∷ nonce ∷ extensions) mext f marked at
-    (rw (later_places name nonce extensions) misfit)
+client_first_rest_misfit pieces name nonce extensions mext k f marked at misfit =
+    rest_misfit longest_nonce_part 2 k (Name ∷ Nonce ∷ []) pieces (name ∷ nonce ∷ extensions) mext f marked at
+    (rw (client_first_rest_places_unfold name nonce extensions) misfit)
 
 -- the first part of a bare message that does not fit, after its mandatory extension, is the name, the nonce or an extension:
 pub name_misfit : (pieces : List (List ℕ)) (name nonce : List ℕ) (extensions : List (List ℕ)) (mext : Option (List ℕ)) (k : ℕ)
-    → IsMarked pieces (name ∷ nonce ∷ extensions) mext → k ≡ 2 + length (mext_parts mext) → (Fits longest_nonce_part Name name → ⊥)
+    → IsMextAndRest pieces (name ∷ nonce ∷ extensions) mext → k ≡ 2 + length (mext_parts mext) → (Fits longest_nonce_part Name name → ⊥)
     → IsBareMisfit pieces (fault k Name)
 name_misfit pieces name nonce extensions mext k marked at no_name =
-    later_misfit pieces name nonce extensions mext k _ marked at (misfit_here longest_nonce_part k Name _ name _ no_name)
+    client_first_rest_misfit pieces name nonce extensions mext k _ marked at (misfit_here longest_nonce_part k Name _ name _ no_name)
 
 pub nonce_misfit : (pieces : List (List ℕ)) (name nonce : List ℕ) (extensions : List (List ℕ)) (mext : Option (List ℕ)) (k : ℕ)
-    → IsMarked pieces (name ∷ nonce ∷ extensions) mext → k ≡ 2 + length (mext_parts mext) → Fits longest_nonce_part Name name
+    → IsMextAndRest pieces (name ∷ nonce ∷ extensions) mext → k ≡ 2 + length (mext_parts mext) → Fits longest_nonce_part Name name
     → (Fits longest_nonce_part Nonce nonce → ⊥)
     → IsBareMisfit pieces (fault (k + 1) Nonce)
 nonce_misfit pieces name nonce extensions mext k marked at is_name no_nonce =
-    later_misfit pieces name nonce extensions mext k _ marked at
+    client_first_rest_misfit pieces name nonce extensions mext k _ marked at
     (misfit_later longest_nonce_part k Name _ name _ _ is_name (misfit_here longest_nonce_part (k + 1) Nonce _ nonce _ no_nonce))
 
 pub extension_misfit : (pieces : List (List ℕ)) (name nonce : List ℕ) (extensions : List (List ℕ)) (mext : Option (List ℕ)) (k : ℕ)
     (f : TextFault)
-    → IsMarked pieces (name ∷ nonce ∷ extensions) mext → k ≡ 2 + length (mext_parts mext) → Fits longest_nonce_part Name name
+    → IsMextAndRest pieces (name ∷ nonce ∷ extensions) mext → k ≡ 2 + length (mext_parts mext) → Fits longest_nonce_part Name name
     → Fits longest_nonce_part Nonce nonce
     → IsExtensionMisfit (k + 2) extensions f → IsBareMisfit pieces f
 extension_misfit pieces name nonce extensions mext k f marked at is_name is_nonce misfit =
-    later_misfit pieces name nonce extensions mext k f marked at
+    client_first_rest_misfit pieces name nonce extensions mext k f marked at
     (misfit_later longest_nonce_part k Name _ name _ f is_name (misfit_later longest_nonce_part (k + 1) Nonce _ nonce _ f is_nonce
-    (misfit_at longest_nonce_part (k + 2) (k + 1 + 1) _ _ f (omega arith) (misfit longest_nonce_part))))
+    (same_index_same_misfit longest_nonce_part (k + 2) (k + 1 + 1) _ _ f (omega arith) (misfit longest_nonce_part))))
 
 -- the pieces of a bare message, with their letters, are its parts
-pub bare_cut : (pieces : List (List ℕ)) (name nonce : List ℕ) (p : ClientFirstParts) → IsMarked pieces (name ∷ nonce ∷ p.extensions) p.mext
+pub bare_pieces_are_parts : (pieces : List (List ℕ)) (name nonce : List ℕ) (p : ClientFirstParts)
+    → IsMextAndRest pieces (name ∷ nonce ∷ p.extensions) p.mext
     → name ≡ codes "n=" ++ p.name → nonce ≡ codes "r=" ++ p.nonce → pieces ≡ bare_parts p
-bare_cut pieces name nonce p marked is_name is_nonce =
-    let later : name ∷ nonce ∷ p.extensions ≡ later_parts p = cc (is_name, is_nonce) in
+bare_pieces_are_parts pieces name nonce p marked is_name is_nonce =
+    let later : name ∷ nonce ∷ p.extensions ≡ client_first_rest p = cc (is_name, is_nonce) in
     marked.cut ∙ ap (λ (ps : List (List ℕ)). mext_parts p.mext ++ ps) later
 
 -- the pieces of client-first make the header, the bare message and the whole text

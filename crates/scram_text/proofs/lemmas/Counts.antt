@@ -4,12 +4,13 @@ use Rattle.std.specs.Prelude.{decimal}
 use Rattle.std.proofs.lemmas.Fmt.{decimal_is_IsNumeral}
 use Rattle.scram_text.specs.Name.{LacksComma}
 use Rattle.scram_text.specs.Parts.{IsCount}
-use Rattle.scram_text.proofs.lemmas.WithoutByte.{digits_without}
+use Rattle.scram_text.proofs.lemmas.WithoutByte.{digits_lack_byte}
 
 -- a count is below 2^64
-pub below_64 : (count : ℕ) → IsCount count → count < 2 ^ 64
-below_64 count is = omega (arith, is.at_most)
+pub count_below_2_64 : (count : ℕ) → IsCount count → count < 2 ^ 64
+count_below_2_64 count is = omega (arith, is.at_most)
 
 -- the decimal of a count has no comma
-pub decimal_lacks : (count : ℕ) → IsCount count → LacksComma (decimal count)
-decimal_lacks count is = digits_without 44 (decimal count) (omega arith) (decimal_is_IsNumeral count (below_64 count is)).0.1
+pub decimal_lacks_comma : (count : ℕ) → IsCount count → LacksComma (decimal count)
+decimal_lacks_comma count is =
+    digits_lack_byte 44 (decimal count) (omega arith) (decimal_is_IsNumeral count (count_below_2_64 count is)).0.1

@@ -9,7 +9,7 @@ use Rattle.std.specs.declared.result.Result.{Result}
 use Rattle.std.specs.declared.result.Result.TheVariants.{Ok, Err}
 use Rattle.std.proofs.lemmas.Fmt.{decimal_is_IsNumeral}
 use Rattle.std.proofs.lemmas.Str.{IsUtf8-from_is_utf8, is_utf8-from_IsUtf8}
-use Rattle.mac_core.proofs.lemmas.Decided.{Decided, decided_by, decided_both, decided_test, decided_le, decided_nat, decided_same}
+use Rattle.mac_core.proofs.lemmas.Decided.{Decided, decided_equivalent, decided_both, decided_test, decided_le, decided_same_number, decided_same_text}
 use Rattle.base64.specs.GeneralPurpose.{IsBytes}
 use Rattle.base64.specs.declared.decode.DecodeError.{DecodeError}
 use Rattle.scram_text.specs.Limits.{longest_channel}
@@ -22,49 +22,49 @@ use Rattle.scram_text.specs.Faults.{Fits, IsAuthzid}
 use Rattle.scram_text.specs.declared.fault.TextWhy.{TextWhy}
 use Rattle.scram_text.specs.declared.fault.TextWhy.TheVariants.{TooLong, NotText, Missing, Flag, Authzid, Mandatory, Name, Nonce, Salt}
 use Rattle.scram_text.specs.declared.fault.TextWhy.TheVariants.{Count, Channel, Extension, Proof, Verifier, ErrorValue}
-use Rattle.scram_text.proofs.lemmas.Base64.{base64_back}
-use Rattle.scram_text.proofs.lemmas.AttrVals.{extension_iff, extension_lacks}
-use Rattle.scram_text.proofs.lemmas.Counts.{below_64}
-use Rattle.scram_text.proofs.lemmas.ListEnds.{heads, same_cons}
+use Rattle.scram_text.proofs.lemmas.Base64.{base64_decodes_back}
+use Rattle.scram_text.proofs.lemmas.AttrVals.{attribute_iff_extension, extension_lacks_comma}
+use Rattle.scram_text.proofs.lemmas.Counts.{count_below_2_64}
+use Rattle.scram_text.proofs.lemmas.ListEnds.{same_head_and_tail, same_cons}
 use Rattle.scram_text.proofs.lemmas.Places.{AllFit}
 
 -- whether bytes are a run of a class, and a text, is decided:
 pub decided_run : (test : ℕ → Bool) (most : ℕ) (bytes : List ℕ) → Decided (IsRunOf test most bytes)
 decided_run test most bytes =
-    decided_by ((1 ≤ length bytes) × ((length bytes ≤ most) × (list_all test bytes ≡ true))) (IsRunOf test most bytes)
+    decided_equivalent ((1 ≤ length bytes) × ((length bytes ≤ most) × (list_all test bytes ≡ true))) (IsRunOf test most bytes)
     (λ h. record { at_least = h.0; at_most = h.1.0; each = h.1.1 }) (λ r. (r.at_least, (r.at_most, r.each)))
     (decided_both _ _ (decided_le 1 (length bytes))
     (decided_both _ _ (decided_le (length bytes) most) (decided_test (list_all test bytes))))
 
 pub decided_text : (bytes : List ℕ) → Decided (IsUtf8Text bytes)
 decided_text bytes =
-    decided_by ((is_utf8 bytes ≡ true) × (list_all (λ c. not (c == 0)) bytes ≡ true)) (IsUtf8Text bytes)
+    decided_equivalent ((is_utf8 bytes ≡ true) × (list_all (λ c. not (c == 0)) bytes ≡ true)) (IsUtf8Text bytes)
     (λ h. record { utf8 = IsUtf8-from_is_utf8 bytes h.0; no_nul = h.1 }) (λ r. (is_utf8-from_IsUtf8 bytes r.utf8, r.no_nul))
     (decided_both _ _ (decided_test (is_utf8 bytes)) (decided_test _))
 
 -- whether bytes are a value, a saslname or an extension is decided, and so is whether a number is a count:
 decided_value : (value : List ℕ) → Decided (IsValue value)
 decided_value value =
-    decided_by ((1 ≤ length value) × LacksComma value) (IsValue value)
+    decided_equivalent ((1 ≤ length value) × LacksComma value) (IsValue value)
     (λ h. record { at_least = h.0; no_comma = h.1 }) (λ r. (r.at_least, r.no_comma))
     (decided_both _ _ (decided_le 1 (length value)) (decided_test _))
 
 decided_saslname : (spelled : List ℕ) → Decided (IsSaslName spelled)
 decided_saslname spelled =
-    decided_by ((1 ≤ length spelled) × (LacksComma spelled × IsTrue (is_escaped spelled))) (IsSaslName spelled)
+    decided_equivalent ((1 ≤ length spelled) × (LacksComma spelled × IsTrue (is_escaped spelled))) (IsSaslName spelled)
     (λ h. record { at_least = h.0; no_comma = h.1.0; escaped = h.1.1 }) (λ r. (r.at_least, (r.no_comma, r.escaped)))
     (decided_both _ _ (decided_le 1 (length spelled)) (decided_both _ _ (decided_test _) (decided_test _)))
 
 decided_extension : (part : List ℕ) → Decided (IsExtension part)
 decided_extension part =
-    decided_by (IsTrue (is_attribute part) × LacksComma part) (IsExtension part)
-    (λ (attribute, lacks). (extension_iff part lacks).0 attribute)
-    (λ is. let lacks = extension_lacks part is in ((extension_iff part lacks).1 is, lacks))
+    decided_equivalent (IsTrue (is_attribute part) × LacksComma part) (IsExtension part)
+    (λ (attribute, lacks). (attribute_iff_extension part lacks).0 attribute)
+    (λ is. let lacks = extension_lacks_comma part is in ((attribute_iff_extension part lacks).1 is, lacks))
     (decided_both _ _ (decided_test _) (decided_test _))
 
 decided_count : (count : ℕ) → Decided (IsCount count)
 decided_count count =
-    decided_by ((1 ≤ count) × (count ≤ 4294967295)) (IsCount count)
+    decided_equivalent ((1 ≤ count) × (count ≤ 4294967295)) (IsCount count)
     (λ h. record { at_least = h.0; at_most = h.1 }) (λ r. (r.at_least, r.at_most))
     (decided_both _ _ (decided_le 1 count) (decided_le count 4294967295))
 
@@ -72,69 +72,70 @@ decided_count count =
 decided_spells_count : (value : List ℕ) → Decided (SpellsCount value)
 decided_spells_count value =
     let worth = digits_value 10 value in
-    decided_by ((value ≡ decimal worth) × IsCount worth) (SpellsCount value) (λ h. (worth, h.0, h.1))
+    decided_equivalent ((value ≡ decimal worth) × IsCount worth) (SpellsCount value) (λ h. (worth, h.0, h.1))
     (λ (n, spelled, is).
-    let same : worth ≡ n = ap (digits_value 10) spelled ∙ (decimal_is_IsNumeral n (below_64 n is)).1 in
+    let same : worth ≡ n = ap (digits_value 10) spelled ∙ (decimal_is_IsNumeral n (count_below_2_64 n is)).1 in
     (subst (λ (k : ℕ). value ≡ decimal k) (sym same) spelled, subst IsCount (sym same) is))
-    (decided_both _ _ (decided_same value (decimal worth)) (decided_count worth))
+    (decided_both _ _ (decided_same_text value (decimal worth)) (decided_count worth))
 
 -- an element below 256 before bytes makes bytes
-one_more_byte : (c : ℕ) (bytes : List ℕ) → c < 256 → IsBytes bytes → IsBytes (c ∷ bytes)
-one_more_byte c bytes below fits zero = below
-one_more_byte c bytes below fits (suc i) = fits i
+IsBytes-cons : (c : ℕ) (bytes : List ℕ) → c < 256 → IsBytes bytes → IsBytes (c ∷ bytes)
+IsBytes-cons c bytes below fits zero = below
+IsBytes-cons c bytes below fits (suc i) = fits i
 
 -- whether elements are bytes is decided
 decided_bytes : (bytes : List ℕ) → Decided (IsBytes bytes)
 decided_bytes [] = inl (λ i. omega arith)
 decided_bytes (c ∷ bytes) =
-    decided_by ((suc c ≤ 256) × IsBytes bytes) (IsBytes (c ∷ bytes)) (λ h. one_more_byte c bytes (omega (arith, h.0)) h.1)
+    decided_equivalent ((suc c ≤ 256) × IsBytes bytes) (IsBytes (c ∷ bytes)) (λ h. IsBytes-cons c bytes (omega (arith, h.0)) h.1)
     (λ fits. (omega (arith, fits 0), λ i. fits (suc i)))
     (decided_both _ _ (decided_le (suc c) 256) (decided_bytes bytes))
 
 -- whether a value spells a field is decided: it can only be the base64 of what it is decoded to:
-decided_field_by : (most : ℕ) (value : List ℕ) (r : Result (List ℕ) DecodeError) → base64_decoded value ≡ r
+decided_field_by_decoding : (most : ℕ) (value : List ℕ) (r : Result (List ℕ) DecodeError) → base64_decoded value ≡ r
     → Decided (SpellsField most value)
-decided_field_by most value (Err e) read = inr (λ (bytes, spelled, field).
-    let also = subst (λ (t : List ℕ). base64_decoded t ≡ Ok bytes) (sym spelled) (base64_back bytes field.each) in cc (also, read))
-decided_field_by most value (Ok bytes) read =
-    decided_by ((value ≡ base64 bytes) × (IsBytes bytes × ((1 ≤ length bytes) × (length bytes ≤ most)))) (SpellsField most value)
+decided_field_by_decoding most value (Err e) read = inr (λ (bytes, spelled, field).
+    let also = subst (λ (t : List ℕ). base64_decoded t ≡ Ok bytes) (sym spelled) (base64_decodes_back bytes field.each) in cc (also, read))
+decided_field_by_decoding most value (Ok bytes) read =
+    decided_equivalent ((value ≡ base64 bytes) × (IsBytes bytes × ((1 ≤ length bytes) × (length bytes ≤ most)))) (SpellsField most value)
     (λ h. (bytes, h.0, record { at_least = h.1.1.0; at_most = h.1.1.1; each = h.1.0 }))
     (λ (spelt, spelled, field).
-    let also = subst (λ (t : List ℕ). base64_decoded t ≡ Ok spelt) (sym spelled) (base64_back spelt field.each) in
+    let also = subst (λ (t : List ℕ). base64_decoded t ≡ Ok spelt) (sym spelled) (base64_decodes_back spelt field.each) in
     let same : spelt ≡ bytes = cc (also, read) in
     let here = subst (IsField most) same field in
     (subst (λ (b : List ℕ). value ≡ base64 b) same spelled, (here.each, (here.at_least, here.at_most))))
-    (decided_both _ _ (decided_same value (base64 bytes)) (decided_both _ _ (decided_bytes bytes)
+    (decided_both _ _ (decided_same_text value (base64 bytes)) (decided_both _ _ (decided_bytes bytes)
     (decided_both _ _ (decided_le 1 (length bytes)) (decided_le (length bytes) most))))
 
 decided_spells_field : (most : ℕ) (value : List ℕ) → Decided (SpellsField most value)
-decided_spells_field most value = decided_field_by most value (base64_decoded value) refl
+decided_spells_field most value = decided_field_by_decoding most value (base64_decoded value) refl
 
 -- whether a part is a letter, `=` and a value of a class is decided, where the class is
-decided_headed : (letter : ℕ) (class : List ℕ → Type 0) (part : List ℕ) → ((value : List ℕ) → Decided (class value))
+decided_attr_val : (letter : ℕ) (class : List ℕ → Type 0) (part : List ℕ) → ((value : List ℕ) → Decided (class value))
     → Decided (IsAttrVal letter class part)
-decided_headed letter class [] each = inr (λ (value, spelled, is). cc spelled)
-decided_headed letter class (a ∷ []) each = inr (λ (value, spelled, is). let none = (heads a letter [] (61 ∷ value) spelled).1 in cc none)
-decided_headed letter class (a ∷ b ∷ value) each =
-    decided_by ((a ≡ letter) × ((b ≡ 61) × class value)) (IsAttrVal letter class (a ∷ b ∷ value))
+decided_attr_val letter class [] each = inr (λ (value, spelled, is). cc spelled)
+decided_attr_val letter class (a ∷ []) each =
+    inr (λ (value, spelled, is). let none = (same_head_and_tail a letter [] (61 ∷ value) spelled).1 in cc none)
+decided_attr_val letter class (a ∷ b ∷ value) each =
+    decided_equivalent ((a ≡ letter) × ((b ≡ 61) × class value)) (IsAttrVal letter class (a ∷ b ∷ value))
     (λ h. (value, same_cons a letter (b ∷ value) (61 ∷ value) h.0 (same_cons b 61 value value h.1.0 refl), h.1.1))
     (λ (v, spelled, is).
-    let first = heads a letter (b ∷ value) (61 ∷ v) spelled in
-    let second = heads b 61 value v first.1 in
+    let first = same_head_and_tail a letter (b ∷ value) (61 ∷ v) spelled in
+    let second = same_head_and_tail b 61 value v first.1 in
     (first.0, (second.0, subst class (sym second.1) is)))
-    (decided_both _ _ (decided_nat a letter) (decided_both _ _ (decided_nat b 61) (each value)))
+    (decided_both _ _ (decided_same_number a letter) (decided_both _ _ (decided_same_number b 61) (each value)))
 
 -- a name to act as that is not empty is `a=` and a saslname, and whether a part is one is decided:
-authzid_headed : (a : ℕ) (part : List ℕ) → IsAuthzid (a ∷ part) → IsAttrVal 97 IsSaslName (a ∷ part)
-authzid_headed a part (None, spelled, is) = absurd (cc spelled)
-authzid_headed a part (Some name, spelled, is) = (name, spelled, is)
+authzid_is_attr_val : (a : ℕ) (part : List ℕ) → IsAuthzid (a ∷ part) → IsAttrVal 97 IsSaslName (a ∷ part)
+authzid_is_attr_val a part (None, spelled, is) = absurd (cc spelled)
+authzid_is_attr_val a part (Some name, spelled, is) = (name, spelled, is)
 
 decided_authzid : (part : List ℕ) → Decided (IsAuthzid part)
 decided_authzid [] = inl (None, refl, tt)
 decided_authzid (a ∷ part) =
-    decided_by (IsAttrVal 97 IsSaslName (a ∷ part)) (IsAuthzid (a ∷ part))
-    (λ (spelled, is, class). (Some spelled, is, class)) (authzid_headed a part)
-    (decided_headed 97 IsSaslName (a ∷ part) decided_saslname)
+    decided_equivalent (IsAttrVal 97 IsSaslName (a ∷ part)) (IsAuthzid (a ∷ part))
+    (λ (spelled, is, class). (Some spelled, is, class)) (authzid_is_attr_val a part)
+    (decided_attr_val 97 IsSaslName (a ∷ part) decided_saslname)
 
 -- whether a part fits its place is decided
 pub decided_fits : (most : ℕ) (place : TextWhy) (part : List ℕ) → Decided (Fits most place part)
@@ -143,16 +144,16 @@ decided_fits most NotText part = inl tt
 decided_fits most Missing part = inl tt
 decided_fits most Flag part = decided_test (is_flag part)
 decided_fits most Authzid part = decided_authzid part
-decided_fits most Mandatory part = decided_headed 109 IsValue part decided_value
-decided_fits most Name part = decided_headed 110 IsSaslName part decided_saslname
-decided_fits most Nonce part = decided_headed 114 (IsNonce most) part (decided_run is_printable most)
-decided_fits most Salt part = decided_headed 115 (SpellsField 64) part (decided_spells_field 64)
-decided_fits most Count part = decided_headed 105 SpellsCount part decided_spells_count
-decided_fits most Channel part = decided_headed 99 (SpellsField longest_channel) part (decided_spells_field longest_channel)
+decided_fits most Mandatory part = decided_attr_val 109 IsValue part decided_value
+decided_fits most Name part = decided_attr_val 110 IsSaslName part decided_saslname
+decided_fits most Nonce part = decided_attr_val 114 (IsNonce most) part (decided_run is_printable most)
+decided_fits most Salt part = decided_attr_val 115 (SpellsField 64) part (decided_spells_field 64)
+decided_fits most Count part = decided_attr_val 105 SpellsCount part decided_spells_count
+decided_fits most Channel part = decided_attr_val 99 (SpellsField longest_channel) part (decided_spells_field longest_channel)
 decided_fits most Extension part = decided_extension part
-decided_fits most Proof part = decided_headed 112 (SpellsField 64) part (decided_spells_field 64)
-decided_fits most Verifier part = decided_headed 118 (SpellsField 64) part (decided_spells_field 64)
-decided_fits most ErrorValue part = decided_headed 101 IsValue part decided_value
+decided_fits most Proof part = decided_attr_val 112 (SpellsField 64) part (decided_spells_field 64)
+decided_fits most Verifier part = decided_attr_val 118 (SpellsField 64) part (decided_spells_field 64)
+decided_fits most ErrorValue part = decided_attr_val 101 IsValue part decided_value
 
 -- whether all parts fit their places is decided
 pub decided_all_fit : (most : ℕ) (later : List TextWhy) (pieces : List (List ℕ)) → Decided (AllFit most later pieces)
@@ -162,5 +163,5 @@ decided_all_fit most (place ∷ later) [] = inl tt
 decided_all_fit most (place ∷ later) (part ∷ pieces) = decided_both _ _ (decided_fits most place part) (decided_all_fit most later pieces)
 
 -- a decided fact that something exists gives it, or excludes it
-pub decided_some : (A : Type 0) (P : A → Type 0) → Decided ((a : A) × P a) → ((a : A) × P a) ⊎ ((a : A) → P a → ⊥)
-decided_some A P d = elim d [ inl there ↦ inl there | inr none ↦ inr (λ a is. none (a, is)) ]
+pub some_or_none : (A : Type 0) (P : A → Type 0) → Decided ((a : A) × P a) → ((a : A) × P a) ⊎ ((a : A) → P a → ⊥)
+some_or_none A P d = elim d [ inl there ↦ inl there | inr none ↦ inr (λ a is. none (a, is)) ]

@@ -10,9 +10,9 @@ IsFound Asked [] r = ⊥
 IsFound Asked (row ∷ rows) r = ((row ≡ r) × (Asked row → ⊥)) ⊎ (Asked row × IsFound Asked rows r)
 
 -- with one more row at the top, which is met, the first that is not met is the same
-abbrev pub below : {R : Type 0} (Asked : R → Type 0) (row : R) (rows : List R) (r : R)
+abbrev pub met_row_keeps_first : {R : Type 0} (Asked : R → Type 0) (row : R) (rows : List R) (r : R)
     → Asked row → IsFirstUnmet Asked rows r → IsFirstUnmet Asked (row ∷ rows) r
-below Asked row rows r met first = record {
+met_row_keeps_first Asked row rows r met first = record {
   before = row ∷ first.before;
   after = first.after;
   split = ap (λ these. row ∷ these) first.split;
@@ -21,27 +21,28 @@ below Asked row rows r met first = record {
 }
 
 -- a row that is found from the top is the first that is not met
-pub first_found : {R : Type 0} (Asked : R → Type 0) (rows : List R) (r : R) → IsFound Asked rows r → IsFirstUnmet Asked rows r
-first_found Asked [] r found = absurd found
-first_found Asked (row ∷ rows) r (inl (same, unmet)) = record {
+pub found_is_first : {R : Type 0} (Asked : R → Type 0) (rows : List R) (r : R) → IsFound Asked rows r → IsFirstUnmet Asked rows r
+found_is_first Asked [] r found = absurd found
+found_is_first Asked (row ∷ rows) r (inl (same, unmet)) = record {
   before = [];
   after = rows;
   split = ap (λ top. top ∷ rows) same;
   met = tt;
   unmet = subst (λ top. Asked top → ⊥) same unmet;
 }
-first_found Asked (row ∷ rows) r (inr (met, found)) = below Asked row rows r met (first_found Asked rows r found)
+found_is_first Asked (row ∷ rows) r (inr (met, found)) = met_row_keeps_first Asked row rows r met (found_is_first Asked rows r found)
 
 -- a row that is not met, after rows that are, is found from the top
-found_at : {R : Type 0} (Asked : R → Type 0) (before after : List R) (r : R) → AllByRecursion Asked before → (Asked r → ⊥)
+unmet_after_met_is_found : {R : Type 0} (Asked : R → Type 0) (before after : List R) (r : R) → AllByRecursion Asked before → (Asked r → ⊥)
     → IsFound Asked (before ++ r ∷ after) r
-found_at Asked [] after r met unmet = inl (refl, unmet)
-found_at Asked (row ∷ before) after r met unmet = inr (met.0, found_at Asked before after r met.1 unmet)
+unmet_after_met_is_found Asked [] after r met unmet = inl (refl, unmet)
+unmet_after_met_is_found Asked (row ∷ before) after r met unmet = inr (met.0, unmet_after_met_is_found Asked before after r met.1 unmet)
 
 -- the first row that is not met is found
-found_first : {R : Type 0} (Asked : R → Type 0) (rows : List R) (r : R) → IsFirstUnmet Asked rows r → IsFound Asked rows r
-found_first Asked rows r first =
-    subst (λ these. IsFound Asked these r) (sym first.split) (found_at Asked first.before first.after r first.met first.unmet)
+first_is_found : {R : Type 0} (Asked : R → Type 0) (rows : List R) (r : R) → IsFirstUnmet Asked rows r → IsFound Asked rows r
+first_is_found Asked rows r first =
+    subst (λ these. IsFound Asked these r) (sym first.split) (unmet_after_met_is_found Asked first.before first.after r first.met
+        first.unmet)
 
 -- one row at most is found from the top
 one_found : {R : Type 0} (Asked : R → Type 0) (rows : List R) (r q : R) → IsFound Asked rows r → IsFound Asked rows q → r ≡ q
@@ -52,8 +53,10 @@ one_found Asked (row ∷ rows) r q (inr found) (inl other) = absurd (other.1 fou
 one_found Asked (row ∷ rows) r q (inr found) (inr other) = one_found Asked rows r q found.1 other.1
 
 -- at most one row is the first that is not met
-pub one_first : {R : Type 0} (Asked : R → Type 0) (rows : List R) (r q : R) → IsFirstUnmet Asked rows r → IsFirstUnmet Asked rows q → r ≡ q
-one_first Asked rows r q first other = one_found Asked rows r q (found_first Asked rows r first) (found_first Asked rows q other)
+pub one_first_unmet : {R : Type 0} (Asked : R → Type 0) (rows : List R) (r q : R) → IsFirstUnmet Asked rows r → IsFirstUnmet Asked rows q
+    → r ≡ q
+one_first_unmet Asked rows r q first other =
+    one_found Asked rows r q (first_is_found Asked rows r first) (first_is_found Asked rows q other)
 
 -- where all rows are met, none is found from the top
 none_found : {R : Type 0} (Asked : R → Type 0) (rows : List R) (r : R) → AllByRecursion Asked rows → IsFound Asked rows r → ⊥
@@ -62,17 +65,17 @@ none_found Asked (row ∷ rows) r all (inl found) = found.1 all.0
 none_found Asked (row ∷ rows) r all (inr found) = none_found Asked rows r all.1 found.1
 
 -- where all rows are met, none is the first that is not
-pub none_unmet : {R : Type 0} (Asked : R → Type 0) (rows : List R) (r : R) → AllByRecursion Asked rows → IsFirstUnmet Asked rows r → ⊥
-none_unmet Asked rows r all first = none_found Asked rows r all (found_first Asked rows r first)
+pub no_first_unmet : {R : Type 0} (Asked : R → Type 0) (rows : List R) (r : R) → AllByRecursion Asked rows → IsFirstUnmet Asked rows r → ⊥
+no_first_unmet Asked rows r all first = none_found Asked rows r all (first_is_found Asked rows r first)
 
 -- where each row is decided, one is the first that is not met, or all are met
-pub first_or_all : {R : Type 0} (Asked : R → Type 0) (rows : List R) → ((r : R) → Decided (Asked r))
+pub first_unmet_or_all_met : {R : Type 0} (Asked : R → Type 0) (rows : List R) → ((r : R) → Decided (Asked r))
     → ((r : R) × IsFirstUnmet Asked rows r) ⊎ AllByRecursion Asked rows
-first_or_all Asked [] decided = inr tt
-first_or_all Asked (row ∷ rows) decided = elim (decided row) [
-  | inr unmet ↦ inl (row, first_found Asked (row ∷ rows) row (inl (refl, unmet)))
-  | inl met ↦ elim (first_or_all Asked rows decided) [
-    | inl first ↦ inl (first.0, below Asked row rows first.0 met first.1)
+first_unmet_or_all_met Asked [] decided = inr tt
+first_unmet_or_all_met Asked (row ∷ rows) decided = elim (decided row) [
+  | inr unmet ↦ inl (row, found_is_first Asked (row ∷ rows) row (inl (refl, unmet)))
+  | inl met ↦ elim (first_unmet_or_all_met Asked rows decided) [
+    | inl first ↦ inl (first.0, met_row_keeps_first Asked row rows first.0 met first.1)
     | inr all ↦ inr (met, all)
   ]
 ]

@@ -7,7 +7,7 @@ use Rattle.std.proofs.lemmas.List.Folds.{list_all-append}
 use Rattle.std.proofs.lemmas.Bool.{ne_eqb}
 use Rattle.scram_text.specs.Class.{is_comma}
 use Rattle.scram_text.specs.Name.{IsSaslName, LacksComma, escape, name_spelling, is_escaped}
-use Rattle.scram_text.proofs.lemmas.ListEnds.{heads, same_cons}
+use Rattle.scram_text.proofs.lemmas.ListEnds.{same_head_and_tail, same_cons}
 
 -- a byte is spelled as `=2C` where it is a comma, as `=3D` where it is an equals sign, and else as itself
 pub escape_cases : (c : ℕ) → ((c ≡ 44) × (escape c ≡ codes "=2C"))
@@ -21,40 +21,40 @@ escape_cases c = elim (eqb_tells c 44) [
 ]
 
 -- lists of numbers that are the same have the same second element, and the same elements after three
-heads_3 : (a b c a' b' c' : ℕ) (x y : List ℕ) → a ∷ b ∷ c ∷ x ≡ a' ∷ b' ∷ c' ∷ y → (b ≡ b') × (x ≡ y)
-heads_3 a b c a' b' c' x y e = (cc, cc)
+same_second_and_rest : (a b c a' b' c' : ℕ) (x y : List ℕ) → a ∷ b ∷ c ∷ x ≡ a' ∷ b' ∷ c' ∷ y → (b ≡ b') × (x ≡ y)
+same_second_and_rest a b c a' b' c' x y e = (cc, cc)
 
 -- where spellings of two bytes begin the same text, the bytes are the same, and what follows is
-pub escape_first : (b c : ℕ) (x y : List ℕ) → escape b ++ x ≡ escape c ++ y → (b ≡ c) × (x ≡ y)
-escape_first b c x y e = elim (escape_cases b) [
+pub same_escape_same_byte : (b c : ℕ) (x y : List ℕ) → escape b ++ x ≡ escape c ++ y → (b ≡ c) × (x ≡ y)
+same_escape_same_byte b c x y e = elim (escape_cases b) [
   | inl p ↦ elim (escape_cases c) [
-    | inl q ↦ (p.0 ∙ sym q.0, (heads_3 61 50 67 61 50 67 x y (rw (p.1, q.1) at e)).1)
+    | inl q ↦ (p.0 ∙ sym q.0, (same_second_and_rest 61 50 67 61 50 67 x y (rw (p.1, q.1) at e)).1)
     | inr r ↦ elim r [
-      | inl q ↦ let h = (heads_3 61 50 67 61 51 68 x y (rw (p.1, q.1) at e)).0 in absurd (omega arith)
-      | inr q ↦ let h = (heads 61 c (50 ∷ 67 ∷ x) y (rw (p.1, q.2) at e)).0 in absurd (q.1 (sym h))
+      | inl q ↦ let h = (same_second_and_rest 61 50 67 61 51 68 x y (rw (p.1, q.1) at e)).0 in absurd (omega arith)
+      | inr q ↦ let h = (same_head_and_tail 61 c (50 ∷ 67 ∷ x) y (rw (p.1, q.2) at e)).0 in absurd (q.1 (sym h))
     ]
   ]
   | inr s ↦ elim s [
     | inl p ↦ elim (escape_cases c) [
-      | inl q ↦ let h = (heads_3 61 51 68 61 50 67 x y (rw (p.1, q.1) at e)).0 in absurd (omega arith)
+      | inl q ↦ let h = (same_second_and_rest 61 51 68 61 50 67 x y (rw (p.1, q.1) at e)).0 in absurd (omega arith)
       | inr r ↦ elim r [
-        | inl q ↦ (p.0 ∙ sym q.0, (heads_3 61 51 68 61 51 68 x y (rw (p.1, q.1) at e)).1)
-        | inr q ↦ let h = (heads 61 c (51 ∷ 68 ∷ x) y (rw (p.1, q.2) at e)).0 in absurd (q.1 (sym h))
+        | inl q ↦ (p.0 ∙ sym q.0, (same_second_and_rest 61 51 68 61 51 68 x y (rw (p.1, q.1) at e)).1)
+        | inr q ↦ let h = (same_head_and_tail 61 c (51 ∷ 68 ∷ x) y (rw (p.1, q.2) at e)).0 in absurd (q.1 (sym h))
       ]
     ]
     | inr p ↦ elim (escape_cases c) [
-      | inl q ↦ let h = (heads b 61 x (50 ∷ 67 ∷ y) (rw (p.2, q.1) at e)).0 in absurd (p.1 h)
+      | inl q ↦ let h = (same_head_and_tail b 61 x (50 ∷ 67 ∷ y) (rw (p.2, q.1) at e)).0 in absurd (p.1 h)
       | inr r ↦ elim r [
-        | inl q ↦ let h = (heads b 61 x (51 ∷ 68 ∷ y) (rw (p.2, q.1) at e)).0 in absurd (p.1 h)
-        | inr q ↦ heads b c x y (rw (p.2, q.2) at e)
+        | inl q ↦ let h = (same_head_and_tail b 61 x (51 ∷ 68 ∷ y) (rw (p.2, q.1) at e)).0 in absurd (p.1 h)
+        | inr q ↦ same_head_and_tail b c x y (rw (p.2, q.2) at e)
       ]
     ]
   ]
 ]
 
 -- the spelling of a byte is not empty
-pub escape_nonempty : (b : ℕ) (x : List ℕ) → escape b ++ x ≡ [] → ⊥
-escape_nonempty b x e = elim (escape_cases b) [
+pub escape_is_nonempty : (b : ℕ) (x : List ℕ) → escape b ++ x ≡ [] → ⊥
+escape_is_nonempty b x e = elim (escape_cases b) [
   | inl p ↦ let h = rw p.1 at e in cc h
   | inr s ↦ elim s [
     | inl p ↦ let h = rw p.1 at e in cc h
@@ -63,27 +63,27 @@ escape_nonempty b x e = elim (escape_cases b) [
 ]
 
 -- where the spelling of the first bytes was read, the rest spells the others
-pub spelling_rest : (front rest name : List ℕ) → name_spelling front ++ rest ≡ name_spelling name
+pub rest_spells_rest : (front rest name : List ℕ) → name_spelling front ++ rest ≡ name_spelling name
     → (more : List ℕ) × (name ≡ front ++ more) × (rest ≡ name_spelling more)
-spelling_rest [] rest name e = (name, refl, e)
-spelling_rest (b ∷ front) rest [] e = absurd (escape_nonempty b (name_spelling front ++ rest) (rw append_assoc at e))
-spelling_rest (b ∷ front) rest (c ∷ name) e =
-    let first = escape_first b c (name_spelling front ++ rest) (name_spelling name) (rw append_assoc at e) in
-    let more = spelling_rest front rest name first.1 in
+rest_spells_rest [] rest name e = (name, refl, e)
+rest_spells_rest (b ∷ front) rest [] e = absurd (escape_is_nonempty b (name_spelling front ++ rest) (rw append_assoc at e))
+rest_spells_rest (b ∷ front) rest (c ∷ name) e =
+    let first = same_escape_same_byte b c (name_spelling front ++ rest) (name_spelling name) (rw append_assoc at e) in
+    let more = rest_spells_rest front rest name first.1 in
     (more.0, same_cons c b name (front ++ more.0) (sym first.0) more.1, more.2)
 
 -- two names with the same spelling are the same
-pub name_once : (one other : List ℕ) → name_spelling one ≡ name_spelling other → one ≡ other
-name_once one other e =
-    let found = spelling_rest one [] other (append-nil (name_spelling one) ∙ e) in
+pub one_name_per_spelling : (one other : List ℕ) → name_spelling one ≡ name_spelling other → one ≡ other
+one_name_per_spelling one other e =
+    let found = rest_spells_rest one [] other (append-nil (name_spelling one) ∙ e) in
     elim found.0 as (λ more. other ≡ one ++ more → [] ≡ name_spelling more → one ≡ other) [
       | [] ↦ λ same _. sym (same ∙ append-nil one)
-      | c ∷ more ↦ λ _ none. absurd (escape_nonempty c (name_spelling more) (sym none))
+      | c ∷ more ↦ λ _ none. absurd (escape_is_nonempty c (name_spelling more) (sym none))
     ] found.1 found.2
 
 -- the spelling of a byte, and that of a name, have no comma:
-escape_lacks : (c : ℕ) → LacksComma (escape c)
-escape_lacks c = elim (escape_cases c) [
+escape_lacks_comma : (c : ℕ) → LacksComma (escape c)
+escape_lacks_comma c = elim (escape_cases c) [
   | inl p ↦ rw p.1 refl
   | inr s ↦ elim s [
     | inl p ↦ rw p.1 refl
@@ -91,14 +91,14 @@ escape_lacks c = elim (escape_cases c) [
   ]
 ]
 
-spelling_lacks : (name : List ℕ) → LacksComma (name_spelling name)
-spelling_lacks [] = refl
-spelling_lacks (c ∷ name) =
-    rw (list_all-append (λ b. not (is_comma b)) (escape c) (name_spelling name), escape_lacks c, spelling_lacks name) refl
+spelling_lacks_comma : (name : List ℕ) → LacksComma (name_spelling name)
+spelling_lacks_comma [] = refl
+spelling_lacks_comma (c ∷ name) =
+    rw (list_all-append (λ b. not (is_comma b)) (escape c) (name_spelling name), escape_lacks_comma c, spelling_lacks_comma name) refl
 
 -- whole escapes stay whole with the spelling of a byte before them, and those of a name's spelling are whole:
-escaped_before : (c : ℕ) (rest : List ℕ) → is_escaped rest ≡ true → is_escaped (escape c ++ rest) ≡ true
-escaped_before c rest is = elim (escape_cases c) [
+escape_keeps_escaped : (c : ℕ) (rest : List ℕ) → is_escaped rest ≡ true → is_escaped (escape c ++ rest) ≡ true
+escape_keeps_escaped c rest is = elim (escape_cases c) [
   | inl p ↦ rw p.1 is
   | inr s ↦ elim s [
     | inl p ↦ rw p.1 is
@@ -106,14 +106,14 @@ escaped_before c rest is = elim (escape_cases c) [
   ]
 ]
 
-spelling_escaped : (name : List ℕ) → is_escaped (name_spelling name) ≡ true
-spelling_escaped [] = refl
-spelling_escaped (c ∷ name) = escaped_before c (name_spelling name) (spelling_escaped name)
+spelling_is_escaped : (name : List ℕ) → is_escaped (name_spelling name) ≡ true
+spelling_is_escaped [] = refl
+spelling_is_escaped (c ∷ name) = escape_keeps_escaped c (name_spelling name) (spelling_is_escaped name)
 
 -- a name that is not empty has a spelling that is not
-spelling_some : (name : List ℕ) → 1 ≤ length name → 1 ≤ length (name_spelling name)
-spelling_some [] some = absurd (omega (arith, some))
-spelling_some (c ∷ name) some = elim (escape_cases c) [
+spelling_is_nonempty : (name : List ℕ) → 1 ≤ length name → 1 ≤ length (name_spelling name)
+spelling_is_nonempty [] some = absurd (omega (arith, some))
+spelling_is_nonempty (c ∷ name) some = elim (escape_cases c) [
   | inl p ↦ rw p.1 (omega arith)
   | inr s ↦ elim s [
     | inl p ↦ rw p.1 (omega arith)
@@ -122,11 +122,11 @@ spelling_some (c ∷ name) some = elim (escape_cases c) [
 ]
 
 -- the spelling of a name is a saslname
-pub spelling_saslname : (name : List ℕ) → 1 ≤ length name → IsSaslName (name_spelling name)
-spelling_saslname name some = record {
-  at_least = spelling_some name some;
-  no_comma = spelling_lacks name;
-  escaped = spelling_escaped name;
+pub spelling_is_saslname : (name : List ℕ) → 1 ≤ length name → IsSaslName (name_spelling name)
+spelling_is_saslname name some = record {
+  at_least = spelling_is_nonempty name some;
+  no_comma = spelling_lacks_comma name;
+  escaped = spelling_is_escaped name;
 }
 
 -- a spelling is at most three times as long as its name

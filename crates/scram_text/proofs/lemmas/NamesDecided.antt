@@ -2,7 +2,7 @@
 use Rattle.std.proofs.Common.{◌≡◌, inl, inr, ℕ, zero, suc, List, [], ◌∷◌, ◌++◌, refl, sym, ◌∙◌, ap, subst}
 use Rattle.std.specs.Prelude.{◌==◌, if◌then◌else◌}
 use Rattle.std.proofs.lemmas.Bool.{ne_eqb}
-use Rattle.mac_core.proofs.lemmas.Decided.{Decided, decided_by, decided_both, decided_same}
+use Rattle.mac_core.proofs.lemmas.Decided.{Decided, decided_equivalent, decided_both, decided_same_text}
 use Rattle.scram_text.specs.Class.{is_plain, IsPlainName}
 use Rattle.scram_text.specs.Name.{SpellsName, escape, name_spelling}
 use Rattle.scram_text.specs.Laws.{NameIsDecided}
@@ -37,12 +37,12 @@ unescaped_from-spelling (c ∷ name) =
 pub decided_plain_name : (spelled : List ℕ) → Decided ((name : List ℕ) × IsPlainName name × SpellsName name spelled)
 decided_plain_name spelled =
     let found = unescaped_from 0 spelled in
-    decided_by (IsPlainName found × SpellsName found spelled) ((name : List ℕ) × IsPlainName name × SpellsName name spelled)
+    decided_equivalent (IsPlainName found × SpellsName found spelled) ((name : List ℕ) × IsPlainName name × SpellsName name spelled)
     (λ h. (found, h.0, h.1))
     (λ (name, plain, spells).
     let same : found ≡ name = ap (unescaped_from 0) spells ∙ unescaped_from-spelling name in
     (subst IsPlainName (sym same) plain, subst (λ (n : List ℕ). SpellsName n spelled) (sym same) spells))
-    (decided_both _ _ (decided_run is_plain 255 found) (decided_same spelled (name_spelling found)))
+    (decided_both _ _ (decided_run is_plain 255 found) (decided_same_text spelled (name_spelling found)))
 
 -- the law: whether a text spells a plain name is decided
 pub name_is_decided : NameIsDecided

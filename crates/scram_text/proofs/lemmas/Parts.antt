@@ -14,18 +14,18 @@ use Rattle.scram_text.specs.Parts.{parts}
 use Rattle.scram_text.specs.Faults.{Fits, fault, IsFirstMisfit}
 use Rattle.scram_text.specs.declared.fault.TextFault.{TextFault}
 use Rattle.scram_text.specs.declared.fault.TextWhy.{TextWhy}
-use Rattle.scram_text.proofs.lemmas.FirstUnmet.{below}
+use Rattle.scram_text.proofs.lemmas.FirstUnmet.{met_row_keeps_first}
 
 -- a text has one part more than it has commas
 pub parts_count : (text : List ℕ) → length (parts text) ≡ count_by is_comma text + 1
 parts_count text = length-slice_split is_comma text
 
 -- a text without commas is its one part
-pub parts_whole : (text : List ℕ) → LacksComma text → parts text ≡ text ∷ []
-parts_whole [] h = refl
-parts_whole (c ∷ text) h =
+pub no_comma_one_part : (text : List ℕ) → LacksComma text → parts text ≡ text ∷ []
+no_comma_one_part [] h = refl
+no_comma_one_part (c ∷ text) h =
     let each = and_parts (not (is_comma c)) (list_all (λ c. not (is_comma c)) text) h in
-    rw (not-true (is_comma c) each.0, parts_whole text each.1) refl
+    rw (not-true (is_comma c) each.0, no_comma_one_part text each.1) refl
 
 -- a character goes before the first part, also where more parts follow
 onto_first-append : (c : ℕ) (pieces more : List (List ℕ)) → 1 ≤ length pieces → onto_first c (pieces ++ more) ≡ onto_first c pieces ++ more
@@ -43,46 +43,46 @@ parts-append (c ∷ front) back =
     ]
 
 -- the first part ends at the first comma
-pub parts_front : (front back : List ℕ) → LacksComma front → parts (front ++ 44 ∷ back) ≡ front ∷ parts back
-parts_front front back h = rw (parts-append front back, parts_whole front h) refl
+pub first_part_precedes_comma : (front back : List ℕ) → LacksComma front → parts (front ++ 44 ∷ back) ≡ front ∷ parts back
+first_part_precedes_comma front back h = rw (parts-append front back, no_comma_one_part front h) refl
 
 -- to take one more element, with one before the others, is to take that one and as many of the others
-take_more : (n c : ℕ) (text : List ℕ) → take (1 + n) (c ∷ text) ≡ c ∷ take n text
-take_more n c text = let one : 1 + n ≡ suc n = omega arith in rw one refl
+take-cons : (n c : ℕ) (text : List ℕ) → take (1 + n) (c ∷ text) ≡ c ∷ take n text
+take-cons n c text = let one : 1 + n ≡ suc n = omega arith in rw one refl
 
 -- the text before the first comma of a text has no comma
-before_lacks : (text : List ℕ) → LacksComma (take (position_or_len is_comma text) text)
-before_lacks [] = refl
-before_lacks (c ∷ text) = elim (cases_Bool (is_comma c)) [
+front_lacks_comma : (text : List ℕ) → LacksComma (take (position_or_len is_comma text) text)
+front_lacks_comma [] = refl
+front_lacks_comma (c ∷ text) = elim (cases_Bool (is_comma c)) [
   | inl hit ↦ rw hit refl
-  | inr miss ↦ rw (miss, take_more (position_or_len is_comma text) c text, miss) (before_lacks text)
+  | inr miss ↦ rw (miss, take-cons (position_or_len is_comma text) c text, miss) (front_lacks_comma text)
 ]
 
 -- where a text has a comma, it is cut at the first: none comes before it; else it has none
-pub position_cuts : (text : List ℕ) → MatchOption (position is_comma text) (LacksComma text)
+pub position_is_first_comma : (text : List ℕ) → MatchOption (position is_comma text) (LacksComma text)
     (λ at. (text ≡ take at text ++ 44 ∷ drop (at + 1) text) × LacksComma (take at text))
-position_cuts text = let at = position_or_len is_comma text in elim (cases_lt at (length text)) [
+position_is_first_comma text = let at = position_or_len is_comma text in elim (cases_lt at (length text)) [
   | inl some ↦
       let byte : get_or text at 0 ≡ 44 = eqb-true (get_or text at 0) 44 (passes_at_first is_comma text 0 some) in
       let cut = rw byte at (split_at_first is_comma text 0 some) in
-      rw (lt-ltb at (length text) some) (cut, before_lacks text)
-  | inr none ↦ rw (le-ltb at (length text) none) (rw (take_all at text none) at (before_lacks text))
+      rw (lt-ltb at (length text) some) (cut, front_lacks_comma text)
+  | inr none ↦ rw (le-ltb at (length text) none) (rw (take_all at text none) at (front_lacks_comma text))
 ]
 
 -- where a text's first comma is at an index, its parts are what is before it, which has none, and the parts of what follows it
-pub cut_at : (text : List ℕ) (at : ℕ) → position is_comma text ≡ Some at
+pub first_comma_cuts_parts : (text : List ℕ) (at : ℕ) → position is_comma text ≡ Some at
     → (parts text ≡ take at text ∷ parts (take (length text - (at + 1)) (drop (at + 1) text))) × LacksComma (take at text)
-cut_at text at found =
-    let cuts = rw found at (position_cuts text) in
-    (rw (take_rest text (at + 1)) (ap parts cuts.0 ∙ parts_front (take at text) (drop (at + 1) text) cuts.1), cuts.1)
+first_comma_cuts_parts text at found =
+    let cuts = rw found at (position_is_first_comma text) in
+    (rw (take_rest text (at + 1)) (ap parts cuts.0 ∙ first_part_precedes_comma (take at text) (drop (at + 1) text) cuts.1), cuts.1)
 
 -- where a text's first comma is at an index, the text is what is before it, the comma and what follows it
-pub cut_text : (text : List ℕ) (at : ℕ) → position is_comma text ≡ Some at → text ≡ take at text ++ 44 ∷ drop (at + 1) text
-cut_text text at found = let cuts = rw found at (position_cuts text) in cuts.0
+pub first_comma_cuts_text : (text : List ℕ) (at : ℕ) → position is_comma text ≡ Some at → text ≡ take at text ++ 44 ∷ drop (at + 1) text
+first_comma_cuts_text text at found = let cuts = rw found at (position_is_first_comma text) in cuts.0
 
 -- where a text has no comma, it is its one part
-pub cut_none : (text : List ℕ) → position is_comma text ≡ None → (parts text ≡ text ∷ []) × LacksComma text
-cut_none text none = let lacks = rw none at (position_cuts text) in (parts_whole text lacks, lacks)
+pub no_position_one_part : (text : List ℕ) → position is_comma text ≡ None → (parts text ≡ text ∷ []) × LacksComma text
+no_position_one_part text none = let lacks = rw none at (position_is_first_comma text) in (no_comma_one_part text lacks, lacks)
 
 -- where the first part does not fit its place, it is the first that does not
 pub misfit_here : (most k : ℕ) (place : TextWhy) (places : List TextWhy) (part : List ℕ) (pieces : List (List ℕ))
@@ -98,10 +98,11 @@ pub misfit_later : (most k : ℕ) (place : TextWhy) (places : List TextWhy) (par
     → Fits most place part → IsFirstMisfit most places (k + 1) pieces f → IsFirstMisfit most (place ∷ places) k (part ∷ pieces) f
 misfit_later most k place places part pieces f fits later = record {
   part = later.part;
-  first = below (λ row. Fits most row.0 row.1) (place, part) (zip places pieces) (f.why, later.part) fits later.first;
+  first = met_row_keeps_first (λ row. Fits most row.0 row.1) (place, part) (zip places pieces) (f.why, later.part) fits later.first;
   number = omega (arith, later.number);
 }
 
 -- the last part of a text follows its last comma
-pub parts_last : (text front back : List ℕ) → text ≡ front ++ 44 ∷ back → LacksComma back → parts text ≡ parts front ++ back ∷ []
-parts_last text front back spelled lacks = rw spelled (rw (parts-append front back, parts_whole back lacks) refl)
+pub last_part_follows_comma : (text front back : List ℕ) → text ≡ front ++ 44 ∷ back → LacksComma back
+    → parts text ≡ parts front ++ back ∷ []
+last_part_follows_comma text front back spelled lacks = rw spelled (rw (parts-append front back, no_comma_one_part back lacks) refl)

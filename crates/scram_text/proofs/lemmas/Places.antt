@@ -12,54 +12,54 @@ use Rattle.scram_text.specs.Faults.{Fits, IsFirstMisfit, IsPartFault, IsFault, p
 use Rattle.scram_text.specs.declared.fault.TextFault.{TextFault}
 use Rattle.scram_text.specs.declared.fault.TextWhy.{TextWhy}
 use Rattle.scram_text.specs.declared.fault.TextWhy.TheVariants.{Extension}
-use Rattle.scram_text.proofs.lemmas.Base64.{base64_back}
-use Rattle.scram_text.proofs.lemmas.Parts.{parts_whole, parts_front, misfit_later}
-use Rattle.scram_text.proofs.lemmas.AttrVals.{extension_lacks}
-use Rattle.scram_text.proofs.lemmas.FirstUnmet.{none_unmet}
-use Rattle.scram_text.proofs.lemmas.WithoutByte.{class_without}
+use Rattle.scram_text.proofs.lemmas.Base64.{base64_decodes_back}
+use Rattle.scram_text.proofs.lemmas.Parts.{no_comma_one_part, first_part_precedes_comma, misfit_later}
+use Rattle.scram_text.proofs.lemmas.AttrVals.{extension_lacks_comma}
+use Rattle.scram_text.proofs.lemmas.FirstUnmet.{no_first_unmet}
+use Rattle.scram_text.proofs.lemmas.WithoutByte.{class_lacks_byte}
 
 -- each part fits its place, as far as there are both
 unfoldable pub AllFit : ℕ → List TextWhy → List (List ℕ) → Type 0
 AllFit most later pieces = AllByRecursion (λ row. Fits most row.0 row.1) (zip later pieces)
 
 -- parts all fit where the first fits the first place and the others theirs, and where there are no places:
-pub fits_cons : (most : ℕ) (place : TextWhy) (later : List TextWhy) (part : List ℕ) (pieces : List (List ℕ))
+pub AllFit-cons : (most : ℕ) (place : TextWhy) (later : List TextWhy) (part : List ℕ) (pieces : List (List ℕ))
     → Fits most place part → AllFit most later pieces → AllFit most (place ∷ later) (part ∷ pieces)
 unfolding AllFit
-fits_cons most place later part pieces fits fit = (fits, fit)
+AllFit-cons most place later part pieces fits fit = (fits, fit)
 
-pub fits_end : (most : ℕ) (pieces : List (List ℕ)) → AllFit most [] pieces
+pub AllFit-nil : (most : ℕ) (pieces : List (List ℕ)) → AllFit most [] pieces
 unfolding AllFit
-fits_end most pieces = tt
+AllFit-nil most pieces = tt
 
 -- where parts fit their places, the first fits the first place, and the others fit theirs
-pub fits_first : (most : ℕ) (place : TextWhy) (later : List TextWhy) (part : List ℕ) (pieces : List (List ℕ))
+pub first_part_fits : (most : ℕ) (place : TextWhy) (later : List TextWhy) (part : List ℕ) (pieces : List (List ℕ))
     → AllFit most (place ∷ later) (part ∷ pieces) → Fits most place part × AllFit most later pieces
 unfolding AllFit
-fits_first most place later part pieces fit = fit
+first_part_fits most place later part pieces fit = fit
 
 -- where extensions and parts after them fit their places, the extensions are ones, and the parts fit theirs
-pub fits_split : (most : ℕ) (later : List TextWhy) (extensions pieces : List (List ℕ))
+pub extensions_and_rest_fit : (most : ℕ) (later : List TextWhy) (extensions pieces : List (List ℕ))
     → AllFit most (replicate (length extensions) Extension ++ later) (extensions ++ pieces) → AreExtensions extensions
     × AllFit most later pieces
 unfolding AllFit
-fits_split most later [] pieces fit = (tt, fit)
-fits_split most later (part ∷ extensions) pieces fit =
-    let after = fits_split most later extensions pieces fit.1 in ((fit.0, after.0), after.1)
+extensions_and_rest_fit most later [] pieces fit = (tt, fit)
+extensions_and_rest_fit most later (part ∷ extensions) pieces fit =
+    let after = extensions_and_rest_fit most later extensions pieces fit.1 in ((fit.0, after.0), after.1)
 
 -- parts that fit the places of extensions are extensions
-pub fits_extensions : (most : ℕ) (extensions : List (List ℕ)) → AllFit most (replicate (length extensions) Extension) extensions
+pub fitting_are_extensions : (most : ℕ) (extensions : List (List ℕ)) → AllFit most (replicate (length extensions) Extension) extensions
     → AreExtensions extensions
 unfolding AllFit
-fits_extensions most [] fit = tt
-fits_extensions most (part ∷ extensions) fit = (fit.0, fits_extensions most extensions fit.1)
+fitting_are_extensions most [] fit = tt
+fitting_are_extensions most (part ∷ extensions) fit = (fit.0, fitting_are_extensions most extensions fit.1)
 
 -- where each part fits, none is the first that does not
 pub no_misfit : (most : ℕ) (later : List TextWhy) (k : ℕ) (pieces : List (List ℕ)) (f : TextFault)
     → AllFit most later pieces → IsFirstMisfit most later k pieces f → ⊥
 unfolding AllFit
 no_misfit most later k pieces f fit misfit =
-    none_unmet (λ row. Fits most row.0 row.1) (zip later pieces) (f.why, misfit.part) fit misfit.first
+    no_first_unmet (λ row. Fits most row.0 row.1) (zip later pieces) (f.why, misfit.part) fit misfit.first
 
 -- two lists of pairs, joined, begin with the pairs of the first lists
 zip-append : {A B : Type 0} (xs more : List A) (ys others : List B)
@@ -86,40 +86,41 @@ misfit-append most later more k pieces others f misfit =
     }
 
 -- the first part that does not fit is the same with extensions before it
-pub misfit_after : (most : ℕ) (later : List TextWhy) (k j : ℕ) (extensions pieces : List (List ℕ)) (f : TextFault)
+pub extensions_keep_misfit : (most : ℕ) (later : List TextWhy) (k j : ℕ) (extensions pieces : List (List ℕ)) (f : TextFault)
     → j ≡ k + length extensions → AreExtensions extensions → IsFirstMisfit most later j pieces f
     → IsFirstMisfit most (replicate (length extensions) Extension ++ later) k (extensions ++ pieces) f
-misfit_after most later k j [] pieces f at are misfit =
+extensions_keep_misfit most later k j [] pieces f at are misfit =
     let same : j ≡ k = omega (arith, at) in subst (λ (i : ℕ). IsFirstMisfit most later i pieces f) same misfit
-misfit_after most later k j (part ∷ extensions) pieces f at are misfit =
-    misfit_later most k Extension _ part _ f are.0 (misfit_after most later (k + 1) j extensions pieces f (omega (arith, at)) are.1 misfit)
+extensions_keep_misfit most later k j (part ∷ extensions) pieces f at are misfit =
+    misfit_later most k Extension _ part _ f are.0 (extensions_keep_misfit most later (k + 1) j extensions pieces f (omega (arith, at))
+        are.1 misfit)
 
 -- parts that fit, with extensions before them, fit
-pub fit_after : (most : ℕ) (later : List TextWhy) (extensions pieces : List (List ℕ))
+pub extensions_keep_fit : (most : ℕ) (later : List TextWhy) (extensions pieces : List (List ℕ))
     → AreExtensions extensions → AllFit most later pieces
     → AllFit most (replicate (length extensions) Extension ++ later) (extensions ++ pieces)
 unfolding AllFit
-fit_after most later [] pieces are fit = fit
-fit_after most later (part ∷ extensions) pieces are fit = (are.0, fit_after most later extensions pieces are.1 fit)
+extensions_keep_fit most later [] pieces are fit = fit
+extensions_keep_fit most later (part ∷ extensions) pieces are fit = (are.0, extensions_keep_fit most later extensions pieces are.1 fit)
 
 -- the places of parts are the fixed ones, and one Extension for each part between them
-pub places_of : (front back : List TextWhy) (n middle : ℕ) → n ≡ length front + length back + middle
+pub places_unfold : (front back : List TextWhy) (n middle : ℕ) → n ≡ length front + length back + middle
     → places front back n ≡ front ++ (replicate middle Extension ++ back)
-places_of front back n middle count =
+places_unfold front back n middle count =
     let same : n - (length front + length back) ≡ middle = omega (arith, count) in rw same refl
 
 -- a fault of the parts is one of the text
-pub fault_of : (most : ℕ) (front back : List TextWhy) (text : List ℕ) (pieces : List (List ℕ)) (f : TextFault)
+pub part_fault_is_fault : (most : ℕ) (front back : List TextWhy) (text : List ℕ) (pieces : List (List ℕ)) (f : TextFault)
     → length text ≤ longest_message → IsUtf8Text text → parts text ≡ pieces → IsPartFault most front back pieces f
     → IsFault most front back text f
-fault_of most front back text pieces f short utf8_text cut misfit =
+part_fault_is_fault most front back text pieces f short utf8_text cut misfit =
     inr (short, utf8_text, subst (λ (ps : List (List ℕ)). IsPartFault most front back ps f) (sym cut) misfit)
 
 -- a fault of the parts is one of the text, where the places follow from the parts
-pub fault_at : (most : ℕ) (front : List (List ℕ) → List TextWhy) (text : List ℕ) (pieces : List (List ℕ)) (f : TextFault)
+pub placed_fault_is_fault : (most : ℕ) (front : List (List ℕ) → List TextWhy) (text : List ℕ) (pieces : List (List ℕ)) (f : TextFault)
     → length text ≤ longest_message → IsUtf8Text text → parts text ≡ pieces → IsPartFault most (front pieces) [] pieces f
     → IsFault most (front (parts text)) [] text f
-fault_at most front text pieces f short utf8_text cut misfit =
+placed_fault_is_fault most front text pieces f short utf8_text cut misfit =
     inr (short, utf8_text, subst (λ (ps : List (List ℕ)). IsPartFault most (front ps) [] ps f) (sym cut) misfit)
 
 -- a text whose parts fit has no fault
@@ -139,36 +140,37 @@ no_fault most front back text pieces f short utf8_text cut enough fit faulty = e
 ]
 
 -- a text whose parts fit has no fault, where the places follow from the parts
-pub no_fault_at : (most : ℕ) (front : List (List ℕ) → List TextWhy) (text : List ℕ) (pieces : List (List ℕ)) (f : TextFault)
+pub no_placed_fault : (most : ℕ) (front : List (List ℕ) → List TextWhy) (text : List ℕ) (pieces : List (List ℕ)) (f : TextFault)
     → length text ≤ longest_message → IsUtf8Text text → parts text ≡ pieces → length (front pieces) ≤ length pieces
     → AllFit most (places (front pieces) [] (length pieces)) pieces → IsFault most (front (parts text)) [] text f → ⊥
-no_fault_at most front text pieces f short utf8_text cut enough fit faulty =
+no_placed_fault most front text pieces f short utf8_text cut enough fit faulty =
     no_fault most (front pieces) [] text pieces f short utf8_text cut (omega (arith, enough)) fit
     (subst (λ (ps : List (List ℕ)). IsFault most (front ps) [] text f) cut faulty)
 
 -- a nonce has no comma, and no extension does:
-pub nonce_lacks : (most : ℕ) (nonce : List ℕ) → IsNonce most nonce → LacksComma nonce
-nonce_lacks most nonce class = class_without 44 is_printable nonce refl class.each
+pub nonce_lacks_comma : (most : ℕ) (nonce : List ℕ) → IsNonce most nonce → LacksComma nonce
+nonce_lacks_comma most nonce class = class_lacks_byte 44 is_printable nonce refl class.each
 
-pub extensions_lack : (extensions : List (List ℕ)) → AreExtensions extensions → AllByRecursion LacksComma extensions
-extensions_lack [] are = tt
-extensions_lack (part ∷ extensions) are = (extension_lacks part are.0, extensions_lack extensions are.1)
+pub extensions_lack_comma : (extensions : List (List ℕ)) → AreExtensions extensions → AllByRecursion LacksComma extensions
+extensions_lack_comma [] are = tt
+extensions_lack_comma (part ∷ extensions) are = (extension_lacks_comma part are.0, extensions_lack_comma extensions are.1)
 
 -- parts without commas are cut as they were joined, by commas:
 pub parts-joined : (piece : List ℕ) (pieces : List (List ℕ)) → AllByRecursion LacksComma (piece ∷ pieces)
     → parts (joined (piece ∷ pieces)) ≡ piece ∷ pieces
-parts-joined piece [] lack = parts_whole piece lack.0
+parts-joined piece [] lack = no_comma_one_part piece lack.0
 parts-joined piece (next ∷ pieces) lack =
-    parts_front piece (joined (next ∷ pieces)) lack.0 ∙ ap (λ (ps : List (List ℕ)). piece ∷ ps) (parts-joined next pieces lack.1)
+    first_part_precedes_comma piece (joined (next ∷ pieces)) lack.0 ∙ ap (λ (ps : List (List ℕ)). piece ∷ ps)
+        (parts-joined next pieces lack.1)
 
 pub parts-joined_list : (pieces : List (List ℕ)) → 1 ≤ length pieces → AllByRecursion LacksComma pieces → parts (joined pieces) ≡ pieces
 parts-joined_list [] some lack = absurd (omega (arith, some))
 parts-joined_list (piece ∷ pieces) some lack = parts-joined piece pieces lack
 
 -- the first part that does not fit is the same where its index is written in another way
-pub misfit_at : (most j k : ℕ) (later : List TextWhy) (pieces : List (List ℕ)) (f : TextFault) → j ≡ k
+pub same_index_same_misfit : (most j k : ℕ) (later : List TextWhy) (pieces : List (List ℕ)) (f : TextFault) → j ≡ k
     → IsFirstMisfit most later j pieces f → IsFirstMisfit most later k pieces f
-misfit_at most j k later pieces f same misfit = subst (λ (i : ℕ). IsFirstMisfit most later i pieces f) same misfit
+same_index_same_misfit most j k later pieces f same misfit = subst (λ (i : ℕ). IsFirstMisfit most later i pieces f) same misfit
 
 -- a letter, `=` and the base64 of a field are a part that spells the field
 pub field_fits : (letter most : ℕ) (part bytes : List ℕ) → part ≡ letter ∷ 61 ∷ base64 bytes → IsField most bytes
@@ -176,9 +178,9 @@ pub field_fits : (letter most : ℕ) (part bytes : List ℕ) → part ≡ letter
 field_fits letter most part bytes spelled field = (base64 bytes, spelled, (bytes, refl, field))
 
 -- two fields with the same base64 are the same bytes
-pub field_once : (most : ℕ) (one other : List ℕ) → IsField most one → IsField most other → base64 one ≡ base64 other → one ≡ other
-field_once most one other is also same =
-    let read = rw same at (base64_back one is.each) in let read_also = base64_back other also.each in cc (read, read_also)
+pub one_field_per_base64 : (most : ℕ) (one other : List ℕ) → IsField most one → IsField most other → base64 one ≡ base64 other → one ≡ other
+one_field_per_base64 most one other is also same =
+    let read = rw same at (base64_decodes_back one is.each) in let read_also = base64_decodes_back other also.each in cc (read, read_also)
 
 -- lists with different first elements are different
 pub heads_differ : (a b : ℕ) (x y : List ℕ) → a ∷ x ≡ b ∷ y → (a ≡ b → ⊥) → ⊥

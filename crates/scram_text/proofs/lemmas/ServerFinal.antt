@@ -12,22 +12,22 @@ use Rattle.scram_text.specs.Parts.{parts, joined, AreExtensions}
 use Rattle.scram_text.specs.Messages.{VerifierOrError, verifier, server_error, ServerFinalParts, verifier_or_error_text, IsVerifierOrError}
 use Rattle.scram_text.specs.Messages.{server_final_text, IsServerFinal}
 use Rattle.scram_text.specs.Laws.{HasOneServerFinal}
-use Rattle.scram_text.specs.Faults.{Fits, fault, places, result_place, server_final_places, IsServerFinalFault}
+use Rattle.scram_text.specs.Faults.{Fits, fault, places, outcome_place, server_final_places, IsServerFinalFault}
 use Rattle.scram_text.specs.Pieces.{IsExtensionMisfit}
 use Rattle.scram_text.specs.Shown.{ShowsServerFinal}
 use Rattle.scram_text.specs.declared.server_final.ServerFinal.{ServerFinal}
 use Rattle.scram_text.specs.declared.fault.TextFault.{TextFault}
 use Rattle.scram_text.specs.declared.fault.TextWhy.TheVariants.{Extension}
-use Rattle.scram_text.proofs.lemmas.Base64.{base64_lacks}
+use Rattle.scram_text.proofs.lemmas.Base64.{base64_lacks_comma}
 use Rattle.scram_text.proofs.lemmas.Parts.{misfit_here, misfit_later}
-use Rattle.scram_text.proofs.lemmas.Places.{AllFit, fits_cons, fits_end, fit_after, fault_at, no_fault_at, extensions_lack, parts-joined}
-use Rattle.scram_text.proofs.lemmas.Places.{field_fits, field_once, heads_differ}
-use Rattle.scram_text.proofs.lemmas.Marked.{places_front}
+use Rattle.scram_text.proofs.lemmas.Places.{AllFit, AllFit-cons, AllFit-nil, extensions_keep_fit, placed_fault_is_fault, no_placed_fault, extensions_lack_comma, parts-joined}
+use Rattle.scram_text.proofs.lemmas.Places.{field_fits, one_field_per_base64, heads_differ}
+use Rattle.scram_text.proofs.lemmas.MextAndRest.{front_places_unfold}
 
 -- a verifier or an error has no comma
-outcome_lacks : (outcome : VerifierOrError) → IsVerifierOrError outcome → LacksComma (verifier_or_error_text outcome)
-outcome_lacks (verifier signature) is = base64_lacks signature
-outcome_lacks (server_error value) is = is.no_comma
+outcome_lacks_comma : (outcome : VerifierOrError) → IsVerifierOrError outcome → LacksComma (verifier_or_error_text outcome)
+outcome_lacks_comma (verifier signature) is = base64_lacks_comma signature
+outcome_lacks_comma (server_error value) is = is.no_comma
 
 -- a server-final message is cut into its parts
 pub parts_server_final : (text : List ℕ) (p : ServerFinalParts) → IsServerFinal text p
@@ -35,87 +35,90 @@ pub parts_server_final : (text : List ℕ) (p : ServerFinalParts) → IsServerFi
 unfolding server_final_text
 parts_server_final text p is =
     rw (is.spelled) (parts-joined (verifier_or_error_text p.outcome) p.extensions
-    (outcome_lacks p.outcome is.outcome, extensions_lack p.extensions is.extensions))
+    (outcome_lacks_comma p.outcome is.outcome, extensions_lack_comma p.extensions is.extensions))
 
 -- outcomes with the same text are the same
-outcome_once : (one other : VerifierOrError) → IsVerifierOrError one → IsVerifierOrError other
+one_outcome_per_text : (one other : VerifierOrError) → IsVerifierOrError one → IsVerifierOrError other
     → verifier_or_error_text one ≡ verifier_or_error_text other → one ≡ other
-outcome_once (verifier one) (verifier other) is also same =
-    let texts : base64 one ≡ base64 other = cc same in ap verifier (field_once 64 one other is also texts)
-outcome_once (verifier one) (server_error other) is also same = absurd (heads_differ 118 101 _ _ same (λ e. omega (arith, e)))
-outcome_once (server_error one) (verifier other) is also same = absurd (heads_differ 101 118 _ _ same (λ e. omega (arith, e)))
-outcome_once (server_error one) (server_error other) is also same = let values : one ≡ other = cc same in ap server_error values
+one_outcome_per_text (verifier one) (verifier other) is also same =
+    let texts : base64 one ≡ base64 other = cc same in ap verifier (one_field_per_base64 64 one other is also texts)
+one_outcome_per_text (verifier one) (server_error other) is also same = absurd (heads_differ 118 101 _ _ same (λ e. omega (arith, e)))
+one_outcome_per_text (server_error one) (verifier other) is also same = absurd (heads_differ 101 118 _ _ same (λ e. omega (arith, e)))
+one_outcome_per_text (server_error one) (server_error other) is also same = let values : one ≡ other = cc same in ap server_error values
 
 -- the law: a text is server-final with one list of parts
-pub server_final_once : HasOneServerFinal
-server_final_once text p q is also =
+pub has_one_server_final : HasOneServerFinal
+has_one_server_final text p q is also =
     let same : verifier_or_error_text p.outcome ∷ p.extensions ≡ verifier_or_error_text q.outcome
     ∷ q.extensions = sym (parts_server_final text p is) ∙ parts_server_final text q also in
     let outcomes : verifier_or_error_text p.outcome ≡ verifier_or_error_text q.outcome = cc same in
     let extensions : p.extensions ≡ q.extensions = cc same in
-    let outcome = outcome_once p.outcome q.outcome is.outcome also.outcome outcomes in
+    let outcome = one_outcome_per_text p.outcome q.outcome is.outcome also.outcome outcomes in
     λ i. record { outcome = outcome i; extensions = extensions i }
 
 -- the places of server-final's parts are the outcome's, and one Extension for each extension
-pub result_places : (first : List ℕ) (extensions : List (List ℕ))
-    → places (result_place first ∷ []) [] (length (first ∷ extensions)) ≡ result_place first ∷ replicate (length extensions) Extension
-result_places first extensions = places_front (result_place first ∷ []) (length (first ∷ extensions)) (length extensions) (omega arith)
+pub server_final_places_unfold : (first : List ℕ) (extensions : List (List ℕ))
+    → places (outcome_place first ∷ []) [] (length (first ∷ extensions)) ≡ outcome_place first ∷ replicate (length extensions) Extension
+server_final_places_unfold first extensions =
+    front_places_unfold (outcome_place first ∷ []) (length (first ∷ extensions)) (length extensions) (omega arith)
 
 -- an outcome's text fits its place
 pub outcome_fits : (outcome : VerifierOrError) → IsVerifierOrError outcome
-    → Fits longest_nonce (result_place (verifier_or_error_text outcome)) (verifier_or_error_text outcome)
+    → Fits longest_nonce (outcome_place (verifier_or_error_text outcome)) (verifier_or_error_text outcome)
 outcome_fits (verifier signature) is = field_fits 118 64 _ signature refl is
 outcome_fits (server_error value) is = (value, refl, is)
 
 -- where the first part of server-final fits its place, and the others are extensions, all parts fit their places
-pub server_final_fit : (first : List ℕ) (extensions : List (List ℕ)) → Fits longest_nonce (result_place first) first
+pub server_final_fit : (first : List ℕ) (extensions : List (List ℕ)) → Fits longest_nonce (outcome_place first) first
     → AreExtensions extensions
-    → AllFit longest_nonce (places (result_place first ∷ []) [] (length (first ∷ extensions))) (first ∷ extensions)
+    → AllFit longest_nonce (places (outcome_place first ∷ []) [] (length (first ∷ extensions))) (first ∷ extensions)
 server_final_fit first extensions fits are =
-    let after = fit_after longest_nonce [] extensions [] are (fits_end longest_nonce []) in
-    rw (result_places first extensions)
-    (fits_cons longest_nonce (result_place first) _ first extensions fits
+    let after = extensions_keep_fit longest_nonce [] extensions [] are (AllFit-nil longest_nonce []) in
+    rw (server_final_places_unfold first extensions)
+    (AllFit-cons longest_nonce (outcome_place first) _ first extensions fits
     (rw (append-nil (replicate (length extensions) Extension), append-nil extensions) at after))
 
 -- a server-final message has no fault
 pub server_final_no_fault : (text : List ℕ) (p : ServerFinalParts) (f : TextFault) → IsServerFinal text p → IsServerFinalFault text f → ⊥
 server_final_no_fault text p f is =
-    no_fault_at longest_nonce server_final_places text (verifier_or_error_text p.outcome ∷ p.extensions) f is.short is.utf8_text
+    no_placed_fault longest_nonce server_final_places text (verifier_or_error_text p.outcome ∷ p.extensions) f is.short is.utf8_text
     (parts_server_final text p is)
     (omega arith) (server_final_fit (verifier_or_error_text p.outcome) p.extensions (outcome_fits p.outcome is.outcome) is.extensions)
 
 -- a text that is server-final is read, and what is read shows its parts
-pub server_final_only : (text : List ℕ) (r : Result ServerFinal TextFault)
+pub server_final_is_read : (text : List ℕ) (r : Result ServerFinal TextFault)
     → IfOk r (λ m. (p : ServerFinalParts) × IsServerFinal text p × ShowsServerFinal m p) → IfErr r (λ f. IsServerFinalFault text f)
     → (p : ServerFinalParts) → IsServerFinal text p → IsOkAnd r (λ m. ShowsServerFinal m p)
-server_final_only text (Ok m) found fault p is =
-    subst (λ (q : ServerFinalParts). ShowsServerFinal m q) (server_final_once text found.0 p found.1 is) found.2
-server_final_only text (Err f) found fault p is = server_final_no_fault text p f is fault
+server_final_is_read text (Ok m) found fault p is =
+    subst (λ (q : ServerFinalParts). ShowsServerFinal m q) (has_one_server_final text found.0 p found.1 is) found.2
+server_final_is_read text (Err f) found fault p is = server_final_no_fault text p f is fault
 
 -- the first part of server-final that does not fit is a fault of the text: the outcome's, or an extension:
-pub result_fault : (text first : List ℕ) (extensions : List (List ℕ)) (f : TextFault) → length text ≤ longest_message → IsUtf8Text text
+pub outcome_fault : (text first : List ℕ) (extensions : List (List ℕ)) (f : TextFault) → length text ≤ longest_message → IsUtf8Text text
     → parts text ≡ first ∷ extensions
-    → (Fits longest_nonce (result_place first) first → ⊥) × (f ≡ fault 0 (result_place first)) → IsServerFinalFault text f
-result_fault text first extensions f short utf8_text cut (no_fit, is) =
+    → (Fits longest_nonce (outcome_place first) first → ⊥) × (f ≡ fault 0 (outcome_place first)) → IsServerFinalFault text f
+outcome_fault text first extensions f short utf8_text cut (no_fit, is) =
     subst (λ (g : TextFault). IsServerFinalFault text g) (sym is)
-    (fault_at longest_nonce server_final_places text (first ∷ extensions) (fault 0 (result_place first)) short utf8_text cut
-    (inr (omega arith, rw (result_places first extensions) (misfit_here longest_nonce 0 (result_place first) _ first extensions no_fit))))
+    (placed_fault_is_fault longest_nonce server_final_places text (first ∷ extensions) (fault 0 (outcome_place first)) short utf8_text cut
+    (inr (omega arith, rw (server_final_places_unfold first extensions) (misfit_here longest_nonce 0 (outcome_place first) _ first
+      extensions no_fit))))
 
 pub extension_fault : (text first : List ℕ) (extensions : List (List ℕ)) (f : TextFault) → length text ≤ longest_message → IsUtf8Text text
     → parts text ≡ first ∷ extensions
-    → Fits longest_nonce (result_place first) first → IsExtensionMisfit 1 extensions f → IsServerFinalFault text f
+    → Fits longest_nonce (outcome_place first) first → IsExtensionMisfit 1 extensions f → IsServerFinalFault text f
 extension_fault text first extensions f short utf8_text cut fits misfit =
-    fault_at longest_nonce server_final_places text (first ∷ extensions) f short utf8_text cut
+    placed_fault_is_fault longest_nonce server_final_places text (first ∷ extensions) f short utf8_text cut
     (inr (
       omega arith,
-      rw (result_places first extensions)
-          (misfit_later longest_nonce 0 (result_place first) _ first extensions f fits (misfit longest_nonce)),
+      rw (server_final_places_unfold first extensions)
+          (misfit_later longest_nonce 0 (outcome_place first) _ first extensions f fits (misfit longest_nonce)),
     ))
 
 -- a part that is the text of an outcome fits the outcome's place
-pub result_fits : (part : List ℕ) (outcome : VerifierOrError) → part ≡ verifier_or_error_text outcome → IsVerifierOrError outcome
-    → Fits longest_nonce (result_place part) part
-result_fits part outcome spelled is = subst (λ (t : List ℕ). Fits longest_nonce (result_place t) t) (sym spelled) (outcome_fits outcome is)
+pub outcome_part_fits : (part : List ℕ) (outcome : VerifierOrError) → part ≡ verifier_or_error_text outcome → IsVerifierOrError outcome
+    → Fits longest_nonce (outcome_place part) part
+outcome_part_fits part outcome spelled is =
+    subst (λ (t : List ℕ). Fits longest_nonce (outcome_place t) t) (sym spelled) (outcome_fits outcome is)
 
 -- the pieces of server-final make its text
 pub server_final_spelled : (text first : List ℕ) (p : ServerFinalParts) → parts text ≡ first ∷ p.extensions

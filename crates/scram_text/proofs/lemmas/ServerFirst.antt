@@ -15,159 +15,166 @@ use Rattle.scram_text.specs.Laws.{HasOneServerFirst}
 use Rattle.scram_text.specs.Faults.{Fits, fault, places, IsFirstMisfit, IsServerFirstFault, server_first_places}
 use Rattle.scram_text.specs.Pieces.{IsExtensionMisfit}
 use Rattle.scram_text.specs.Shown.{ShowsServerFirst}
-use Rattle.scram_text.specs.Pieces.{IsMarked}
+use Rattle.scram_text.specs.Pieces.{IsMextAndRest}
 use Rattle.scram_text.specs.declared.server_first.ServerFirst.{ServerFirst}
 use Rattle.scram_text.specs.declared.fault.TextFault.{TextFault}
 use Rattle.scram_text.specs.declared.fault.TextWhy.TheVariants.{Nonce, Salt, Count, Extension}
-use Rattle.scram_text.proofs.lemmas.Base64.{base64_lacks}
+use Rattle.scram_text.proofs.lemmas.Base64.{base64_lacks_comma}
 use Rattle.scram_text.proofs.lemmas.Parts.{misfit_here, misfit_later}
-use Rattle.scram_text.proofs.lemmas.Places.{AllFit, fits_cons, fits_end, fit_after, no_fault_at, nonce_lacks, extensions_lack}
-use Rattle.scram_text.proofs.lemmas.Places.{parts-joined_list, field_fits, field_once, misfit_at}
-use Rattle.scram_text.proofs.lemmas.Marked.{places_front, marked_of, marked_lack, marked_some, marked_once, marked_fit, marked_fault}
-use Rattle.scram_text.proofs.lemmas.Marked.{marked_length}
-use Rattle.scram_text.proofs.lemmas.Counts.{decimal_lacks, below_64}
+use Rattle.scram_text.proofs.lemmas.Places.{AllFit, AllFit-cons, AllFit-nil, extensions_keep_fit, no_placed_fault, nonce_lacks_comma, extensions_lack_comma}
+use Rattle.scram_text.proofs.lemmas.Places.{parts-joined_list, field_fits, one_field_per_base64, same_index_same_misfit}
+use Rattle.scram_text.proofs.lemmas.MextAndRest.{front_places_unfold, mext_and_rest_joined, mext_and_rest_lack_comma, mext_and_rest_nonempty, one_mext_and_rest, mext_and_rest_fit, rest_fault}
+use Rattle.scram_text.proofs.lemmas.MextAndRest.{mext_and_rest_lengths}
+use Rattle.scram_text.proofs.lemmas.Counts.{decimal_lacks_comma, count_below_2_64}
 
 -- the parts after the mandatory extension, if there is one
-abbrev pub later_parts : ServerFirstParts → List (List ℕ)
-later_parts p = (codes "r=" ++ p.nonce) ∷ (codes "s=" ++ base64 p.salt) ∷ (codes "i=" ++ decimal p.count) ∷ p.extensions
+abbrev pub server_first_rest : ServerFirstParts → List (List ℕ)
+server_first_rest p = (codes "r=" ++ p.nonce) ∷ (codes "s=" ++ base64 p.salt) ∷ (codes "i=" ++ decimal p.count) ∷ p.extensions
 
 -- a server-first message is cut into its parts
-pub parts_server_first : (text : List ℕ) (p : ServerFirstParts) → IsServerFirst text p → parts text ≡ mext_parts p.mext ++ later_parts p
+pub parts_server_first : (text : List ℕ) (p : ServerFirstParts) → IsServerFirst text p
+    → parts text ≡ mext_parts p.mext ++ server_first_rest p
 unfolding server_first_text
 parts_server_first text p is =
-    rw (is.spelled) (parts-joined_list (mext_parts p.mext ++ later_parts p) (marked_some p.mext (codes "r=" ++ p.nonce) _)
-    (marked_lack p.mext (later_parts p) is.mext (
-      nonce_lacks longest_nonce p.nonce is.nonce,
+    rw (is.spelled) (parts-joined_list (mext_parts p.mext ++ server_first_rest p) (mext_and_rest_nonempty p.mext (codes "r=" ++ p.nonce) _)
+    (mext_and_rest_lack_comma p.mext (server_first_rest p) is.mext (
+      nonce_lacks_comma longest_nonce p.nonce is.nonce,
       (
-        base64_lacks p.salt,
-        (decimal_lacks p.count is.count, extensions_lack p.extensions is.extensions),
+        base64_lacks_comma p.salt,
+        (decimal_lacks_comma p.count is.count, extensions_lack_comma p.extensions is.extensions),
       ),
     )))
 
 -- the parts of a server-first message are its mandatory extension, where it has one, and the others
-pub is_marked : (text : List ℕ) (p : ServerFirstParts) → IsServerFirst text p → IsMarked (parts text) (later_parts p) p.mext
-is_marked text p is =
-    subst (λ (ps : List (List ℕ)). IsMarked ps (later_parts p) p.mext) (sym (parts_server_first text p is))
-    (marked_of p.mext (codes "r=" ++ p.nonce) _ refl is.mext)
+pub server_first_mext_and_rest : (text : List ℕ) (p : ServerFirstParts) → IsServerFirst text p
+    → IsMextAndRest (parts text) (server_first_rest p) p.mext
+server_first_mext_and_rest text p is =
+    subst (λ (ps : List (List ℕ)). IsMextAndRest ps (server_first_rest p) p.mext) (sym (parts_server_first text p is))
+    (mext_and_rest_joined p.mext (codes "r=" ++ p.nonce) _ refl is.mext)
 
 -- server-first messages with the same parts are the same
-parts_once : (p q : ServerFirstParts) → p.mext ≡ q.mext → p.nonce ≡ q.nonce → p.salt ≡ q.salt → p.count ≡ q.count
+same_fields_same_parts : (p q : ServerFirstParts) → p.mext ≡ q.mext → p.nonce ≡ q.nonce → p.salt ≡ q.salt → p.count ≡ q.count
     → p.extensions ≡ q.extensions → p ≡ q
-parts_once p q mext nonce salt count extensions =
+same_fields_same_parts p q mext nonce salt count extensions =
     λ i. record { mext = mext i; nonce = nonce i; salt = salt i; count = count i; extensions = extensions i }
 
 -- the law: a text is server-first with one list of parts
-pub server_first_once : HasOneServerFirst
-server_first_once text p q is also =
-    let same = marked_once p.mext q.mext (codes "r=" ++ p.nonce) (codes "r=" ++ q.nonce) _ _ refl refl
+pub has_one_server_first : HasOneServerFirst
+has_one_server_first text p q is also =
+    let same = one_mext_and_rest p.mext q.mext (codes "r=" ++ p.nonce) (codes "r=" ++ q.nonce) _ _ refl refl
     (sym (parts_server_first text p is) ∙ parts_server_first text q also) in
-    let rest : later_parts p ≡ later_parts q = same.1 in
+    let rest : server_first_rest p ≡ server_first_rest q = same.1 in
     let nonces : p.nonce ≡ q.nonce = cc rest in
     let salts : base64 p.salt ≡ base64 q.salt = cc rest in
     let counts : decimal p.count ≡ decimal q.count = cc rest in
     let extensions : p.extensions ≡ q.extensions = cc rest in
-    parts_once p q same.0 nonces (field_once 64 p.salt q.salt is.salt also.salt salts)
-    (decimal_injective p.count q.count (below_64 p.count is.count) (below_64 q.count also.count) counts) extensions
+    same_fields_same_parts p q same.0 nonces (one_field_per_base64 64 p.salt q.salt is.salt also.salt salts)
+    (decimal_injective p.count q.count (count_below_2_64 p.count is.count) (count_below_2_64 q.count also.count) counts) extensions
 
 -- the places of the parts after the mandatory extension are Nonce, Salt, Count and one Extension for each extension
-pub later_places : (nonce salt count : List ℕ) (extensions : List (List ℕ))
+pub server_first_rest_places_unfold : (nonce salt count : List ℕ) (extensions : List (List ℕ))
     → places (Nonce ∷ Salt ∷ Count ∷ []) [] (length (nonce ∷ salt ∷ count ∷ extensions))
     ≡ Nonce ∷ Salt ∷ Count ∷ replicate (length extensions) Extension
-later_places nonce salt count extensions =
-    places_front (Nonce ∷ Salt ∷ Count ∷ []) (length (nonce ∷ salt ∷ count ∷ extensions)) (length extensions) (omega arith)
+server_first_rest_places_unfold nonce salt count extensions =
+    front_places_unfold (Nonce ∷ Salt ∷ Count ∷ []) (length (nonce ∷ salt ∷ count ∷ extensions)) (length extensions) (omega arith)
 
 -- where the nonce, the salt and the count of server-first fit, and the other parts are extensions, all fit their places
-pub later_fit : (nonce salt count : List ℕ) (extensions : List (List ℕ))
+pub nonce_salt_count_fit : (nonce salt count : List ℕ) (extensions : List (List ℕ))
     → Fits longest_nonce Nonce nonce → Fits longest_nonce Salt salt → Fits longest_nonce Count count → AreExtensions extensions
     → AllFit longest_nonce (places (Nonce ∷ Salt ∷ Count ∷ []) [] (length (nonce ∷ salt ∷ count ∷ extensions)))
     (nonce ∷ salt ∷ count ∷ extensions)
-later_fit nonce salt count extensions is_nonce is_salt is_count are =
-    let after = fit_after longest_nonce [] extensions [] are (fits_end longest_nonce []) in
-    rw (later_places nonce salt count extensions)
-    (fits_cons longest_nonce Nonce _ nonce _ is_nonce
-    (fits_cons longest_nonce Salt _ salt _ is_salt (fits_cons longest_nonce Count _ count _ is_count
+nonce_salt_count_fit nonce salt count extensions is_nonce is_salt is_count are =
+    let after = extensions_keep_fit longest_nonce [] extensions [] are (AllFit-nil longest_nonce []) in
+    rw (server_first_rest_places_unfold nonce salt count extensions)
+    (AllFit-cons longest_nonce Nonce _ nonce _ is_nonce
+    (AllFit-cons longest_nonce Salt _ salt _ is_salt (AllFit-cons longest_nonce Count _ count _ is_count
     (rw (append-nil (replicate (length extensions) Extension), append-nil extensions) at after))))
 
 -- the parts of a server-first message fit their places
 pub server_first_fit : (text : List ℕ) (p : ServerFirstParts) → IsServerFirst text p
     → AllFit longest_nonce (places (server_first_places (parts text)) [] (length (parts text))) (parts text)
 server_first_fit text p is =
-    marked_fit longest_nonce (Nonce ∷ Salt ∷ Count ∷ []) (parts text) (later_parts p) p.mext (is_marked text p is)
-    (later_fit _ _ _ p.extensions (p.nonce, refl, is.nonce) (field_fits 115 64 _ p.salt refl is.salt)
+    mext_and_rest_fit longest_nonce (Nonce ∷ Salt ∷ Count ∷ []) (parts text) (server_first_rest p) p.mext
+        (server_first_mext_and_rest text p is)
+    (nonce_salt_count_fit _ _ _ p.extensions (p.nonce, refl, is.nonce) (field_fits 115 64 _ p.salt refl is.salt)
     (decimal p.count, refl, (p.count, refl, is.count)) is.extensions)
 
 -- a server-first message has no fault
 pub server_first_no_fault : (text : List ℕ) (p : ServerFirstParts) (f : TextFault) → IsServerFirst text p → IsServerFirstFault text f → ⊥
 server_first_no_fault text p f is =
-    let lengths = marked_length (Nonce ∷ Salt ∷ Count ∷ []) (parts text) (later_parts p) p.mext (is_marked text p is) in
-    no_fault_at longest_nonce server_first_places text (parts text) f is.short is.utf8_text refl (omega (arith, lengths.0, lengths.1))
+    let lengths = mext_and_rest_lengths (Nonce ∷ Salt ∷ Count ∷ []) (parts text) (server_first_rest p) p.mext
+        (server_first_mext_and_rest text p is) in
+    no_placed_fault longest_nonce server_first_places text (parts text) f is.short is.utf8_text refl (omega (arith, lengths.0, lengths.1))
     (server_first_fit text p is)
 
 -- a text that is server-first is read, and what is read shows its parts
-pub server_first_only : (text : List ℕ) (r : Result ServerFirst TextFault)
+pub server_first_is_read : (text : List ℕ) (r : Result ServerFirst TextFault)
     → IfOk r (λ m. (p : ServerFirstParts) × IsServerFirst text p × ShowsServerFirst m p) → IfErr r (λ f. IsServerFirstFault text f)
     → (p : ServerFirstParts) → IsServerFirst text p → IsOkAnd r (λ m. ShowsServerFirst m p)
-server_first_only text (Ok m) found fault p is =
-    subst (λ (q : ServerFirstParts). ShowsServerFirst m q) (server_first_once text found.0 p found.1 is) found.2
-server_first_only text (Err f) found fault p is = server_first_no_fault text p f is fault
+server_first_is_read text (Ok m) found fault p is =
+    subst (λ (q : ServerFirstParts). ShowsServerFirst m q) (has_one_server_first text found.0 p found.1 is) found.2
+server_first_is_read text (Err f) found fault p is = server_first_no_fault text p f is fault
 
 -- a misfit after the mandatory extension is a fault of the text; k is the index of the nonce
-later_fault : (text nonce salt count : List ℕ) (extensions : List (List ℕ)) (mext : Option (List ℕ)) (k : ℕ) (f : TextFault)
-    → length text ≤ longest_message → IsUtf8Text text → IsMarked (parts text) (nonce ∷ salt ∷ count ∷ extensions) mext
+server_first_rest_fault : (text nonce salt count : List ℕ) (extensions : List (List ℕ)) (mext : Option (List ℕ)) (k : ℕ) (f : TextFault)
+    → length text ≤ longest_message → IsUtf8Text text → IsMextAndRest (parts text) (nonce ∷ salt ∷ count ∷ extensions) mext
     → k ≡ length (mext_parts mext)
     → IsFirstMisfit longest_nonce (Nonce ∷ Salt ∷ Count ∷ replicate (length extensions) Extension) k (nonce ∷ salt ∷ count ∷ extensions) f
     → IsServerFirstFault text f
-later_fault text nonce salt count extensions mext k f short utf8_text marked at misfit =
+server_first_rest_fault text nonce salt count extensions mext k f short utf8_text marked at misfit =
     inr (
       short,
       utf8_text,
-      marked_fault longest_nonce (Nonce ∷ Salt ∷ Count ∷ []) (parts text) (nonce ∷ salt ∷ count ∷ extensions) mext f marked (omega arith)
-          (rw (later_places nonce salt count extensions) (misfit_at longest_nonce k (length (mext_parts mext)) _ _ f at misfit)),
+      rest_fault longest_nonce (Nonce ∷ Salt ∷ Count ∷ []) (parts text) (nonce ∷ salt ∷ count ∷ extensions) mext f marked (omega arith)
+          (rw (server_first_rest_places_unfold nonce salt count extensions) (same_index_same_misfit longest_nonce k
+            (length (mext_parts mext)) _ _ f at misfit)),
     )
 
 -- the first part of server-first that does not fit is a fault of the text: the nonce, the salt, the count or an extension:
 pub nonce_fault : (text nonce salt count : List ℕ) (extensions : List (List ℕ)) (mext : Option (List ℕ)) (k : ℕ)
-    → length text ≤ longest_message → IsUtf8Text text → IsMarked (parts text) (nonce ∷ salt ∷ count ∷ extensions) mext
+    → length text ≤ longest_message → IsUtf8Text text → IsMextAndRest (parts text) (nonce ∷ salt ∷ count ∷ extensions) mext
     → k ≡ length (mext_parts mext)
     → (Fits longest_nonce Nonce nonce → ⊥) → IsServerFirstFault text (fault k Nonce)
 nonce_fault text nonce salt count extensions mext k short utf8_text marked at no_nonce =
-    later_fault text nonce salt count extensions mext k _ short utf8_text marked at (misfit_here longest_nonce k Nonce _ nonce _ no_nonce)
+    server_first_rest_fault text nonce salt count extensions mext k _ short utf8_text marked at
+        (misfit_here longest_nonce k Nonce _ nonce _ no_nonce)
 
 pub salt_fault : (text nonce salt count : List ℕ) (extensions : List (List ℕ)) (mext : Option (List ℕ)) (k : ℕ)
-    → length text ≤ longest_message → IsUtf8Text text → IsMarked (parts text) (nonce ∷ salt ∷ count ∷ extensions) mext
+    → length text ≤ longest_message → IsUtf8Text text → IsMextAndRest (parts text) (nonce ∷ salt ∷ count ∷ extensions) mext
     → k ≡ length (mext_parts mext)
     → Fits longest_nonce Nonce nonce → (Fits longest_nonce Salt salt → ⊥) → IsServerFirstFault text (fault (k + 1) Salt)
 salt_fault text nonce salt count extensions mext k short utf8_text marked at is_nonce no_salt =
-    later_fault text nonce salt count extensions mext k _ short utf8_text marked at
+    server_first_rest_fault text nonce salt count extensions mext k _ short utf8_text marked at
     (misfit_later longest_nonce k Nonce _ nonce _ _ is_nonce (misfit_here longest_nonce (k + 1) Salt _ salt _ no_salt))
 
 pub count_fault : (text nonce salt count : List ℕ) (extensions : List (List ℕ)) (mext : Option (List ℕ)) (k : ℕ)
-    → length text ≤ longest_message → IsUtf8Text text → IsMarked (parts text) (nonce ∷ salt ∷ count ∷ extensions) mext
+    → length text ≤ longest_message → IsUtf8Text text → IsMextAndRest (parts text) (nonce ∷ salt ∷ count ∷ extensions) mext
     → k ≡ length (mext_parts mext)
     → Fits longest_nonce Nonce nonce → Fits longest_nonce Salt salt → (Fits longest_nonce Count count → ⊥)
     → IsServerFirstFault text (fault (k + 2) Count)
 count_fault text nonce salt count extensions mext k short utf8_text marked at is_nonce is_salt no_count =
-    later_fault text nonce salt count extensions mext k _ short utf8_text marked at
+    server_first_rest_fault text nonce salt count extensions mext k _ short utf8_text marked at
     (misfit_later longest_nonce k Nonce _ nonce _ _ is_nonce (misfit_later longest_nonce (k + 1) Salt _ salt _ _ is_salt
-    (misfit_at longest_nonce (k + 2) (k + 1 + 1) _ _ _ (omega arith) (misfit_here longest_nonce (k + 2) Count _ count _ no_count))))
+    (same_index_same_misfit longest_nonce (k + 2) (k + 1 + 1) _ _ _ (omega arith)
+      (misfit_here longest_nonce (k + 2) Count _ count _ no_count))))
 
 pub extension_fault : (text nonce salt count : List ℕ) (extensions : List (List ℕ)) (mext : Option (List ℕ)) (k : ℕ) (f : TextFault)
-    → length text ≤ longest_message → IsUtf8Text text → IsMarked (parts text) (nonce ∷ salt ∷ count ∷ extensions) mext
+    → length text ≤ longest_message → IsUtf8Text text → IsMextAndRest (parts text) (nonce ∷ salt ∷ count ∷ extensions) mext
     → k ≡ length (mext_parts mext)
     → Fits longest_nonce Nonce nonce → Fits longest_nonce Salt salt → Fits longest_nonce Count count
     → IsExtensionMisfit (k + 3) extensions f → IsServerFirstFault text f
 extension_fault text nonce salt count extensions mext k f short utf8_text marked at is_nonce is_salt is_count misfit =
-    later_fault text nonce salt count extensions mext k f short utf8_text marked at
+    server_first_rest_fault text nonce salt count extensions mext k f short utf8_text marked at
     (misfit_later longest_nonce k Nonce _ nonce _ f is_nonce
     (misfit_later longest_nonce (k + 1) Salt _ salt _ f is_salt (misfit_later longest_nonce (k + 1 + 1) Count _ count _ f is_count
-    (misfit_at longest_nonce (k + 3) (k + 1 + 1 + 1) _ _ f (omega arith) (misfit longest_nonce)))))
+    (same_index_same_misfit longest_nonce (k + 3) (k + 1 + 1 + 1) _ _ f (omega arith) (misfit longest_nonce)))))
 
 -- the pieces of server-first make its text
 pub server_first_spelled : (text nonce salt count : List ℕ) (p : ServerFirstParts)
-    → IsMarked (parts text) (nonce ∷ salt ∷ count ∷ p.extensions) p.mext
+    → IsMextAndRest (parts text) (nonce ∷ salt ∷ count ∷ p.extensions) p.mext
     → nonce ≡ codes "r=" ++ p.nonce → salt ≡ codes "s=" ++ base64 p.salt → count ≡ codes "i=" ++ decimal p.count
     → text ≡ server_first_text p
 unfolding server_first_text
 server_first_spelled text nonce salt count p marked is_nonce is_salt is_count =
-    let later : nonce ∷ salt ∷ count ∷ p.extensions ≡ later_parts p = cc (is_nonce, is_salt, is_count) in
+    let later : nonce ∷ salt ∷ count ∷ p.extensions ≡ server_first_rest p = cc (is_nonce, is_salt, is_count) in
     sym (join_with_byte-slice_split 44 text) ∙ ap joined (marked.cut ∙ ap (λ (ps : List (List ℕ)). mext_parts p.mext ++ ps) later)

@@ -16,17 +16,17 @@ use Rattle.scram_text.specs.Class.{is_comma, is_cb_char, is_printable, is_plain,
 use Rattle.scram_text.specs.Name.{escape, name_spelling}
 use Rattle.scram_text.specs.Base64Field.{base64}
 use Rattle.scram_text.specs.Parts.{IsCount, is_cb_name}
-use Rattle.scram_text.proofs.lemmas.Counts.{below_64}
+use Rattle.scram_text.proofs.lemmas.Counts.{count_below_2_64}
 use Rattle.scram_text.proofs.lemmas.Names.{escape_cases}
-use Rattle.scram_text.proofs.lemmas.WithoutByte.{class_without, digits_without}
+use Rattle.scram_text.proofs.lemmas.WithoutByte.{class_lacks_byte, digits_lack_byte}
 
 -- a byte is no NUL
 abbrev is_no_nul : ℕ → Bool
 is_no_nul c = not (c == 0)
 
 -- the empty text is a text, and two texts joined are one:
-pub text_nil : IsUtf8Text []
-text_nil = record { utf8 = IsUtf8-nil; no_nul = refl }
+pub empty_is_text : IsUtf8Text []
+empty_is_text = record { utf8 = IsUtf8-nil; no_nul = refl }
 
 pub text-append : (front back : List ℕ) → IsUtf8Text front → IsUtf8Text back → IsUtf8Text (front ++ back)
 text-append front back is also = record {
@@ -35,42 +35,43 @@ text-append front back is also = record {
 }
 
 -- bytes of a class of ASCII characters are ASCII
-class_ascii : (test : ℕ → Bool) (bytes : List ℕ) → ((c : ℕ) → test c ≡ true → c < 128) → list_all test bytes ≡ true → IsAscii bytes
-class_ascii test [] below all i = omega arith
-class_ascii test (c ∷ bytes) below all zero = below c (and_parts (test c) (list_all test bytes) all).0
-class_ascii test (c ∷ bytes) below all (suc i) = class_ascii test bytes below (and_parts (test c) (list_all test bytes) all).1 i
+class_is_ascii : (test : ℕ → Bool) (bytes : List ℕ) → ((c : ℕ) → test c ≡ true → c < 128) → list_all test bytes ≡ true → IsAscii bytes
+class_is_ascii test [] below all i = omega arith
+class_is_ascii test (c ∷ bytes) below all zero = below c (and_parts (test c) (list_all test bytes) all).0
+class_is_ascii test (c ∷ bytes) below all (suc i) = class_is_ascii test bytes below (and_parts (test c) (list_all test bytes) all).1 i
 
 -- bytes of a class of ASCII characters are a text
-class_text : (test : ℕ → Bool) (bytes : List ℕ) → ((c : ℕ) → test c ≡ true → c < 128) → test 0 ≡ false → list_all test bytes ≡ true
+class_is_text : (test : ℕ → Bool) (bytes : List ℕ) → ((c : ℕ) → test c ≡ true → c < 128) → test 0 ≡ false → list_all test bytes ≡ true
     → IsUtf8Text bytes
-class_text test bytes below no_nul all = record {
-  utf8 = IsUtf8-from_ascii bytes (class_ascii test bytes below all);
-  no_nul = class_without 0 test bytes no_nul all;
+class_is_text test bytes below no_nul all = record {
+  utf8 = IsUtf8-from_ascii bytes (class_is_ascii test bytes below all);
+  no_nul = class_lacks_byte 0 test bytes no_nul all;
 }
 
 -- a byte up to `~` is ASCII
-up_to_tilde : (c : ℕ) → nat_le c 0x7E ≡ true → c < 128
-up_to_tilde c is = omega (arith, leb-true c 0x7E is)
+up_to_tilde_is_ascii : (c : ℕ) → nat_le c 0x7E ≡ true → c < 128
+up_to_tilde_is_ascii c is = omega (arith, leb-true c 0x7E is)
 
 -- plain bytes and printable bytes are ASCII:
-plain_below : (c : ℕ) → is_plain c ≡ true → c < 128
-plain_below c is = up_to_tilde c (and_parts (nat_le 0x20 c) (nat_le c 0x7E) is).1
+plain_byte_is_ascii : (c : ℕ) → is_plain c ≡ true → c < 128
+plain_byte_is_ascii c is = up_to_tilde_is_ascii c (and_parts (nat_le 0x20 c) (nat_le c 0x7E) is).1
 
-printable_below : (c : ℕ) → is_printable c ≡ true → c < 128
-printable_below c is =
-    up_to_tilde c (and_parts (nat_le 0x21 c) (nat_le c 0x7E) (and_parts (nat_le 0x21 c && nat_le c 0x7E) (not (is_comma c)) is).0).1
+printable_byte_is_ascii : (c : ℕ) → is_printable c ≡ true → c < 128
+printable_byte_is_ascii c is =
+    up_to_tilde_is_ascii c (and_parts (nat_le 0x21 c) (nat_le c 0x7E) (and_parts (nat_le 0x21 c && nat_le c 0x7E) (not (is_comma c))
+        is).0).1
 
 -- plain bytes are a text
-pub plain_text : (bytes : List ℕ) → list_all is_plain bytes ≡ true → IsUtf8Text bytes
-plain_text bytes all = class_text is_plain bytes plain_below refl all
+pub plain_is_text : (bytes : List ℕ) → list_all is_plain bytes ≡ true → IsUtf8Text bytes
+plain_is_text bytes all = class_is_text is_plain bytes plain_byte_is_ascii refl all
 
 -- a nonce is a text
-pub nonce_text : (most : ℕ) (nonce : List ℕ) → IsNonce most nonce → IsUtf8Text nonce
-nonce_text most nonce is = class_text is_printable nonce printable_below refl is.each
+pub nonce_is_text : (most : ℕ) (nonce : List ℕ) → IsNonce most nonce → IsUtf8Text nonce
+nonce_is_text most nonce is = class_is_text is_printable nonce printable_byte_is_ascii refl is.each
 
 -- a plain byte, and a plain name, is spelled by plain bytes:
-escape_plain : (c : ℕ) → is_plain c ≡ true → list_all is_plain (escape c) ≡ true
-escape_plain c is = elim (escape_cases c) [
+escape_is_plain : (c : ℕ) → is_plain c ≡ true → list_all is_plain (escape c) ≡ true
+escape_is_plain c is = elim (escape_cases c) [
   | inl p ↦ rw p.1 refl
   | inr s ↦ elim s [
     | inl p ↦ rw p.1 refl
@@ -78,79 +79,79 @@ escape_plain c is = elim (escape_cases c) [
   ]
 ]
 
-spelling_plain : (name : List ℕ) → list_all is_plain name ≡ true → list_all is_plain (name_spelling name) ≡ true
-spelling_plain [] all = refl
-spelling_plain (c ∷ name) all =
+spelling_is_plain : (name : List ℕ) → list_all is_plain name ≡ true → list_all is_plain (name_spelling name) ≡ true
+spelling_is_plain [] all = refl
+spelling_is_plain (c ∷ name) all =
     let each = and_parts (is_plain c) (list_all is_plain name) all in
-    rw (list_all-append is_plain (escape c) (name_spelling name), escape_plain c each.0, spelling_plain name each.1) refl
+    rw (list_all-append is_plain (escape c) (name_spelling name), escape_is_plain c each.0, spelling_is_plain name each.1) refl
 
 -- the spelling of a plain name is a text
-pub spelling_text : (name : List ℕ) → list_all is_plain name ≡ true → IsUtf8Text (name_spelling name)
-spelling_text name all = plain_text (name_spelling name) (spelling_plain name all)
+pub spelling_is_text : (name : List ℕ) → list_all is_plain name ≡ true → IsUtf8Text (name_spelling name)
+spelling_is_text name all = plain_is_text (name_spelling name) (spelling_is_plain name all)
 
 -- the decimal of a count is a text
-pub count_text : (count : ℕ) → IsCount count → IsUtf8Text (decimal count)
-count_text count is = record {
-  utf8 = IsUtf8-from_ascii (decimal count) (IsAscii-decimal count (below_64 count is));
-  no_nul = digits_without 0 (decimal count) (omega arith) (decimal_is_IsNumeral count (below_64 count is)).0.1;
+pub count_is_text : (count : ℕ) → IsCount count → IsUtf8Text (decimal count)
+count_is_text count is = record {
+  utf8 = IsUtf8-from_ascii (decimal count) (IsAscii-decimal count (count_below_2_64 count is));
+  no_nul = digits_lack_byte 0 (decimal count) (omega arith) (decimal_is_IsNumeral count (count_below_2_64 count is)).0.1;
 }
 
 -- where no symbol is NUL, the one at each index is not
-symbol_no_nul : (symbols : List ℕ) (k : ℕ) → k < length symbols → list_all is_no_nul symbols ≡ true
+element_is_no_nul : (symbols : List ℕ) (k : ℕ) → k < length symbols → list_all is_no_nul symbols ≡ true
     → is_no_nul (slice_index symbols k) ≡ true
-symbol_no_nul [] k within all = absurd (omega (arith, within))
-symbol_no_nul (c ∷ symbols) zero within all = (and_parts (is_no_nul c) (list_all is_no_nul symbols) all).0
-symbol_no_nul (c ∷ symbols) (suc k) within all =
-    symbol_no_nul symbols k (omega (arith, within)) (and_parts (is_no_nul c) (list_all is_no_nul symbols) all).1
+element_is_no_nul [] k within all = absurd (omega (arith, within))
+element_is_no_nul (c ∷ symbols) zero within all = (and_parts (is_no_nul c) (list_all is_no_nul symbols) all).0
+element_is_no_nul (c ∷ symbols) (suc k) within all =
+    element_is_no_nul symbols k (omega (arith, within)) (and_parts (is_no_nul c) (list_all is_no_nul symbols) all).1
 
 -- the 64 symbols
 abbrev table : List ℕ
 table = standard.encode_table
 
 -- no symbol of base64, no text of bytes in it and no padding has a NUL:
-standard_no_nul : (k : ℕ) → k < 64 → is_no_nul (slice_index table k) ≡ true
-standard_no_nul k within = symbol_no_nul table k within refl
+symbol_is_no_nul : (k : ℕ) → k < 64 → is_no_nul (slice_index table k) ≡ true
+symbol_is_no_nul k within = element_is_no_nul table k within refl
 
-symbols_no_nul : (bytes : List ℕ) → IsBytes bytes → list_all is_no_nul (encode_symbols table bytes) ≡ true
+symbols_lack_nul : (bytes : List ℕ) → IsBytes bytes → list_all is_no_nul (encode_symbols table bytes) ≡ true
 unfolding encode_symbols
-symbols_no_nul [] fits = refl
-symbols_no_nul (a ∷ []) fits =
-    rw (standard_no_nul (a / 4) (omega (arith, fits 0)), standard_no_nul (a % 4 * 16) (omega arith)) refl
-symbols_no_nul (a ∷ b ∷ []) fits =
+symbols_lack_nul [] fits = refl
+symbols_lack_nul (a ∷ []) fits =
+    rw (symbol_is_no_nul (a / 4) (omega (arith, fits 0)), symbol_is_no_nul (a % 4 * 16) (omega arith)) refl
+symbols_lack_nul (a ∷ b ∷ []) fits =
     rw (
-      standard_no_nul (a / 4) (omega (arith, fits 0)),
-      standard_no_nul (a % 4 * 16 + b / 16) (omega (arith, fits 1)),
-      standard_no_nul
+      symbol_is_no_nul (a / 4) (omega (arith, fits 0)),
+      symbol_is_no_nul (a % 4 * 16 + b / 16) (omega (arith, fits 1)),
+      symbol_is_no_nul
           (b % 16 * 4) (omega arith),
     ) refl
-symbols_no_nul (a ∷ b ∷ c ∷ rest) fits =
+symbols_lack_nul (a ∷ b ∷ c ∷ rest) fits =
     rw (
-      standard_no_nul (a / 4) (omega (arith, fits 0)),
-      standard_no_nul (a % 4 * 16 + b / 16) (omega (arith, fits 1)),
-      standard_no_nul (b % 16 * 4 + c / 64) (omega (arith, fits 2)),
-      standard_no_nul (c % 64) (omega arith),
+      symbol_is_no_nul (a / 4) (omega (arith, fits 0)),
+      symbol_is_no_nul (a % 4 * 16 + b / 16) (omega (arith, fits 1)),
+      symbol_is_no_nul (b % 16 * 4 + c / 64) (omega (arith, fits 2)),
+      symbol_is_no_nul (c % 64) (omega arith),
     )
-    (symbols_no_nul rest (λ i. fits (suc (suc (suc i)))))
+    (symbols_lack_nul rest (λ i. fits (suc (suc (suc i)))))
 
-padding_no_nul : (n : ℕ) → list_all is_no_nul (replicate n 61) ≡ true
-padding_no_nul zero = refl
-padding_no_nul (suc n) = padding_no_nul n
+padding_lacks_nul : (n : ℕ) → list_all is_no_nul (replicate n 61) ≡ true
+padding_lacks_nul zero = refl
+padding_lacks_nul (suc n) = padding_lacks_nul n
 
 -- the base64 of bytes is a text
-pub base64_text : (bytes : List ℕ) → IsBytes bytes → IsUtf8Text (base64 bytes)
+pub base64_is_text : (bytes : List ℕ) → IsBytes bytes → IsUtf8Text (base64 bytes)
 unfolding base64
-base64_text bytes fits = record {
+base64_is_text bytes fits = record {
   utf8 = IsUtf8-from_ascii _ (IsAscii-encode_of standard bytes);
   no_nul = rw (
     list_all-append is_no_nul (encode_symbols table bytes) (replicate (padding_len (length bytes)) 61),
-    symbols_no_nul bytes fits,
-    padding_no_nul (padding_len (length bytes)),
+    symbols_lack_nul bytes fits,
+    padding_lacks_nul (padding_len (length bytes)),
   ) refl;
 }
 
 -- a character of a channel binding's name is ASCII
-letter_below : (c : ℕ) → is_cb_char c ≡ true → c < 128
-letter_below c is = elim (cases_lt c 128) [
+cb_char_is_ascii : (c : ℕ) → is_cb_char c ≡ true → c < 128
+cb_char_is_ascii c is = elim (cases_lt c 128) [
   | inl below ↦ below
   | inr above ↦ absurd (both_ways (is_cb_char c) (rw (
     le-leb 0x41 c (omega (arith, above)),
@@ -165,5 +166,6 @@ letter_below c is = elim (cases_lt c 128) [
 ]
 
 -- the name of a channel binding is a text
-pub cb_name_text : (name : List ℕ) → is_cb_name name ≡ true → IsUtf8Text name
-cb_name_text name is = class_text is_cb_char name letter_below refl (and_parts (nat_le 1 (length name)) (list_all is_cb_char name) is).1
+pub cb_name_is_text : (name : List ℕ) → is_cb_name name ≡ true → IsUtf8Text name
+cb_name_is_text name is =
+    class_is_text is_cb_char name cb_char_is_ascii refl (and_parts (nat_le 1 (length name)) (list_all is_cb_char name) is).1

@@ -1,7 +1,7 @@
 use Rattle.std.proofs.Common.{inl, inr, refl, sym}
 use Rattle.std.proofs.lemmas.Result.{err_from_is_err_and, on_ok_weaker, IfErr-weaker}
-use Rattle.account_commands.proofs.lemmas.EnrolFaults.{not_added, not_saved}
-use Rattle.command_io.proofs.lemmas.Results.{on_ok_both}
+use Rattle.account_commands.proofs.lemmas.EnrolFaults.{failed_adding_has_reason, failed_saving_has_reason}
+use Rattle.command_io.proofs.lemmas.Results.{on_ok_from_both}
 use Rattle.account_commands.proofs.enrol.add_and_save.Goals as goal
 
 -- the book of the file has changed, and the account is added to the one that is there now
@@ -9,7 +9,7 @@ pub returns-in_ok-held-in-Some-found-clause-saved : goal.returns-in_ok-held-in-S
 returns-in_ok-held-in-Some-found-clause-saved g c =
     let read = rw c.in-Some-found.is at c.in_ok-file.ensures.read in
     let saved = rw (sym c.in_ok-held-in-Some-found.ensures.saved) at read in
-    on_ok_both c.enrol.result c.enrol.ensures.added c.enrol.ensures.saved
+    on_ok_from_both c.enrol.result c.enrol.ensures.added c.enrol.ensures.saved
     (λ added done. record {
       first = c.in_ok-held-in-Some-found.held.book;
       is_first = inr (_, record { is_text = c.in_ok-held-in-Some-found.ensures.text; is_read = saved });
@@ -35,11 +35,11 @@ returns-in_ok-held-in-Some-found-clause-err g c =
     let read = rw c.in-Some-found.is at c.in_ok-file.ensures.read in
     let saved = rw (sym c.in_ok-held-in-Some-found.ensures.saved) at read in
     IfErr-weaker c.enrol.result _ _
-    (λ fault other. not_saved _ _ _ _ _ _ _ (record { is_text = c.in_ok-held-in-Some-found.ensures.text; is_read = saved })
+    (λ fault other. failed_saving_has_reason _ _ _ _ _ _ _ (record { is_text = c.in_ok-held-in-Some-found.ensures.text; is_read = saved })
     (rw c.in_ok-held-in-Some-found.ensures.path at other))
     c.enrol.ensures.err
 
 pub returns-in_err-add_to-clause-err : goal.returns-in_err-add_to-clause-err
 returns-in_err-add_to-clause-err g c =
     let e = err_from_is_err_and c.from_residual.result c.from_residual.ensures.1 in
-    rw (e.1, e.2) (not_added _ _ _ _ _ c.in_err-add_to.ensures.err)
+    rw (e.1, e.2) (failed_adding_has_reason _ _ _ _ _ c.in_err-add_to.ensures.err)

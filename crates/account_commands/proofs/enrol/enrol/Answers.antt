@@ -1,5 +1,5 @@
 use Rattle.std.proofs.lemmas.Result.{err_from_is_err_and, on_ok_weaker}
-use Rattle.account_commands.proofs.lemmas.EnrolFaults.{not_enrolled}
+use Rattle.account_commands.proofs.lemmas.EnrolFaults.{unsaved_account_ends_enrol}
 use Rattle.account_commands.proofs.enrol.enrol.Goals as goal
 
 pub returns-clause-ok : goal.returns-clause-ok
@@ -8,7 +8,7 @@ returns-clause-ok g c =
     (λ printed. record {
       account = c.in_ok-account.account;
       is_name = c.in_ok-account.ensures.name;
-      is_first = c.in_ok-account.ensures.password.0;
+      is_first_line = c.in_ok-account.ensures.password.0;
       is_password = c.in_ok-account.ensures.password.1;
       is_count = c.in_ok-account.ensures.count;
       file = c.in_ok-random.random.file;
@@ -26,5 +26,5 @@ returns-clause-ok g c =
 pub returns-in_err-add_and_save-clause-why : goal.returns-in_err-add_and_save-clause-why
 returns-in_err-add_and_save-clause-why g c =
     let e = err_from_is_err_and c.from_residual-in_err-add_and_save.result c.from_residual-in_err-add_and_save.ensures.1 in
-    rw (e.1, e.2) (not_enrolled _ _ _ _ _ _ _ _ _ c.given-path.ensures c.in_ok-account.ensures.name c.in_ok-book.ensures.book
+    rw (e.1, e.2) (unsaved_account_ends_enrol _ _ _ _ _ _ _ _ _ c.given-path.ensures c.in_ok-account.ensures.name c.in_ok-book.ensures.book
     c.in_err-add_and_save.ensures.err)

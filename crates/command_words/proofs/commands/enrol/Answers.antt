@@ -5,17 +5,17 @@ use Rattle.command_line.specs.declared.option_name.OptionName.TheVariants.{Book,
 use Rattle.clap.specs.Simple.{app_of_fields}
 use Rattle.clap.specs.declared.builder.command.Command.{Command}
 use Rattle.clap.specs.declared.builder.command.Command.TheOpen.{Command-F}
-use Rattle.command_words.proofs.lemmas.Adding.{new_command, with_option}
+use Rattle.command_words.proofs.lemmas.Adding.{new_command_has_no_options, command_has_added_option}
 use Rattle.command_words.proofs.commands.enrol.Goals as goal
 
 pub returns : goal.returns
 returns c =
-    let none : HasOptions (codes "enrol") [] c.after_help.result = new_command _ _ _ _ c.new.ensures.app c.new.ensures.local
+    let none : HasOptions (codes "enrol") [] c.after_help.result = new_command_has_no_options _ _ _ _ c.new.ensures.app c.new.ensures.local
     (ap app_of_fields c.about.ensures) (ap (λ (f : Command-F Command). f.has_globals) c.about.ensures)
     (ap app_of_fields c.after_help.ensures) (ap (λ (f : Command-F Command). f.has_globals) c.after_help.ensures) in
-    let one = with_option _ _ (required Book) _ _ _ c.in_ok-arg.ensures (search rules) c.book.ensures.local none in
-    let two = with_option _ _ (required Name) _ _ _ c.in_ok-arg-2.ensures (search rules) c.name.ensures.local one in
-    let three = with_option _ _ (with_default Count (codes "4096")) _ _ _ c.in_ok-arg-3.ensures
+    let one = command_has_added_option _ _ (required Book) _ _ _ c.in_ok-arg.ensures (search rules) c.book.ensures.local none in
+    let two = command_has_added_option _ _ (required Name) _ _ _ c.in_ok-arg-2.ensures (search rules) c.name.ensures.local one in
+    let three = command_has_added_option _ _ (with_default Count (codes "4096")) _ _ _ c.in_ok-arg-3.ensures
     (search rules) c.with_default.ensures.local two in
-    IfOk-weaker c.arg-4.result _ _ (λ command added. with_option _ _ (with_default Random (codes "/dev/urandom")) _ _ _ added
+    IfOk-weaker c.arg-4.result _ _ (λ command added. command_has_added_option _ _ (with_default Random (codes "/dev/urandom")) _ _ _ added
     (search rules) c.random.ensures.local three) c.arg-4.ensures

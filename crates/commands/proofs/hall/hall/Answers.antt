@@ -2,7 +2,7 @@ use Rattle.std.proofs.Common.{inr, ℕ, List, ◌∙◌, subst}
 use Rattle.std.proofs.lemmas.Result.{IfErr-weaker}
 use Rattle.commands.specs.Hall.{StopsHearing}
 use Rattle.commands.proofs.lemmas.Cases.{second_weaker}
-use Rattle.commands.proofs.lemmas.Faults.{holds_no_event}
+use Rattle.commands.proofs.lemmas.Faults.{unopened_book_excludes_bad_event}
 use Rattle.commands.proofs.hall.hall.Goals as goal
 
 pub returns-in-Ok-clause-err : goal.returns-in-Ok-clause-err
@@ -15,7 +15,7 @@ pub returns-in-Ok-clause-bad : goal.returns-in-Ok-clause-bad
 returns-in-Ok-clause-bad g c = λ is. (_, _, c.in-Ok.ensures.read, c.hear_input.ensures.bad is)
 
 pub returns-in-Err-clause-bad : goal.returns-in-Err-clause-bad
-returns-in-Err-clause-bad g c = λ is. absurd (holds_no_event _ _ _ c.in-Err.ensures.err (cc is))
+returns-in-Err-clause-bad g c = λ is. absurd (unopened_book_excludes_bad_event _ _ _ c.in-Err.ensures.err (cc is))
 
 pub returns-in-Ok-clause-why : goal.returns-in-Ok-clause-why
 returns-in-Ok-clause-why g c =

@@ -2,8 +2,8 @@ use Rattle.std.proofs.Common.{ap, ◌∙◌}
 use Rattle.std.proofs.lemmas.Result.{IfErr-weaker, on_ok_weaker}
 use Rattle.sasl_log.specs.Sink.{SinkFacts}
 use Rattle.commands.specs.declared.printed_log.PrintedLog.{PrintedLog}
-use Rattle.commands.proofs.lemmas.Faults.{begins_with_no_event, fails_to_begin, cannot_begin_stops_hearing}
-use Rattle.commands.proofs.lemmas.HeardLines.{prints_log, prints_to_bad_event, hall_stops_after}
+use Rattle.commands.proofs.lemmas.Faults.{failed_begin_excludes_bad_event, failed_begin_prints_nothing, failed_begin_stops_hearing}
+use Rattle.commands.proofs.lemmas.HeardLines.{hall_prints_its_log, hall_prints_to_bad_event, hall_stops_after}
 use Rattle.commands.proofs.hall.hear_input.Goals as goal
 
 -- what the hall heard is what the lines say, and its log, from which the output was taken back, is a front
@@ -12,7 +12,8 @@ returns-in-Ok-clause-ok g c =
     let before = ap (λ (f : SinkFacts). f.given) c.new.ensures in
     let after = c.into_output.ensures ∙ ap (λ (l : PrintedLog _). g.O.Write.contents l.output) c.into_log.ensures in
     on_ok_weaker c.hear_lines-heard.result
-    (prints_log g.S.BookStore.facts g.S.BookStore.IsStored _ _ _ _ _ _ _ _ _ _ c.log_is_a_front.ensures c.log_is_saved.ensures before
+    (hall_prints_its_log g.S.BookStore.facts g.S.BookStore.IsStored _ _ _ _ _ _ _ _ _ _ c.log_is_a_front.ensures c.log_is_saved.ensures
+      before
     after c.in-Ok.ensures.log)
     (rw c.new-lines.ensures.input at c.hear_lines-heard.ensures.ok)
 
@@ -27,21 +28,22 @@ returns-in-Ok-clause-err g c =
 
 pub returns-in-Err-clause-err : goal.returns-in-Err-clause-err
 returns-in-Err-clause-err g c =
-    fails_to_begin _ _ _ _ _ _ _ (ap (λ (f : SinkFacts). f.given) c.new.ensures) c.into_output-in-Err.ensures c.in-Err.ensures.err
+    failed_begin_prints_nothing _ _ _ _ _ _ _ (ap (λ (f : SinkFacts). f.given) c.new.ensures) c.into_output-in-Err.ensures
+        c.in-Err.ensures.err
 
 pub returns-in-Ok-clause-bad : goal.returns-in-Ok-clause-bad
 returns-in-Ok-clause-bad g c = λ is.
     let before = ap (λ (f : SinkFacts). f.given) c.new.ensures in
     let after = c.into_output.ensures ∙ ap (λ (l : PrintedLog _). g.O.Write.contents l.output) c.into_log.ensures in
-    prints_to_bad_event g.S.BookStore.facts g.S.BookStore.IsStored _ _ _ _ _ _ _ _ _ c.log_is_a_front.ensures c.log_is_saved.ensures
+    hall_prints_to_bad_event g.S.BookStore.facts g.S.BookStore.IsStored _ _ _ _ _ _ _ _ _ c.log_is_a_front.ensures c.log_is_saved.ensures
     c.phases_are_those_of_places.ensures before after c.in-Ok.ensures.log
     (rw c.new-lines.ensures.input at (c.hear_lines-heard.ensures.bad is))
 
 pub returns-in-Err-clause-bad : goal.returns-in-Err-clause-bad
-returns-in-Err-clause-bad g c = λ is. absurd (begins_with_no_event _ _ _ _ c.in-Err.ensures.err (cc is))
+returns-in-Err-clause-bad g c = λ is. absurd (failed_begin_excludes_bad_event _ _ _ _ c.in-Err.ensures.err (cc is))
 
 pub returns-in-Ok-clause-why : goal.returns-in-Ok-clause-why
 returns-in-Ok-clause-why g c = rw c.in-Ok.ensures.path at c.hear_lines-heard.ensures.why
 
 pub returns-in-Err-clause-why : goal.returns-in-Err-clause-why
-returns-in-Err-clause-why g c = cannot_begin_stops_hearing _ _ _ _ c.in-Err.ensures.err
+returns-in-Err-clause-why g c = failed_begin_stops_hearing _ _ _ _ c.in-Err.ensures.err

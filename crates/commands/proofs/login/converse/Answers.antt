@@ -1,17 +1,17 @@
 use Rattle.std.proofs.Common.{inl, refl}
 use Rattle.commands.specs.DeskLog.{IsLogAfterFaultWith}
 use Rattle.commands.specs.Talked.{talked_in}
-use Rattle.command_io.proofs.lemmas.Results.{handed_on}
-use Rattle.commands.proofs.lemmas.Logins.{stays_twice, fails_with}
+use Rattle.command_io.proofs.lemmas.Results.{handed_fault_keeps_fact}
+use Rattle.commands.proofs.lemmas.Logins.{two_steps_keep_log, later_fault_leaves_nonce_log}
 use Rattle.commands.proofs.login.converse.Goals as goal
 
 pub returns-in_err-hang_up-clause-after_fault : goal.returns-in_err-hang_up-clause-after_fault
 returns-in_err-hang_up-clause-after_fault g c =
-    handed_on c.from_residual-in_err-hang_up.result _
+    handed_fault_keeps_fact c.from_residual-in_err-hang_up.result _
     (IsLogAfterFaultWith g.S.BookStore.facts g.S.BookStore.IsStored g.C.Clock.IsNow c.args.server_nonce c.args.talk.now.desk
     (g.L.Sink.facts c.args.talk.now.log) c.hang_up.new.talk.desk (g.L.Sink.facts c.hang_up.new.talk.log))
     c.from_residual-in_err-hang_up.ensures.1
-    (fails_with g.S.BookStore.facts g.S.BookStore.IsStored g.C.Clock.IsNow _ _ _ _ _ _ _ _ c.in_ok-passed.ensures.log
+    (later_fault_leaves_nonce_log g.S.BookStore.facts g.S.BookStore.IsStored g.C.Clock.IsNow _ _ _ _ _ _ _ _ c.in_ok-passed.ensures.log
     c.in_err-hang_up.ensures.after_fault)
 
 -- where the client was let in and each code passed, it is told nothing more
@@ -25,7 +25,7 @@ returns-clause-passes g c = λ is. record {
 -- no session is open, so the log is clean
 pub returns-clause-clean : goal.returns-clause-clean
 returns-clause-clean g c = λ start before l.
-    let desk = stays_twice g.S.BookStore.facts g.S.BookStore.IsStored g.C.Clock.IsNow _ _ _ _ _ _ _ c.in_ok-passed.ensures.log
+    let desk = two_steps_keep_log g.S.BookStore.facts g.S.BookStore.IsStored g.C.Clock.IsNow _ _ _ _ _ _ _ c.in_ok-passed.ensures.log
     c.in_ok-hang_up.ensures.log start before l in (
       _,
       c.log_is_clean.ensures.closed start desk.calls c.hang_up.new.talk.desk desk.stands (inl c.in_ok-hang_up.ensures.closed),

@@ -53,6 +53,6 @@ returns-in-Ok-open-clause-passes g c = λ is.
       password = _;
       has_lf = has_lf;
       rest = _;
-      is_first = first;
+      is_first_line = first;
       passes = c.talk_over.ensures.passes is;
     }

@@ -2,8 +2,8 @@ use Rattle.std.proofs.Common.{[], ap, ◌∙◌}
 use Rattle.std.proofs.lemmas.Result.{IfErr-weaker, on_ok_weaker}
 use Rattle.sasl_log.specs.Sink.{SinkFacts}
 use Rattle.commands.specs.declared.printed_log.PrintedLog.{PrintedLog}
-use Rattle.commands.proofs.lemmas.Faults.{fails_to_begin}
-use Rattle.commands.proofs.lemmas.Logins.{passes_printed, printed_clean, login_stops_after}
+use Rattle.commands.proofs.lemmas.Faults.{failed_begin_prints_nothing}
+use Rattle.commands.proofs.lemmas.Logins.{passing_talk_is_printed, clean_log_is_printed, login_stops_after}
 use Rattle.commands.proofs.login.talk_over.Goals as goal
 
 pub returns-in-Ok-clause-ok : goal.returns-in-Ok-clause-ok
@@ -11,7 +11,7 @@ returns-in-Ok-clause-ok g c =
     let before = ap (λ (f : SinkFacts). f.given) c.new.ensures in
     let after = c.into_output.ensures ∙ ap (λ (l : PrintedLog _). g.O.Write.contents l.output) c.into_log.ensures in
     on_ok_weaker c.converse-passed.result
-    (printed_clean g.S.BookStore.facts g.S.BookStore.IsStored _ _ c.args.login.server_nonce _ _ _ _ _ _ before after
+    (clean_log_is_printed g.S.BookStore.facts g.S.BookStore.IsStored _ _ c.args.login.server_nonce _ _ _ _ _ _ before after
     (c.in-Ok.ensures.log c.args.login.server_nonce))
     c.converse-passed.ensures.clean
 
@@ -28,8 +28,9 @@ pub returns-in-Ok-clause-passes : goal.returns-in-Ok-clause-passes
 returns-in-Ok-clause-passes g c = λ is.
     let before = ap (λ (f : SinkFacts). f.given) c.new.ensures in
     let after = c.into_output.ensures ∙ ap (λ (l : PrintedLog _). g.O.Write.contents l.output) c.into_log.ensures in
-    passes_printed _ _ _ _ _ _ _ _ _ _ (c.converse-passed.ensures.passes is) before (c.in-Ok.ensures.log []).logged after
+    passing_talk_is_printed _ _ _ _ _ _ _ _ _ _ (c.converse-passed.ensures.passes is) before (c.in-Ok.ensures.log []).logged after
 
 pub returns-in-Err-clause-err : goal.returns-in-Err-clause-err
 returns-in-Err-clause-err g c =
-    fails_to_begin _ _ _ _ _ _ _ (ap (λ (f : SinkFacts). f.given) c.new.ensures) c.into_output-in-Err.ensures c.in-Err.ensures.err
+    failed_begin_prints_nothing _ _ _ _ _ _ _ (ap (λ (f : SinkFacts). f.given) c.new.ensures) c.into_output-in-Err.ensures
+        c.in-Err.ensures.err

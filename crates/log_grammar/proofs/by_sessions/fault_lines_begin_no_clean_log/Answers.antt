@@ -1,9 +1,10 @@
 use Rattle.log_grammar.specs.Versions.{any_version}
-use Rattle.log_grammar.proofs.lemmas.kinds.FaultLines.{fault_lines}
-use Rattle.log_grammar.proofs.lemmas.kinds.AllVersions.{nothing_both, shorter_both, ends_stand_both}
+use Rattle.log_grammar.proofs.lemmas.kinds.FaultLines.{fault_iff_first_outside}
+use Rattle.log_grammar.proofs.lemmas.kinds.AllVersions.{any_version_has_empty_front, any_version_can_be_shortened, any_version_clean_lines_stand}
 use Rattle.log_grammar.proofs.by_sessions.fault_lines_begin_no_clean_log.Goals as goal
 
 pub returns : goal.returns
 returns c = λ accounts fit.
-    fault_lines (any_version accounts) (nothing_both accounts) (shorter_both accounts) (ends_stand_both accounts)
+    fault_iff_first_outside (any_version accounts) (any_version_has_empty_front accounts) (any_version_can_be_shortened accounts)
+        (any_version_clean_lines_stand accounts)
     (c.fronts_begin_clean.ensures accounts fit)

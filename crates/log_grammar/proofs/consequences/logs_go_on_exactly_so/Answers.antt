@@ -9,25 +9,27 @@ use Rattle.log_grammar.specs.laws.LogLaws.{GoesOnByALine, HasLastTransition}
 use Rattle.log_grammar.proofs.consequences.logs_go_on_exactly_so.Goals as goal
 
 -- the line may stand at the place, its reply, if it is one, is due, and this is all that was told with it
-abbrev Stands : Accounts → Place → List LoggedReply → LogLine → Place → List LoggedReply → Type 0
-Stands accounts place told line next all =
+abbrev StandsAndTells : Accounts → Place → List LoggedReply → LogLine → Place → List LoggedReply → Type 0
+StandsAndTells accounts place told line next all =
     IsTransition (demands accounts) place line next × AreReplies (demands accounts) (reverse told) (told_at place line)
     × (all ≡ told ++ told_at place line)
 
 -- the last line of a log stands so at the place that the lines before it lead to
-there : (accounts : Accounts) (log : List LogLine) (place : Place) (told : List LoggedReply) (line : LogLine) (next : Place)
+last_line_stands : (accounts : Accounts) (log : List LogLine) (place : Place) (told : List LoggedReply) (line : LogLine) (next : Place)
     (all : List LoggedReply)
-    → (s : HasLastTransition accounts log line next all) → s.place ≡ place → s.told ≡ told → Stands accounts place told line next all
-there accounts log place told line next all s at also =
-    subst (λ (t : List LoggedReply). Stands accounts place t line next all) also
-    (subst (λ (p : Place). Stands accounts p s.told line next all) at (s.goes, s.due, s.tells))
+    → (s : HasLastTransition accounts log line next all) → s.place ≡ place → s.told ≡ told
+    → StandsAndTells accounts place told line next all
+last_line_stands accounts log place told line next all s at also =
+    subst (λ (t : List LoggedReply). StandsAndTells accounts place t line next all) also
+    (subst (λ (p : Place). StandsAndTells accounts p s.told line next all) at (s.goes, s.due, s.tells))
 
 -- a log goes on by a line that stands so
-back : GoesOnByALine → (accounts : Accounts) (log : List LogLine) (place : Place) (told : List LoggedReply) (line : LogLine) (next : Place)
+standing_line_goes_on : GoesOnByALine → (accounts : Accounts) (log : List LogLine) (place : Place) (told : List LoggedReply)
+    (line : LogLine) (next : Place)
     (all : List LoggedReply)
-    → Begins (demands accounts) log place told → Stands accounts place told line next all
+    → Begins (demands accounts) log place told → StandsAndTells accounts place told line next all
     → Begins (demands accounts) (log ++ line ∷ []) next all
-back on accounts log place told line next all begins stands =
+standing_line_goes_on on accounts log place told line next all begins stands =
     subst (λ (t : List LoggedReply). Begins (demands accounts) (log ++ line ∷ []) next t) (sym stands.2)
     (on accounts log place told line next begins stands.0 stands.1)
 
@@ -36,6 +38,6 @@ returns c = λ accounts log place told line next all begins. (
   λ longer.
       let s = c.goes_on_by_no_other.ensures accounts log line next all longer in
       let same = c.logs_have_one_reading.ensures accounts log s.place place s.told told s.begins begins in
-      there accounts log place told line next all s same.0 same.1,
-  λ stands. back c.goes_on_by_a_line.ensures accounts log place told line next all begins stands,
+      last_line_stands accounts log place told line next all s same.0 same.1,
+  λ stands. standing_line_goes_on c.goes_on_by_a_line.ensures accounts log place told line next all begins stands,
 )

@@ -1,9 +1,9 @@
 use Rattle.std.proofs.Common.{refl}
-use Rattle.log_grammar.proofs.lemmas.session_laws.SessionCounts.{sessions_counted}
+use Rattle.log_grammar.proofs.lemmas.session_laws.SessionCounts.{sessions_are_counted}
 use Rattle.log_grammar.proofs.examples.counted_logs.Goals as goal
 
 pub returns-clause-sessions : goal.returns-clause-sessions
-returns-clause-sessions c = sessions_counted
+returns-clause-sessions c = sessions_are_counted
 
 pub returns-clause-each : goal.returns-clause-each
 returns-clause-each c = λ names first challenge last message text moment counter. refl

@@ -1,6 +1,6 @@
-use Rattle.log_grammar.proofs.lemmas.small_logs.SmallLogs.{end_is_no_line, end_is_missing, abort_is_early, halt_is_early, other_offer_why}
-use Rattle.log_grammar.proofs.lemmas.small_logs.SmallLogs.{invited_why, turned_away_why, header_again, accepted_why, message_why}
-use Rattle.log_grammar.proofs.lemmas.small_logs.SmallLogs.{not_first_why}
+use Rattle.log_grammar.proofs.lemmas.small_logs.SmallLogs.{end_is_no_line, end_is_missing, abort_is_early, halt_is_early, other_offer_is_at_fault}
+use Rattle.log_grammar.proofs.lemmas.small_logs.SmallLogs.{invited_plain_is_at_fault, refused_auth_is_at_fault, header_again_is_early, accepted_abort_is_at_fault, refusal_message_is_at_fault}
+use Rattle.log_grammar.proofs.lemmas.small_logs.SmallLogs.{challenged_empty_is_at_fault}
 use Rattle.log_grammar.proofs.examples.faulty_logs.Goals as goal
 
 pub returns-clause-first : goal.returns-clause-first
@@ -13,25 +13,25 @@ pub returns-clause-halt : goal.returns-clause-halt
 returns-clause-halt c = halt_is_early c.has_one_client_first.ensures c.spells_one_name.ensures
 
 pub returns-clause-mechs : goal.returns-clause-mechs
-returns-clause-mechs c = other_offer_why c.has_one_client_first.ensures c.spells_one_name.ensures
+returns-clause-mechs c = other_offer_is_at_fault c.has_one_client_first.ensures c.spells_one_name.ensures
 
 pub returns-clause-outcome : goal.returns-clause-outcome
-returns-clause-outcome c = invited_why c.has_one_client_first.ensures c.spells_one_name.ensures
+returns-clause-outcome c = invited_plain_is_at_fault c.has_one_client_first.ensures c.spells_one_name.ensures
 
 pub returns-clause-challenge : goal.returns-clause-challenge
-returns-clause-challenge c = turned_away_why c.has_one_client_first.ensures c.spells_one_name.ensures
+returns-clause-challenge c = refused_auth_is_at_fault c.has_one_client_first.ensures c.spells_one_name.ensures
 
 pub returns-clause-end : goal.returns-clause-end
 returns-clause-end c = end_is_missing c.has_one_client_first.ensures c.spells_one_name.ensures
 
 pub returns-clause-first_again : goal.returns-clause-first_again
-returns-clause-first_again c = header_again c.has_one_client_first.ensures c.spells_one_name.ensures
+returns-clause-first_again c = header_again_is_early c.has_one_client_first.ensures c.spells_one_name.ensures
 
 pub returns-clause-accepted : goal.returns-clause-accepted
-returns-clause-accepted c = accepted_why c.has_one_client_first.ensures c.spells_one_name.ensures
+returns-clause-accepted c = accepted_abort_is_at_fault c.has_one_client_first.ensures c.spells_one_name.ensures
 
 pub returns-clause-message : goal.returns-clause-message
-returns-clause-message c = message_why c.has_one_client_first.ensures c.spells_one_name.ensures
+returns-clause-message c = refusal_message_is_at_fault c.has_one_client_first.ensures c.spells_one_name.ensures
 
 pub returns-clause-not_first : goal.returns-clause-not_first
-returns-clause-not_first c = not_first_why c.has_one_client_first.ensures c.spells_one_name.ensures
+returns-clause-not_first c = challenged_empty_is_at_fault c.has_one_client_first.ensures c.spells_one_name.ensures

@@ -1,10 +1,10 @@
 use Rattle.log_grammar.specs.Versions.{any_version}
-use Rattle.log_grammar.proofs.lemmas.kinds.Judged.{why_once}
-use Rattle.log_grammar.proofs.lemmas.kinds.AllVersions.{wrong_once_both}
+use Rattle.log_grammar.proofs.lemmas.kinds.Judged.{one_fault_reason}
+use Rattle.log_grammar.proofs.lemmas.kinds.AllVersions.{any_version_has_one_reason}
 use Rattle.log_grammar.proofs.laws.each_fault_has_one_reason.Goals as goal
 
 pub returns : goal.returns
-returns c = λ accounts. why_once (any_version accounts) (wrong_once_both (record {
+returns c = λ accounts. one_fault_reason (any_version accounts) (any_version_has_one_reason (record {
   one_first = c.has_one_client_first.ensures;
   names = c.spells_one_name.ensures;
   verdicts = c.at_most_one_verdict_is_due.ensures;

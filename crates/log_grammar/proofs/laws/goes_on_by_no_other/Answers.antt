@@ -1,5 +1,5 @@
-use Rattle.log_grammar.proofs.lemmas.state_machine.PlaceBefore.{stood_before}
+use Rattle.log_grammar.proofs.lemmas.state_machine.PlaceBefore.{log_has_last_transition}
 use Rattle.log_grammar.proofs.laws.goes_on_by_no_other.Goals as goal
 
 pub returns : goal.returns
-returns c = stood_before
+returns c = log_has_last_transition

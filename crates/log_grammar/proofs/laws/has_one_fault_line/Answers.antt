@@ -1,6 +1,6 @@
 use Rattle.log_grammar.specs.Versions.{any_version}
-use Rattle.log_grammar.proofs.lemmas.kinds.Judged.{fault_once}
+use Rattle.log_grammar.proofs.lemmas.kinds.Judged.{one_fault_line}
 use Rattle.log_grammar.proofs.laws.has_one_fault_line.Goals as goal
 
 pub returns : goal.returns
-returns c = λ accounts. fault_once (any_version accounts)
+returns c = λ accounts. one_fault_line (any_version accounts)

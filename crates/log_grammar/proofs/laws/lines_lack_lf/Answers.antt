@@ -1,5 +1,5 @@
-use Rattle.log_grammar.proofs.lemmas.lines.LackLf.{text_lacks}
+use Rattle.log_grammar.proofs.lemmas.lines.LackLf.{lines_lack_lf}
 use Rattle.log_grammar.proofs.laws.lines_lack_lf.Goals as goal
 
 pub returns : goal.returns
-returns c = text_lacks
+returns c = lines_lack_lf

@@ -8,19 +8,19 @@ use Rattle.log_grammar.specs.Places.{waits_code, got_code, leaving, over, halted
 use Rattle.log_grammar.specs.Demands.{Accounts, AllCanBeChallenged, IsVerdictDue, demands}
 use Rattle.log_grammar.specs.state_machine.Steps.{IsTransition, told_at}
 use Rattle.log_grammar.specs.Numbered.{Numbered, MayBeNumbered, MayFollow}
-use Rattle.log_grammar.specs.NumberedLines.{MayHaveNumber}
-use Rattle.log_grammar.proofs.lemmas.completions.Verdicts.{Ground, refusal_line, acceptance_line, some_verdict}
-use Rattle.log_grammar.proofs.lemmas.lines.Written.{gone_written, end_written, cont_written, bare_no_written}
-use Rattle.log_grammar.proofs.lemmas.demands.StillChallenged.{Opened}
-use Rattle.log_grammar.proofs.lemmas.demands.Challenges.{decided_offered, decided_login, some_challenge}
-use Rattle.log_grammar.proofs.lemmas.lines.TextBytes.{utf8_message}
+use Rattle.log_grammar.specs.NumberedLines.{IsNoFirstLine}
+use Rattle.log_grammar.proofs.lemmas.completions.Verdicts.{CompletionLaws, due_refusal_is_writable, due_acceptance_is_writable, some_verdict}
+use Rattle.log_grammar.proofs.lemmas.lines.Written.{gone_is_writable, end_is_writable, cont_is_writable, bare_no_is_writable}
+use Rattle.log_grammar.proofs.lemmas.demands.StillChallenged.{ChallengeMeetsDemand}
+use Rattle.log_grammar.proofs.lemmas.demands.Challenges.{decided_offered, decided_first_message, some_challenge}
+use Rattle.log_grammar.proofs.lemmas.lines.TextBytes.{utf8_is_message}
 
 -- a line that may be written at any time, and that any line may follow
 pub record IsPlain (line : LogLine) : Type 0 where
   pub writable : IsWritable line
   pub room : (limit : ℕ) (before : List (Numbered LogLine)) (n : ℕ) → MayBeNumbered limit before n line
   pub follow : (n m : ℕ) (next : LogLine) → MayFollow n line m next
-  pub has_number : MayHaveNumber line
+  pub has_number : IsNoFirstLine line
 
 -- these lines lead from a place to the end of the session, and tell nothing
 abbrev pub Closes : Accounts → Place → List LogLine → Type 0
@@ -29,77 +29,79 @@ Closes accounts place (line ∷ more) =
     IsPlain line × (told_at place line ≡ []) × (next : Place) × IsTransition (demands accounts) place line next × Closes accounts next more
 
 -- `E` can be written, has room after any lines, and any line may follow it
-pub plain_end : IsPlain ended
-plain_end = record { writable = end_written; room = λ limit before n. tt; follow = λ n m next. tt; has_number = tt }
+pub end_is_plain : IsPlain ended
+end_is_plain = record { writable = end_is_writable; room = λ limit before n. tt; follow = λ n m next. tt; has_number = tt }
 
 -- `C GONE`, and `S NO`, `S CONT` and `S OK` with a message that can be written, may be written at any time as well:
-plain_gone : IsPlain gone
-plain_gone = record { writable = gone_written; room = λ limit before n. tt; follow = λ n m next. tt; has_number = tt }
+gone_is_plain : IsPlain gone
+gone_is_plain = record { writable = gone_is_writable; room = λ limit before n. tt; follow = λ n m next. tt; has_number = tt }
 
-plain_refuses : (message : List ℕ) → IsWritable (said (refuses message)) → IsPlain (said (refuses message))
-plain_refuses message writable = record { writable = writable; room = λ limit before n. tt; follow = λ n m next. tt; has_number = tt }
+no_is_plain : (message : List ℕ) → IsWritable (said (refuses message)) → IsPlain (said (refuses message))
+no_is_plain message writable = record { writable = writable; room = λ limit before n. tt; follow = λ n m next. tt; has_number = tt }
 
-plain_cont : (message : List ℕ) → IsWritable (said (cont message)) → IsPlain (said (cont message))
-plain_cont message writable = record { writable = writable; room = λ limit before n. tt; follow = λ n m next. tt; has_number = tt }
+cont_is_plain : (message : List ℕ) → IsWritable (said (cont message)) → IsPlain (said (cont message))
+cont_is_plain message writable = record { writable = writable; room = λ limit before n. tt; follow = λ n m next. tt; has_number = tt }
 
-plain_accepts : (message : List ℕ) → IsWritable (said (accepts message)) → IsPlain (said (accepts message))
-plain_accepts message writable = record { writable = writable; room = λ limit before n. tt; follow = λ n m next. tt; has_number = tt }
+ok_is_plain : (message : List ℕ) → IsWritable (said (accepts message)) → IsPlain (said (accepts message))
+ok_is_plain message writable = record { writable = writable; room = λ limit before n. tt; follow = λ n m next. tt; has_number = tt }
 
 -- some lines close a session at the place
 abbrev pub IsClosable : Accounts → Place → Type 0
 IsClosable accounts place = (lines : List LogLine) × Closes accounts place lines
 
 -- a session that is over is closed by its `E`
-close_over : (accounts : Accounts) → IsClosable accounts over
-close_over accounts = (ended ∷ [], (plain_end, refl, between, refl, refl))
+over_is_closable : (accounts : Accounts) → IsClosable accounts over
+over_is_closable accounts = (ended ∷ [], (end_is_plain, refl, between, refl, refl))
 
 -- a session is closed by a refusal and `E`, where the server may refuse
-close_refused : (accounts : Accounts) (place : Place) (text : List ℕ) → IsWritable (said (refuses text))
+refused_place_is_closable : (accounts : Accounts) (place : Place) (text : List ℕ) → IsWritable (said (refuses text))
     → told_at place (said (refuses text)) ≡ []
     → IsTransition (demands accounts) place (said (refuses text)) over → IsClosable accounts place
-close_refused accounts place text writable quiet goes =
-    let end = close_over accounts in
-    (said (refuses text) ∷ end.0, (plain_refuses text writable, quiet, over, goes, end.1))
+refused_place_is_closable accounts place text writable quiet goes =
+    let end = over_is_closable accounts in
+    (said (refuses text) ∷ end.0, (no_is_plain text writable, quiet, over, goes, end.1))
 
 -- a session can be closed where it is the client's turn, since the client may go away
-close_turn : (accounts : Accounts) (place : Place) → told_at place gone ≡ [] → IsTransition (demands accounts) place gone over
+client_turn_is_closable : (accounts : Accounts) (place : Place) → told_at place gone ≡ [] → IsTransition (demands accounts) place gone over
     → IsClosable accounts place
-close_turn accounts place quiet goes = let end = close_over accounts in (gone ∷ end.0, (plain_gone, quiet, over, goes, end.1))
+client_turn_is_closable accounts place quiet goes =
+    let end = over_is_closable accounts in (gone ∷ end.0, (gone_is_plain, quiet, over, goes, end.1))
 
 -- a session can be closed where a mechanism was asked for without a message
-close_bare : (accounts : Accounts) (m : List ℕ) → IsClosable accounts (asks_bare m)
-close_bare accounts m = elim (decided_offered m) [
-  | inr none ↦ close_refused accounts (asks_bare m) [] bare_no_written refl ((none, refl), refl)
+asks_bare_is_closable : (accounts : Accounts) (m : List ℕ) → IsClosable accounts (asks_bare m)
+asks_bare_is_closable accounts m = elim (decided_offered m) [
+  | inr none ↦ refused_place_is_closable accounts (asks_bare m) [] bare_no_is_writable refl ((none, refl), refl)
   | inl is ↦
-      let turn = close_turn accounts (waits_first m) refl refl in
-      (said (cont []) ∷ turn.0, (plain_cont [] (cont_written [] tt (omega arith)), refl, waits_first m, ((is, refl), refl), turn.1))
+      let turn = client_turn_is_closable accounts (waits_first m) refl refl in
+      (said (cont []) ∷ turn.0, (cont_is_plain [] (cont_is_writable [] tt (omega arith)), refl, waits_first m, ((is, refl), refl), turn.1))
 ]
 
 -- a session can be closed where a client-first message waits for its answer
-close_first : Ground → (accounts : Accounts) → AllCanBeChallenged accounts → (m first : List ℕ) → IsClosable accounts (got_first m first)
-close_first ground accounts fit m first = elim (decided_login ground.once ground.firsts ground.names m first) [
-  | inr none ↦ close_refused accounts (got_first m first) [] bare_no_written refl ((none, refl), refl)
+got_first_is_closable : CompletionLaws → (accounts : Accounts) → AllCanBeChallenged accounts → (m first : List ℕ)
+    → IsClosable accounts (got_first m first)
+got_first_is_closable ground accounts fit m first = elim (decided_first_message ground.once ground.firsts ground.names m first) [
+  | inr none ↦ refused_place_is_closable accounts (got_first m first) [] bare_no_is_writable refl ((none, refl), refl)
   | inl is ↦
       let challenge = some_challenge accounts fit m first is.0 is.1 in
       let text = challenge.0 in
       let next = waits_final m is.0 first text in
       let message = challenge.1.opens.is_challenge in
-      let turn = close_turn accounts next refl refl in
-      let writable = cont_written text (utf8_message text message.utf8_text.utf8) message.short in
-      (said (cont text) ∷ turn.0, (plain_cont text writable, refl, next, (is.0, challenge.1, refl), turn.1))
+      let turn = client_turn_is_closable accounts next refl refl in
+      let writable = cont_is_writable text (utf8_is_message text message.utf8_text.utf8) message.short in
+      (said (cont text) ∷ turn.0, (cont_is_plain text writable, refl, next, (is.0, challenge.1, refl), turn.1))
 ]
 
 -- a session can be closed where a client-final message waits for the verdict that is due
-close_verdict : (accounts : Accounts) (m account first challenge last : List ℕ) (due : Due)
+got_final_is_closable : (accounts : Accounts) (m account first challenge last : List ℕ) (due : Due)
     → IsVerdictDue accounts m account first challenge last due
     → IsClosable accounts (got_final m account first challenge last)
-close_verdict accounts m account first challenge last (refuse why) is =
-    close_refused accounts (got_final m account first challenge last) (due_text (refuse why)) (refusal_line why) refl
+got_final_is_closable accounts m account first challenge last (refuse why) is =
+    refused_place_is_closable accounts (got_final m account first challenge last) (due_text (refuse why)) (due_refusal_is_writable why) refl
     ((why, is, refl), refl)
-close_verdict accounts m account first challenge last (accept signature) is =
-    let a = acceptance_line accounts m account first challenge last signature is in
-    let turn = close_turn accounts (waits_code account) refl refl in
-    (said (accepts a.text) ∷ turn.0, (plain_accepts a.text a.line, refl, waits_code account, ((signature, is, a.authentic), refl), turn.1))
+got_final_is_closable accounts m account first challenge last (accept signature) is =
+    let a = due_acceptance_is_writable accounts m account first challenge last signature is in
+    let turn = client_turn_is_closable accounts (waits_code account) refl refl in
+    (said (accepts a.text) ∷ turn.0, (ok_is_plain a.text a.line, refl, waits_code account, ((signature, is, a.authentic), refl), turn.1))
 
 -- a session is closed by some lines; or it has no line yet, waits for the reply to a code, or is halted
 abbrev pub Exit : Accounts → Place → Type 0
@@ -109,21 +111,23 @@ Exit accounts place =
 
 -- where a challenge can be written for each name, and the one that the place has meets its demand, each place has an exit: lines that
 -- close its session; or it is before all lines, a code waits for its reply, or it is halted
-pub exit_of : Ground → (accounts : Accounts) → AllCanBeChallenged accounts → (place : Place) → Opened (demands accounts) place
+pub place_has_exit : CompletionLaws → (accounts : Accounts) → AllCanBeChallenged accounts → (place : Place)
+    → ChallengeMeetsDemand (demands accounts) place
     → Exit accounts place
-exit_of ground accounts fit before_all opened = inr (inl refl)
-exit_of ground accounts fit between opened = inl ([], refl)
-exit_of ground accounts fit offered opened = inl (close_turn accounts offered refl refl)
-exit_of ground accounts fit (asks_bare m) opened = inl (close_bare accounts m)
-exit_of ground accounts fit (waits_first m) opened = inl (close_turn accounts (waits_first m) refl refl)
-exit_of ground accounts fit (got_first m first) opened = inl (close_first ground accounts fit m first)
-exit_of ground accounts fit (waits_final m account first challenge) opened = inl
-    (close_turn accounts (waits_final m account first challenge) refl refl)
-exit_of ground accounts fit (got_final m account first challenge last) opened =
+place_has_exit ground accounts fit before_all opened = inr (inl refl)
+place_has_exit ground accounts fit between opened = inl ([], refl)
+place_has_exit ground accounts fit offered opened = inl (client_turn_is_closable accounts offered refl refl)
+place_has_exit ground accounts fit (asks_bare m) opened = inl (asks_bare_is_closable accounts m)
+place_has_exit ground accounts fit (waits_first m) opened = inl (client_turn_is_closable accounts (waits_first m) refl refl)
+place_has_exit ground accounts fit (got_first m first) opened = inl (got_first_is_closable ground accounts fit m first)
+place_has_exit ground accounts fit (waits_final m account first challenge) opened = inl
+    (client_turn_is_closable accounts (waits_final m account first challenge) refl refl)
+place_has_exit ground accounts fit (got_final m account first challenge last) opened =
     let due = some_verdict ground.verdicts accounts m account first challenge last opened in
-    inl (close_verdict accounts m account first challenge last due.0 due.1)
-exit_of ground accounts fit (waits_code account) opened = inl (close_turn accounts (waits_code account) refl refl)
-exit_of ground accounts fit (got_code account sent) opened = inr (inr (inl (account, sent, refl)))
-exit_of ground accounts fit leaving opened = inl (close_refused accounts leaving [] bare_no_written refl (refl, refl))
-exit_of ground accounts fit over opened = inl (close_over accounts)
-exit_of ground accounts fit halted opened = inr (inr (inr refl))
+    inl (got_final_is_closable accounts m account first challenge last due.0 due.1)
+place_has_exit ground accounts fit (waits_code account) opened = inl (client_turn_is_closable accounts (waits_code account) refl refl)
+place_has_exit ground accounts fit (got_code account sent) opened = inr (inr (inl (account, sent, refl)))
+place_has_exit ground accounts fit leaving opened =
+    inl (refused_place_is_closable accounts leaving [] bare_no_is_writable refl (refl, refl))
+place_has_exit ground accounts fit over opened = inl (over_is_closable accounts)
+place_has_exit ground accounts fit halted opened = inr (inr (inr refl))

@@ -11,22 +11,22 @@ use Rattle.log_grammar.specs.Places.{Place, before_all, between, halted, is_clos
 use Rattle.log_grammar.specs.Demands.{Accounts, AllCanBeChallenged, Demands, demands, AreReplies}
 use Rattle.log_grammar.specs.state_machine.Steps.{IsTransition, told_at}
 use Rattle.log_grammar.specs.Numbered.{Numbered, numbered, MayFollow, SpellsNumbered, MayEndNumbered}
-use Rattle.log_grammar.specs.NumberedLines.{IsSessionNumber, MayHaveNumber, numbered_text, IsNumberedLine}
+use Rattle.log_grammar.specs.NumberedLines.{IsSessionNumber, IsNoFirstLine, numbered_text, IsNumberedLine}
 use Rattle.log_grammar.specs.state_machine.NumberedSteps.{IsVisitTransition, put}
-use Rattle.log_grammar.proofs.lemmas.completions.Closings.{Closes, exit_of}
-use Rattle.log_grammar.proofs.lemmas.completions.Verdicts.{Ground}
-use Rattle.log_grammar.proofs.lemmas.lines.Written.{halt_written}
-use Rattle.log_grammar.proofs.lemmas.many_sessions.WithoutLast.{numbered_before}
-use Rattle.log_grammar.proofs.lemmas.lines.NumberedReadBack.{numbered_lacks, numbered_written}
-use Rattle.log_grammar.proofs.lemmas.many_sessions.LogSteps.{numbered_on, between_begins}
-use Rattle.log_grammar.proofs.lemmas.many_sessions.OneReading.{nothing_begun, opened_numbered}
-use Rattle.log_grammar.proofs.lemmas.many_sessions.LinesOfNumber.{at_each, put_here, put_other}
-use Rattle.scram_text.proofs.lemmas.ListEnds.{last_same, with_last}
+use Rattle.log_grammar.proofs.lemmas.completions.Closings.{Closes, place_has_exit}
+use Rattle.log_grammar.proofs.lemmas.completions.Verdicts.{CompletionLaws}
+use Rattle.log_grammar.proofs.lemmas.lines.Written.{halt_is_writable}
+use Rattle.log_grammar.proofs.lemmas.many_sessions.WithoutLast.{numbered_log_has_last_transition}
+use Rattle.log_grammar.proofs.lemmas.lines.NumberedReadBack.{numbered_line_lacks_lf, numbered_line_is_writable}
+use Rattle.log_grammar.proofs.lemmas.many_sessions.LogSteps.{numbered_log_goes_on, visit_line_between_takes_number}
+use Rattle.log_grammar.proofs.lemmas.many_sessions.OneReading.{empty_log_tells_nothing, number_challenge_meets_demand}
+use Rattle.log_grammar.proofs.lemmas.many_sessions.LinesOfNumber.{one_and_others_cover_each, put_sets_own, put_keeps_others}
+use Rattle.scram_text.proofs.lemmas.ListEnds.{same_front_and_last, nonempty_has_last}
 use Rattle.log_grammar.proofs.lemmas.ListEnds.{length-last}
-use Rattle.log_grammar.proofs.lemmas.state_machine.StepKinds.{kind_of_step}
+use Rattle.log_grammar.proofs.lemmas.state_machine.StepKinds.{visit_transition_has_kind}
 
 -- a log of version 2 can be completed: some lines after it, each with its text, let it end
-pub record CompletesTwo (limit : ℕ) (accounts : Accounts) (log : List (Numbered LogLine)) : Type 0 where
+pub record IsNumberedCompletable (limit : ℕ) (accounts : Accounts) (log : List (Numbered LogLine)) : Type 0 where
   pub texts : List (List ℕ)
   pub more : List (Numbered LogLine)
   pub are : AllZip IsNumberedLine texts more
@@ -37,9 +37,10 @@ pub record CompletesTwo (limit : ℕ) (accounts : Accounts) (log : List (Numbere
   pub ends : MayEndNumbered places
 
 -- no more lines are needed to make a log clean, where the places of its numbers let it end
-pub finished : (limit : ℕ) (accounts : Accounts) (log : List (Numbered LogLine)) (places : ℕ → Place) (told : List LoggedReply)
-    → SpellsNumbered limit (demands accounts) log places told → MayEndNumbered places → CompletesTwo limit accounts log
-finished limit accounts log places told s ends = record {
+pub ended_numbered_log_is_completable : (limit : ℕ) (accounts : Accounts) (log : List (Numbered LogLine)) (places : ℕ → Place)
+    (told : List LoggedReply)
+    → SpellsNumbered limit (demands accounts) log places told → MayEndNumbered places → IsNumberedCompletable limit accounts log
+ended_numbered_log_is_completable limit accounts log places told s ends = record {
   texts = [];
   more = [];
   are = tt;
@@ -51,18 +52,19 @@ finished limit accounts log places told s ends = record {
 }
 
 -- a log can be completed where one more line can be written and the log with it can be completed
-pub then : (limit : ℕ) (accounts : Accounts) (log : List (Numbered LogLine)) (n : ℕ) (line : LogLine) → IsSessionNumber n
-    → MayHaveNumber line
+pub shorter_numbered_log_is_completable : (limit : ℕ) (accounts : Accounts) (log : List (Numbered LogLine)) (n : ℕ) (line : LogLine)
+    → IsSessionNumber n
+    → IsNoFirstLine line
     → IsWritable line
-    → CompletesTwo limit accounts (log ++ numbered n line ∷ []) → CompletesTwo limit accounts log
-then limit accounts log n line number has written c =
+    → IsNumberedCompletable limit accounts (log ++ numbered n line ∷ []) → IsNumberedCompletable limit accounts log
+shorter_numbered_log_is_completable limit accounts log n line number has written c =
     let x = numbered n line in
-    let is = numbered_written x number has written in
+    let is = numbered_line_is_writable x number has written in
     record {
       texts = numbered_text x ∷ c.texts;
       more = x ∷ c.more;
       are = (is, c.are);
-      lack = (numbered_lacks (numbered_text x) x is, c.lack);
+      lack = (numbered_line_lacks_lf (numbered_text x) x is, c.lack);
       places = c.places;
       told = c.told;
       spells = subst (λ (l : List (Numbered LogLine)). SpellsNumbered limit (demands accounts) l c.places c.told)
@@ -76,33 +78,36 @@ Free log = (before : List (Numbered LogLine)) (x : Numbered LogLine) → log ≡
     → MayFollow x.number x.value m next
 
 -- lines let any line follow, where any may follow the last of them
-pub free_after : (log : List (Numbered LogLine)) (n : ℕ) (line : LogLine) → ((m : ℕ) (next : LogLine) → MayFollow n line m next)
+pub log_is_free_after : (log : List (Numbered LogLine)) (n : ℕ) (line : LogLine) → ((m : ℕ) (next : LogLine) → MayFollow n line m next)
     → Free (log ++ numbered n line ∷ [])
-free_after log n line follow before x e m next =
-    subst (λ (z : Numbered LogLine). MayFollow z.number z.value m next) (last_same log before (numbered n line) x e).1 (follow m next)
+log_is_free_after log n line follow before x e m next =
+    subst (λ (z : Numbered LogLine). MayFollow z.number z.value m next) (same_front_and_last log before (numbered n line) x e).1
+        (follow m next)
 
 -- a log can be completed where lines close one number and the log after them can be completed
-close_number : (limit : ℕ) (accounts : Accounts) (n : ℕ) → IsSessionNumber n
+closing_number_completes_log : (limit : ℕ) (accounts : Accounts) (n : ℕ) → IsSessionNumber n
     → (lines : List LogLine) (log : List (Numbered LogLine)) (places : ℕ → Place) (told : List LoggedReply)
     → SpellsNumbered limit (demands accounts) log places told → Free log → Closes accounts (places n) lines
     → ((longer : List (Numbered LogLine)) (after : ℕ → Place) (all : List LoggedReply)
     → SpellsNumbered limit (demands accounts) longer after all → Free longer
-    → after n ≡ between → ((m : ℕ) → (n ≡ m → ⊥) → after m ≡ places m) → CompletesTwo limit accounts longer)
-    → CompletesTwo limit accounts log
-close_number limit accounts n number [] log places told s free closed on = on log places told s free closed (λ m other. refl)
-close_number limit accounts n number (line ∷ more) log places told s free (plain, quiet, next, goes, closes) on =
+    → after n ≡ between → ((m : ℕ) → (n ≡ m → ⊥) → after m ≡ places m) → IsNumberedCompletable limit accounts longer)
+    → IsNumberedCompletable limit accounts log
+closing_number_completes_log limit accounts n number [] log places told s free closed on =
+    on log places told s free closed (λ m other. refl)
+closing_number_completes_log limit accounts n number (line ∷ more) log places told s free (plain, quiet, next, goes, closes) on =
     let longer = log ++ numbered n line ∷ [] in
-    let s' = numbered_on limit (demands accounts) log places told n line next s (record {
+    let s' = numbered_log_goes_on limit (demands accounts) log places told n line next s (record {
       room = plain.room limit log n;
       next = λ before x e. free before x e n line;
       goes = inl goes;
       due = subst (AreReplies (demands accounts) (reverse told)) (sym quiet) tt;
     }) in
-    then limit accounts log n line number plain.has_number plain.writable
-    (close_number limit accounts n number more longer (put n next places) (told ++ told_at (places n) line) s'
-    (free_after log n line (plain.follow n)) (subst (λ (p : Place). Closes accounts p more) (sym (put_here n next places)) closes)
+    shorter_numbered_log_is_completable limit accounts log n line number plain.has_number plain.writable
+    (closing_number_completes_log limit accounts n number more longer (put n next places) (told ++ told_at (places n) line) s'
+    (log_is_free_after log n line (plain.follow n)) (subst (λ (p : Place). Closes accounts p more) (sym (put_sets_own n next places))
+      closes)
     (λ after_log after all r free' at others. on after_log after all r free' at
-    (λ m other. others m other ∙ put_other n next places m other)))
+    (λ m other. others m other ∙ put_keeps_others n next places m other)))
 
 -- a number at a place where no session is open, and that is not before all lines, is between sessions
 closed_is_between : (p : Place) → is_closed p ≡ true → (p ≡ before_all → ⊥) → p ≡ between
@@ -111,30 +116,32 @@ closed_is_between between is never = refl
 closed_is_between p is never = absurd (cc is)
 
 -- no line leads a number to the place before all lines
-never_before : (d : Demands) (place : Place) (line : LogLine) (next : Place) → IsVisitTransition d place line next
+no_line_leads_before_all : (d : Demands) (place : Place) (line : LogLine) (next : Place) → IsVisitTransition d place line next
     → (place ≡ before_all → ⊥) → next ≡ before_all → ⊥
-never_before d place line next goes never at = elim (kind_of_step d place line next goes) [
+no_line_leads_before_all d place line next goes never at = elim (visit_transition_has_kind d place line next goes) [
   | inl begins ↦ let wrong = sym (ap is_closed at) ∙ begins.3 in cc wrong
   | inr (inl ends) ↦ let wrong = sym at ∙ ends.3 in cc wrong
   | inr (inr keeps) ↦
       let between_is = closed_is_between place (keeps.2 ∙ ap is_closed at) never in
-      let wrong = sym keeps.0 ∙ between_begins d place line next between_is goes in cc wrong
+      let wrong = sym keeps.0 ∙ visit_line_between_takes_number d place line next between_is goes in cc wrong
 ]
 
 -- no number of a log stands before all lines
-not_before_all : (limit : ℕ) (d : Demands) (k : ℕ) (log : List (Numbered LogLine)) (p : ℕ → Place) (told : List LoggedReply)
+no_number_is_before_all : (limit : ℕ) (d : Demands) (k : ℕ) (log : List (Numbered LogLine)) (p : ℕ → Place) (told : List LoggedReply)
     → length log ≤ k
     → SpellsNumbered limit d log p told → (n : ℕ) → p n ≡ before_all → ⊥
-not_before_all limit d k [] p told short s = λ n at. let wrong = sym ((nothing_begun limit d p told s).0 n) ∙ at in cc wrong
-not_before_all limit d zero (x ∷ log) p told short s = absurd (omega (arith, short))
-not_before_all limit d (suc k) (x ∷ log) p told short s =
-    let last = with_last x log in
+no_number_is_before_all limit d k [] p told short s =
+    λ n at. let wrong = sym ((empty_log_tells_nothing limit d p told s).0 n) ∙ at in cc wrong
+no_number_is_before_all limit d zero (x ∷ log) p told short s = absurd (omega (arith, short))
+no_number_is_before_all limit d (suc k) (x ∷ log) p told short s =
+    let last = nonempty_has_last x log in
     let n = last.1.number in
-    let b = numbered_before limit d last.0 n last.1.value p told
+    let b = numbered_log_has_last_transition limit d last.0 n last.1.value p told
     (subst (λ (l : List (Numbered LogLine)). SpellsNumbered limit d l p told) last.2 s) in
     let shorter : length last.0 ≤ k = omega (arith, short, ap length last.2, length-last last.0 last.1) in
-    let earlier = not_before_all limit d k last.0 b.before b.told shorter b.spells in
-    at_each (λ (m : ℕ). p m ≡ before_all → ⊥) n (never_before d (b.before n) last.1.value (p n) b.goes.goes (earlier n))
+    let earlier = no_number_is_before_all limit d k last.0 b.before b.told shorter b.spells in
+    one_and_others_cover_each (λ (m : ℕ). p m ≡ before_all → ⊥) n (no_line_leads_before_all d (b.before n) last.1.value (p n) b.goes.goes
+        (earlier n))
     (λ m other at. earlier m (sym (b.others m other) ∙ at))
 
 -- the numbers that are open are in their range
@@ -142,29 +149,32 @@ abbrev pub OpenInRange : (ℕ → Place) → Type 0
 OpenInRange places = (n : ℕ) → is_closed (places n) ≡ false → IsSessionNumber n
 
 -- a log can be completed by a halt, where the place of some number allows it
-by_halt : (limit : ℕ) (accounts : Accounts) (log : List (Numbered LogLine)) (places : ℕ → Place) (told : List LoggedReply) (n : ℕ)
+halt_completes_log : (limit : ℕ) (accounts : Accounts) (log : List (Numbered LogLine)) (places : ℕ → Place) (told : List LoggedReply)
+    (n : ℕ)
     → IsSessionNumber n
     → SpellsNumbered limit (demands accounts) log places told → Free log → IsTransition (demands accounts) (places n) (said halt) halted
-    → told_at (places n) (said halt) ≡ [] → CompletesTwo limit accounts log
-by_halt limit accounts log places told n number s free goes quiet =
-    let s' = numbered_on limit (demands accounts) log places told n (said halt) halted s (record {
+    → told_at (places n) (said halt) ≡ [] → IsNumberedCompletable limit accounts log
+halt_completes_log limit accounts log places told n number s free goes quiet =
+    let s' = numbered_log_goes_on limit (demands accounts) log places told n (said halt) halted s (record {
       room = tt;
       next = λ before x e. free before x e n (said halt);
       goes = inl goes;
       due = subst (AreReplies (demands accounts) (reverse told)) (sym quiet) tt;
     }) in
-    then limit accounts log n (said halt) number tt halt_written
-    (finished limit accounts (log ++ numbered n (said halt) ∷ []) (put n halted places) (told ++ told_at (places n) (said halt)) s'
-    (inr (n, put_here n halted places)))
+    shorter_numbered_log_is_completable limit accounts log n (said halt) number tt halt_is_writable
+    (ended_numbered_log_is_completable limit accounts (log ++ numbered n (said halt) ∷ []) (put n halted places)
+      (told ++ told_at (places n) (said halt)) s'
+    (inr (n, put_sets_own n halted places)))
 
 -- where the numbers from one on are closed, the log is completed by closing those below it
-pub close_all : Ground → (limit : ℕ) (accounts : Accounts) → AllCanBeChallenged accounts
+pub closing_all_completes_log : CompletionLaws → (limit : ℕ) (accounts : Accounts) → AllCanBeChallenged accounts
     → (k : ℕ) (log : List (Numbered LogLine)) (places : ℕ → Place) (told : List LoggedReply)
     → SpellsNumbered limit (demands accounts) log places told → Free log → OpenInRange places → ((n : ℕ) → k ≤ n → places n ≡ between)
-    → CompletesTwo limit accounts log
-close_all ground limit accounts fit zero log places told s free ranged closed = finished limit accounts log places told s
+    → IsNumberedCompletable limit accounts log
+closing_all_completes_log ground limit accounts fit zero log places told s free ranged closed =
+    ended_numbered_log_is_completable limit accounts log places told s
     (inl (λ n. closed n (omega arith)))
-close_all ground limit accounts fit (suc k) log places told s free ranged closed =
+closing_all_completes_log ground limit accounts fit (suc k) log places told s free ranged closed =
     let below : (p : ℕ → Place) → p k ≡ between → ((m : ℕ) → (k ≡ m → ⊥) → p m ≡ places m) → (n : ℕ) → k ≤ n → p n ≡ between =
     λ p at others n most. elim (eqb_tells k n) [
       | inl same ↦ subst (λ (m : ℕ). p m ≡ between) same.1 at
@@ -172,28 +182,29 @@ close_all ground limit accounts fit (suc k) log places told s free ranged closed
     ]
     in
     let ranged_on : (p : ℕ → Place) → p k ≡ between → ((m : ℕ) → (k ≡ m → ⊥) → p m ≡ places m) → OpenInRange p =
-    λ p at others. at_each (λ (m : ℕ). is_closed (p m) ≡ false → IsSessionNumber m) k
+    λ p at others. one_and_others_cover_each (λ (m : ℕ). is_closed (p m) ≡ false → IsSessionNumber m) k
     (λ is. let wrong = sym (ap is_closed at) ∙ is in cc wrong)
     (λ m other is. ranged m (sym (ap is_closed (others m other)) ∙ is))
     in
     elim (cases_Bool (is_closed (places k))) [
       | inl is ↦
           let at = closed_is_between (places k) is
-          (not_before_all limit (demands accounts) (length log) log places told (omega arith) s k) in
-          close_all ground limit accounts fit k log places told s free ranged (below places at (λ m other. refl))
+          (no_number_is_before_all limit (demands accounts) (length log) log places told (omega arith) s k) in
+          closing_all_completes_log ground limit accounts fit k log places told s free ranged (below places at (λ m other. refl))
       | inr opens ↦
           let number = ranged k opens in
-          let opened = opened_numbered limit (demands accounts) (length log) log places told (omega arith) s k in
-          elim (exit_of ground accounts fit (places k) opened) [
+          let opened = number_challenge_meets_demand limit (demands accounts) (length log) log places told (omega arith) s k in
+          elim (place_has_exit ground accounts fit (places k) opened) [
             | inl closable ↦
-                close_number limit accounts k number closable.0 log places told s free closable.1
-                (λ longer after all r free' at others. close_all ground limit accounts fit k longer after all r free'
+                closing_number_completes_log limit accounts k number closable.0 log places told s free closable.1
+                (λ longer after all r free' at others. closing_all_completes_log ground limit accounts fit k longer after all r free'
                 (ranged_on after at others) (below after at others))
-            | inr (inl start) ↦ absurd (not_before_all limit (demands accounts) (length log) log places told (omega arith) s k start)
+            | inr (inl start) ↦ absurd (no_number_is_before_all limit (demands accounts) (length log) log places told (omega arith) s k
+                start)
             | inr (inr (inl waits)) ↦
-                by_halt limit accounts log places told k number s free
+                halt_completes_log limit accounts log places told k number s free
                 (subst (λ (p : Place). IsTransition (demands accounts) p (said halt) halted) (sym waits.2) refl)
                 (ap (λ (p : Place). told_at p (said halt)) waits.2)
-            | inr (inr (inr halts)) ↦ finished limit accounts log places told s (inr (k, halts))
+            | inr (inr (inr halts)) ↦ ended_numbered_log_is_completable limit accounts log places told s (inr (k, halts))
           ]
     ]

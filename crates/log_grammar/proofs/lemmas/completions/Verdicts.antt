@@ -5,26 +5,26 @@ use Rattle.mac_core.specs.Mechanism.{length_by}
 use Rattle.mac_core.specs.declared.mechanism.Mechanism.{Mechanism}
 use Rattle.scram_text.specs.Laws.{HasOneClientFirst, ClientFirstIsDecided, NameIsDecided}
 use Rattle.scram_text.specs.Messages.{verifier, server_error, IsServerFinal}
-use Rattle.scram_text.proofs.lemmas.Base64.{field_of_bytes}
-use Rattle.scram_text.proofs.lemmas.Composed.{signature_text, error_text, server_final_related}
+use Rattle.scram_text.proofs.lemmas.Base64.{bytes_are_field}
+use Rattle.scram_text.proofs.lemmas.Composed.{signature_is_text, error_is_text, written_is_server_final}
 use Rattle.scram_ends.specs.Stages.{challenged_login}
 use Rattle.scram_ends.specs.Verdict.{Due, accept, refuse, due_text, final_due, error_value}
 use Rattle.scram_ends.specs.Login.{IsAuthentic}
 use Rattle.scram_ends.specs.Laws.{SomeVerdictIsDue}
 use Rattle.scram_ends.specs.declared.verdict.Refusal.{Refusal}
 use Rattle.mac_core.proofs.lemmas.Lengths.{length-hmac_by}
-use Rattle.scram_ends.proofs.lemmas.Digests.{AreBytes, mac_bytes}
-use Rattle.scram_ends.proofs.lemmas.HonestLogins.{length_range}
-use Rattle.scram_ends.proofs.lemmas.Verdicts.{signature_due}
-use Rattle.scram_ends.proofs.lemmas.Written.{can_be_signature, signature_fits, can_be_refusal, refusal_fits}
+use Rattle.scram_ends.proofs.lemmas.Digests.{AreBytes, mac_is_bytes}
+use Rattle.scram_ends.proofs.lemmas.HonestLogins.{digest_length_is_in_range}
+use Rattle.scram_ends.proofs.lemmas.Verdicts.{due_signature_is_servers}
+use Rattle.scram_ends.proofs.lemmas.Written.{signature_can_be_written, signature_fits, refusal_can_be_written, refusal_fits}
 use Rattle.log_grammar.specs.Lines.{said, accepts, refuses, IsWritable}
 use Rattle.log_grammar.specs.Demands.{Accounts, IsChallenged, IsVerdictDue}
-use Rattle.log_grammar.proofs.lemmas.lines.Written.{refuses_written, accepts_written}
-use Rattle.log_grammar.proofs.lemmas.lines.TextBytes.{utf8_message}
+use Rattle.log_grammar.proofs.lemmas.lines.Written.{no_is_writable, ok_is_writable}
+use Rattle.log_grammar.proofs.lemmas.lines.TextBytes.{utf8_is_message}
 
 -- the laws of the crates below: a client-first message has one list of parts at most; whether a text is one, and whether a text spells
 -- a name, is decided; and some verdict is due to each login
-pub record Ground : Type 0 where
+pub record CompletionLaws : Type 0 where
   pub once : HasOneClientFirst
   pub firsts : ClientFirstIsDecided
   pub names : NameIsDecided
@@ -39,53 +39,54 @@ some_verdict verdicts accounts mechanism account first challenge last is =
     (due.0, (is.m, is.offered, due.1))
 
 -- the message that accepts with a signature, or refuses for a reason, is a server-final message:
-accepting : (signature : List ℕ) → AreBytes signature → 1 ≤ length signature → length signature ≤ 64
+acceptance_is_server_final : (signature : List ℕ) → AreBytes signature → 1 ≤ length signature → length signature ≤ 64
     → IsServerFinal (due_text (accept signature)) (final_due (accept signature))
-accepting signature fits some within =
-    let field = field_of_bytes 64 signature fits some within in
+acceptance_is_server_final signature fits some within =
+    let field = bytes_are_field 64 signature fits some within in
     let short : length (due_text (accept signature)) ≤ 2048 = elim (cases_lt 2048 (length (due_text (accept signature)))) [
       | inl long ↦ absurd (signature_fits signature within long)
       | inr fits ↦ fits
     ] in
-    server_final_related (verifier signature) [] (signature_text signature fits) (can_be_signature signature field) short
+    written_is_server_final (verifier signature) [] (signature_is_text signature fits) (signature_can_be_written signature field) short
 
-refusing : (why : Refusal) → IsServerFinal (due_text (refuse why)) (final_due (refuse why))
-refusing why =
-    let can = can_be_refusal why in
+refusal_is_server_final : (why : Refusal) → IsServerFinal (due_text (refuse why)) (final_due (refuse why))
+refusal_is_server_final why =
+    let can = refusal_can_be_written why in
     let short : length (due_text (refuse why)) ≤ 2048 = elim (cases_lt 2048 (length (due_text (refuse why)))) [
       | inl long ↦ absurd (refusal_fits why long)
       | inr fits ↦ fits
     ] in
-    server_final_related (server_error (error_value why)) [] (error_text (error_value why) can.outcome_class.1) can short
+    written_is_server_final (server_error (error_value why)) [] (error_is_text (error_value why) can.outcome_class.1) can short
 
 -- a signature as long as a mechanism's digests has from 1 to 64 bytes
-signature_range : (m : Mechanism) (n : ℕ) → n ≡ length_by m → (1 ≤ n) × (n ≤ 64)
-signature_range m n is = let range = length_range m in (omega (arith, is, range.0), omega (arith, is, range.1))
+signature_length_is_in_range : (m : Mechanism) (n : ℕ) → n ≡ length_by m → (1 ≤ n) × (n ≤ 64)
+signature_length_is_in_range m n is = let range = digest_length_is_in_range m in (omega (arith, is, range.0), omega (arith, is, range.1))
 
 -- `S NO` with the message of a refusal can be written
-pub refusal_line : (why : Refusal) → IsWritable (said (refuses (due_text (refuse why))))
-refusal_line why =
-    let final = refusing why in
+pub due_refusal_is_writable : (why : Refusal) → IsWritable (said (refuses (due_text (refuse why))))
+due_refusal_is_writable why =
+    let final = refusal_is_server_final why in
     let text = due_text (refuse why) in
-    refuses_written text (utf8_message text final.utf8_text.utf8) final.short
+    no_is_writable text (utf8_is_message text final.utf8_text.utf8) final.short
 
 -- an acceptance with this signature can be written, by a message that bears it
-pub record Accepting (signature : List ℕ) : Type 0 where
+pub record WritableAcceptance (signature : List ℕ) : Type 0 where
   pub text : List ℕ
   pub line : IsWritable (said (accepts text))
   pub authentic : IsAuthentic text signature
 
 -- where acceptance is due to a login, `S OK` can be written with a message that bears the signature due
-pub acceptance_line : (accounts : Accounts) (mechanism account first challenge last signature : List ℕ)
-    → IsVerdictDue accounts mechanism account first challenge last (accept signature) → Accepting signature
-acceptance_line accounts mechanism account first challenge last signature is =
-    let (keys, auth, signed) = signature_due (challenged_login (accounts.entry is.0 account) is.0 first challenge) last signature is.2 in
-    let bytes = subst AreBytes (sym signed) (mac_bytes is.0 keys.server auth) in
-    let range = signature_range is.0 (length signature) (ap length signed ∙ length-hmac_by is.0 keys.server auth) in
-    let final = accepting signature bytes range.0 range.1 in
+pub due_acceptance_is_writable : (accounts : Accounts) (mechanism account first challenge last signature : List ℕ)
+    → IsVerdictDue accounts mechanism account first challenge last (accept signature) → WritableAcceptance signature
+due_acceptance_is_writable accounts mechanism account first challenge last signature is =
+    let (keys, auth, signed) = due_signature_is_servers (challenged_login (accounts.entry is.0 account) is.0 first challenge) last signature
+        is.2 in
+    let bytes = subst AreBytes (sym signed) (mac_is_bytes is.0 keys.server auth) in
+    let range = signature_length_is_in_range is.0 (length signature) (ap length signed ∙ length-hmac_by is.0 keys.server auth) in
+    let final = acceptance_is_server_final signature bytes range.0 range.1 in
     let text = due_text (accept signature) in
     record {
       text = text;
-      line = accepts_written text (utf8_message text final.utf8_text.utf8) final.short;
+      line = ok_is_writable text (utf8_is_message text final.utf8_text.utf8) final.short;
       authentic = record { last = final_due (accept signature); is_last = final; not_mandatory = refl; is_verifier = refl };
     }

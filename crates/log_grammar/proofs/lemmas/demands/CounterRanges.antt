@@ -14,20 +14,20 @@ use Rattle.log_grammar.specs.Lines.{IsReplyInRange}
 use Rattle.log_grammar.specs.laws.Reasons.{DueRepliesCanBeWritten}
 
 -- where a token is in its ranges, the reply that is due is in its range
-counter_in_range : (token : TokenFields) (attempts : List Attempt) (moment : ℕ) (sent : CodeTexts) (reply : Reply) → IsInRange token
+due_reply_is_in_range : (token : TokenFields) (attempts : List Attempt) (moment : ℕ) (sent : CodeTexts) (reply : Reply) → IsInRange token
     → IsMoment moment
     → IsDueReply token attempts moment sent reply → IsReplyInRange (Some reply)
-counter_in_range (Hotp t) attempts moment (OneText text) (Pass c) range at due = omega (arith, due.1.0.most)
-counter_in_range (Hotp t) attempts moment (TwoTexts first second) (Pass c) range at due =
+due_reply_is_in_range (Hotp t) attempts moment (OneText text) (Pass c) range at due = omega (arith, due.1.0.most)
+due_reply_is_in_range (Hotp t) attempts moment (TwoTexts first second) (Pass c) range at due =
     omega (arith, due.1.1, due.1.2.1)
-counter_in_range (Totp t) attempts moment (OneText text) (Pass w) range at due =
+due_reply_is_in_range (Totp t) attempts moment (OneText text) (Pass w) range at due =
     let step = div-le_self (moment - t.t0) t.step in
     omega (arith, step, due.1.0.1.not_late, range.1.1.1.0, at)
-counter_in_range (Totp t) attempts moment (TwoTexts first second) (Pass c) range at due = absurd due.1.2
-counter_in_range token attempts moment sent Fail range at due = tt
-counter_in_range token attempts moment sent Locked range at due = tt
+due_reply_is_in_range (Totp t) attempts moment (TwoTexts first second) (Pass c) range at due = absurd due.1.2
+due_reply_is_in_range token attempts moment sent Fail range at due = tt
+due_reply_is_in_range token attempts moment sent Locked range at due = tt
 
 -- the law: where a token and the moment are in their ranges, the reply that is due can be written
-pub due_in_range : DueRepliesCanBeWritten
-due_in_range token attempts moment sent due range at (reply, is, by) =
-    subst IsReplyInRange (sym is) (counter_in_range token attempts moment sent reply range at by)
+pub due_replies_can_be_written : DueRepliesCanBeWritten
+due_replies_can_be_written token attempts moment sent due range at (reply, is, by) =
+    subst IsReplyInRange (sym is) (due_reply_is_in_range token attempts moment sent reply range at by)

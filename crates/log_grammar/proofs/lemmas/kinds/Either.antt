@@ -1,97 +1,102 @@
 -- Logs of two kinds that begin with different lines are one sound kind.
 use Rattle.std.proofs.Common.{◌≡◌, ◌⊎◌, inl, inr, ℕ, List, [], ◌∷◌, ◌++◌, refl, sym, ◌∙◌, subst}
-use Rattle.mac_core.proofs.lemmas.Decided.{Decided, decided_same}
+use Rattle.mac_core.proofs.lemmas.Decided.{Decided, decided_same_text}
 use Rattle.log_grammar.specs.Why.{Why, no_line}
 use Rattle.log_grammar.specs.LogKinds.{LogKind, either}
-use Rattle.log_grammar.proofs.lemmas.kinds.Judged.{IsShortened, EndsStand, IsWrongOnce, NextIsJudged, IsSound, first_stand}
+use Rattle.log_grammar.proofs.lemmas.kinds.Judged.{CanBeShortened, CleanLinesStand, HasOneReason, NextIsJudged, IsSound, first_lines_stand}
 use Rattle.log_grammar.proofs.lemmas.kinds.FaultLines.{FrontsBeginCleanOf, FaultText}
 
 -- each log of the kind begins with this line, and it may be alone
 pub record IsHeaded (kind : LogKind) (first : List ℕ) : Type 0 where
   pub begins : kind.MayBegin (first ∷ [])
   pub first_is : (text : List ℕ) → kind.MayBegin (text ∷ []) → text ≡ first
-  pub none_end : kind.AreClean [] → ⊥
+  pub empty_is_unclean : kind.AreClean [] → ⊥
 
 -- two kinds whose logs begin with different lines
 pub record AreApart (one two : LogKind) (first second : List ℕ) : Type 0 where
   pub differ : first ≡ second → ⊥
-  pub one_shorter : IsShortened one
-  pub two_shorter : IsShortened two
+  pub one_shorter : CanBeShortened one
+  pub two_shorter : CanBeShortened two
   pub one_headed : IsHeaded one first
   pub two_headed : IsHeaded two second
 
 -- lines that a log may begin with have the first line of its kind before all others
-pub head_is : (kind : LogKind) (first : List ℕ) → IsShortened kind → IsHeaded kind first → (t : List ℕ) (texts : List (List ℕ))
+pub head_is_first_line : (kind : LogKind) (first : List ℕ) → CanBeShortened kind → IsHeaded kind first
+    → (t : List ℕ) (texts : List (List ℕ))
     → kind.MayBegin (t ∷ texts) → t ≡ first
-head_is kind first shorter headed t texts stands = headed.first_is t (first_stand kind shorter (t ∷ []) texts stands)
+head_is_first_line kind first shorter headed t texts stands = headed.first_is t (first_lines_stand kind shorter (t ∷ []) texts stands)
 
 -- lines that begin with the first line of one kind are of that kind
-pub stands_in_one : (one two : LogKind) (first second : List ℕ) → AreApart one two first second → (t : List ℕ) (texts : List (List ℕ))
+pub first_line_shows_first_kind : (one two : LogKind) (first second : List ℕ) → AreApart one two first second
+    → (t : List ℕ) (texts : List (List ℕ))
     → t ≡ first
     → (either one two first second).MayBegin (t ∷ texts) → one.MayBegin (t ∷ texts)
-stands_in_one one two first second a t texts is (inl stands) = stands
-stands_in_one one two first second a t texts is (inr stands) =
-    absurd (a.differ (sym is ∙ head_is two second a.two_shorter a.two_headed t texts stands))
+first_line_shows_first_kind one two first second a t texts is (inl stands) = stands
+first_line_shows_first_kind one two first second a t texts is (inr stands) =
+    absurd (a.differ (sym is ∙ head_is_first_line two second a.two_shorter a.two_headed t texts stands))
 
 -- lines that begin with the first line of the second kind are of that kind
-pub stands_in_two : (one two : LogKind) (first second : List ℕ) → AreApart one two first second → (t : List ℕ) (texts : List (List ℕ))
+pub first_line_shows_second_kind : (one two : LogKind) (first second : List ℕ) → AreApart one two first second
+    → (t : List ℕ) (texts : List (List ℕ))
     → t ≡ second
     → (either one two first second).MayBegin (t ∷ texts) → two.MayBegin (t ∷ texts)
-stands_in_two one two first second a t texts is (inl stands) =
-    absurd (a.differ (sym (head_is one first a.one_shorter a.one_headed t texts stands) ∙ is))
-stands_in_two one two first second a t texts is (inr stands) = stands
+first_line_shows_second_kind one two first second a t texts is (inl stands) =
+    absurd (a.differ (sym (head_is_first_line one first a.one_shorter a.one_headed t texts stands) ∙ is))
+first_line_shows_second_kind one two first second a t texts is (inr stands) = stands
 
 -- lines that a log of either of two kinds may begin with are such without the last of them
-pub either_shorter : (one two : LogKind) (first second : List ℕ) → IsShortened one → IsShortened two
-    → IsShortened (either one two first second)
-either_shorter one two first second shorter also texts text (inl stands) = inl (shorter texts text stands)
-either_shorter one two first second shorter also texts text (inr stands) = inr (also texts text stands)
+pub either_can_be_shortened : (one two : LogKind) (first second : List ℕ) → CanBeShortened one → CanBeShortened two
+    → CanBeShortened (either one two first second)
+either_can_be_shortened one two first second shorter also texts text (inl stands) = inl (shorter texts text stands)
+either_can_be_shortened one two first second shorter also texts text (inr stands) = inr (also texts text stands)
 
 -- the lines of a clean log of either kind are such as a log may begin with, where they are so in each kind
-pub either_ends_stand : (one two : LogKind) (first second : List ℕ) → EndsStand one → EndsStand two
-    → EndsStand (either one two first second)
-either_ends_stand one two first second stand also texts (inl ends) = inl (stand texts ends)
-either_ends_stand one two first second stand also texts (inr ends) = inr (also texts ends)
+pub either_clean_lines_stand : (one two : LogKind) (first second : List ℕ) → CleanLinesStand one → CleanLinesStand two
+    → CleanLinesStand (either one two first second)
+either_clean_lines_stand one two first second stand also texts (inl ends) = inl (stand texts ends)
+either_clean_lines_stand one two first second stand also texts (inr ends) = inr (also texts ends)
 
 -- a text after others is wrong for one reason at most, where it is so in each kind and their first lines differ
-pub either_wrong_once : (one two : LogKind) (first second : List ℕ) → (first ≡ second → ⊥) → IsWrongOnce one → IsWrongOnce two
-    → IsWrongOnce (either one two first second)
-either_wrong_once one two first second differ once also [] text w v a b = a.2 ∙ sym b.2
-either_wrong_once one two first second differ once also (t ∷ before) text w v (inl a) (inl b) = once (t ∷ before) text w v a.1 b.1
-either_wrong_once one two first second differ once also (t ∷ before) text w v (inl a) (inr b) = absurd (differ (sym a.0 ∙ b.0))
-either_wrong_once one two first second differ once also (t ∷ before) text w v (inr a) (inl b) = absurd (differ (sym b.0 ∙ a.0))
-either_wrong_once one two first second differ once also (t ∷ before) text w v (inr a) (inr b) = also (t ∷ before) text w v a.1 b.1
+pub either_has_one_reason : (one two : LogKind) (first second : List ℕ) → (first ≡ second → ⊥) → HasOneReason one → HasOneReason two
+    → HasOneReason (either one two first second)
+either_has_one_reason one two first second differ once also [] text w v a b = a.2 ∙ sym b.2
+either_has_one_reason one two first second differ once also (t ∷ before) text w v (inl a) (inl b) = once (t ∷ before) text w v a.1 b.1
+either_has_one_reason one two first second differ once also (t ∷ before) text w v (inl a) (inr b) = absurd (differ (sym a.0 ∙ b.0))
+either_has_one_reason one two first second differ once also (t ∷ before) text w v (inr a) (inl b) = absurd (differ (sym b.0 ∙ a.0))
+either_has_one_reason one two first second differ once also (t ∷ before) text w v (inr a) (inr b) = also (t ∷ before) text w v a.1 b.1
 
 -- whether lines that stand are a clean log is decided, where it is so in each kind
-decided_ends : (one two : LogKind) (first second : List ℕ) → AreApart one two first second → IsSound one → IsSound two
+decided_either_clean : (one two : LogKind) (first second : List ℕ) → AreApart one two first second → IsSound one → IsSound two
     → (texts : List (List ℕ)) → (either one two first second).MayBegin texts → Decided ((either one two first second).AreClean texts)
-decided_ends one two first second a s z [] stands =
-    inr (λ ends. elim ends [ inl none ↦ a.one_headed.none_end none | inr none ↦ a.two_headed.none_end none ])
-decided_ends one two first second a s z (t ∷ texts) (inl stands) =
-    let is = head_is one first a.one_shorter a.one_headed t texts stands in
-    elim (s.decided_ends (t ∷ texts) stands) [
+decided_either_clean one two first second a s z [] stands =
+    inr (λ ends. elim ends [ inl none ↦ a.one_headed.empty_is_unclean none | inr none ↦ a.two_headed.empty_is_unclean none ])
+decided_either_clean one two first second a s z (t ∷ texts) (inl stands) =
+    let is = head_is_first_line one first a.one_shorter a.one_headed t texts stands in
+    elim (s.decided_clean (t ∷ texts) stands) [
       | inl ends ↦ inl (inl ends)
       | inr none ↦ inr (λ ends. elim ends [
         | inl here ↦ none here
-        | inr other ↦ a.differ (sym is ∙ head_is two second a.two_shorter a.two_headed t texts (z.ends_stand (t ∷ texts) other))
+        | inr other ↦ a.differ (sym is ∙ head_is_first_line two second a.two_shorter a.two_headed t texts
+            (z.clean_lines_stand (t ∷ texts) other))
       ])
     ]
-decided_ends one two first second a s z (t ∷ texts) (inr stands) =
-    let is = head_is two second a.two_shorter a.two_headed t texts stands in
-    elim (z.decided_ends (t ∷ texts) stands) [
+decided_either_clean one two first second a s z (t ∷ texts) (inr stands) =
+    let is = head_is_first_line two second a.two_shorter a.two_headed t texts stands in
+    elim (z.decided_clean (t ∷ texts) stands) [
       | inl ends ↦ inl (inr ends)
       | inr none ↦ inr (λ ends. elim ends [
-        | inl other ↦ a.differ (sym (head_is one first a.one_shorter a.one_headed t texts (s.ends_stand (t ∷ texts) other)) ∙ is)
+        | inl other ↦ a.differ (sym (head_is_first_line one first a.one_shorter a.one_headed t texts
+            (s.clean_lines_stand (t ∷ texts) other)) ∙ is)
         | inr here ↦ none here
       ])
     ]
 
 -- a first text goes on as the first line of one kind, or is wrong as no line
-first_judged : (one two : LogKind) (first second : List ℕ) → AreApart one two first second → (text : List ℕ)
+first_text_is_judged : (one two : LogKind) (first second : List ℕ) → AreApart one two first second → (text : List ℕ)
     → NextIsJudged (either one two first second) [] text
-first_judged one two first second a text = elim (decided_same text first) [
+first_text_is_judged one two first second a text = elim (decided_same_text text first) [
   | inl is ↦ inl (inl (subst (λ (t : List ℕ). one.MayBegin (t ∷ [])) (sym is) a.one_headed.begins))
-  | inr other ↦ elim (decided_same text second) [
+  | inr other ↦ elim (decided_same_text text second) [
     | inl is ↦ inl (inr (subst (λ (t : List ℕ). two.MayBegin (t ∷ [])) (sym is) a.two_headed.begins))
     | inr also ↦ inr (
       λ stands. elim stands [ inl here ↦ other (a.one_headed.first_is text here) | inr here ↦ also (a.two_headed.first_is text here) ],
@@ -102,61 +107,63 @@ first_judged one two first second a text = elim (decided_same text first) [
 ]
 
 -- each text after lines that stand is judged, where it is so in each kind
-judged : (one two : LogKind) (first second : List ℕ) → AreApart one two first second → IsSound one → IsSound two
+either_next_is_judged : (one two : LogKind) (first second : List ℕ) → AreApart one two first second → IsSound one → IsSound two
     → (before : List (List ℕ)) (text : List ℕ) → (either one two first second).MayBegin before
     → NextIsJudged (either one two first second) before text
-judged one two first second a s z [] text stands = first_judged one two first second a text
-judged one two first second a s z (t ∷ before) text (inl stands) =
-    let is = head_is one first a.one_shorter a.one_headed t before stands in
-    elim (s.judged (t ∷ before) text stands) [
+either_next_is_judged one two first second a s z [] text stands = first_text_is_judged one two first second a text
+either_next_is_judged one two first second a s z (t ∷ before) text (inl stands) =
+    let is = head_is_first_line one first a.one_shorter a.one_headed t before stands in
+    elim (s.next_is_judged (t ∷ before) text stands) [
       | inl on ↦ inl (inl on)
-      | inr fault ↦ inr (λ more. fault.0 (stands_in_one one two first second a t (before ++ text ∷ []) is more), fault.1, inl (is, fault.2))
+      | inr fault ↦ inr (λ more. fault.0 (first_line_shows_first_kind one two first second a t (before ++ text ∷ []) is more), fault.1, inl
+          (is, fault.2))
     ]
-judged one two first second a s z (t ∷ before) text (inr stands) =
-    let is = head_is two second a.two_shorter a.two_headed t before stands in
-    elim (z.judged (t ∷ before) text stands) [
+either_next_is_judged one two first second a s z (t ∷ before) text (inr stands) =
+    let is = head_is_first_line two second a.two_shorter a.two_headed t before stands in
+    elim (z.next_is_judged (t ∷ before) text stands) [
       | inl on ↦ inl (inr on)
-      | inr fault ↦ inr (λ more. fault.0 (stands_in_two one two first second a t (before ++ text ∷ []) is more), fault.1, inr (is, fault.2))
+      | inr fault ↦ inr (λ more. fault.0 (first_line_shows_second_kind one two first second a t (before ++ text ∷ []) is more), fault.1, inr
+          (is, fault.2))
     ]
 
 -- two sound kinds whose logs begin with different lines are one sound kind together
-pub either_sound : (one two : LogKind) (first second : List ℕ) → AreApart one two first second → IsSound one → IsSound two
+pub either_is_sound : (one two : LogKind) (first second : List ℕ) → AreApart one two first second → IsSound one → IsSound two
     → IsSound (either one two first second)
-either_sound one two first second a s z = record {
+either_is_sound one two first second a s z = record {
   nothing = inl s.nothing;
-  shorter = either_shorter one two first second s.shorter z.shorter;
-  ends_stand = either_ends_stand one two first second s.ends_stand z.ends_stand;
-  decided_ends = decided_ends one two first second a s z;
-  wrong_once = either_wrong_once one two first second a.differ s.wrong_once z.wrong_once;
-  judged = judged one two first second a s z;
+  shorter = either_can_be_shortened one two first second s.shorter z.shorter;
+  clean_lines_stand = either_clean_lines_stand one two first second s.clean_lines_stand z.clean_lines_stand;
+  decided_clean = decided_either_clean one two first second a s z;
+  one_reason = either_has_one_reason one two first second a.differ s.one_reason z.one_reason;
+  next_is_judged = either_next_is_judged one two first second a s z;
 }
 
 -- each front begins a clean log, where it does so in each kind
-pub either_completes : (one two : LogKind) (first second : List ℕ) → FrontsBeginCleanOf one → FrontsBeginCleanOf two
+pub either_fronts_begin_clean : (one two : LogKind) (first second : List ℕ) → FrontsBeginCleanOf one → FrontsBeginCleanOf two
     → FrontsBeginCleanOf (either one two first second)
-either_completes one two first second completes also bytes (texts, cut, inl stands) =
+either_fronts_begin_clean one two first second completes also bytes (texts, cut, inl stands) =
     let (more, clean) = completes bytes (texts, cut, stands) in
     let (all, there, ends) = clean in
     (more, (all, there, inl ends))
-either_completes one two first second completes also bytes (texts, cut, inr stands) =
+either_fronts_begin_clean one two first second completes also bytes (texts, cut, inr stands) =
     let (more, clean) = also bytes (texts, cut, stands) in
     let (all, there, ends) = clean in
     (more, (all, there, inr ends))
 
 -- a whole line at fault is a first line, or at fault in one of the kinds
-pub fault_in_either : (one two : LogKind) (first second : List ℕ) → AreApart one two first second
+pub first_text_or_kind_fault : (one two : LogKind) (first second : List ℕ) → AreApart one two first second
     → (before : List (List ℕ)) (text : List ℕ) (why : Why)
     → FaultText (either one two first second) before text why
     → ((before ≡ []) × (why ≡ no_line)) ⊎ (FaultText one before text why ⊎ FaultText two before text why)
-fault_in_either one two first second a [] text why f = inl (refl, f.wrong.2)
-fault_in_either one two first second a (t ∷ before) text why f = elim f.wrong [
+first_text_or_kind_fault one two first second a [] text why f = inl (refl, f.wrong.2)
+first_text_or_kind_fault one two first second a (t ∷ before) text why f = elim f.wrong [
   | inl wrong ↦ inr (inl (record {
-    stands = stands_in_one one two first second a t before wrong.0 f.stands;
+    stands = first_line_shows_first_kind one two first second a t before wrong.0 f.stands;
     wrong = wrong.1;
     stuck = λ stands. f.stuck (inl stands);
   }))
   | inr wrong ↦ inr (inr (record {
-    stands = stands_in_two one two first second a t before wrong.0 f.stands;
+    stands = first_line_shows_second_kind one two first second a t before wrong.0 f.stands;
     wrong = wrong.1;
     stuck = λ stands. f.stuck (inr stands);
   }))

@@ -3,7 +3,7 @@ use Rattle.std.proofs.Common.{◌≡◌, ◌⊎◌, inl, inr, ℕ, suc, ◌≤�
 use Rattle.std.specs.List.{AllByRecursion, slice_split}
 use Rattle.std.specs.declared.option.Option.{Option}
 use Rattle.std.specs.declared.option.Option.TheVariants.{None, Some}
-use Rattle.mac_core.proofs.lemmas.Decided.{Decided, decided_by, decided_both, decided_le, decided_same}
+use Rattle.mac_core.proofs.lemmas.Decided.{Decided, decided_equivalent, decided_both, decided_le, decided_same_text}
 use Rattle.scram_text.proofs.lemmas.Decided.{decided_run}
 use Rattle.otp_core.specs.Ranges.{last_moment, most_counter}
 use Rattle.otp_core.specs.declared.token.reply.Reply.{Reply}
@@ -12,9 +12,9 @@ use Rattle.log_grammar.specs.Payload.{IsMessage}
 use Rattle.log_grammar.specs.Words.{is_mech_char, is_code_char, is_space, longest_mech_name, longest_code, IsMechName}
 use Rattle.log_grammar.specs.Lines.{ServerLine, mechs, cont, accepts, refuses, replies, halt, busy, ClientLine, auth, auth_with, resp}
 use Rattle.log_grammar.specs.Lines.{abort, code, sync, Line, from_server, from_client, LogLine, header, header_two, said, heard, bad}
-use Rattle.log_grammar.specs.Lines.{gone, ended, line_text, log_line_text, IsReplyInRange, IsServerInRange, IsClientInRange, IsLineInRange}
+use Rattle.log_grammar.specs.Lines.{gone, ended, line_text, log_line_text, IsReplyInRange, IsServerLineInRange, IsClientLineInRange, IsLineInRange}
 use Rattle.log_grammar.specs.Lines.{IsLogLineInRange, IsLine, IsLogLine, IsNoLogLine, longest_line, longest_log_line}
-use Rattle.log_grammar.proofs.lemmas.lines.ReadBack.{line_in, line_back, log_line_in, log_line_back}
+use Rattle.log_grammar.proofs.lemmas.lines.ReadBack.{line_in, line_is_read_back, log_line_in, log_line_is_read_back}
 
 -- where a fact is decided of each thing, it is decided whether it holds of all in a list
 decided_each : {X : Type 0} (P : X → Type 0) → ((x : X) → Decided (P x)) → (xs : List X) → Decided (AllByRecursion P xs)
@@ -25,8 +25,8 @@ decided_each P each (x ∷ xs) = decided_both (P x) (AllByRecursion P xs) (each 
 decided_message : (message : List ℕ) → Decided (IsMessage message)
 decided_message message = decided_each (λ c. c < 256) (λ c. decided_le (suc c) 256) message
 
-decided_name : (name : List ℕ) → Decided (IsMechName name)
-decided_name name = decided_run is_mech_char longest_mech_name name
+decided_mech_name : (name : List ℕ) → Decided (IsMechName name)
+decided_mech_name name = decided_run is_mech_char longest_mech_name name
 
 -- whether a reply, and whether a line of each sort, is in its ranges is decided:
 decided_reply_range : (reply : Option Reply) → Decided (IsReplyInRange reply)
@@ -35,70 +35,71 @@ decided_reply_range (Some Fail) = inl tt
 decided_reply_range (Some Locked) = inl tt
 decided_reply_range None = inl tt
 
-decided_server : (line : ServerLine) → Decided (IsServerInRange line)
-decided_server (mechs names) = decided_each IsMechName decided_name (slice_split is_space names)
-decided_server (cont message) = decided_message message
-decided_server (accepts message) = decided_message message
-decided_server (refuses message) = decided_message message
-decided_server (replies moment reply) = decided_both _ _ (decided_le moment last_moment) (decided_reply_range reply)
-decided_server halt = inl tt
-decided_server busy = inl tt
+decided_server_range : (line : ServerLine) → Decided (IsServerLineInRange line)
+decided_server_range (mechs names) = decided_each IsMechName decided_mech_name (slice_split is_space names)
+decided_server_range (cont message) = decided_message message
+decided_server_range (accepts message) = decided_message message
+decided_server_range (refuses message) = decided_message message
+decided_server_range (replies moment reply) = decided_both _ _ (decided_le moment last_moment) (decided_reply_range reply)
+decided_server_range halt = inl tt
+decided_server_range busy = inl tt
 
-decided_client : (line : ClientLine) → Decided (IsClientInRange line)
-decided_client (auth mechanism) = decided_name mechanism
-decided_client (auth_with mechanism message) = decided_both _ _ (decided_name mechanism) (decided_message message)
-decided_client (resp message) = decided_message message
-decided_client abort = inl tt
-decided_client (code text) = decided_run is_code_char longest_code text
-decided_client (sync first second) = decided_both _ _ (decided_run is_code_char longest_code first)
+decided_client_range : (line : ClientLine) → Decided (IsClientLineInRange line)
+decided_client_range (auth mechanism) = decided_mech_name mechanism
+decided_client_range (auth_with mechanism message) = decided_both _ _ (decided_mech_name mechanism) (decided_message message)
+decided_client_range (resp message) = decided_message message
+decided_client_range abort = inl tt
+decided_client_range (code text) = decided_run is_code_char longest_code text
+decided_client_range (sync first second) = decided_both _ _ (decided_run is_code_char longest_code first)
     (decided_run is_code_char longest_code second)
 
-decided_ranges : (line : Line) → Decided (IsLineInRange line)
-decided_ranges (from_server line) = decided_server line
-decided_ranges (from_client line) = decided_client line
+decided_line_range : (line : Line) → Decided (IsLineInRange line)
+decided_line_range (from_server line) = decided_server_range line
+decided_line_range (from_client line) = decided_client_range line
 
-decided_log_ranges : (line : LogLine) → Decided (IsLogLineInRange line)
-decided_log_ranges header = inl tt
-decided_log_ranges header_two = inl tt
-decided_log_ranges (said line) = decided_server line
-decided_log_ranges (heard line) = decided_client line
-decided_log_ranges bad = inl tt
-decided_log_ranges gone = inl tt
-decided_log_ranges ended = inl tt
+decided_log_line_range : (line : LogLine) → Decided (IsLogLineInRange line)
+decided_log_line_range header = inl tt
+decided_log_line_range header_two = inl tt
+decided_log_line_range (said line) = decided_server_range line
+decided_log_line_range (heard line) = decided_client_range line
+decided_log_line_range bad = inl tt
+decided_log_line_range gone = inl tt
+decided_log_line_range ended = inl tt
 
 -- where a text is a line, it is the one that is read from it
-is_read : (text : List ℕ) (line : Line) → IsLine text line → IsLine text (line_in text)
-is_read text line is = subst (IsLine text) (sym (ap line_in is.spelled ∙ line_back line is.ranges)) is
+read_line_fits_text : (text : List ℕ) (line : Line) → IsLine text line → IsLine text (line_in text)
+read_line_fits_text text line is = subst (IsLine text) (sym (ap line_in is.spelled ∙ line_is_read_back line is.ranges)) is
 
 -- where a text is a line of a log, it is the one that is read from it
-is_read_of_log : (text : List ℕ) (line : LogLine) → IsLogLine text line → IsLogLine text (log_line_in text)
-is_read_of_log text line is = subst (IsLogLine text) (sym (ap log_line_in is.spelled ∙ log_line_back line is.ranges)) is
+read_log_line_fits_text : (text : List ℕ) (line : LogLine) → IsLogLine text line → IsLogLine text (log_line_in text)
+read_log_line_fits_text text line is = subst (IsLogLine text) (sym (ap log_line_in is.spelled ∙ log_line_is_read_back line is.ranges)) is
 
 -- whether a text is this line of the protocol is decided
-decided_this : (text : List ℕ) (line : Line) → Decided (IsLine text line)
-decided_this text line =
-    decided_by ((text ≡ line_text line) × (IsLineInRange line × (length text ≤ longest_line))) (IsLine text line)
+decided_this_line : (text : List ℕ) (line : Line) → Decided (IsLine text line)
+decided_this_line text line =
+    decided_equivalent ((text ≡ line_text line) × (IsLineInRange line × (length text ≤ longest_line))) (IsLine text line)
     (λ h. record { spelled = h.0; ranges = h.1.0; short = h.1.1 }) (λ r. (r.spelled, (r.ranges, r.short)))
-    (decided_both _ _ (decided_same text (line_text line)) (decided_both _ _ (decided_ranges line) (decided_le (length text) longest_line)))
+    (decided_both _ _ (decided_same_text text (line_text line)) (decided_both _ _ (decided_line_range line)
+      (decided_le (length text) longest_line)))
 
 -- whether a text is this line of a log is decided
-pub decided_this_of_log : (text : List ℕ) (line : LogLine) → Decided (IsLogLine text line)
-decided_this_of_log text line =
-    decided_by ((text ≡ log_line_text line) × (IsLogLineInRange line × (length text ≤ longest_log_line))) (IsLogLine text line)
+pub decided_this_log_line : (text : List ℕ) (line : LogLine) → Decided (IsLogLine text line)
+decided_this_log_line text line =
+    decided_equivalent ((text ≡ log_line_text line) × (IsLogLineInRange line × (length text ≤ longest_log_line))) (IsLogLine text line)
     (λ h. record { spelled = h.0; ranges = h.1.0; short = h.1.1 }) (λ r. (r.spelled, (r.ranges, r.short)))
-    (decided_both _ _ (decided_same text (log_line_text line))
-    (decided_both _ _ (decided_log_ranges line) (decided_le (length text) longest_log_line)))
+    (decided_both _ _ (decided_same_text text (log_line_text line))
+    (decided_both _ _ (decided_log_line_range line) (decided_le (length text) longest_log_line)))
 
 -- whether a text is a line of the protocol, and which, is decided
 pub decided_line : (text : List ℕ) → ((line : Line) × IsLine text line) ⊎ ((line : Line) → IsLine text line → ⊥)
-decided_line text = elim (decided_this text (line_in text)) [
+decided_line text = elim (decided_this_line text (line_in text)) [
   | inl is ↦ inl (line_in text, is)
-  | inr none ↦ inr (λ line is. none (is_read text line is))
+  | inr none ↦ inr (λ line is. none (read_line_fits_text text line is))
 ]
 
 -- whether a text is a line of a log, and which, is decided
 pub decided_log_line : (text : List ℕ) → ((line : LogLine) × IsLogLine text line) ⊎ IsNoLogLine text
-decided_log_line text = elim (decided_this_of_log text (log_line_in text)) [
+decided_log_line text = elim (decided_this_log_line text (log_line_in text)) [
   | inl is ↦ inl (log_line_in text, is)
-  | inr none ↦ inr (λ line is. none (is_read_of_log text line is))
+  | inr none ↦ inr (λ line is. none (read_log_line_fits_text text line is))
 ]

@@ -15,81 +15,84 @@ use Rattle.log_grammar.specs.Sessions.{refused, challenged, no_first, quits_firs
 use Rattle.log_grammar.specs.Sessions.{quits_login, with_first, without_first, session}
 use Rattle.log_grammar.specs.Begins.{place_after}
 use Rattle.log_grammar.specs.laws.BySessions.{HasFirst, IsLoginOf, EachCodeIsOfItsLogin, EndsInLoginOf, EachReplyDueFollowsItsLogin}
-use Rattle.log_grammar.proofs.lemmas.demands.Challenges.{login_of}
+use Rattle.log_grammar.proofs.lemmas.demands.Challenges.{challenged_first_is_of_name}
 
 -- a client that ends the session tells nothing, so what it tells has any property:
-of_closing : (P : LoggedReply → Type 0) (closed : Bool) → AllByRecursion P (closing closed).told
-of_closing P true = tt
-of_closing P false = tt
+closing_tells_nothing : (P : LoggedReply → Type 0) (closed : Bool) → AllByRecursion P (closing closed).told
+closing_tells_nothing P true = tt
+closing_tells_nothing P false = tt
 
-of_farewell : (P : LoggedReply → Type 0) (f : Farewell) → AllByRecursion P (parting f).told
-of_farewell P no_farewell = tt
-of_farewell P (farewell text closed) = tt
+farewell_tells_nothing : (P : LoggedReply → Type 0) (f : Farewell) → AllByRecursion P (parting f).told
+farewell_tells_nothing P no_farewell = tt
+farewell_tells_nothing P (farewell text closed) = tt
 
-of_quit : (P : LoggedReply → Type 0) (q : Quit) → AllByRecursion P (quitting q).told
-of_quit P (goes_away closed) = of_closing P closed
-of_quit P (aborts f) = of_farewell P f
-of_quit P (sends_bad f) = of_farewell P f
+quit_tells_nothing : (P : LoggedReply → Type 0) (q : Quit) → AllByRecursion P (quitting q).told
+quit_tells_nothing P (goes_away closed) = closing_tells_nothing P closed
+quit_tells_nothing P (aborts f) = farewell_tells_nothing P f
+quit_tells_nothing P (sends_bad f) = farewell_tells_nothing P f
 
 -- all these replies are to codes of this account
-abbrev AllOf : List ℕ → List LoggedReply → Type 0
-AllOf account told = AllByRecursion (λ t. t.account ≡ account) told
+abbrev AllOfAccount : List ℕ → List LoggedReply → Type 0
+AllOfAccount account told = AllByRecursion (λ t. t.account ≡ account) told
 
 -- what is told after a challenge, a client-final message or an `S OK` is of the account:
-by_codes : (account : List ℕ) (c : AfterOk) → AllOf account (after_ok account c).told
-by_codes account no_code = tt
-by_codes account (quits_codes q) = of_quit (λ t. t.account ≡ account) q
-by_codes account (unreplied sent) = tt
-by_codes account (replied sent moment reply more) = (refl, by_codes account more)
-by_codes account (halted_at sent) = tt
+after_ok_tells_of_account : (account : List ℕ) (c : AfterOk) → AllOfAccount account (after_ok account c).told
+after_ok_tells_of_account account no_code = tt
+after_ok_tells_of_account account (quits_codes q) = quit_tells_nothing (λ t. t.account ≡ account) q
+after_ok_tells_of_account account (unreplied sent) = tt
+after_ok_tells_of_account account (replied sent moment reply more) = (refl, after_ok_tells_of_account account more)
+after_ok_tells_of_account account (halted_at sent) = tt
 
-by_judgement : (m account first challenge last : List ℕ) (j : AfterFinal)
-    → AllOf account (after_final m account first challenge last j).told
-by_judgement m account first challenge last no_verdict = tt
-by_judgement m account first challenge last (denied text closed) = tt
-by_judgement m account first challenge last (granted text c) = by_codes account c
+after_final_tells_of_account : (m account first challenge last : List ℕ) (j : AfterFinal)
+    → AllOfAccount account (after_final m account first challenge last j).told
+after_final_tells_of_account m account first challenge last no_verdict = tt
+after_final_tells_of_account m account first challenge last (denied text closed) = tt
+after_final_tells_of_account m account first challenge last (granted text c) = after_ok_tells_of_account account c
 
-by_proof : (m account first challenge : List ℕ) (p : AfterChallenge) → AllOf account (after_challenge m account first challenge p).told
-by_proof m account first challenge no_final = tt
-by_proof m account first challenge (quits_final q) = of_quit (λ t. t.account ≡ account) q
-by_proof m account first challenge (sends_final last j) = by_judgement m account first challenge last j
+after_challenge_tells_of_account : (m account first challenge : List ℕ) (p : AfterChallenge)
+    → AllOfAccount account (after_challenge m account first challenge p).told
+after_challenge_tells_of_account m account first challenge no_final = tt
+after_challenge_tells_of_account m account first challenge (quits_final q) = quit_tells_nothing (λ t. t.account ≡ account) q
+after_challenge_tells_of_account m account first challenge (sends_final last j) =
+    after_final_tells_of_account m account first challenge last j
 
 -- where all replies are to the login's account, each code is of the login
-each_of : (s : Session) (mechanism first account : List ℕ) (told : List LoggedReply) → HasFirst s mechanism first
+each_told_is_of_login : (s : Session) (mechanism first account : List ℕ) (told : List LoggedReply) → HasFirst s mechanism first
     → IsFirstOf mechanism first account
-    → AllOf account told → AllByRecursion (λ t. IsLoginOf s t.account) told
-each_of s mechanism first account [] has is all = tt
-each_of s mechanism first account (t ∷ told) has is all = (
+    → AllOfAccount account told → AllByRecursion (λ t. IsLoginOf s t.account) told
+each_told_is_of_login s mechanism first account [] has is all = tt
+each_told_is_of_login s mechanism first account (t ∷ told) has is all = (
   (mechanism, first, has, subst (IsFirstOf mechanism first) (sym all.0) is),
-  each_of s mechanism first account told has is all.1,
+  each_told_is_of_login s mechanism first account told has is all.1,
 )
 
 -- where the answer to a client-first message meets its demands, what is told after it is of the login that the message opens
-by_answer : (accounts : Accounts) (s : Session) (mechanism first : List ℕ) (a : AfterFirst) → HasFirst s mechanism first
+after_first_tells_of_login : (accounts : Accounts) (s : Session) (mechanism first : List ℕ) (a : AfterFirst) → HasFirst s mechanism first
     → (after_first mechanism first a).Meets (demands accounts)
     → AllByRecursion (λ t. IsLoginOf s t.account) (after_first mechanism first a).told
-by_answer accounts s mechanism first no_answer has meets = tt
-by_answer accounts s mechanism first (refused text closed) has meets = tt
-by_answer accounts s mechanism first (challenged account text p) has meets =
-    each_of s mechanism first account (after_challenge mechanism account first text p).told has
-    (login_of accounts mechanism first account text meets.0)
-    (by_proof mechanism account first text p)
+after_first_tells_of_login accounts s mechanism first no_answer has meets = tt
+after_first_tells_of_login accounts s mechanism first (refused text closed) has meets = tt
+after_first_tells_of_login accounts s mechanism first (challenged account text p) has meets =
+    each_told_is_of_login s mechanism first account (after_challenge mechanism account first text p).told has
+    (challenged_first_is_of_name accounts mechanism first account text meets.0)
+    (after_challenge_tells_of_account mechanism account first text p)
 
 -- each code of a session that meets its demands is of the account that its client-first message names
-pub each_code : EachCodeIsOfItsLogin
-each_code accounts (session names no_login) meets = tt
-each_code accounts (session names (quits_login q)) meets = of_quit (λ t. IsLoginOf (session names (quits_login q)) t.account) q
-each_code accounts (session names (with_first m first a)) meets =
-    by_answer accounts (session names (with_first m first a)) m first a
+pub each_code_is_of_login : EachCodeIsOfItsLogin
+each_code_is_of_login accounts (session names no_login) meets = tt
+each_code_is_of_login accounts (session names (quits_login q)) meets =
+    quit_tells_nothing (λ t. IsLoginOf (session names (quits_login q)) t.account) q
+each_code_is_of_login accounts (session names (with_first m first a)) meets =
+    after_first_tells_of_login accounts (session names (with_first m first a)) m first a
     (names, heard (auth_with m first) ∷ [], (after_first m first a).lines, inl refl, refl) meets.1
-each_code accounts (session names (without_first m no_invitation)) meets = tt
-each_code accounts (session names (without_first m (unoffered text closed))) meets = tt
-each_code accounts (session names (without_first m (invited text no_first))) meets = tt
-each_code accounts (session names (without_first m (invited text (quits_first q)))) meets =
-    of_quit (λ t. IsLoginOf (session names (without_first m (invited text (quits_first q)))) t.account) q
-each_code accounts (session names (without_first m (invited text (sends_first first a)))) meets =
+each_code_is_of_login accounts (session names (without_first m no_invitation)) meets = tt
+each_code_is_of_login accounts (session names (without_first m (unoffered text closed))) meets = tt
+each_code_is_of_login accounts (session names (without_first m (invited text no_first))) meets = tt
+each_code_is_of_login accounts (session names (without_first m (invited text (quits_first q)))) meets =
+    quit_tells_nothing (λ t. IsLoginOf (session names (without_first m (invited text (quits_first q)))) t.account) q
+each_code_is_of_login accounts (session names (without_first m (invited text (sends_first first a)))) meets =
     let lines = λ (t : List ℕ). said (mechs names) ∷ heard (auth m) ∷ said (cont t) ∷ heard (resp first) ∷ (after_first m first a).lines in
-    by_answer accounts (session names (without_first m (invited text (sends_first first a)))) m first a (
+    after_first_tells_of_login accounts (session names (without_first m (invited text (sends_first first a)))) m first a (
       names,
       heard (auth m) ∷ said (cont []) ∷ heard (resp first)
           ∷ [],
@@ -99,57 +102,60 @@ each_code accounts (session names (without_first m (invited text (sends_first fi
     ) meets.1.1
 
 -- after a client that ends the session no code waits for its reply:
-farewell_no_code : (f : Farewell) (account : List ℕ) (sent : CodeTexts) → (parting f).place ≡ got_code account sent → ⊥
-farewell_no_code no_farewell account sent e = cc e
-farewell_no_code (farewell message true) account sent e = cc e
-farewell_no_code (farewell message false) account sent e = cc e
+farewell_has_no_code : (f : Farewell) (account : List ℕ) (sent : CodeTexts) → (parting f).place ≡ got_code account sent → ⊥
+farewell_has_no_code no_farewell account sent e = cc e
+farewell_has_no_code (farewell message true) account sent e = cc e
+farewell_has_no_code (farewell message false) account sent e = cc e
 
-quit_no_code : (q : Quit) (account : List ℕ) (sent : CodeTexts) → (quitting q).place ≡ got_code account sent → ⊥
-quit_no_code (goes_away true) account sent e = cc e
-quit_no_code (goes_away false) account sent e = cc e
-quit_no_code (aborts f) account sent e = farewell_no_code f account sent e
-quit_no_code (sends_bad f) account sent e = farewell_no_code f account sent e
+quit_has_no_code : (q : Quit) (account : List ℕ) (sent : CodeTexts) → (quitting q).place ≡ got_code account sent → ⊥
+quit_has_no_code (goes_away true) account sent e = cc e
+quit_has_no_code (goes_away false) account sent e = cc e
+quit_has_no_code (aborts f) account sent e = farewell_has_no_code f account sent e
+quit_has_no_code (sends_bad f) account sent e = farewell_has_no_code f account sent e
 
 -- a code that waits for its reply is of the account that was accepted, or challenged:
-last_code : (own : List ℕ) (c : AfterOk) (account : List ℕ) (sent : CodeTexts) → (after_ok own c).place ≡ got_code account sent
+after_ok_code_has_account : (own : List ℕ) (c : AfterOk) (account : List ℕ) (sent : CodeTexts)
+    → (after_ok own c).place ≡ got_code account sent
     → own ≡ account
-last_code own no_code account sent e = absurd (cc e)
-last_code own (quits_codes q) account sent e = absurd (quit_no_code q account sent e)
-last_code own (unreplied word) account sent e = cc e
-last_code own (replied word moment reply more) account sent e = last_code own more account sent e
-last_code own (halted_at word) account sent e = absurd (cc e)
+after_ok_code_has_account own no_code account sent e = absurd (cc e)
+after_ok_code_has_account own (quits_codes q) account sent e = absurd (quit_has_no_code q account sent e)
+after_ok_code_has_account own (unreplied word) account sent e = cc e
+after_ok_code_has_account own (replied word moment reply more) account sent e = after_ok_code_has_account own more account sent e
+after_ok_code_has_account own (halted_at word) account sent e = absurd (cc e)
 
-last_judged : (m own first challenge last : List ℕ) (j : AfterFinal) (account : List ℕ) (sent : CodeTexts)
+after_final_code_has_account : (m own first challenge last : List ℕ) (j : AfterFinal) (account : List ℕ) (sent : CodeTexts)
     → (after_final m own first challenge last j).place ≡ got_code account sent
     → own ≡ account
-last_judged m own first challenge last no_verdict account sent e = absurd (cc e)
-last_judged m own first challenge last (denied message true) account sent e = absurd (cc e)
-last_judged m own first challenge last (denied message false) account sent e = absurd (cc e)
-last_judged m own first challenge last (granted message c) account sent e = last_code own c account sent e
+after_final_code_has_account m own first challenge last no_verdict account sent e = absurd (cc e)
+after_final_code_has_account m own first challenge last (denied message true) account sent e = absurd (cc e)
+after_final_code_has_account m own first challenge last (denied message false) account sent e = absurd (cc e)
+after_final_code_has_account m own first challenge last (granted message c) account sent e = after_ok_code_has_account own c account sent e
 
-last_proved : (m own first challenge : List ℕ) (p : AfterChallenge) (account : List ℕ) (sent : CodeTexts)
+after_challenge_code_has_account : (m own first challenge : List ℕ) (p : AfterChallenge) (account : List ℕ) (sent : CodeTexts)
     → (after_challenge m own first challenge p).place ≡ got_code account sent → own ≡ account
-last_proved m own first challenge no_final account sent e = absurd (cc e)
-last_proved m own first challenge (quits_final q) account sent e = absurd (quit_no_code q account sent e)
-last_proved m own first challenge (sends_final last j) account sent e = last_judged m own first challenge last j account sent e
+after_challenge_code_has_account m own first challenge no_final account sent e = absurd (cc e)
+after_challenge_code_has_account m own first challenge (quits_final q) account sent e = absurd (quit_has_no_code q account sent e)
+after_challenge_code_has_account m own first challenge (sends_final last j) account sent e =
+    after_final_code_has_account m own first challenge last j account sent e
 
 -- a code that waits for its reply is of the account that the client-first message names
-last_answered : (accounts : Accounts) (m first : List ℕ) (a : AfterFirst) (account : List ℕ) (sent : CodeTexts)
+after_first_code_has_account : (accounts : Accounts) (m first : List ℕ) (a : AfterFirst) (account : List ℕ) (sent : CodeTexts)
     → (after_first m first a).Meets (demands accounts)
     → (after_first m first a).place ≡ got_code account sent → IsFirstOf m first account
-last_answered accounts m first no_answer account sent meets e = absurd (cc e)
-last_answered accounts m first (refused message true) account sent meets e = absurd (cc e)
-last_answered accounts m first (refused message false) account sent meets e = absurd (cc e)
-last_answered accounts m first (challenged own challenge p) account sent meets e =
-    subst (IsFirstOf m first) (last_proved m own first challenge p account sent e) (login_of accounts m first own challenge meets.0)
+after_first_code_has_account accounts m first no_answer account sent meets e = absurd (cc e)
+after_first_code_has_account accounts m first (refused message true) account sent meets e = absurd (cc e)
+after_first_code_has_account accounts m first (refused message false) account sent meets e = absurd (cc e)
+after_first_code_has_account accounts m first (challenged own challenge p) account sent meets e =
+    subst (IsFirstOf m first) (after_challenge_code_has_account m own first challenge p account sent e)
+        (challenged_first_is_of_name accounts m first own challenge meets.0)
 
 -- a session whose last line is a code is a login of the account of that code
-login_at : (accounts : Accounts) (s : Session) (account : List ℕ) (sent : CodeTexts) → SessionMeets (demands accounts) s
+session_code_has_login : (accounts : Accounts) (s : Session) (account : List ℕ) (sent : CodeTexts) → SessionMeets (demands accounts) s
     → session_place s ≡ got_code account sent
     → IsLoginOf s account
-login_at accounts (session names no_login) account sent meets e = absurd (cc e)
-login_at accounts (session names (quits_login q)) account sent meets e = absurd (quit_no_code q account sent e)
-login_at accounts (session names (with_first m first a)) account sent meets e = (
+session_code_has_login accounts (session names no_login) account sent meets e = absurd (cc e)
+session_code_has_login accounts (session names (quits_login q)) account sent meets e = absurd (quit_has_no_code q account sent e)
+session_code_has_login accounts (session names (with_first m first a)) account sent meets e = (
   m,
   first,
   (
@@ -160,31 +166,32 @@ login_at accounts (session names (with_first m first a)) account sent meets e = 
     inl refl,
     refl,
   ),
-  last_answered accounts m first a account sent meets.1 e,
+  after_first_code_has_account accounts m first a account sent meets.1 e,
 )
-login_at accounts (session names (without_first m no_invitation)) account sent meets e = absurd (cc e)
-login_at accounts (session names (without_first m (unoffered message true))) account sent meets e = absurd (cc e)
-login_at accounts (session names (without_first m (unoffered message false))) account sent meets e = absurd (cc e)
-login_at accounts (session names (without_first m (invited message no_first))) account sent meets e = absurd (cc e)
-login_at accounts (session names (without_first m (invited message (quits_first q)))) account sent meets e = absurd
-    (quit_no_code q account sent e)
-login_at accounts (session names (without_first m (invited message (sends_first first a)))) account sent meets e =
+session_code_has_login accounts (session names (without_first m no_invitation)) account sent meets e = absurd (cc e)
+session_code_has_login accounts (session names (without_first m (unoffered message true))) account sent meets e = absurd (cc e)
+session_code_has_login accounts (session names (without_first m (unoffered message false))) account sent meets e = absurd (cc e)
+session_code_has_login accounts (session names (without_first m (invited message no_first))) account sent meets e = absurd (cc e)
+session_code_has_login accounts (session names (without_first m (invited message (quits_first q)))) account sent meets e = absurd
+    (quit_has_no_code q account sent e)
+session_code_has_login accounts (session names (without_first m (invited message (sends_first first a)))) account sent meets e =
     let lines = λ (t : List ℕ). said (mechs names) ∷ heard (auth m) ∷ said (cont t) ∷ heard (resp first)
     ∷ (after_first m first a).lines in (
       m,
       first,
       (names, heard (auth m) ∷ said (cont []) ∷ heard (resp first) ∷ [], (after_first m first a).lines, inr refl, ap lines meets.1.0.1),
-      last_answered accounts m first a account sent meets.1.1 e,
+      after_first_code_has_account accounts m first a account sent meets.1.1 e,
     )
 
 -- sessions whose last line is a code end in a login of the account of that code
-login_last : (accounts : Accounts) (sessions : List Session) (account : List ℕ) (sent : CodeTexts)
+last_session_code_has_login : (accounts : Accounts) (sessions : List Session) (account : List ℕ) (sent : CodeTexts)
     → AllByRecursion (SessionMeets (demands accounts)) sessions
     → place_after sessions ≡ got_code account sent → EndsInLoginOf (flat_map session_lines sessions) account
-login_last accounts [] account sent good e = absurd (cc e)
-login_last accounts (s ∷ []) account sent good e = (s, ([], append-nil (session_lines s)), login_at accounts s account sent good.0 e)
-login_last accounts (s ∷ t ∷ more) account sent good e =
-    let (last, (before, same), login) = login_last accounts (t ∷ more) account sent good.1 e in (
+last_session_code_has_login accounts [] account sent good e = absurd (cc e)
+last_session_code_has_login accounts (s ∷ []) account sent good e =
+    (s, ([], append-nil (session_lines s)), session_code_has_login accounts s account sent good.0 e)
+last_session_code_has_login accounts (s ∷ t ∷ more) account sent good e =
+    let (last, (before, same), login) = last_session_code_has_login accounts (t ∷ more) account sent good.1 e in (
       last,
       (
         session_lines s ++ before,
@@ -198,5 +205,5 @@ login_last accounts (s ∷ t ∷ more) account sent good e =
 pub code_has_login : EachReplyDueFollowsItsLogin
 code_has_login accounts log account sent told (inl none) = absurd (cc none.1)
 code_has_login accounts log account sent told (inr s) =
-    let (last, (before, same), login) = login_last accounts s.sessions account sent s.good (sym s.after) in
+    let (last, (before, same), login) = last_session_code_has_login accounts s.sessions account sent s.good (sym s.after) in
     (last, (header ∷ before, s.lines ∙ ap (λ (l : List LogLine). header ∷ l) same), login)

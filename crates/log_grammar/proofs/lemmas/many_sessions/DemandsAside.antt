@@ -9,61 +9,62 @@ use Rattle.log_grammar.specs.LoggedReply.{LoggedReply}
 use Rattle.log_grammar.specs.Places.{Place}
 use Rattle.log_grammar.specs.Demands.{Demands, no_demands}
 use Rattle.log_grammar.specs.Numbered.{Numbered, numbered, of_number, Visit, let_in, turned_away, visit_part, SpellsNumbered}
-use Rattle.log_grammar.proofs.lemmas.state_machine.DemandsAside.{bare, bare_place, bare_told, IsBareOf, bare_line, bare_closing, of_session}
-use Rattle.log_grammar.proofs.lemmas.state_machine.DemandsAside.{no_demand}
+use Rattle.log_grammar.proofs.lemmas.state_machine.DemandsAside.{accountless_session, accountless_place, accountless_reply, IsAccountlessOf, next_line_is_same_aside, closing_is_same_aside, session_is_same_aside}
+use Rattle.log_grammar.proofs.lemmas.state_machine.DemandsAside.{any_replies_are_due}
 use Rattle.log_grammar.proofs.lemmas.many_sessions.NumberedReplies.{numbers_of, values_of}
 
 -- what a number stands for, with no account named
-abbrev bare_visit : Option Visit → Option Visit
-bare_visit None = None
-bare_visit (Some (let_in s)) = Some (let_in (bare s))
-bare_visit (Some (turned_away closed)) = Some (turned_away closed)
+abbrev accountless_visit : Option Visit → Option Visit
+accountless_visit None = None
+accountless_visit (Some (let_in s)) = Some (let_in (accountless_session s))
+accountless_visit (Some (turned_away closed)) = Some (turned_away closed)
 
 -- what a number stands for is the same with no account named
-of_visit : (p : Option Visit) → IsBareOf (visit_part (bare_visit p)) (visit_part p)
-of_visit None = record { lines = refl; place = refl; told = refl; meets = tt }
-of_visit (Some (let_in s)) = of_session s
-of_visit (Some (turned_away closed)) = bare_line (said busy) _ _ (bare_closing closed)
+visit_is_same_aside : (p : Option Visit) → IsAccountlessOf (visit_part (accountless_visit p)) (visit_part p)
+visit_is_same_aside None = record { lines = refl; place = refl; told = refl; meets = tt }
+visit_is_same_aside (Some (let_in s)) = session_is_same_aside s
+visit_is_same_aside (Some (turned_away closed)) = next_line_is_same_aside (said busy) _ _ (closing_is_same_aside closed)
 
 -- replies, each with its number, with no account named
-abbrev bare_numbered : List (Numbered LoggedReply) → List (Numbered LoggedReply)
-bare_numbered numbered_told = map (λ (t : Numbered LoggedReply). numbered t.number (bare_told t.value)) numbered_told
+abbrev accountless_numbered_told : List (Numbered LoggedReply) → List (Numbered LoggedReply)
+accountless_numbered_told numbered_told = map (λ (t : Numbered LoggedReply). numbered t.number (accountless_reply t.value)) numbered_told
 
 -- the replies of a number with no account named are its replies, with no account named
-of_number_bare : (n : ℕ) (numbered_told : List (Numbered LoggedReply))
-    → of_number n (bare_numbered numbered_told) ≡ map bare_told (of_number n numbered_told)
-of_number_bare n [] = refl
-of_number_bare n (t ∷ numbered_told) = elim (eqb_tells n t.number) [
-  | inl same ↦ rw same.0 (ap (λ (l : List LoggedReply). bare_told t.value ∷ l) (of_number_bare n numbered_told))
-  | inr other ↦ rw other.0 (of_number_bare n numbered_told)
+of_number_accountless : (n : ℕ) (numbered_told : List (Numbered LoggedReply))
+    → of_number n (accountless_numbered_told numbered_told) ≡ map accountless_reply (of_number n numbered_told)
+of_number_accountless n [] = refl
+of_number_accountless n (t ∷ numbered_told) = elim (eqb_tells n t.number) [
+  | inl same ↦ rw same.0 (ap (λ (l : List LoggedReply). accountless_reply t.value ∷ l) (of_number_accountless n numbered_told))
+  | inr other ↦ rw other.0 (of_number_accountless n numbered_told)
 ]
 
 -- replies with no account named have the numbers that they had
-numbers_bare : (numbered_told : List (Numbered LoggedReply)) → numbers_of (bare_numbered numbered_told) ≡ numbers_of numbered_told
-numbers_bare [] = refl
-numbers_bare (t ∷ numbered_told) = ap (λ (l : List ℕ). t.number ∷ l) (numbers_bare numbered_told)
+numbers_of_accountless : (numbered_told : List (Numbered LoggedReply))
+    → numbers_of (accountless_numbered_told numbered_told) ≡ numbers_of numbered_told
+numbers_of_accountless [] = refl
+numbers_of_accountless (t ∷ numbered_told) = ap (λ (l : List ℕ). t.number ∷ l) (numbers_of_accountless numbered_told)
 
 -- lines of a log of version 2 that meet the demands are such lines without demands too, at the same places with no
 -- account named
-pub aside_numbered : (limit : ℕ) (d : Demands) (log : List (Numbered LogLine)) (places : ℕ → Place) (told : List LoggedReply)
+pub numbered_log_begins_aside : (limit : ℕ) (d : Demands) (log : List (Numbered LogLine)) (places : ℕ → Place) (told : List LoggedReply)
     → SpellsNumbered limit d log places told
-    → (tells : List LoggedReply) × SpellsNumbered limit no_demands log (λ n. bare_place (places n)) tells
-aside_numbered limit d log places told s = (
-  values_of (bare_numbered s.numbered_told),
+    → (tells : List LoggedReply) × SpellsNumbered limit no_demands log (λ n. accountless_place (places n)) tells
+numbered_log_begins_aside limit d log places told s = (
+  values_of (accountless_numbered_told s.numbered_told),
   record {
-    visit = λ n. bare_visit (s.visit n);
-    numbered_told = bare_numbered s.numbered_told;
+    visit = λ n. accountless_visit (s.visit n);
+    numbered_told = accountless_numbered_told s.numbered_told;
     sessions = record {
-      lines = λ n. s.sessions.lines n ∙ sym (of_visit (s.visit n)).lines;
-      good = λ n. (of_visit (s.visit n)).meets;
+      lines = λ n. s.sessions.lines n ∙ sym (visit_is_same_aside (s.visit n)).lines;
+      good = λ n. (visit_is_same_aside (s.visit n)).meets;
       room = s.sessions.room;
       next = s.sessions.next;
-      told_of_each = λ n. of_number_bare n s.numbered_told ∙ ap (map bare_told) (s.sessions.told_of_each n) ∙ sym
-          (of_visit (s.visit n)).told;
-      order = numbers_bare s.numbered_told ∙ s.sessions.order;
+      told_of_each = λ n. of_number_accountless n s.numbered_told ∙ ap (map accountless_reply) (s.sessions.told_of_each n) ∙ sym
+          (visit_is_same_aside (s.visit n)).told;
+      order = numbers_of_accountless s.numbered_told ∙ s.sessions.order;
     };
     tells = refl;
-    replies = no_demand [] (values_of (bare_numbered s.numbered_told));
-    after = λ n. ap bare_place (s.after n) ∙ sym (of_visit (s.visit n)).place;
+    replies = any_replies_are_due [] (values_of (accountless_numbered_told s.numbered_told));
+    after = λ n. ap accountless_place (s.after n) ∙ sym (visit_is_same_aside (s.visit n)).place;
   },
 )

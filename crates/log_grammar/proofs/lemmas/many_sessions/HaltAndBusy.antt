@@ -8,29 +8,34 @@ use Rattle.log_grammar.specs.Numbered.{MayFollow}
 use Rattle.log_grammar.specs.state_machine.NumberedSteps.{IsVisitTransition}
 
 -- `S HALT` leads from a place of a session only to where the log is halted
-pub halt_leads : (d : Demands) (place next : Place) → IsTransition d place (said halt) next → next ≡ halted
-halt_leads d (got_code account sent) next h = h
-halt_leads d place next h = absurd h
+pub halt_leads_to_halted : (d : Demands) (place next : Place) → IsTransition d place (said halt) next → next ≡ halted
+halt_leads_to_halted d (got_code account sent) next h = h
+halt_leads_to_halted d place next h = absurd h
 
 -- BUSY may stand at no place of a session
-pub no_busy_line : (d : Demands) (place next : Place) → IsTransition d place (said busy) next → ⊥
-no_busy_line d before_all next h = h
-no_busy_line d place next h = absurd h
+pub no_busy_in_session : (d : Demands) (place next : Place) → IsTransition d place (said busy) next → ⊥
+no_busy_in_session d before_all next h = h
+no_busy_in_session d place next h = absurd h
 
 -- HALT leads a number to the place where the log is halted
-pub halt_leads_in : (d : Demands) (place : Place) (line : LogLine) (next : Place) → line ≡ said halt → IsVisitTransition d place line next
+pub visit_halt_leads_to_halted : (d : Demands) (place : Place) (line : LogLine) (next : Place) → line ≡ said halt
+    → IsVisitTransition d place line next
     → next ≡ halted
-halt_leads_in d place line next is (inl h) = halt_leads d place next (subst (λ (l : LogLine). IsTransition d place l next) is h)
-halt_leads_in d place line next is (inr b) = let wrong = sym is ∙ b.1 in absurd (cc wrong)
+visit_halt_leads_to_halted d place line next is (inl h) =
+    halt_leads_to_halted d place next (subst (λ (l : LogLine). IsTransition d place l next) is h)
+visit_halt_leads_to_halted d place line next is (inr b) = let wrong = sym is ∙ b.1 in absurd (cc wrong)
 
 -- BUSY leads a number to the place where its `E` is due
-pub busy_leads_in : (d : Demands) (place : Place) (line : LogLine) (next : Place) → line ≡ said busy → IsVisitTransition d place line next
+pub visit_busy_leads_to_over : (d : Demands) (place : Place) (line : LogLine) (next : Place) → line ≡ said busy
+    → IsVisitTransition d place line next
     → next ≡ over
-busy_leads_in d place line next is (inl h) = absurd (no_busy_line d place next (subst (λ (l : LogLine). IsTransition d place l next) is h))
-busy_leads_in d place line next is (inr b) = b.2
+visit_busy_leads_to_over d place line next is (inl h) =
+    absurd (no_busy_in_session d place next (subst (λ (l : LogLine). IsTransition d place l next) is h))
+visit_busy_leads_to_over d place line next is (inr b) = b.2
 
 -- a line is HALT, or BUSY, or any line may follow it
-pub last_kind : (line : LogLine) → (line ≡ said halt) ⊎ ((line ≡ said busy) ⊎ ((n m : ℕ) (next : LogLine) → MayFollow n line m next))
-last_kind (said halt) = inl refl
-last_kind (said busy) = inr (inl refl)
-last_kind line = inr (inr (λ n m next. tt))
+pub halt_busy_or_followed : (line : LogLine) → (line ≡ said halt) ⊎ ((line ≡ said busy)
+    ⊎ ((n m : ℕ) (next : LogLine) → MayFollow n line m next))
+halt_busy_or_followed (said halt) = inl refl
+halt_busy_or_followed (said busy) = inr (inl refl)
+halt_busy_or_followed line = inr (inr (λ n m next. tt))

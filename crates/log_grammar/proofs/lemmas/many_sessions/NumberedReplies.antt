@@ -11,7 +11,7 @@ use Rattle.log_grammar.specs.state_machine.Steps.{IsTransition, told_at}
 use Rattle.log_grammar.specs.Numbered.{Numbered, numbered, of_number, is_reply, reply_numbers}
 use Rattle.log_grammar.specs.state_machine.NumberedSteps.{IsVisitTransition}
 use Rattle.log_grammar.proofs.lemmas.many_sessions.LinesOfNumber.{of_number_append, same_numbered}
-use Rattle.scram_text.proofs.lemmas.ListEnds.{some_last, last_same, with_last}
+use Rattle.scram_text.proofs.lemmas.ListEnds.{empty_has_no_last, same_front_and_last, nonempty_has_last}
 
 -- a line tells of a code exactly where it is a reply
 abbrev pub TellsOfReply : Place → LogLine → Type 0
@@ -19,16 +19,18 @@ TellsOfReply place line = ((told_at place line ≡ []) × (is_reply line ≡ fal
     ⊎ ((t : LoggedReply) × (told_at place line ≡ t ∷ []) × (is_reply line ≡ true))
 
 -- a line that may stand at a session's place tells of one code where it is a reply, and else of none
-told_of_reply : (d : Demands) (place : Place) (line : LogLine) (next : Place) → IsTransition d place line next → TellsOfReply place line
-told_of_reply d (got_code account sent) (said (replies moment reply)) next h = inr (logged_reply_of account moment sent reply, refl, refl)
-told_of_reply d place (said (replies moment reply)) next h = absurd h
-told_of_reply d place line next h = inl (refl, refl)
+line_tells_of_reply : (d : Demands) (place : Place) (line : LogLine) (next : Place) → IsTransition d place line next
+    → TellsOfReply place line
+line_tells_of_reply d (got_code account sent) (said (replies moment reply)) next h =
+    inr (logged_reply_of account moment sent reply, refl, refl)
+line_tells_of_reply d place (said (replies moment reply)) next h = absurd h
+line_tells_of_reply d place line next h = inl (refl, refl)
 
 -- a line that may stand at a number's place tells of one code where it is a reply, and else of none
-pub told_of_reply_in_number : (d : Demands) (place : Place) (line : LogLine) (next : Place) → IsVisitTransition d place line next
+pub visit_line_tells_of_reply : (d : Demands) (place : Place) (line : LogLine) (next : Place) → IsVisitTransition d place line next
     → TellsOfReply place line
-told_of_reply_in_number d place line next (inl h) = told_of_reply d place line next h
-told_of_reply_in_number d place line next (inr b) = inl (ap (λ (p : Place). told_at p line) b.0, ap is_reply b.1)
+visit_line_tells_of_reply d place line next (inl h) = line_tells_of_reply d place line next h
+visit_line_tells_of_reply d place line next (inr b) = inl (ap (λ (p : Place). told_at p line) b.0, ap is_reply b.1)
 
 -- what was told, each with this number
 abbrev pub numbered_told_of : ℕ → List LoggedReply → List (Numbered LoggedReply)
@@ -43,20 +45,20 @@ abbrev pub values_of : List (Numbered LoggedReply) → List LoggedReply
 values_of numbered_told = map (λ t. t.value) numbered_told
 
 -- replies that are given a number are the same again without it
-pub values_numbered : (n : ℕ) (told : List LoggedReply) → values_of (numbered_told_of n told) ≡ told
-values_numbered n [] = refl
-values_numbered n (t ∷ told) = ap (λ l. t ∷ l) (values_numbered n told)
+pub values_are_told : (n : ℕ) (told : List LoggedReply) → values_of (numbered_told_of n told) ≡ told
+values_are_told n [] = refl
+values_are_told n (t ∷ told) = ap (λ l. t ∷ l) (values_are_told n told)
 
 -- what a line tells has the number of the line, where the line is a reply
-pub numbers_told : (n : ℕ) (place : Place) (line : LogLine) → TellsOfReply place line
+pub told_has_line_number : (n : ℕ) (place : Place) (line : LogLine) → TellsOfReply place line
     → numbers_of (numbered_told_of n (told_at place line)) ≡ reply_numbers (numbered n line ∷ [])
-numbers_told n place line (inl none) = rw (none.0, none.1) refl
-numbers_told n place line (inr one) = rw (one.1, one.2) refl
+told_has_line_number n place line (inl none) = rw (none.0, none.1) refl
+told_has_line_number n place line (inr one) = rw (one.1, one.2) refl
 
 -- nothing was told where the list of its numbers is empty
-pub none_numbered : (numbered_told : List (Numbered LoggedReply)) → numbers_of numbered_told ≡ [] → numbered_told ≡ []
-none_numbered [] e = refl
-none_numbered (m ∷ numbered_told) e = absurd (cc e)
+pub nothing_told_without_numbers : (numbered_told : List (Numbered LoggedReply)) → numbers_of numbered_told ≡ [] → numbered_told ≡ []
+nothing_told_without_numbers [] e = refl
+nothing_told_without_numbers (m ∷ numbered_told) e = absurd (cc e)
 
 -- what was told is what was told before, and then what a line of this number tells
 pub record ToldBefore (n : ℕ) (numbered_told : List (Numbered LoggedReply)) (numbers : List ℕ)
@@ -67,10 +69,10 @@ pub record ToldBefore (n : ℕ) (numbered_told : List (Numbered LoggedReply)) (n
   pub mine : of_number n earlier ≡ before
 
 -- where a line tells nothing, what was told is what was told before it
-told_before_none : (n : ℕ) (numbered_told : List (Numbered LoggedReply)) (numbers : List ℕ) (before : List LoggedReply)
+silent_line_splits_told : (n : ℕ) (numbered_told : List (Numbered LoggedReply)) (numbers : List ℕ) (before : List LoggedReply)
     → numbers_of numbered_told ≡ numbers ++ []
     → of_number n numbered_told ≡ before ++ [] → ToldBefore n numbered_told numbers before []
-told_before_none n numbered_told numbers before order mine =
+silent_line_splits_told n numbered_told numbers before order mine =
     record {
       earlier = numbered_told;
       same = sym (append-nil numbered_told);
@@ -79,20 +81,20 @@ told_before_none n numbered_told numbers before order mine =
     }
 
 -- of a list of one reply, what is of this reply's number is the reply
-of_number_last : (n : ℕ) (m : Numbered LoggedReply) → m.number ≡ n → of_number n (m ∷ []) ≡ m.value ∷ []
-of_number_last n m same = rw (eq-eqb n m.number (sym same)) refl
+of_number_one : (n : ℕ) (m : Numbered LoggedReply) → m.number ≡ n → of_number n (m ∷ []) ≡ m.value ∷ []
+of_number_one n m same = rw (eq-eqb n m.number (sym same)) refl
 
 -- where a line tells of one reply, what was told is what was told before it, and this reply:
-told_before_last : (n : ℕ) (t : LoggedReply) (front : List (Numbered LoggedReply)) (last : Numbered LoggedReply) (numbers : List ℕ)
+last_reply_splits_told : (n : ℕ) (t : LoggedReply) (front : List (Numbered LoggedReply)) (last : Numbered LoggedReply) (numbers : List ℕ)
     (before : List LoggedReply)
     → numbers_of (front ++ last ∷ []) ≡ numbers ++ n ∷ [] → of_number n (front ++ last ∷ []) ≡ before ++ t ∷ []
     → ToldBefore n (front ++ last ∷ []) numbers before (t ∷ [])
-told_before_last n t front last numbers before order mine =
-    let ends = last_same (numbers_of front) numbers last.number n
+last_reply_splits_told n t front last numbers before order mine =
+    let ends = same_front_and_last (numbers_of front) numbers last.number n
     (sym (map-append (λ (m : Numbered LoggedReply). m.number) front (last ∷ [])) ∙ order) in
     let told = sym (of_number_append n front (last ∷ []) ∙ ap (λ (l : List LoggedReply). of_number n front ++ l)
-    (of_number_last n last ends.1)) ∙ mine in
-    let also = last_same (of_number n front) before last.value t told in
+    (of_number_one n last ends.1)) ∙ mine in
+    let also = same_front_and_last (of_number n front) before last.value t told in
     record {
       earlier = front;
       same = ap (λ (m : Numbered LoggedReply). front ++ m ∷ []) (same_numbered last.number n last.value t ends.1 also.1);
@@ -100,29 +102,29 @@ told_before_last n t front last numbers before order mine =
       mine = also.0;
     }
 
-told_before_one : (n : ℕ) (t : LoggedReply) (numbered_told : List (Numbered LoggedReply)) (numbers : List ℕ) (before : List LoggedReply)
+reply_splits_told : (n : ℕ) (t : LoggedReply) (numbered_told : List (Numbered LoggedReply)) (numbers : List ℕ) (before : List LoggedReply)
     → numbers_of numbered_told ≡ numbers ++ n ∷ []
     → of_number n numbered_told ≡ before ++ t ∷ [] → ToldBefore n numbered_told numbers before (t ∷ [])
-told_before_one n t [] numbers before order mine = absurd (some_last numbers n (sym order))
-told_before_one n t (m ∷ numbered_told) numbers before order mine =
-    let last = with_last m numbered_told in
-    let found = told_before_last n t last.0 last.1 numbers before
+reply_splits_told n t [] numbers before order mine = absurd (empty_has_no_last numbers n (sym order))
+reply_splits_told n t (m ∷ numbered_told) numbers before order mine =
+    let last = nonempty_has_last m numbered_told in
+    let found = last_reply_splits_told n t last.0 last.1 numbers before
     (subst (λ (l : List (Numbered LoggedReply)). numbers_of l ≡ numbers ++ n ∷ []) last.2 order)
     (subst (λ (l : List (Numbered LoggedReply)). of_number n l ≡ before ++ t ∷ []) last.2 mine) in
     subst (λ (l : List (Numbered LoggedReply)). ToldBefore n l numbers before (t ∷ [])) (sym last.2) found
 
 -- what was told is what was told before a line, and then what the line tells
-pub told_before_line : (n : ℕ) (place : Place) (line : LogLine) (numbered_told : List (Numbered LoggedReply)) (numbers : List ℕ)
+pub line_splits_told : (n : ℕ) (place : Place) (line : LogLine) (numbered_told : List (Numbered LoggedReply)) (numbers : List ℕ)
     (before : List LoggedReply) → TellsOfReply place line
     → numbers_of numbered_told ≡ numbers ++ reply_numbers (numbered n line ∷ []) → of_number n numbered_told ≡ before ++ told_at place line
     → ToldBefore n numbered_told numbers before (told_at place line)
-told_before_line n place line numbered_told numbers before (inl none) order mine =
+line_splits_told n place line numbered_told numbers before (inl none) order mine =
     let numbers_are = rw none.1 at order in
     let told = rw none.0 at mine in
     subst (λ (t : List LoggedReply). ToldBefore n numbered_told numbers before t) (sym none.0)
-    (told_before_none n numbered_told numbers before numbers_are told)
-told_before_line n place line numbered_told numbers before (inr one) order mine =
+    (silent_line_splits_told n numbered_told numbers before numbers_are told)
+line_splits_told n place line numbered_told numbers before (inr one) order mine =
     let numbers_are = rw one.2 at order in
     let told = rw one.1 at mine in
     subst (λ (t : List LoggedReply). ToldBefore n numbered_told numbers before t) (sym one.1)
-    (told_before_one n one.0 numbered_told numbers before numbers_are told)
+    (reply_splits_told n one.0 numbered_told numbers before numbers_are told)

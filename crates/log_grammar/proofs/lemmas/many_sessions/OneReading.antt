@@ -9,56 +9,59 @@ use Rattle.log_grammar.specs.Demands.{Demands, AreReplies}
 use Rattle.log_grammar.specs.state_machine.Steps.{IsTransition, told_at}
 use Rattle.log_grammar.specs.Numbered.{Numbered, SpellsNumbered}
 use Rattle.log_grammar.specs.state_machine.NumberedSteps.{IsVisitTransition, IsNumberedTransition}
-use Rattle.log_grammar.proofs.lemmas.many_sessions.HaltAndBusy.{no_busy_line}
-use Rattle.log_grammar.proofs.lemmas.many_sessions.WithoutLast.{numbered_before}
-use Rattle.log_grammar.proofs.lemmas.many_sessions.NumberedReplies.{values_of, none_numbered}
-use Rattle.log_grammar.proofs.lemmas.demands.StillChallenged.{Opened, opened_by}
-use Rattle.log_grammar.proofs.lemmas.many_sessions.LinesOfNumber.{at_each}
-use Rattle.log_grammar.proofs.lemmas.state_machine.OneReading.{OneAccount, goes_once, told_same}
-use Rattle.scram_text.proofs.lemmas.ListEnds.{with_last}
+use Rattle.log_grammar.proofs.lemmas.many_sessions.HaltAndBusy.{no_busy_in_session}
+use Rattle.log_grammar.proofs.lemmas.many_sessions.WithoutLast.{numbered_log_has_last_transition}
+use Rattle.log_grammar.proofs.lemmas.many_sessions.NumberedReplies.{values_of, nothing_told_without_numbers}
+use Rattle.log_grammar.proofs.lemmas.demands.StillChallenged.{ChallengeMeetsDemand, each_line_keeps_demand}
+use Rattle.log_grammar.proofs.lemmas.many_sessions.LinesOfNumber.{one_and_others_cover_each}
+use Rattle.log_grammar.proofs.lemmas.state_machine.OneReading.{OneAccount, one_next_place, same_line_tells_same}
+use Rattle.scram_text.proofs.lemmas.ListEnds.{nonempty_has_last}
 use Rattle.log_grammar.proofs.lemmas.ListEnds.{length-last}
-use Rattle.log_grammar.proofs.lemmas.many_sessions.Visits.{no_lines_at}
+use Rattle.log_grammar.proofs.lemmas.many_sessions.Visits.{empty_visit_is_between}
 
 -- a line leads from a number's place to one place
-pub goes_in_once : (d : Demands) → OneAccount d → (at : Place) (line : LogLine) (p q : Place) → IsVisitTransition d at line p
+pub one_next_visit_place : (d : Demands) → OneAccount d → (at : Place) (line : LogLine) (p q : Place) → IsVisitTransition d at line p
     → IsVisitTransition d at line q → p ≡ q
-goes_in_once d one at line p q (inl h) (inl k) = goes_once d one at line p q h k
-goes_in_once d one at line p q (inl h) (inr b) = absurd (no_busy_line d at p (subst (λ (l : LogLine). IsTransition d at l p) b.1 h))
-goes_in_once d one at line p q (inr b) (inl k) = absurd (no_busy_line d at q (subst (λ (l : LogLine). IsTransition d at l q) b.1 k))
-goes_in_once d one at line p q (inr b) (inr c) = b.2 ∙ sym c.2
+one_next_visit_place d one at line p q (inl h) (inl k) = one_next_place d one at line p q h k
+one_next_visit_place d one at line p q (inl h) (inr b) =
+    absurd (no_busy_in_session d at p (subst (λ (l : LogLine). IsTransition d at l p) b.1 h))
+one_next_visit_place d one at line p q (inr b) (inl k) =
+    absurd (no_busy_in_session d at q (subst (λ (l : LogLine). IsTransition d at l q) b.1 k))
+one_next_visit_place d one at line p q (inr b) (inr c) = b.2 ∙ sym c.2
 
 -- where there is no line, no session is open and nothing was told
-pub nothing_begun : (limit : ℕ) (d : Demands) (places : ℕ → Place) (told : List LoggedReply) → SpellsNumbered limit d [] places told
+pub empty_log_tells_nothing : (limit : ℕ) (d : Demands) (places : ℕ → Place) (told : List LoggedReply)
+    → SpellsNumbered limit d [] places told
     → ((n : ℕ) → places n ≡ between) × (told ≡ [])
-nothing_begun limit d places told s = (
-  λ n. s.after n ∙ no_lines_at (s.visit n) (sym (s.sessions.lines n)),
+empty_log_tells_nothing limit d places told s = (
+  λ n. s.after n ∙ empty_visit_is_between (s.visit n) (sym (s.sessions.lines n)),
   s.tells ∙ ap values_of
-      (none_numbered s.numbered_told s.sessions.order),
+      (nothing_told_without_numbers s.numbered_told s.sessions.order),
 )
 
 -- the places and what was told follow from the lines
-pub numbered_once : (limit : ℕ) (d : Demands) → OneAccount d
+pub numbered_lines_have_one_reading : (limit : ℕ) (d : Demands) → OneAccount d
     → (k : ℕ) (log : List (Numbered LogLine)) (p q : ℕ → Place) (told other : List LoggedReply) → length log ≤ k
     → SpellsNumbered limit d log p told → SpellsNumbered limit d log q other → ((n : ℕ) → p n ≡ q n) × (told ≡ other)
-numbered_once limit d one k [] p q told other short s r =
-    let a = nothing_begun limit d p told s in
-    let b = nothing_begun limit d q other r in
+numbered_lines_have_one_reading limit d one k [] p q told other short s r =
+    let a = empty_log_tells_nothing limit d p told s in
+    let b = empty_log_tells_nothing limit d q other r in
     (λ n. a.0 n ∙ sym (b.0 n), a.1 ∙ sym b.1)
-numbered_once limit d one zero (x ∷ log) p q told other short s r = absurd (omega (arith, short))
-numbered_once limit d one (suc k) (x ∷ log) p q told other short s r =
-    let last = with_last x log in
+numbered_lines_have_one_reading limit d one zero (x ∷ log) p q told other short s r = absurd (omega (arith, short))
+numbered_lines_have_one_reading limit d one (suc k) (x ∷ log) p q told other short s r =
+    let last = nonempty_has_last x log in
     let n = last.1.number in
     let line = last.1.value in
-    let a = numbered_before limit d last.0 n line p told
+    let a = numbered_log_has_last_transition limit d last.0 n line p told
     (subst (λ (l : List (Numbered LogLine)). SpellsNumbered limit d l p told) last.2 s) in
-    let b = numbered_before limit d last.0 n line q other
+    let b = numbered_log_has_last_transition limit d last.0 n line q other
     (subst (λ (l : List (Numbered LogLine)). SpellsNumbered limit d l q other) last.2 r) in
     let shorter : length last.0 ≤ k = omega (arith, short, ap length last.2, length-last last.0 last.1) in
-    let earlier = numbered_once limit d one k last.0 a.before b.before a.told b.told shorter a.spells b.spells in
+    let earlier = numbered_lines_have_one_reading limit d one k last.0 a.before b.before a.told b.told shorter a.spells b.spells in
     let moved = subst (λ (r : Place). IsVisitTransition d r line (q n)) (sym (earlier.0 n)) b.goes.goes in (
-      at_each (λ (m : ℕ). p m ≡ q m) n (goes_in_once d one (a.before n) line (p n) (q n) a.goes.goes moved)
+      one_and_others_cover_each (λ (m : ℕ). p m ≡ q m) n (one_next_visit_place d one (a.before n) line (p n) (q n) a.goes.goes moved)
           (λ m differ. a.others m differ ∙ earlier.0 m ∙ sym (b.others m differ)),
-      a.tells ∙ told_same a.told b.told (a.before n) (b.before n) line line earlier.1 (earlier.0 n) refl ∙ sym b.tells,
+      a.tells ∙ same_line_tells_same a.told b.told (a.before n) (b.before n) line line earlier.1 (earlier.0 n) refl ∙ sym b.tells,
     )
 
 -- these lines are a log of version 2, and what was told in them is the first of what was told in all
@@ -70,25 +73,26 @@ pub record Front (limit : ℕ) (d : Demands) (log : List (Numbered LogLine)) (to
   pub tells : told ≡ earlier ++ rest
 
 -- the first lines of a log of version 2 are such a log, and what was told in them comes first
-pub told_front : (limit : ℕ) (d : Demands) (k : ℕ) (log more : List (Numbered LogLine)) (p : ℕ → Place) (told : List LoggedReply)
+pub front_told_comes_first : (limit : ℕ) (d : Demands) (k : ℕ) (log more : List (Numbered LogLine)) (p : ℕ → Place)
+    (told : List LoggedReply)
     → length more ≤ k
     → SpellsNumbered limit d (log ++ more) p told → Front limit d log told
-told_front limit d k log [] p told short s = record {
+front_told_comes_first limit d k log [] p told short s = record {
   places = p;
   earlier = told;
   rest = [];
   spells = subst (λ (l : List (Numbered LogLine)). SpellsNumbered limit d l p told) (append-nil log) s;
   tells = sym (append-nil told);
 }
-told_front limit d zero log (x ∷ more) p told short s = absurd (omega (arith, short))
-told_front limit d (suc k) log (x ∷ more) p told short s =
-    let last = with_last x more in
+front_told_comes_first limit d zero log (x ∷ more) p told short s = absurd (omega (arith, short))
+front_told_comes_first limit d (suc k) log (x ∷ more) p told short s =
+    let last = nonempty_has_last x more in
     let n = last.1.number in
     let shorter : length last.0 ≤ k = omega (arith, short, ap length last.2, length-last last.0 last.1) in
     let moved = ap (λ (l : List (Numbered LogLine)). log ++ l) last.2 ∙ sym (append_assoc log last.0 (last.1 ∷ [])) in
-    let b = numbered_before limit d (log ++ last.0) n last.1.value p told
+    let b = numbered_log_has_last_transition limit d (log ++ last.0) n last.1.value p told
     (subst (λ (l : List (Numbered LogLine)). SpellsNumbered limit d l p told) moved s) in
-    let f = told_front limit d k log last.0 b.before b.told shorter b.spells in
+    let f = front_told_comes_first limit d k log last.0 b.before b.told shorter b.spells in
     let this = told_at (b.before n) last.1.value in
     record {
       places = f.places;
@@ -99,32 +103,37 @@ told_front limit d (suc k) log (x ∷ more) p told short s =
     }
 
 -- where the place of a number has a challenge that meets its demand, so has the place to which a line leads from there
-opened_in : (d : Demands) (at : Place) (line : LogLine) (next : Place) → Opened d at → IsVisitTransition d at line next → Opened d next
-opened_in d at line next is (inl h) = opened_by d at line next is h
-opened_in d at line next is (inr b) = subst (Opened d) (sym b.2) tt
+visit_challenge_meets_demand : (d : Demands) (at : Place) (line : LogLine) (next : Place) → ChallengeMeetsDemand d at
+    → IsVisitTransition d at line next → ChallengeMeetsDemand d next
+visit_challenge_meets_demand d at line next is (inl h) = each_line_keeps_demand d at line next is h
+visit_challenge_meets_demand d at line next is (inr b) = subst (ChallengeMeetsDemand d) (sym b.2) tt
 
 -- where the place of a number has a challenge, what is demanded of that challenge holds, in a log that meets the demands
-pub opened_numbered : (limit : ℕ) (d : Demands) (k : ℕ) (log : List (Numbered LogLine)) (p : ℕ → Place) (told : List LoggedReply)
+pub number_challenge_meets_demand : (limit : ℕ) (d : Demands) (k : ℕ) (log : List (Numbered LogLine)) (p : ℕ → Place)
+    (told : List LoggedReply)
     → length log ≤ k
-    → SpellsNumbered limit d log p told → (n : ℕ) → Opened d (p n)
-opened_numbered limit d k [] p told short s = λ n. subst (Opened d) (sym ((nothing_begun limit d p told s).0 n)) tt
-opened_numbered limit d zero (x ∷ log) p told short s = absurd (omega (arith, short))
-opened_numbered limit d (suc k) (x ∷ log) p told short s =
-    let last = with_last x log in
+    → SpellsNumbered limit d log p told → (n : ℕ) → ChallengeMeetsDemand d (p n)
+number_challenge_meets_demand limit d k [] p told short s =
+    λ n. subst (ChallengeMeetsDemand d) (sym ((empty_log_tells_nothing limit d p told s).0 n)) tt
+number_challenge_meets_demand limit d zero (x ∷ log) p told short s = absurd (omega (arith, short))
+number_challenge_meets_demand limit d (suc k) (x ∷ log) p told short s =
+    let last = nonempty_has_last x log in
     let n = last.1.number in
-    let b = numbered_before limit d last.0 n last.1.value p told
+    let b = numbered_log_has_last_transition limit d last.0 n last.1.value p told
     (subst (λ (l : List (Numbered LogLine)). SpellsNumbered limit d l p told) last.2 s) in
     let shorter : length last.0 ≤ k = omega (arith, short, ap length last.2, length-last last.0 last.1) in
-    let earlier = opened_numbered limit d k last.0 b.before b.told shorter b.spells in
-    at_each (λ (m : ℕ). Opened d (p m)) n (opened_in d (b.before n) last.1.value (p n) (earlier n) b.goes.goes)
-    (λ m differ. subst (Opened d) (sym (b.others m differ)) (earlier m))
+    let earlier = number_challenge_meets_demand limit d k last.0 b.before b.told shorter b.spells in
+    one_and_others_cover_each (λ (m : ℕ). ChallengeMeetsDemand d (p m)) n (visit_challenge_meets_demand d (b.before n) last.1.value (p n)
+        (earlier n) b.goes.goes)
+    (λ m differ. subst (ChallengeMeetsDemand d) (sym (b.others m differ)) (earlier m))
 
 -- a line that a number may have in a log it may have whatever the places of the others, where its own place and what was told are the same
-pub goes_moved : (limit : ℕ) (d : Demands) (log : List (Numbered LogLine)) (places other : ℕ → Place) (told also : List LoggedReply) (n : ℕ)
+pub own_place_decides_transition : (limit : ℕ) (d : Demands) (log : List (Numbered LogLine)) (places other : ℕ → Place)
+    (told also : List LoggedReply) (n : ℕ)
     (line : LogLine) (to : Place)
     → IsNumberedTransition limit d log places told n line to → places n ≡ other n → told ≡ also
     → IsNumberedTransition limit d log other also n line to
-goes_moved limit d log places other told also n line to g at same = record {
+own_place_decides_transition limit d log places other told also n line to g at same = record {
   room = g.room;
   next = g.next;
   goes = subst (λ (p : Place). IsVisitTransition d p line to) at g.goes;

@@ -9,8 +9,8 @@ use Rattle.log_grammar.specs.Sessions.{AfterMechs, no_login, session}
 use Rattle.log_grammar.specs.state_machine.Steps.{IsTransition, told_at}
 use Rattle.log_grammar.specs.Numbered.{Visit, let_in, turned_away, visit_part, visit_lines, visit_told, visit_place, VisitMeets}
 use Rattle.log_grammar.specs.state_machine.NumberedSteps.{IsVisitTransition}
-use Rattle.log_grammar.proofs.lemmas.state_machine.Growth.{Grown, session_on}
-use Rattle.log_grammar.proofs.lemmas.state_machine.Shortening.{session_cut}
+use Rattle.log_grammar.proofs.lemmas.state_machine.Growth.{Grown, session_goes_on}
+use Rattle.log_grammar.proofs.lemmas.state_machine.Shortening.{session_shortens}
 
 -- a number that was given and is closed
 pub record IsGivenAndClosed (p : Option Visit) : Type 0 where
@@ -19,36 +19,36 @@ pub record IsGivenAndClosed (p : Option Visit) : Type 0 where
   pub at : visit_place p ≡ between
 
 -- a number's first line, MECHS, gives it a session of this one line
-offered_on : (d : Demands) (line : LogLine) (next : Place) → IsTransition d between line next
+mechs_begins_visit : (d : Demands) (line : LogLine) (next : Place) → IsTransition d between line next
     → Grown d visit_part None line next (told_at between line)
-offered_on d (said (mechs names)) next h =
+mechs_begins_visit d (said (mechs names)) next h =
     record { tree = Some (let_in (session names no_login)); lines = refl; at = sym h.1; tells = refl; good = (h.0, tt) }
-offered_on d line next h = absurd h
+mechs_begins_visit d line next h = absurd h
 
 -- the lines of a number that was turned away go on by its `E`
-turned_on : (d : Demands) (line : LogLine) (next : Place) → IsTransition d over line next
+turned_away_visit_goes_on : (d : Demands) (line : LogLine) (next : Place) → IsTransition d over line next
     → Grown d visit_part (Some (turned_away false)) line next (told_at over line)
-turned_on d ended next h = record { tree = Some (turned_away true); lines = refl; at = sym h; tells = refl; good = tt }
-turned_on d line next h = absurd h
+turned_away_visit_goes_on d ended next h = record { tree = Some (turned_away true); lines = refl; at = sym h; tells = refl; good = tt }
+turned_away_visit_goes_on d line next h = absurd h
 
 -- a number is closed, or its lines go on by a line that may stand at its place
-pub number_on : (d : Demands) (p : Option Visit) (line : LogLine) (next : Place) → VisitMeets d p
+pub visit_goes_on : (d : Demands) (p : Option Visit) (line : LogLine) (next : Place) → VisitMeets d p
     → IsVisitTransition d (visit_place p) line next
     → IsGivenAndClosed p ⊎ Grown d visit_part p line next (told_at (visit_place p) line)
-number_on d None line next meets (inl h) = inr (offered_on d line next h)
-number_on d None line next meets (inr b) =
+visit_goes_on d None line next meets (inl h) = inr (mechs_begins_visit d line next h)
+visit_goes_on d None line next meets (inr b) =
     inr (record { tree = Some (turned_away false); lines = ap (λ (l : LogLine). l ∷ []) (sym b.1); at = sym b.2; tells = refl; good = tt })
-number_on d (Some (let_in s)) line next meets (inl h) = elim (session_on d s line next meets h) [
+visit_goes_on d (Some (let_in s)) line next meets (inl h) = elim (session_goes_on d s line next meets h) [
   | inl closed ↦ inl (record { given = let_in s; is = refl; at = closed })
   | inr g ↦ inr (record { tree = Some (let_in g.tree); lines = g.lines; at = g.at; tells = g.tells; good = g.good })
 ]
-number_on d (Some (let_in s)) line next meets (inr b) = inl (record { given = let_in s; is = refl; at = b.0 })
-number_on d (Some (turned_away true)) line next meets h = inl (record { given = turned_away true; is = refl; at = refl })
-number_on d (Some (turned_away false)) line next meets (inl h) = inr (turned_on d line next h)
-number_on d (Some (turned_away false)) line next meets (inr b) = absurd (cc b.0)
+visit_goes_on d (Some (let_in s)) line next meets (inr b) = inl (record { given = let_in s; is = refl; at = b.0 })
+visit_goes_on d (Some (turned_away true)) line next meets h = inl (record { given = turned_away true; is = refl; at = refl })
+visit_goes_on d (Some (turned_away false)) line next meets (inl h) = inr (turned_away_visit_goes_on d line next h)
+visit_goes_on d (Some (turned_away false)) line next meets (inr b) = absurd (cc b.0)
 
 -- the lines of a number are those of what it stood for before, with one line more that may stand at its place
-pub record Lessened (d : Demands) (p : Option Visit) : Type 0 where
+pub record ShorterVisit (d : Demands) (p : Option Visit) : Type 0 where
   pub tree : Option Visit
   pub line : LogLine
   pub lines : visit_lines p ≡ visit_lines tree ++ line ∷ []
@@ -57,9 +57,9 @@ pub record Lessened (d : Demands) (p : Option Visit) : Type 0 where
   pub good : VisitMeets d tree
 
 -- the lines of a session are one line more than those of a session, or than none
-session_less : (d : Demands) (names : List ℕ) (l : AfterMechs) → VisitMeets d (Some (let_in (session names l)))
-    → Lessened d (Some (let_in (session names l)))
-session_less d names l meets = elim (session_cut d names l meets.1 meets.0) [
+session_visit_shortens : (d : Demands) (names : List ℕ) (l : AfterMechs) → VisitMeets d (Some (let_in (session names l)))
+    → ShorterVisit d (Some (let_in (session names l)))
+session_visit_shortens d names l meets = elim (session_shortens d names l meets.1 meets.0) [
   | inl b ↦ record {
     tree = None;
     line = said (mechs names);
@@ -72,16 +72,16 @@ session_less d names l meets = elim (session_cut d names l meets.1 meets.0) [
 ]
 
 -- a number was not given, or its lines are those of what it stood for before, and one more that may stand at its place
-pub number_cut : (d : Demands) (p : Option Visit) → VisitMeets d p → (p ≡ None) ⊎ Lessened d p
-number_cut d None meets = inl refl
-number_cut d (Some (let_in (session names l))) meets = inr (session_less d names l meets)
-number_cut d (Some (turned_away true)) meets =
+pub visit_shortens : (d : Demands) (p : Option Visit) → VisitMeets d p → (p ≡ None) ⊎ ShorterVisit d p
+visit_shortens d None meets = inl refl
+visit_shortens d (Some (let_in (session names l))) meets = inr (session_visit_shortens d names l meets)
+visit_shortens d (Some (turned_away true)) meets =
     inr (record { tree = Some (turned_away false); line = ended; lines = refl; goes = inl refl; tells = refl; good = tt })
-number_cut d (Some (turned_away false)) meets =
+visit_shortens d (Some (turned_away false)) meets =
     inr (record { tree = None; line = said busy; lines = refl; goes = inr (refl, refl, refl); tells = refl; good = tt })
 
 -- a number without lines stands between sessions
-pub no_lines_at : (p : Option Visit) → visit_lines p ≡ [] → visit_place p ≡ between
-no_lines_at None none = refl
-no_lines_at (Some (let_in (session names l))) none = absurd (cc none)
-no_lines_at (Some (turned_away closed)) none = absurd (cc none)
+pub empty_visit_is_between : (p : Option Visit) → visit_lines p ≡ [] → visit_place p ≡ between
+empty_visit_is_between None none = refl
+empty_visit_is_between (Some (let_in (session names l))) none = absurd (cc none)
+empty_visit_is_between (Some (turned_away closed)) none = absurd (cc none)

@@ -17,26 +17,26 @@ use Rattle.log_grammar.specs.LogKinds.{IsWhyOf, BeginsCleanOf}
 use Rattle.log_grammar.specs.VersionTwo.{MayBeginVersionTwo, IsWrongAfterFirst, version_two}
 use Rattle.log_grammar.specs.Numbered.{Numbered, numbered, SpellsNumbered}
 use Rattle.log_grammar.specs.state_machine.NumberedDueClasses.{ClassMayBeNumbered, ClassMayFollow, IsNumberDueAt}
-use Rattle.log_grammar.specs.NumberedLines.{MayHaveNumber, numbered_text, IsNumberedLine, IsNumberedWritable}
+use Rattle.log_grammar.specs.NumberedLines.{IsNoFirstLine, numbered_text, IsNumberedLine, IsNumberedWritable}
 use Rattle.log_grammar.specs.laws.NumberedLogLaws.{NumberedFrontsBeginClean}
 use Rattle.log_grammar.specs.state_machine.NumberedSteps.{put, IsNumberedTransition}
 use Rattle.log_grammar.specs.laws.Reasons.{SaysWhatIsDue, NamesWhatIsDue}
 use Rattle.log_grammar.specs.laws.NumberedReasons.{HasNumberedLineThatMayStand, WhatIsDueMayStandUnderItsNumber}
 use Rattle.log_grammar.specs.laws.NumberedReasons.{EachNumberedLineThatIsDueMayStand}
-use Rattle.log_grammar.proofs.lemmas.lines.Cuts.{cut_one_way}
-use Rattle.log_grammar.proofs.lemmas.reason_laws.DueLines.{NamesOneLine, says_once, named, goes_ok, word_of}
-use Rattle.log_grammar.proofs.lemmas.kinds.FaultLines.{FaultText, at_text}
-use Rattle.log_grammar.proofs.lemmas.kinds.Judged.{front_at}
-use Rattle.log_grammar.proofs.lemmas.reason_laws.Mended.{by_line, none_named}
-use Rattle.log_grammar.proofs.lemmas.many_sessions.DueClasses.{room_line, next_line, number_classes_due}
-use Rattle.log_grammar.proofs.lemmas.lines.NumberedReadBack.{one_numbered_line, numbered_lacks, numbered_written}
-use Rattle.log_grammar.proofs.lemmas.many_sessions.LogSteps.{numbered_on}
-use Rattle.log_grammar.proofs.lemmas.many_sessions.Standings.{busy_line}
+use Rattle.log_grammar.proofs.lemmas.lines.Cuts.{one_split}
+use Rattle.log_grammar.proofs.lemmas.reason_laws.DueLines.{NamesOneLine, one_line_says_due, said_due_is_named, due_ok_may_stand, due_ok_shows_answer}
+use Rattle.log_grammar.proofs.lemmas.kinds.FaultLines.{FaultText, reason_shows_fault_text}
+use Rattle.log_grammar.proofs.lemmas.kinds.Judged.{standing_lines_are_front}
+use Rattle.log_grammar.proofs.lemmas.reason_laws.Mended.{some_line_mends_line, end_reason_names_nothing}
+use Rattle.log_grammar.proofs.lemmas.many_sessions.DueClasses.{line_of_class_has_room, line_of_class_may_follow, number_classes_follow_place}
+use Rattle.log_grammar.proofs.lemmas.lines.NumberedReadBack.{one_numbered_line, numbered_line_lacks_lf, numbered_line_is_writable}
+use Rattle.log_grammar.proofs.lemmas.many_sessions.LogSteps.{numbered_log_goes_on}
+use Rattle.log_grammar.proofs.lemmas.many_sessions.Standings.{only_busy_has_busy_class}
 use Rattle.log_grammar.proofs.lemmas.state_machine.Standings.{Follows}
-use Rattle.log_grammar.proofs.lemmas.ListEnds.{parted, all_append, each_first}
+use Rattle.log_grammar.proofs.lemmas.ListEnds.{index_has_element, all_append, all_front}
 
 -- a numbered line is at fault after lines of version 2, for a reason that names what is due at its number
-record FaultOf (limit : ℕ) (accounts : Accounts) (before : List (List ℕ)) (x : Numbered LogLine) (why : Why) : Type 0 where
+record IsNumberedFault (limit : ℕ) (accounts : Accounts) (before : List (List ℕ)) (x : Numbered LogLine) (why : Why) : Type 0 where
   first : List ℕ
   texts : List (List ℕ)
   same : before ≡ first ∷ texts
@@ -50,19 +50,22 @@ record FaultOf (limit : ℕ) (accounts : Accounts) (before : List (List ℕ)) (x
   wrong : IsWrong accounts (places x.number) told x.value why
 
 -- a line after the first that is at fault for a reason that names what is due is at fault where some line of its class is due
-later_fault : (limit : ℕ) (accounts : Accounts) (first : List ℕ) (texts : List (List ℕ)) (text : List ℕ) (log : List (Numbered LogLine))
+later_text_shows_fault : (limit : ℕ) (accounts : Accounts) (first : List ℕ) (texts : List (List ℕ)) (text : List ℕ)
+    (log : List (Numbered LogLine))
     (x : Numbered LogLine) (why : Why)
     → first ≡ log_line_text header_two → AllZip IsNumberedLine texts log → IsNumberedLine text x → NamesWhatIsDue why
     → IsWrongAfterFirst limit accounts log text why
-    → FaultOf limit accounts (first ∷ texts) x why
-later_fault limit accounts first texts text log x why head are is names (inl (again, same)) = absurd (subst NamesWhatIsDue same names)
-later_fault limit accounts first texts text log x why head are is names (inr (inl (other, none, same))) = absurd
+    → IsNumberedFault limit accounts (first ∷ texts) x why
+later_text_shows_fault limit accounts first texts text log x why head are is names (inl (again, same)) =
+    absurd (subst NamesWhatIsDue same names)
+later_text_shows_fault limit accounts first texts text log x why head are is names (inr (inl (other, none, same))) = absurd
     (subst NamesWhatIsDue same names)
-later_fault limit accounts first texts text log x why head are is names (inr (inr (y, also, inl (undue, same)))) = absurd
+later_text_shows_fault limit accounts first texts text log x why head are is names (inr (inr (y, also, inl (undue, same)))) = absurd
     (subst NamesWhatIsDue same names)
-later_fault limit accounts first texts text log x why head are is names (inr (inr (y, also, inr (class_due, places, told, s, wrong)))) =
-    let due = (number_classes_due limit accounts log places told y.number (class_of y.value) s).0 class_due in
-    subst (λ (z : Numbered LogLine). FaultOf limit accounts (first ∷ texts) z why) (one_numbered_line text y x also is)
+later_text_shows_fault limit accounts first texts text log x why head are is names
+    (inr (inr (y, also, inr (class_due, places, told, s, wrong)))) =
+    let due = (number_classes_follow_place limit accounts log places told y.number (class_of y.value) s).0 class_due in
+    subst (λ (z : Numbered LogLine). IsNumberedFault limit accounts (first ∷ texts) z why) (one_numbered_line text y x also is)
     (record {
       first = first;
       texts = texts;
@@ -78,20 +81,20 @@ later_fault limit accounts first texts text log x why head are is names (inr (in
     })
 
 -- a numbered line at fault for a reason that names what is due is at fault where some line of its class is due
-fault_of : (limit : ℕ) (accounts : Accounts) (before : List (List ℕ)) (text : List ℕ) (x : Numbered LogLine) (why : Why)
+fault_text_shows_fault : (limit : ℕ) (accounts : Accounts) (before : List (List ℕ)) (text : List ℕ) (x : Numbered LogLine) (why : Why)
     → IsNumberedLine text x → NamesWhatIsDue why
-    → FaultText (version_two limit accounts) before text why → FaultOf limit accounts before x why
-fault_of limit accounts [] text x why is names f = absurd (subst NamesWhatIsDue f.wrong.1 names)
-fault_of limit accounts (first ∷ texts) text x why is names f =
+    → FaultText (version_two limit accounts) before text why → IsNumberedFault limit accounts before x why
+fault_text_shows_fault limit accounts [] text x why is names f = absurd (subst NamesWhatIsDue f.wrong.1 names)
+fault_text_shows_fault limit accounts (first ∷ texts) text x why is names f =
     let (log, are, wrong) = f.wrong in
-    later_fault limit accounts first texts text log x why f.stands.0 are is names wrong
+    later_text_shows_fault limit accounts first texts text log x why f.stands.0 are is names wrong
 
 -- the text of a line whose fault names what is due is a numbered line
-numbered_at : (limit : ℕ) (accounts : Accounts) (before : List (List ℕ)) (text : List ℕ) (why : Why) → NamesWhatIsDue why
+fault_text_is_numbered : (limit : ℕ) (accounts : Accounts) (before : List (List ℕ)) (text : List ℕ) (why : Why) → NamesWhatIsDue why
     → FaultText (version_two limit accounts) before text why
     → (x : Numbered LogLine) × IsNumberedLine text x
-numbered_at limit accounts [] text why names f = absurd (subst NamesWhatIsDue f.wrong.1 names)
-numbered_at limit accounts (first ∷ texts) text why names f = of_wrong f.wrong.0 f.wrong.2
+fault_text_is_numbered limit accounts [] text why names f = absurd (subst NamesWhatIsDue f.wrong.1 names)
+fault_text_is_numbered limit accounts (first ∷ texts) text why names f = of_wrong f.wrong.0 f.wrong.2
   where
     of_wrong : (log : List (Numbered LogLine)) → IsWrongAfterFirst limit accounts log text why → (x : Numbered LogLine)
         × IsNumberedLine text x
@@ -100,59 +103,66 @@ numbered_at limit accounts (first ∷ texts) text why names f = of_wrong f.wrong
     of_wrong log (inr (inr (x, is, wrong))) = (x, is)
 
 -- the class of a numbered line at fault is due at the place of its number: BUSY is never wrong
-due_at : (limit : ℕ) (accounts : Accounts) (before : List (List ℕ)) (x : Numbered LogLine) (why : Why)
-    (f : FaultOf limit accounts before x why)
+fault_class_is_due : (limit : ℕ) (accounts : Accounts) (before : List (List ℕ)) (x : Numbered LogLine) (why : Why)
+    (f : IsNumberedFault limit accounts before x why)
     → IsDueAt (f.places x.number) (class_of x.value)
-due_at limit accounts before x why f = elim f.due.due [
+fault_class_is_due limit accounts before x why f = elim f.due.due [
   | inl due ↦ due
-  | inr busy ↦ absurd (subst (λ (l : LogLine). IsWrong accounts (f.places x.number) f.told l why) (busy_line x.value busy.1) f.wrong)
+  | inr busy ↦ absurd (subst (λ (l : LogLine). IsWrong accounts (f.places x.number) f.told l why) (only_busy_has_busy_class x.value busy.1)
+      f.wrong)
 ]
 
 -- the class of the line that a reason names as due
-abbrev class_due : Why → LineClass → Type 0
-class_due other_mechs class = class ≡ of_mechs
-class_due other_challenge class = class ≡ of_login_answers
-class_due (other_outcome due) class = class ≡ of_login_answers
-class_due (other_reply moment due) class = class ≡ of_replies
-class_due why class = ⊥
+abbrev NamesClass : Why → LineClass → Type 0
+NamesClass other_mechs class = class ≡ of_mechs
+NamesClass other_challenge class = class ≡ of_login_answers
+NamesClass (other_outcome due) class = class ≡ of_login_answers
+NamesClass (other_reply moment due) class = class ≡ of_replies
+NamesClass why class = ⊥
 
 -- the class that a reason names is that of a line that says what is due, and that of the line at fault:
-says_class : (why : Why) (line : LogLine) → SaysWhatIsDue why line → class_due why (class_of line)
-says_class is_cut line says = says
-says_class no_line line says = says
-says_class out_of_order line says = says
-says_class other_mechs line says = ap class_of says
-says_class other_challenge line says = ap class_of says.1
-says_class (other_outcome (accepted signature)) line says = ap class_of says.2
-says_class (other_outcome (refused_with message)) line says = ap class_of says
-says_class (other_reply moment due) line says = ap class_of says
+due_line_has_class : (why : Why) (line : LogLine) → SaysWhatIsDue why line → NamesClass why (class_of line)
+due_line_has_class is_cut line says = says
+due_line_has_class no_line line says = says
+due_line_has_class out_of_order line says = says
+due_line_has_class other_mechs line says = ap class_of says
+due_line_has_class other_challenge line says = ap class_of says.1
+due_line_has_class (other_outcome (accepted signature)) line says = ap class_of says.2
+due_line_has_class (other_outcome (refused_with message)) line says = ap class_of says
+due_line_has_class (other_reply moment due) line says = ap class_of says
 
-word_class : (accounts : Accounts) (place : Place) (why : Why) → IsWrongAnswer accounts place why → class_due why of_login_answers
-word_class accounts (asks_bare m) why (inl (is, same)) = subst (λ (w : Why). class_due w of_login_answers) (sym same) refl
-word_class accounts (asks_bare m) why (inr (none, same)) = subst (λ (w : Why). class_due w of_login_answers) (sym same) refl
-word_class accounts (got_first m first) why (inl (is, same)) = subst (λ (w : Why). class_due w of_login_answers) (sym same) refl
-word_class accounts (got_first m first) why (inr (none, same)) = subst (λ (w : Why). class_due w of_login_answers) (sym same) refl
-word_class accounts (got_final m account first challenge last) why (due, is, same) = subst (λ (w : Why). class_due w of_login_answers)
+wrong_answer_has_class : (accounts : Accounts) (place : Place) (why : Why) → IsWrongAnswer accounts place why
+    → NamesClass why of_login_answers
+wrong_answer_has_class accounts (asks_bare m) why (inl (is, same)) = subst (λ (w : Why). NamesClass w of_login_answers) (sym same) refl
+wrong_answer_has_class accounts (asks_bare m) why (inr (none, same)) = subst (λ (w : Why). NamesClass w of_login_answers) (sym same) refl
+wrong_answer_has_class accounts (got_first m first) why (inl (is, same)) =
+    subst (λ (w : Why). NamesClass w of_login_answers) (sym same) refl
+wrong_answer_has_class accounts (got_first m first) why (inr (none, same)) =
+    subst (λ (w : Why). NamesClass w of_login_answers) (sym same) refl
+wrong_answer_has_class accounts (got_final m account first challenge last) why (due, is, same) =
+    subst (λ (w : Why). NamesClass w of_login_answers)
     (sym same) refl
-word_class accounts leaving why same = subst (λ (w : Why). class_due w of_login_answers) (sym same) refl
-word_class accounts place why wrong = absurd wrong
+wrong_answer_has_class accounts leaving why same = subst (λ (w : Why). NamesClass w of_login_answers) (sym same) refl
+wrong_answer_has_class accounts place why wrong = absurd wrong
 
-reply_class : (accounts : Accounts) (place : Place) (told : List LoggedReply) (moment : ℕ) (why : Why)
-    → IsWrongReply accounts place told moment why → class_due why of_replies
-reply_class accounts (got_code account sent) told moment why (due, is, same) = subst (λ (w : Why). class_due w of_replies) (sym same) refl
-reply_class accounts place told moment why wrong = absurd wrong
+wrong_reply_has_class : (accounts : Accounts) (place : Place) (told : List LoggedReply) (moment : ℕ) (why : Why)
+    → IsWrongReply accounts place told moment why → NamesClass why of_replies
+wrong_reply_has_class accounts (got_code account sent) told moment why (due, is, same) =
+    subst (λ (w : Why). NamesClass w of_replies) (sym same) refl
+wrong_reply_has_class accounts place told moment why wrong = absurd wrong
 
-wrong_class : (accounts : Accounts) (place : Place) (told : List LoggedReply) (line : LogLine) (why : Why)
-    → IsWrong accounts place told line why → class_due why (class_of line)
-wrong_class accounts place told (said (mechs names)) why wrong = subst (λ (w : Why). class_due w of_mechs) (sym wrong) refl
-wrong_class accounts place told (said (cont message)) why wrong = word_class accounts place why wrong
-wrong_class accounts place told (said (accepts message)) why wrong = word_class accounts place why wrong
-wrong_class accounts place told (said (refuses message)) why wrong = word_class accounts place why wrong
-wrong_class accounts place told (said (replies moment reply)) why wrong = reply_class accounts place told moment why wrong
-wrong_class accounts place told line why wrong = absurd wrong
+wrong_line_has_class : (accounts : Accounts) (place : Place) (told : List LoggedReply) (line : LogLine) (why : Why)
+    → IsWrong accounts place told line why → NamesClass why (class_of line)
+wrong_line_has_class accounts place told (said (mechs names)) why wrong = subst (λ (w : Why). NamesClass w of_mechs) (sym wrong) refl
+wrong_line_has_class accounts place told (said (cont message)) why wrong = wrong_answer_has_class accounts place why wrong
+wrong_line_has_class accounts place told (said (accepts message)) why wrong = wrong_answer_has_class accounts place why wrong
+wrong_line_has_class accounts place told (said (refuses message)) why wrong = wrong_answer_has_class accounts place why wrong
+wrong_line_has_class accounts place told (said (replies moment reply)) why wrong =
+    wrong_reply_has_class accounts place told moment why wrong
+wrong_line_has_class accounts place told line why wrong = absurd wrong
 
 -- a reason names one class at most
-one_class : (why : Why) (one other : LineClass) → class_due why one → class_due why other → one ≡ other
+one_class : (why : Why) (one other : LineClass) → NamesClass why one → NamesClass why other → one ≡ other
 one_class is_cut one other a b = absurd a
 one_class no_line one other a b = absurd a
 one_class out_of_order one other a b = absurd a
@@ -162,35 +172,37 @@ one_class (other_outcome due) one other a b = a ∙ sym b
 one_class (other_reply moment due) one other a b = a ∙ sym b
 
 -- a line that says what is due may have a number
-says_numbered : (why : Why) (line : LogLine) → SaysWhatIsDue why line → MayHaveNumber line
-says_numbered is_cut line says = absurd says
-says_numbered no_line line says = absurd says
-says_numbered out_of_order line says = absurd says
-says_numbered other_mechs line says = subst MayHaveNumber (sym says) tt
-says_numbered other_challenge line says = subst MayHaveNumber (sym says.1) tt
-says_numbered (other_outcome (accepted signature)) line says = subst MayHaveNumber (sym says.2) tt
-says_numbered (other_outcome (refused_with message)) line says = subst MayHaveNumber (sym says) tt
-says_numbered (other_reply moment due) line says = subst MayHaveNumber (sym says) tt
+due_line_may_have_number : (why : Why) (line : LogLine) → SaysWhatIsDue why line → IsNoFirstLine line
+due_line_may_have_number is_cut line says = absurd says
+due_line_may_have_number no_line line says = absurd says
+due_line_may_have_number out_of_order line says = absurd says
+due_line_may_have_number other_mechs line says = subst IsNoFirstLine (sym says) tt
+due_line_may_have_number other_challenge line says = subst IsNoFirstLine (sym says.1) tt
+due_line_may_have_number (other_outcome (accepted signature)) line says = subst IsNoFirstLine (sym says.2) tt
+due_line_may_have_number (other_outcome (refused_with message)) line says = subst IsNoFirstLine (sym says) tt
+due_line_may_have_number (other_reply moment due) line says = subst IsNoFirstLine (sym says) tt
 
 -- lines before a numbered line at fault begin a clean log with a line that says what is due and may stand at its place
-begins_with : NumberedFrontsBeginClean → (limit : ℕ) (accounts : Accounts) → AllCanBeChallenged accounts
+due_numbered_begins_clean : NumberedFrontsBeginClean → (limit : ℕ) (accounts : Accounts) → AllCanBeChallenged accounts
     → (before : List (List ℕ)) (x : Numbered LogLine) (why : Why)
-    (f : FaultOf limit accounts before x why) (line : LogLine) (next : Place) → AllByRecursion LacksLf before → SaysWhatIsDue why line
+    (f : IsNumberedFault limit accounts before x why) (line : LogLine) (next : Place) → AllByRecursion LacksLf before
+        → SaysWhatIsDue why line
     → IsNumberedWritable (numbered x.number line) → IsTransition (demands accounts) (f.places x.number) line next
     → AreReplies (demands accounts) (reverse f.told) (told_at (f.places x.number) line)
     → BeginsCleanOf (version_two limit accounts) (ended_by_lf (before ++ numbered_text (numbered x.number line) ∷ []))
-begins_with completes limit accounts fit before x why f line next lack says writable goes answer =
+due_numbered_begins_clean completes limit accounts fit before x why f line next lack says writable goes answer =
     let n = x.number in
     let y = numbered n line in
-    let same = one_class why (class_of x.value) (class_of line) (wrong_class accounts (f.places n) f.told x.value why f.wrong)
-    (says_class why line says) in
+    let same = one_class why (class_of x.value) (class_of line) (wrong_line_has_class accounts (f.places n) f.told x.value why f.wrong)
+    (due_line_has_class why line says) in
     let g : IsNumberedTransition limit (demands accounts) f.log f.places f.told n line next = record {
-      room = room_line limit f.log n line (subst (ClassMayBeNumbered limit f.log n) same f.due.room);
-      next = λ earlier z e. next_line z.number z.value n line (subst (ClassMayFollow z.number z.value n) same (f.due.next earlier z e));
+      room = line_of_class_has_room limit f.log n line (subst (ClassMayBeNumbered limit f.log n) same f.due.room);
+      next = λ earlier z e. line_of_class_may_follow z.number z.value n line (subst (ClassMayFollow z.number z.value n) same
+          (f.due.next earlier z e));
       goes = inl goes;
       due = answer;
     } in
-    let on = numbered_on limit (demands accounts) f.log f.places f.told n line next f.spells g in
+    let on = numbered_log_goes_on limit (demands accounts) f.log f.places f.told n line next f.spells g in
     let stands : MayBeginVersionTwo limit accounts ((f.first ∷ f.texts) ++ numbered_text y ∷ []) = (
       f.head,
       f.log ++ y ∷ [],
@@ -201,24 +213,24 @@ begins_with completes limit accounts fit before x why f line next lack says writ
       on,
     ) in
     let all = before ++ numbered_text y ∷ [] in
-    let lacks = all_append LacksLf before (numbered_text y ∷ []) lack (numbered_lacks (numbered_text y) y writable, tt) in
+    let lacks = all_append LacksLf before (numbered_text y ∷ []) lack (numbered_line_lacks_lf (numbered_text y) y writable, tt) in
     completes limit accounts fit (ended_by_lf all)
-    (front_at (version_two limit accounts) all lacks
+    (standing_lines_are_front (version_two limit accounts) all lacks
     (subst (λ (ts : List (List ℕ)). MayBeginVersionTwo limit accounts (ts ++ numbered_text y ∷ [])) (sym f.same) stands))
 
 -- what a reason names as due may stand in place of a numbered line at fault, under its number
-mended_at : NumberedFrontsBeginClean → (limit : ℕ) (accounts : Accounts) → AllCanBeChallenged accounts
+numbered_fault_has_due_line : NumberedFrontsBeginClean → (limit : ℕ) (accounts : Accounts) → AllCanBeChallenged accounts
     → (bytes : List ℕ) (before : List (List ℕ)) (text : List ℕ) (more : List (List ℕ))
     (rest : List ℕ) (why : Why) → IsSplit bytes (before ++ text ∷ more) rest
     → IsWhyOf (version_two limit accounts) bytes (length before + 1) why → NamesWhatIsDue why
     → HasNumberedLineThatMayStand limit accounts (before ++ text ∷ more) (length before + 1) why
-mended_at completes limit accounts fit bytes before text more rest why cut w names =
-    let fault = at_text (version_two limit accounts) bytes before text more rest why cut w in
-    let (x, is) = numbered_at limit accounts before text why names fault in
-    let f = fault_of limit accounts before text x why is names fault in
-    let m = by_line accounts fit (f.places x.number) f.told (log_line_text x.value) x.value why is.line
-    (due_at limit accounts before x why f) names f.wrong in
-    let writable = numbered_written (numbered x.number m.line) is.number (says_numbered why m.line m.says) m.writable in
+numbered_fault_has_due_line completes limit accounts fit bytes before text more rest why cut w names =
+    let fault = reason_shows_fault_text (version_two limit accounts) bytes before text more rest why cut w in
+    let (x, is) = fault_text_is_numbered limit accounts before text why names fault in
+    let f = fault_text_shows_fault limit accounts before text x why is names fault in
+    let m = some_line_mends_line accounts fit (f.places x.number) f.told (log_line_text x.value) x.value why is.line
+    (fault_class_is_due limit accounts before x why f) names f.wrong in
+    let writable = numbered_line_is_writable (numbered x.number m.line) is.number (due_line_may_have_number why m.line m.says) m.writable in
     record {
       before = before;
       text = text;
@@ -230,51 +242,54 @@ mended_at completes limit accounts fit bytes before text more rest why cut w nam
       line = m.line;
       says = m.says;
       writable = writable;
-      begins = begins_with completes limit accounts fit before x why f m.line m.next
-          (each_first LacksLf before (text ∷ more) cut.lines) m.says writable m.goes m.due;
+      begins = due_numbered_begins_clean completes limit accounts fit before x why f m.line m.next
+          (all_front LacksLf before (text ∷ more) cut.lines) m.says writable m.goes m.due;
     }
 
 -- what a reason names as due may stand in place of the line at fault, under its number, where fronts of version 2 begin clean logs
-pub numbered_what_is_due : NumberedFrontsBeginClean → WhatIsDueMayStandUnderItsNumber
-numbered_what_is_due completes limit accounts fit bytes texts rest k why cut w names = elim (cases_lt w.before (length texts)) [
+pub numbered_what_is_due_may_stand : NumberedFrontsBeginClean → WhatIsDueMayStandUnderItsNumber
+numbered_what_is_due_may_stand completes limit accounts fit bytes texts rest k why cut w names = elim (cases_lt w.before (length texts)) [
   | inr past ↦
-      let same = (cut_one_way bytes w.fault.texts texts w.fault.rest rest w.fault.are_split cut).0 in
-      absurd (none_named (version_two limit accounts) (take w.before w.fault.texts) w.fault.texts w.before w.fault.rest why
+      let same = (one_split bytes w.fault.texts texts w.fault.rest rest w.fault.are_split cut).0 in
+      absurd (end_reason_names_nothing (version_two limit accounts) (take w.before w.fault.texts) w.fault.texts w.before w.fault.rest why
       (subst (λ (ts : List (List ℕ)). length ts ≤ w.before) (sym same) past) w.wrong names)
   | inl less ↦
-      let (before, text, more, same, at) = parted texts w.before less in
+      let (before, text, more, same, at) = index_has_element texts w.before less in
       let this : k ≡ length before + 1 = omega (arith, w.this, at) in
       subst (λ (ts : List (List ℕ)). HasNumberedLineThatMayStand limit accounts ts k why) (sym same)
       (subst (λ (i : ℕ). HasNumberedLineThatMayStand limit accounts (before ++ text ∷ more) i why) (sym this)
-      (mended_at completes limit accounts fit bytes before text more rest why
+      (numbered_fault_has_due_line completes limit accounts fit bytes before text more rest why
       (subst (λ (ts : List (List ℕ)). IsSplit bytes ts rest) same cut)
       (subst (λ (i : ℕ). IsWhyOf (version_two limit accounts) bytes i why) this w) names))
 ]
 
 -- the only line that says what is due may stand at the place
-the_line : (accounts : Accounts) → AllCanBeChallenged accounts
+only_due_line_follows : (accounts : Accounts) → AllCanBeChallenged accounts
     → (place : Place) (told : List LoggedReply) (x : LogLine) (why : Why) (line : LogLine) → IsWritable x
     → IsDueAt place (class_of x) → IsWrong accounts place told x why → NamesOneLine why → SaysWhatIsDue why line → IsWritable line
     → Follows accounts place told line
-the_line accounts fit place told x why line is due wrong single says writable =
-    let m = by_line accounts fit place told (log_line_text x) x why is due (named why line says writable) wrong in
-    subst (Follows accounts place told) (says_once why m.line line single m.says says)
+only_due_line_follows accounts fit place told x why line is due wrong single says writable =
+    let m = some_line_mends_line accounts fit place told (log_line_text x) x why is due (said_due_is_named why line says writable) wrong in
+    subst (Follows accounts place told) (one_line_says_due why m.line line single m.says says)
     (record { next = m.next; goes = m.goes; due = m.due })
 
 -- each line that says what is due, except a challenge, may stand at the place
-leads_on : (accounts : Accounts) → AllCanBeChallenged accounts
+each_due_line_follows : (accounts : Accounts) → AllCanBeChallenged accounts
     → (place : Place) (told : List LoggedReply) (x : LogLine) (why : Why) (line : LogLine) → IsWritable x
     → IsDueAt place (class_of x) → IsWrong accounts place told x why → (why ≡ other_challenge → ⊥) → SaysWhatIsDue why line
     → IsWritable line
     → Follows accounts place told line
-leads_on accounts fit place told x is_cut line is due wrong other says writable = absurd says
-leads_on accounts fit place told x no_line line is due wrong other says writable = absurd says
-leads_on accounts fit place told x out_of_order line is due wrong other says writable = absurd says
-leads_on accounts fit place told x other_mechs line is due wrong other says writable = the_line accounts fit place told x other_mechs line
+each_due_line_follows accounts fit place told x is_cut line is due wrong other says writable = absurd says
+each_due_line_follows accounts fit place told x no_line line is due wrong other says writable = absurd says
+each_due_line_follows accounts fit place told x out_of_order line is due wrong other says writable = absurd says
+each_due_line_follows accounts fit place told x other_mechs line is due wrong other says writable =
+    only_due_line_follows accounts fit place told x other_mechs line
     is due wrong tt says writable
-leads_on accounts fit place told x other_challenge line is due wrong other says writable = absurd (other refl)
-leads_on accounts fit place told x (other_outcome (accepted signature)) line is due wrong other (message, bears, same) writable =
-    let (next, goes, no_farewell) = goes_ok accounts place signature message (word_of accounts place told x signature wrong) bears in
+each_due_line_follows accounts fit place told x other_challenge line is due wrong other says writable = absurd (other refl)
+each_due_line_follows accounts fit place told x (other_outcome (accepted signature)) line is due wrong other (message, bears, same)
+    writable =
+    let (next, goes, no_farewell) = due_ok_may_stand accounts place signature message
+        (due_ok_shows_answer accounts place told x signature wrong) bears in
     subst (Follows accounts place told) (sym same)
     (record {
       next = next;
@@ -282,18 +297,18 @@ leads_on accounts fit place told x (other_outcome (accepted signature)) line is 
       due = subst (λ (t : List LoggedReply). AreReplies (demands accounts) (reverse told) t)
           (sym no_farewell) tt;
     })
-leads_on accounts fit place told x (other_outcome (refused_with message)) line is due wrong other says writable =
-    the_line accounts fit place told x (other_outcome (refused_with message)) line is due wrong tt says writable
-leads_on accounts fit place told x (other_reply moment due_reply) line is due wrong other says writable =
-    the_line accounts fit place told x (other_reply moment due_reply) line is due wrong tt says writable
+each_due_line_follows accounts fit place told x (other_outcome (refused_with message)) line is due wrong other says writable =
+    only_due_line_follows accounts fit place told x (other_outcome (refused_with message)) line is due wrong tt says writable
+each_due_line_follows accounts fit place told x (other_reply moment due_reply) line is due wrong other says writable =
+    only_due_line_follows accounts fit place told x (other_reply moment due_reply) line is due wrong tt says writable
 
 -- each line that can be written and says what is due, except a challenge, may stand in place of the line at fault, under its
 -- number, where fronts of version 2 begin clean logs
-pub each_numbered_line : NumberedFrontsBeginClean → EachNumberedLineThatIsDueMayStand
-each_numbered_line completes limit accounts fit bytes before text more rest why x line cut w other is says writable =
-    let f = fault_of limit accounts before text x why is (named why line says writable.line)
-    (at_text (version_two limit accounts) bytes before text more rest why cut w) in
-    let l = leads_on accounts fit (f.places x.number) f.told x.value why line is.line
-    (due_at limit accounts before x why f) f.wrong other says writable.line in
-    begins_with completes limit accounts fit before x why f line l.next
-    (each_first LacksLf before (text ∷ more) cut.lines) says writable l.goes l.due
+pub each_numbered_due_may_stand : NumberedFrontsBeginClean → EachNumberedLineThatIsDueMayStand
+each_numbered_due_may_stand completes limit accounts fit bytes before text more rest why x line cut w other is says writable =
+    let f = fault_text_shows_fault limit accounts before text x why is (said_due_is_named why line says writable.line)
+    (reason_shows_fault_text (version_two limit accounts) bytes before text more rest why cut w) in
+    let l = each_due_line_follows accounts fit (f.places x.number) f.told x.value why line is.line
+    (fault_class_is_due limit accounts before x why f) f.wrong other says writable.line in
+    due_numbered_begins_clean completes limit accounts fit before x why f line l.next
+    (all_front LacksLf before (text ∷ more) cut.lines) says writable l.goes l.due

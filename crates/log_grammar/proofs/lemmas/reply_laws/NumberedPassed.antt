@@ -21,28 +21,31 @@ use Rattle.log_grammar.specs.state_machine.NumberedSteps.{IsVisitTransition}
 use Rattle.log_grammar.specs.laws.NumberedReplies.{IsNumberedCodeOf, EachNumberedPassIsACode, NumberedCountersRise}
 use Rattle.log_grammar.specs.laws.NumberedReplies.{NoNumberedCounterIsUsedTwice}
 use Rattle.log_grammar.proofs.lemmas.state_machine.PlaceBefore.{one_account}
-use Rattle.log_grammar.proofs.lemmas.many_sessions.WithoutLast.{numbered_before}
-use Rattle.log_grammar.proofs.lemmas.many_sessions.OneReading.{numbered_once, told_front}
-use Rattle.log_grammar.proofs.lemmas.reply_laws.Passed.{later}
-use Rattle.log_grammar.proofs.lemmas.reply_laws.UsedCounters.{all_rise}
+use Rattle.log_grammar.proofs.lemmas.many_sessions.WithoutLast.{numbered_log_has_last_transition}
+use Rattle.log_grammar.proofs.lemmas.many_sessions.OneReading.{numbered_lines_have_one_reading, front_told_comes_first}
+use Rattle.log_grammar.proofs.lemmas.reply_laws.Passed.{later_pass_is_greater}
+use Rattle.log_grammar.proofs.lemmas.reply_laws.UsedCounters.{replies_keep_counters_rising}
 
 -- a PASS stands where a code, or two in a row, wait for their reply
-passes_at : (d : Demands) (place next : Place) (moment counter : ℕ) → IsVisitTransition d place (passes moment counter) next
+pass_follows_code : (d : Demands) (place next : Place) (moment counter : ℕ) → IsVisitTransition d place (passes moment counter) next
     → (account : List ℕ) × (sent : CodeTexts) × (place ≡ got_code account sent) × (next ≡ waits_code account)
-passes_at d place next moment counter (inr busy) = absurd (cc busy.1)
-passes_at d (got_code account sent) next moment counter (inl goes) = (account, sent, refl, goes)
-passes_at d place next moment counter (inl goes) = absurd goes
+pass_follows_code d place next moment counter (inr busy) = absurd (cc busy.1)
+pass_follows_code d (got_code account sent) next moment counter (inl goes) = (account, sent, refl, goes)
+pass_follows_code d place next moment counter (inl goes) = absurd goes
 
 -- a PASS that is due to a code of a number is one of a code that could pass then
-of_reply : (limit : ℕ) (accounts : Accounts) (log : List (Numbered LogLine)) (n moment counter : ℕ) (next : Place) (account : List ℕ)
+due_numbered_pass_is_code : (limit : ℕ) (accounts : Accounts) (log : List (Numbered LogLine)) (n moment counter : ℕ) (next : Place)
+    (account : List ℕ)
     (sent : CodeTexts)
     (places : ℕ → Place) (told : List LoggedReply) (o : Option TokenFields) → accounts.token account ≡ o
     → SpellsNumbered limit (demands accounts) log places told
     → places n ≡ got_code account sent → next ≡ waits_code account
     → IsReplyDueBy o (attempts_of account (reverse told)) moment sent (Some (Pass counter))
     → IsNumberedCodeOf limit accounts log n moment counter next
-of_reply limit accounts log n moment counter next account sent places told None has after waits is_next due = absurd (cc due)
-of_reply limit accounts log n moment counter next account sent places told (Some token) has after waits is_next (reply, is, due) =
+due_numbered_pass_is_code limit accounts log n moment counter next account sent places told None has after waits is_next due =
+    absurd (cc due)
+due_numbered_pass_is_code limit accounts log n moment counter next account sent places told (Some token) has after waits is_next
+    (reply, is, due) =
     let same : reply ≡ Pass counter = cc (sym is) in
     let fits = subst (λ (r : Reply). IsDueReply token (attempts_of account (reverse told)) moment sent r) same due in
     record {
@@ -60,36 +63,38 @@ of_reply limit accounts log n moment counter next account sent places told (Some
 
 -- PASS stands under a number only after the code of its counter, which could pass then, or after two codes in a row whose
 -- second is that of its counter
-pub each_numbered_pass : EachNumberedPassIsACode
-each_numbered_pass limit accounts log n moment counter places told s =
-    let b = numbered_before limit (demands accounts) log n (passes moment counter) places told s in
-    let (account, sent, at, next) = passes_at (demands accounts) (b.before n) (places n) moment counter b.goes.goes in
+pub each_numbered_pass_is_a_code : EachNumberedPassIsACode
+each_numbered_pass_is_a_code limit accounts log n moment counter places told s =
+    let b = numbered_log_has_last_transition limit (demands accounts) log n (passes moment counter) places told s in
+    let (account, sent, at, next) = pass_follows_code (demands accounts) (b.before n) (places n) moment counter b.goes.goes in
     let due = subst (λ (p : Place). AreReplies (demands accounts) (reverse b.told) (told_at p (passes moment counter))) at b.goes.due in
-    of_reply limit accounts log n moment counter (places n) account sent b.before b.told
+    due_numbered_pass_is_code limit accounts log n moment counter (places n) account sent b.before b.told
     (accounts.token account) refl b.spells at next due.0
 
 -- of two passes of one account in a log of version 2, under whichever numbers, the later has the greater counter, where a
 -- client-first message has one list of parts, a saslname one name, and a counter that can pass is above those that passed
-pub numbered_rise : HasOneClientFirst → SpellsOneName → CandidatesAreNew → NumberedCountersRise
-numbered_rise one_first names new limit accounts log more account n moment counter m at greater places after told all s at_n longer at_m =
+pub numbered_counters_rise : HasOneClientFirst → SpellsOneName → CandidatesAreNew → NumberedCountersRise
+numbered_counters_rise one_first names new limit accounts log more account n moment counter m at greater places after told all s at_n longer
+    at_m =
     let line = passes moment counter in
     let first = log ++ numbered n line ∷ [] in
-    let one = numbered_before limit (demands accounts) log n line places told s in
-    let (mine, sent, was, next) = passes_at (demands accounts) (one.before n) (places n) moment counter one.goes.goes in
+    let one = numbered_log_has_last_transition limit (demands accounts) log n line places told s in
+    let (mine, sent, was, next) = pass_follows_code (demands accounts) (one.before n) (places n) moment counter one.goes.goes in
     let split = sym (append_assoc first more (numbered m (passes at greater) ∷ [])) in
-    let two = each_numbered_pass limit accounts (first ++ more) m at greater after all
+    let two = each_numbered_pass_is_a_code limit accounts (first ++ more) m at greater after all
     (subst (λ (l : List (Numbered LogLine)). SpellsNumbered limit (demands accounts) l after all) split longer) in
-    let f = told_front limit (demands accounts) (length more) first more two.places two.told (omega arith) two.after in
-    let same = (numbered_once limit (demands accounts) (one_account one_first names accounts)
+    let f = front_told_comes_first limit (demands accounts) (length more) first more two.places two.told (omega arith) two.after in
+    let same = (numbered_lines_have_one_reading limit (demands accounts) (one_account one_first names accounts)
     (length first) first f.places places f.earlier told (omega arith) f.spells s).1 in
     let told_here = one.tells ∙ ap (λ (p : Place). one.told ++ told_at p line) was in
     let tells = f.tells ∙ ap (λ (l : List LoggedReply). l ++ f.rest) (same ∙ told_here) in
     let whose : mine ≡ two.account = cc (sym next ∙ at_n ∙ sym at_m ∙ two.is_next) in
-    later new two.token two.account two.sent two.told at greater two.fits mine moment counter sent one.told f.rest whose tells
+    later_pass_is_greater new two.token two.account two.sent two.told at greater two.fits mine moment counter sent one.told f.rest whose
+        tells
 
 -- the counters that an account's codes use in a log of version 2 rise, so that none is used twice, where a counter that can pass
 -- is above those that passed
-pub none_used_twice_numbered : CandidatesAreNew → NoNumberedCounterIsUsedTwice
-none_used_twice_numbered new limit accounts log places told account s =
+pub no_numbered_counter_is_used_twice : CandidatesAreNew → NoNumberedCounterIsUsedTwice
+no_numbered_counter_is_used_twice new limit accounts log places told account s =
     subst (λ (l : List LoggedReply). AreRising (used_in (attempts_of account l))) (append-nil (reverse told))
-    (all_rise new accounts account [] told s.replies tt)
+    (replies_keep_counters_rising new accounts account [] told s.replies tt)

@@ -31,18 +31,19 @@ use Rattle.log_grammar.specs.Demands.{Accounts, attempts_by, attempts_of, IsRepl
 use Rattle.log_grammar.specs.Begins.{Begins}
 use Rattle.log_grammar.specs.laws.Outcomes.{IsReplied, EachReplyIsDue}
 use Rattle.log_grammar.specs.laws.Replies.{passes, IsCodeOf, EachPassIsACode, CountersRise, NextHotpCodePasses, NextTwoHotpCodesPass}
-use Rattle.log_grammar.proofs.lemmas.state_machine.LogSteps.{turned}
-use Rattle.log_grammar.proofs.lemmas.reply_laws.ServerLines.{told_first}
-use Rattle.log_grammar.proofs.lemmas.state_machine.PlaceBefore.{one_reading}
-use Rattle.log_grammar.proofs.lemmas.demands.EachAccount.{of_account}
+use Rattle.log_grammar.proofs.lemmas.state_machine.LogSteps.{first_reply_stands_last}
+use Rattle.log_grammar.proofs.lemmas.reply_laws.ServerLines.{first_lines_tell_first}
+use Rattle.log_grammar.proofs.lemmas.state_machine.PlaceBefore.{log_has_one_reading}
+use Rattle.log_grammar.proofs.lemmas.demands.EachAccount.{same_or_other_account}
 
 -- a PASS that is due to a code is one of a code that could pass then
-of_reply : (accounts : Accounts) (log : List LogLine) (account : List ℕ) (sent : CodeTexts) (told : List LoggedReply) (moment counter : ℕ)
+due_pass_is_code : (accounts : Accounts) (log : List LogLine) (account : List ℕ) (sent : CodeTexts) (told : List LoggedReply)
+    (moment counter : ℕ)
     (next : Place) (o : Option TokenFields)
     → accounts.token account ≡ o → Begins (demands accounts) log (got_code account sent) told → next ≡ waits_code account
     → IsReplyDueBy o (attempts_of account (reverse told)) moment sent (Some (Pass counter)) → IsCodeOf accounts log moment counter next
-of_reply accounts log account sent told moment counter next None has after is_next due = absurd (cc due)
-of_reply accounts log account sent told moment counter next (Some token) has after is_next (reply, is, due) =
+due_pass_is_code accounts log account sent told moment counter next None has after is_next due = absurd (cc due)
+due_pass_is_code accounts log account sent told moment counter next (Some token) has after is_next (reply, is, due) =
     let same : reply ≡ Pass counter = cc (sym is) in
     let fits = subst (λ (r : Reply). IsDueReply token (attempts_of account (reverse told)) moment sent r) same due in
     record {
@@ -57,84 +58,92 @@ of_reply accounts log account sent told moment counter next (Some token) has aft
     }
 
 -- a PASS that may stand is one of a code that could pass then
-of_answer : (accounts : Accounts) (log : List LogLine) (moment counter : ℕ) (next : Place) (told : List LoggedReply)
+replied_pass_is_code : (accounts : Accounts) (log : List LogLine) (moment counter : ℕ) (next : Place) (told : List LoggedReply)
     → IsReplied accounts log moment (Some (Pass counter)) next told → IsCodeOf accounts log moment counter next
-of_answer accounts log moment counter next told r =
-    of_reply accounts log r.account r.sent r.told moment counter next (accounts.token r.account) refl r.after r.is_next r.due
+replied_pass_is_code accounts log moment counter next told r =
+    due_pass_is_code accounts log r.account r.sent r.told moment counter next (accounts.token r.account) refl r.after r.is_next r.due
 
 -- PASS stands only after the code of its counter, which could pass then, or after two codes in a row whose second is that of its
 -- counter, where replies may stand exactly where they are due
-pub each_pass : EachReplyIsDue → EachPassIsACode
-each_pass replied accounts log moment counter next told begins =
-    of_answer accounts log moment counter next told ((replied accounts log moment (Some (Pass counter)) next told).0 begins)
+pub each_pass_is_a_code : EachReplyIsDue → EachPassIsACode
+each_pass_is_a_code replied accounts log moment counter next told begins =
+    replied_pass_is_code accounts log moment counter next told ((replied accounts log moment (Some (Pass counter)) next told).0 begins)
 
 -- the number after one that is above these counters is above them
-above_next : (counters : List ℕ) (w c : ℕ) → c ≡ w + 1 → IsAbove counters w → IsAbove counters c
-above_next [] w c next above = tt
-above_next (p ∷ counters) w c next above = (omega (arith, next, above.0), above_next counters w c next above.1)
+next_number_is_above : (counters : List ℕ) (w c : ℕ) → c ≡ w + 1 → IsAbove counters w → IsAbove counters c
+next_number_is_above [] w c next above = tt
+next_number_is_above (p ∷ counters) w c next above = (omega (arith, next, above.0), next_number_is_above counters w c next above.1)
 
 -- a counter that fits, and the one before it where two codes fit, is above all that passed
-pub fits_above : CandidatesAreNew → (token : TokenFields) (attempts : List Attempt) (moment : ℕ) (sent : CodeTexts) (c : ℕ)
+pub fitting_counter_is_above : CandidatesAreNew → (token : TokenFields) (attempts : List Attempt) (moment : ℕ) (sent : CodeTexts) (c : ℕ)
     → IsFitting token attempts moment sent c → IsAbove (used_in attempts) c
-fits_above new token attempts moment (OneText text) c fits = new token attempts moment c (inl fits.0)
-fits_above new token attempts moment (TwoTexts first second) c fits =
-    above_next (used_in attempts) fits.0 c fits.1 (new token attempts moment fits.0 (inr fits.2))
+fitting_counter_is_above new token attempts moment (OneText text) c fits = new token attempts moment c (inl fits.0)
+fitting_counter_is_above new token attempts moment (TwoTexts first second) c fits =
+    next_number_is_above (used_in attempts) fits.0 c fits.1 (new token attempts moment fits.0 (inr fits.2))
 
 -- a number above what a pass used, and what passed before, is above its counter, and above what passed before
-above_used : (sent : CodeTexts) (c : ℕ) (counters : List ℕ) (d : ℕ) → IsAbove (counters_of sent c ++ counters) d → (c < d)
+number_is_above_used : (sent : CodeTexts) (c : ℕ) (counters : List ℕ) (d : ℕ) → IsAbove (counters_of sent c ++ counters) d → (c < d)
     × IsAbove counters d
-above_used (OneText text) c counters d above = above
-above_used (TwoTexts first second) c counters d above = (above.0, above.1.1)
+number_is_above_used (OneText text) c counters d above = above
+number_is_above_used (TwoTexts first second) c counters d above = (above.0, above.1.1)
 
 -- a counter above all that passed is above those that passed in fewer attempts
-above_by : (t : LoggedReply) (reply : Option Reply) (attempts : List Attempt) (d : ℕ) → IsAbove (used_in (attempts_by t reply attempts)) d
+number_is_above_fewer : (t : LoggedReply) (reply : Option Reply) (attempts : List Attempt) (d : ℕ)
+    → IsAbove (used_in (attempts_by t reply attempts)) d
     → IsAbove (used_in attempts) d
-above_by t None attempts d above = above
-above_by t (Some (Pass c)) attempts d above = (above_used t.sent c (used_in attempts) d above).1
-above_by t (Some Fail) attempts d above = above
-above_by t (Some Locked) attempts d above = above
+number_is_above_fewer t None attempts d above = above
+number_is_above_fewer t (Some (Pass c)) attempts d above = (number_is_above_used t.sent c (used_in attempts) d above).1
+number_is_above_fewer t (Some Fail) attempts d above = above
+number_is_above_fewer t (Some Locked) attempts d above = above
 
 -- a number above all counters that passed in some replies is above those that passed in the earlier of them:
-above_taken : (account : List ℕ) (t : LoggedReply) (before : List LoggedReply) (d : ℕ)
+number_is_above_before : (account : List ℕ) (t : LoggedReply) (before : List LoggedReply) (d : ℕ)
     → IsAbove (used_in (attempts_of account (t ∷ before))) d
     → IsAbove (used_in (attempts_of account before)) d
-above_taken account t before d above = elim (of_account t account) [
-  | inl is ↦ above_by t t.reply (attempts_of account before) d (rw is.1 at above)
+number_is_above_before account t before d above = elim (same_or_other_account t account) [
+  | inl is ↦ number_is_above_fewer t t.reply (attempts_of account before) d (rw is.1 at above)
   | inr other ↦ rw other.0 at above
 ]
 
-above_late : (account : List ℕ) (late early : List LoggedReply) (d : ℕ) → IsAbove (used_in (attempts_of account (late ++ early))) d
+number_is_above_earlier : (account : List ℕ) (late early : List LoggedReply) (d : ℕ)
+    → IsAbove (used_in (attempts_of account (late ++ early))) d
     → IsAbove (used_in (attempts_of account early)) d
-above_late account [] early d above = above
-above_late account (t ∷ late) early d above = above_late account late early d (above_taken account t (late ++ early) d above)
+number_is_above_earlier account [] early d above = above
+number_is_above_earlier account (t ∷ late) early d above =
+    number_is_above_earlier account late early d (number_is_above_before account t (late ++ early) d above)
 
 -- a number above all counters that passed in some replies is above the counter of each pass among them
-above_pass : (account : List ℕ) (t : LoggedReply) (before : List LoggedReply) (c d : ℕ) → t.account ≡ account → t.reply ≡ Some (Pass c)
+number_is_above_pass : (account : List ℕ) (t : LoggedReply) (before : List LoggedReply) (c d : ℕ) → t.account ≡ account
+    → t.reply ≡ Some (Pass c)
     → IsAbove (used_in (attempts_of account (t ∷ before))) d → c < d
-above_pass account t before c d is passes above = elim (of_account t account) [
+number_is_above_pass account t before c d is passes above = elim (same_or_other_account t account) [
   | inl same ↦
       let taken : IsAbove (used_in (attempts_by t t.reply (attempts_of account before))) d = rw same.1 at above in
       let by = subst (λ (r : Option Reply). IsAbove (used_in (attempts_by t r (attempts_of account before))) d) passes taken in
-      (above_used t.sent c (used_in (attempts_of account before)) d by).0
+      (number_is_above_used t.sent c (used_in (attempts_of account before)) d by).0
   | inr other ↦ absurd (other.1 is)
 ]
 
 -- a list reversed is what stood after one of its elements, reversed, then that element, then what stood before it, reversed
-turned_part : (front middle : List LoggedReply) (t : LoggedReply) → reverse (front ++ t ∷ middle) ≡ reverse middle ++ t ∷ reverse front
-turned_part front middle t = reverse-append front (t ∷ middle) ∙ turned t middle (reverse front)
+reverse-append_element : (front middle : List LoggedReply) (t : LoggedReply)
+    → reverse (front ++ t ∷ middle) ≡ reverse middle ++ t ∷ reverse front
+reverse-append_element front middle t = reverse-append front (t ∷ middle) ∙ first_reply_stands_last t middle (reverse front)
 
 -- of two passes of one account the later has the greater counter
-pub later : CandidatesAreNew → (token : TokenFields) (account : List ℕ) (last : CodeTexts) (told : List LoggedReply) (at d : ℕ)
+pub later_pass_is_greater : CandidatesAreNew → (token : TokenFields) (account : List ℕ) (last : CodeTexts) (told : List LoggedReply)
+    (at d : ℕ)
     → IsFitting token (attempts_of account (reverse told)) at last d
     → (mine : List ℕ) (moment counter : ℕ) (sent : CodeTexts) (before rest : List LoggedReply)
     → mine ≡ account → told ≡ (before ++ logged_reply_of mine moment sent (Some (Pass counter)) ∷ []) ++ rest → counter < d
-later new token account last told at d fits mine moment counter sent before rest same tells =
+later_pass_is_greater new token account last told at d fits mine moment counter sent before rest same tells =
     let t = logged_reply_of mine moment sent (Some (Pass counter)) in
-    let above = fits_above new token (attempts_of account (reverse told)) at last d fits in
+    let above = fitting_counter_is_above new token (attempts_of account (reverse told)) at last d fits in
     let split = tells ∙ append_assoc before (t ∷ []) rest in
     let turned = subst (λ (l : List LoggedReply). IsAbove (used_in (attempts_of account (reverse l))) d) split above in
-    let here = subst (λ (l : List LoggedReply). IsAbove (used_in (attempts_of account l)) d) (turned_part before rest t) turned in
-    above_pass account t (reverse before) counter d same refl (above_late account (reverse rest) (t ∷ reverse before) d here)
+    let here = subst (λ (l : List LoggedReply). IsAbove (used_in (attempts_of account l)) d) (reverse-append_element before rest t)
+        turned in
+    number_is_above_pass account t (reverse before) counter d same refl (number_is_above_earlier account (reverse rest) (t ∷ reverse before)
+        d here)
 
 -- of two passes of one account in a log, in whichever sessions, the later has the greater counter, where replies may stand just where
 -- due, a client-first message has one list of parts, a saslname one name, and a counter that can pass is above those that passed
@@ -143,34 +152,35 @@ counters_rise one_first names new replied accounts log more account moment count
     let first = log ++ passes moment counter ∷ [] in
     let one = (replied accounts log moment (Some (Pass counter)) (waits_code account) told).0 begins in
     let split = sym (append_assoc first more (passes at greater ∷ [])) in
-    let two = each_pass replied accounts (first ++ more) at greater (waits_code account) all
+    let two = each_pass_is_a_code replied accounts (first ++ more) at greater (waits_code account) all
     (subst (λ (l : List LogLine). Begins (demands accounts) l (waits_code account) all) split both) in
-    let front = told_first accounts (length more) first more (got_code two.account two.sent) two.told (omega arith) two.after in
-    let same = (one_reading one_first names accounts first front.0 (waits_code account) front.1 told front.3 begins).1 in
+    let front = first_lines_tell_first accounts (length more) first more (got_code two.account two.sent) two.told (omega arith) two.after in
+    let same = (log_has_one_reading one_first names accounts first front.0 (waits_code account) front.1 told front.3 begins).1 in
     let tells = front.4 ∙ ap (λ (l : List LoggedReply). l ++ front.2) (same ∙ one.tells) in
     let mine : one.account ≡ two.account = cc (sym one.is_next ∙ two.is_next) in
-    later new two.token two.account two.sent two.told at greater two.fits one.account moment counter one.sent one.told front.2 mine tells
+    later_pass_is_greater new two.token two.account two.sent two.told at greater two.fits one.account moment counter one.sent one.told
+        front.2 mine tells
 
 -- a digit, and a text of digits, can be sent as a code:
-visible : (c : ℕ) → IsAsciiDigit c → is_code_char c ≡ true
-visible c is = rw (le-leb 33 c (omega (arith, is)), le-leb c 126 (omega (arith, is))) refl
+digit_is_code_char : (c : ℕ) → IsAsciiDigit c → is_code_char c ≡ true
+digit_is_code_char c is = rw (le-leb 33 c (omega (arith, is)), le-leb c 126 (omega (arith, is))) refl
 
-visible_digits : (text : List ℕ) → All IsAsciiDigit text → list_all is_code_char text ≡ true
-visible_digits text all = list_all-from_AllPass is_code_char text
-    (λ k d within. visible (get_or text k d) (All-get_or IsAsciiDigit text k d within all))
+digits_are_code_chars : (text : List ℕ) → All IsAsciiDigit text → list_all is_code_char text ≡ true
+digits_are_code_chars text all = list_all-from_AllPass is_code_char text
+    (λ k d within. digit_is_code_char (get_or text k d) (All-get_or IsAsciiDigit text k d within all))
 
 -- the text of a code is one that a client may send
-pub code_word : (text : List ℕ) → IsCodeText text → IsCodeWord text
-code_word text is = record {
+pub code_text_is_code_word : (text : List ℕ) → IsCodeText text → IsCodeWord text
+code_text_is_code_word text is = record {
   at_least = omega (arith, is.count.0);
   at_most = omega (arith, is.count.1);
-  each = visible_digits text is.digits;
+  each = digits_are_code_chars text is.digits;
 }
 
 -- the code of a HOTP token's next counter passes, where failures do not lock it and the counter can pass
-next_is_due : (t : HotpFields) (moment : ℕ) → t.failures < t.limit → IsCounter t.next
+pass_is_due_to_next : (t : HotpFields) (moment : ℕ) → t.failures < t.limit → IsCounter t.next
     → IsDueReply (Hotp t) [] moment (OneText (code_text (Hotp t) t.next)) (Pass t.next)
-next_is_due t moment unlocked counter =
+pass_is_due_to_next t moment unlocked counter =
     let due : IsInHotpWindow t.next t.look_ahead t.next =
     record { not_before = omega arith; within = omega arith; most = omega (arith, counter) } in
     (unlocked, (due, refl), λ k fits. fits.0.not_before)
@@ -180,26 +190,26 @@ next_is_due t moment unlocked counter =
 pub next_hotp_code_passes : LoginsAreAnswered original_bytes → NextHotpCodePasses
 next_hotp_code_passes answered accounts mechanism name exchange moment t login at has unlocked digits counter =
     let text = code_text (Hotp t) t.next in
-    let due = next_is_due t moment unlocked counter in
+    let due = pass_is_due_to_next t moment unlocked counter in
     let by = subst (λ (o : Option TokenFields). IsReplyDueBy o [] moment (OneText text) (Some (Pass t.next))) (sym has)
     (Pass t.next, refl, due) in
     answered accounts mechanism name exchange (OneText text) moment (Some (Pass t.next)) login
-    (code_word text (IsCodeText-last_digits t.digits _ digits)) at counter by
+    (code_text_is_code_word text (IsCodeText-last_digits t.digits _ digits)) at counter by
 
 -- the codes of a HOTP token's next two counters in a row pass, where failures do not lock it and they can pass
-pub next_two_are_due : (t : HotpFields) (moment : ℕ) → t.failures < t.limit → IsCounter (t.next + 1)
+pub pass_is_due_to_two : (t : HotpFields) (moment : ℕ) → t.failures < t.limit → IsCounter (t.next + 1)
     → IsDueReply (Hotp t) [] moment (TwoTexts (code_text (Hotp t) t.next) (code_text (Hotp t) (t.next + 1))) (Pass (t.next + 1))
-next_two_are_due t moment unlocked counter =
+pass_is_due_to_two t moment unlocked counter =
     let due : IsInHotpWindow t.next t.sync_ahead t.next =
     record { not_before = omega arith; within = omega arith; most = omega (arith, counter) } in
     (unlocked, (t.next, refl, (due, omega (arith, counter)), refl, refl), λ k fits. omega (arith, fits.1, fits.2.0.not_before))
 
 -- the codes of a HOTP token's next two counters can be sent
-pub two_words : (t : HotpFields) → IsDigitCount t.digits → IsCodeWord (code_text (Hotp t) t.next)
+pub next_two_are_code_words : (t : HotpFields) → IsDigitCount t.digits → IsCodeWord (code_text (Hotp t) t.next)
     × IsCodeWord (code_text (Hotp t) (t.next + 1))
-two_words t digits = (
-  code_word (code_text (Hotp t) t.next) (IsCodeText-last_digits t.digits _ digits),
-  code_word (code_text (Hotp t) (t.next + 1)) (IsCodeText-last_digits t.digits _ digits),
+next_two_are_code_words t digits = (
+  code_text_is_code_word (code_text (Hotp t) t.next) (IsCodeText-last_digits t.digits _ digits),
+  code_text_is_code_word (code_text (Hotp t) (t.next + 1)) (IsCodeText-last_digits t.digits _ digits),
 )
 
 -- after a valid login the codes of a HOTP token's next two counters, sent in a row, pass by that of the second, where failures do
@@ -208,5 +218,5 @@ pub next_two_hotp_codes_pass : LoginsAreAnswered original_bytes → NextTwoHotpC
 next_two_hotp_codes_pass answered accounts mechanism name exchange moment t login at has unlocked digits counter =
     let sent = TwoTexts (code_text (Hotp t) t.next) (code_text (Hotp t) (t.next + 1)) in
     let by = subst (λ (o : Option TokenFields). IsReplyDueBy o [] moment sent (Some (Pass (t.next + 1)))) (sym has)
-    (Pass (t.next + 1), refl, next_two_are_due t moment unlocked counter) in
-    answered accounts mechanism name exchange sent moment (Some (Pass (t.next + 1))) login (two_words t digits) at counter by
+    (Pass (t.next + 1), refl, pass_is_due_to_two t moment unlocked counter) in
+    answered accounts mechanism name exchange sent moment (Some (Pass (t.next + 1))) login (next_two_are_code_words t digits) at counter by

@@ -18,111 +18,114 @@ use Rattle.log_grammar.specs.Begins.{Begins}
 use Rattle.log_grammar.specs.laws.Logins.{IsLoginTo, exchange_of}
 use Rattle.log_grammar.specs.laws.Outcomes.{FirstLinesBeginLogs, EachOfferIsDue, IsChallengeDue, EachChallengeIsDue, IsRefusalDue}
 use Rattle.log_grammar.specs.laws.Outcomes.{EachRefusalIsDue, IsReplied, EachReplyIsDue, EachHaltEndsACode}
-use Rattle.log_grammar.proofs.lemmas.state_machine.LogSteps.{goes_on}
-use Rattle.scram_text.proofs.lemmas.ListEnds.{with_last}
+use Rattle.log_grammar.proofs.lemmas.state_machine.LogSteps.{log_goes_on}
+use Rattle.scram_text.proofs.lemmas.ListEnds.{nonempty_has_last}
 use Rattle.log_grammar.proofs.lemmas.ListEnds.{length-last}
-use Rattle.log_grammar.proofs.lemmas.state_machine.PlaceBefore.{stood_before}
-use Rattle.log_grammar.proofs.lemmas.kinds.OneWhy.{mechanism_once}
+use Rattle.log_grammar.proofs.lemmas.state_machine.PlaceBefore.{log_has_last_transition}
+use Rattle.log_grammar.proofs.lemmas.kinds.OneWhy.{one_mechanism}
 
 -- where no more was told, what was told in a log's lines is the same
-quiet : (accounts : Accounts) (log : List LogLine) (at : Place) (all told : List LoggedReply) → all ≡ told ++ []
+quiet_line_keeps_told : (accounts : Accounts) (log : List LogLine) (at : Place) (all told : List LoggedReply) → all ≡ told ++ []
     → Begins (demands accounts) log at told
     → Begins (demands accounts) log at all
-quiet accounts log at all told same begins = subst (λ (t : List LoggedReply). Begins (demands accounts) log at t)
+quiet_line_keeps_told accounts log at all told same begins = subst (λ (t : List LoggedReply). Begins (demands accounts) log at t)
     (sym (same ∙ append-nil told)) begins
 
 -- a log goes on by a line that tells nothing, and what was told in it stays the same
-on_quietly : (accounts : Accounts) (log : List LogLine) (at : Place) (told : List LoggedReply) (line : LogLine) (next : Place)
+log_goes_on_quietly : (accounts : Accounts) (log : List LogLine) (at : Place) (told : List LoggedReply) (line : LogLine) (next : Place)
     → told_at at line ≡ []
     → Begins (demands accounts) log at told → IsTransition (demands accounts) at line next
     → Begins (demands accounts) (log ++ line ∷ []) next told
-on_quietly accounts log at told line next none begins goes =
+log_goes_on_quietly accounts log at told line next none begins goes =
     let due = subst (λ (t : List LoggedReply). AreReplies (demands accounts) (reverse told) t) (sym none) tt in
     let same = subst (λ (t : List LoggedReply). told ++ t ≡ told) (sym none) (append-nil told) in
     subst (λ (t : List LoggedReply). Begins (demands accounts) (log ++ line ∷ []) next t) same
-    (goes_on (demands accounts) log at told line next begins goes due)
+    (log_goes_on (demands accounts) log at told line next begins goes due)
 
 -- what was told in a log's first lines comes first in what was told in all
-told_before : (told before rest tells : List LoggedReply) → before ≡ told ++ rest → before ++ tells ≡ told ++ (rest ++ tells)
-told_before told before rest tells same = ap (λ (l : List LoggedReply). l ++ tells) same ∙ append_assoc told rest tells
+told_first_stays_first : (told before rest tells : List LoggedReply) → before ≡ told ++ rest → before ++ tells ≡ told ++ (rest ++ tells)
+told_first_stays_first told before rest tells same = ap (λ (l : List LoggedReply). l ++ tells) same ∙ append_assoc told rest tells
 
 -- the first lines of what a log may begin with are such lines too, and what was told in them comes first, where at most n lines
 -- come after them
-pub told_first : (accounts : Accounts) (n : ℕ) (log more : List LogLine) (place : Place) (told : List LoggedReply) → length more ≤ n
+pub first_lines_tell_first : (accounts : Accounts) (n : ℕ) (log more : List LogLine) (place : Place) (told : List LoggedReply)
+    → length more ≤ n
     → Begins (demands accounts) (log ++ more) place told
     → (at : Place) × (before : List LoggedReply) × (rest : List LoggedReply) × Begins (demands accounts) log at before
     × (told ≡ before ++ rest)
-told_first accounts n log [] place told short begins =
+first_lines_tell_first accounts n log [] place told short begins =
     (place, told, [], subst (λ (l : List LogLine). Begins (demands accounts) l place told) (append-nil log) begins, sym (append-nil told))
-told_first accounts zero log (x ∷ more) place told short begins = absurd (omega (arith, short))
-told_first accounts (suc n) log (x ∷ more) place told short begins =
-    let last = with_last x more in
+first_lines_tell_first accounts zero log (x ∷ more) place told short begins = absurd (omega (arith, short))
+first_lines_tell_first accounts (suc n) log (x ∷ more) place told short begins =
+    let last = nonempty_has_last x more in
     let shorter : length last.0 ≤ n = omega (arith, short, ap length last.2, length-last last.0 last.1) in
     let split = ap (λ (l : List LogLine). log ++ l) last.2 ∙ sym (append_assoc log last.0 (last.1 ∷ [])) in
-    let s = stood_before accounts (log ++ last.0) last.1 place told
+    let s = log_has_last_transition accounts (log ++ last.0) last.1 place told
     (subst (λ (l : List LogLine). Begins (demands accounts) l place told) split begins) in
-    let less = told_first accounts n log last.0 s.place s.told shorter s.begins in
+    let less = first_lines_tell_first accounts n log last.0 s.place s.told shorter s.begins in
     let tells = told_at s.place last.1 in
-    (less.0, less.1, less.2 ++ tells, less.3, s.tells ∙ told_before less.1 s.told less.2 tells less.4)
+    (less.0, less.1, less.2 ++ tells, less.3, s.tells ∙ told_first_stays_first less.1 s.told less.2 tells less.4)
 
 -- the first lines of what a log may begin with also begin a log, and what was told in them comes first
-pub first_lines : FirstLinesBeginLogs
-first_lines accounts lines more place told begins = told_first accounts (length more) lines more place told (omega arith) begins
+pub first_lines_begin_logs : FirstLinesBeginLogs
+first_lines_begin_logs accounts lines more place told begins =
+    first_lines_tell_first accounts (length more) lines more place told (omega arith) begins
 
 -- `S MECHS` may stand between sessions alone, with the names demanded, and leads to the place after an offer
-offer_from : (accounts : Accounts) (log : List LogLine) (names : List ℕ) (next at : Place) (all told : List LoggedReply)
+offer_is_due : (accounts : Accounts) (log : List LogLine) (names : List ℕ) (next at : Place) (all told : List LoggedReply)
     → all ≡ told ++ told_at at (said (mechs names)) → Begins (demands accounts) log at told
     → IsTransition (demands accounts) at (said (mechs names)) next
     → Begins (demands accounts) log between all × (demands accounts).mechs names × (next ≡ offered)
-offer_from accounts log names next between all told same b goes = (quiet accounts log between all told same b, goes.0, goes.1)
-offer_from accounts log names next at all told same b goes = absurd goes
+offer_is_due accounts log names next between all told same b goes =
+    (quiet_line_keeps_told accounts log between all told same b, goes.0, goes.1)
+offer_is_due accounts log names next at all told same b goes = absurd goes
 
 -- `S MECHS` may stand exactly between sessions, with the names of the two mechanisms
-pub each_offer : EachOfferIsDue
-each_offer accounts log names next told = (
+pub each_offer_is_due : EachOfferIsDue
+each_offer_is_due accounts log names next told = (
   λ begins.
-      let s = stood_before accounts log (said (mechs names)) next told begins in
-      offer_from accounts log names next s.place told s.told s.tells s.begins s.goes,
-  λ is. on_quietly accounts log between told (said (mechs names)) next refl is.0 (is.1, is.2),
+      let s = log_has_last_transition accounts log (said (mechs names)) next told begins in
+      offer_is_due accounts log names next s.place told s.told s.tells s.begins s.goes,
+  λ is. log_goes_on_quietly accounts log between told (said (mechs names)) next refl is.0 (is.1, is.2),
 )
 
 -- `S CONT` may stand only with a challenge that is due
-cont_from : (accounts : Accounts) (log : List LogLine) (text : List ℕ) (next at : Place) (all told : List LoggedReply)
+challenge_is_due : (accounts : Accounts) (log : List LogLine) (text : List ℕ) (next at : Place) (all told : List LoggedReply)
     → all ≡ told ++ told_at at (said (cont text)) → Begins (demands accounts) log at told
     → IsTransition (demands accounts) at (said (cont text)) next
     → IsChallengeDue accounts log text next all
-cont_from accounts log text next (asks_bare m) all told same b goes =
-    inl (m, quiet accounts log (asks_bare m) all told same b, goes.0.0, goes.0.1, goes.1)
-cont_from accounts log text next (got_first m first) all told same b goes =
-    inr (m, first, goes.0, quiet accounts log (got_first m first) all told same b, goes.1, goes.2)
-cont_from accounts log text next at all told same b goes = absurd goes
+challenge_is_due accounts log text next (asks_bare m) all told same b goes =
+    inl (m, quiet_line_keeps_told accounts log (asks_bare m) all told same b, goes.0.0, goes.0.1, goes.1)
+challenge_is_due accounts log text next (got_first m first) all told same b goes =
+    inr (m, first, goes.0, quiet_line_keeps_told accounts log (got_first m first) all told same b, goes.1, goes.2)
+challenge_is_due accounts log text next at all told same b goes = absurd goes
 
 -- `S CONT` that is a challenge due may stand
-cont_on : (accounts : Accounts) (log : List LogLine) (text : List ℕ) (next : Place) (told : List LoggedReply)
+due_challenge_may_stand : (accounts : Accounts) (log : List LogLine) (text : List ℕ) (next : Place) (told : List LoggedReply)
     → IsChallengeDue accounts log text next told
     → Begins (demands accounts) (log ++ said (cont text) ∷ []) next told
-cont_on accounts log text next told (inl (m, begins, is, none, at)) =
-    on_quietly accounts log (asks_bare m) told (said (cont text)) next refl begins ((is, none), at)
-cont_on accounts log text next told (inr (m, first, name, begins, is, at)) =
-    on_quietly accounts log (got_first m first) told (said (cont text)) next refl begins (name, is, at)
+due_challenge_may_stand accounts log text next told (inl (m, begins, is, none, at)) =
+    log_goes_on_quietly accounts log (asks_bare m) told (said (cont text)) next refl begins ((is, none), at)
+due_challenge_may_stand accounts log text next told (inr (m, first, name, begins, is, at)) =
+    log_goes_on_quietly accounts log (got_first m first) told (said (cont text)) next refl begins (name, is, at)
 
 -- `S CONT` may stand exactly where it is the empty challenge of a mechanism that is offered, or a challenge that is due to the
 -- client-first message
-pub each_challenge : EachChallengeIsDue
-each_challenge accounts log text next told = (
+pub each_challenge_is_due : EachChallengeIsDue
+each_challenge_is_due accounts log text next told = (
   λ begins.
-      let s = stood_before accounts log (said (cont text)) next told begins in
-      cont_from accounts log text next s.place told s.told s.tells s.begins s.goes,
-  λ is. cont_on accounts log text next told is,
+      let s = log_has_last_transition accounts log (said (cont text)) next told begins in
+      challenge_is_due accounts log text next s.place told s.told s.tells s.begins s.goes,
+  λ is. due_challenge_may_stand accounts log text next told is,
 )
 
 -- messages whose verdict is a refusal are those of no valid login
-invalid : AtMostOneVerdictIsDue → AcceptsExactlyValid
+refused_login_is_invalid : AtMostOneVerdictIsDue → AcceptsExactlyValid
     → (accounts : Accounts) (mechanism name client_first server_first client_final : List ℕ) (why : Refusal)
     → IsVerdictDue accounts mechanism name client_first server_first client_final (refuse why) → (server_final : List ℕ)
     → IsLoginTo accounts mechanism name (exchange_of client_first server_first client_final server_final) → ⊥
-invalid once valid accounts mechanism name client_first server_first client_final why (m, named, due) server_final l =
-    let same = mechanism_once l.m m (sym l.offered ∙ named) in
+refused_login_is_invalid once valid accounts mechanism name client_first server_first client_final why (m, named, due) server_final l =
+    let same = one_mechanism l.m m (sym l.offered ∙ named) in
     let accepted = (valid (challenged_login (accounts.entry l.m name) l.m client_first server_first) client_final server_final).1 l.login in
     let here = subst (λ (k : Mechanism). IsDue (challenged_login (accounts.entry k name) k client_first server_first) client_final
     (accept accepted.0)) same accepted.1 in
@@ -130,16 +133,16 @@ invalid once valid accounts mechanism name client_first server_first client_fina
     (accept accepted.0) due here in cc wrong
 
 -- `S NO` may stand only where it is the refusal that is due
-no_from : AtMostOneVerdictIsDue → AcceptsExactlyValid
+refusal_is_due : AtMostOneVerdictIsDue → AcceptsExactlyValid
     → (accounts : Accounts) (log : List LogLine) (text : List ℕ) (next at : Place) (all told : List LoggedReply)
     → all ≡ told ++ told_at at (said (refuses text)) → Begins (demands accounts) log at told
     → IsTransition (demands accounts) at (said (refuses text)) next
     → IsRefusalDue accounts log text all × (next ≡ over)
-no_from once valid accounts log text next (asks_bare m) all told same b goes =
-    (inl (m, quiet accounts log (asks_bare m) all told same b, goes.0.0, goes.0.1), goes.1)
-no_from once valid accounts log text next (got_first m first) all told same b goes =
-    (inr (inl (m, first, quiet accounts log (got_first m first) all told same b, goes.0.0, goes.0.1)), goes.1)
-no_from once valid accounts log text next (got_final m name client_first server_first client_final) all told same b goes =
+refusal_is_due once valid accounts log text next (asks_bare m) all told same b goes =
+    (inl (m, quiet_line_keeps_told accounts log (asks_bare m) all told same b, goes.0.0, goes.0.1), goes.1)
+refusal_is_due once valid accounts log text next (got_first m first) all told same b goes =
+    (inr (inl (m, first, quiet_line_keeps_told accounts log (got_first m first) all told same b, goes.0.0, goes.0.1)), goes.1)
+refusal_is_due once valid accounts log text next (got_final m name client_first server_first client_final) all told same b goes =
     let (why, is, due) = goes.0 in (
       inr (inr (inl (
         m,
@@ -147,59 +150,63 @@ no_from once valid accounts log text next (got_final m name client_first server_
         client_first,
         server_first,
         client_final,
-        quiet accounts log
+        quiet_line_keeps_told accounts log
             (got_final m name client_first server_first client_final) all told same b,
         (why, is, due),
-        invalid once valid accounts m name client_first server_first client_final why is,
+        refused_login_is_invalid once valid accounts m name client_first server_first client_final why is,
       ))),
       goes.1,
     )
-no_from once valid accounts log text next leaving all told same b goes =
-    (inr (inr (inr (quiet accounts log leaving all told same b, goes.0))), goes.1)
-no_from once valid accounts log text next at all told same b goes = absurd goes
+refusal_is_due once valid accounts log text next leaving all told same b goes =
+    (inr (inr (inr (quiet_line_keeps_told accounts log leaving all told same b, goes.0))), goes.1)
+refusal_is_due once valid accounts log text next at all told same b goes = absurd goes
 
 -- `S NO` that is the refusal due may stand
-no_on : (accounts : Accounts) (log : List LogLine) (text : List ℕ) (next : Place) (told : List LoggedReply)
+due_refusal_may_stand : (accounts : Accounts) (log : List LogLine) (text : List ℕ) (next : Place) (told : List LoggedReply)
     → IsRefusalDue accounts log text told → next ≡ over
     → Begins (demands accounts) (log ++ said (refuses text) ∷ []) next told
-no_on accounts log text next told (inl (m, begins, none, bare)) at =
-    on_quietly accounts log (asks_bare m) told (said (refuses text)) next refl begins ((none, bare), at)
-no_on accounts log text next told (inr (inl (m, first, begins, none, bare))) at =
-    on_quietly accounts log (got_first m first) told (said (refuses text)) next refl begins ((none, bare), at)
-no_on accounts log text next told (inr (inr (inl (m, name, client_first, server_first, client_final, begins, is, invalid)))) at =
-    on_quietly accounts log (got_final m name client_first server_first client_final) told (said (refuses text)) next refl begins (is, at)
-no_on accounts log text next told (inr (inr (inr (begins, bare)))) at =
-    on_quietly accounts log leaving told (said (refuses text)) next refl begins (bare, at)
+due_refusal_may_stand accounts log text next told (inl (m, begins, none, bare)) at =
+    log_goes_on_quietly accounts log (asks_bare m) told (said (refuses text)) next refl begins ((none, bare), at)
+due_refusal_may_stand accounts log text next told (inr (inl (m, first, begins, none, bare))) at =
+    log_goes_on_quietly accounts log (got_first m first) told (said (refuses text)) next refl begins ((none, bare), at)
+due_refusal_may_stand accounts log text next told (inr (inr (inl (m, name, client_first, server_first, client_final, begins, is, invalid))))
+    at =
+    log_goes_on_quietly accounts log (got_final m name client_first server_first client_final) told (said (refuses text)) next refl begins
+        (is, at)
+due_refusal_may_stand accounts log text next told (inr (inr (inr (begins, bare)))) at =
+    log_goes_on_quietly accounts log leaving told (said (refuses text)) next refl begins (bare, at)
 
 -- `S NO` may stand exactly where it is the refusal that is due, which no valid login gets, where at most one verdict is due to a
 -- text, and acceptance to the valid logins alone
-pub each_refusal : AtMostOneVerdictIsDue → AcceptsExactlyValid → EachRefusalIsDue
-each_refusal once valid accounts log text next told = (
+pub each_refusal_is_due : AtMostOneVerdictIsDue → AcceptsExactlyValid → EachRefusalIsDue
+each_refusal_is_due once valid accounts log text next told = (
   λ begins.
-      let s = stood_before accounts log (said (refuses text)) next told begins in
-      no_from once valid accounts log text next s.place told s.told s.tells s.begins s.goes,
-  λ is. no_on accounts log text next told is.0 is.1,
+      let s = log_has_last_transition accounts log (said (refuses text)) next told begins in
+      refusal_is_due once valid accounts log text next s.place told s.told s.tells s.begins s.goes,
+  λ is. due_refusal_may_stand accounts log text next told is.0 is.1,
 )
 
 -- a reply to a code may stand only where it is the one due
-reply_from : (accounts : Accounts) (log : List LogLine) (moment : ℕ) (reply : Option Reply) (next at : Place) (all told : List LoggedReply)
+reply_is_due : (accounts : Accounts) (log : List LogLine) (moment : ℕ) (reply : Option Reply) (next at : Place)
+    (all told : List LoggedReply)
     → all ≡ told ++ told_at at (said (replies moment reply))
     → AreReplies (demands accounts) (reverse told) (told_at at (said (replies moment reply)))
     → Begins (demands accounts) log at told → IsTransition (demands accounts) at (said (replies moment reply)) next
     → IsReplied accounts log moment reply next all
-reply_from accounts log moment reply next (got_code account sent) all told same due b goes =
+reply_is_due accounts log moment reply next (got_code account sent) all told same due b goes =
     record { account = account; sent = sent; told = told; after = b; due = due.0; tells = same; is_next = goes }
-reply_from accounts log moment reply next at all told same due b goes = absurd goes
+reply_is_due accounts log moment reply next at all told same due b goes = absurd goes
 
 -- a reply may stand exactly where it is the one due to a code, or to two in a row, after what was told of its account before
-pub each_reply : EachReplyIsDue
-each_reply accounts log moment reply next all = (
+pub each_reply_is_due : EachReplyIsDue
+each_reply_is_due accounts log moment reply next all = (
   λ begins.
-      let s = stood_before accounts log (said (replies moment reply)) next all begins in
-      reply_from accounts log moment reply next s.place all s.told s.tells s.due s.begins s.goes,
+      let s = log_has_last_transition accounts log (said (replies moment reply)) next all begins in
+      reply_is_due accounts log moment reply next s.place all s.told s.tells s.due s.begins s.goes,
   λ r.
       subst (λ (t : List LoggedReply). Begins (demands accounts) (log ++ said (replies moment reply) ∷ []) next t) (sym r.tells)
-      (goes_on (demands accounts) log (got_code r.account r.sent) r.told (said (replies moment reply)) next r.after r.is_next (r.due, tt)),
+      (log_goes_on (demands accounts) log (got_code r.account r.sent) r.told (said (replies moment reply)) next r.after r.is_next
+        (r.due, tt)),
 )
 
 -- the log ends in a code, or two in a row, that waits for its reply, and the next place is the halt
@@ -208,18 +215,19 @@ EndsCode accounts log next told =
     (account : List ℕ) × (sent : CodeTexts) × Begins (demands accounts) log (got_code account sent) told × (next ≡ halted)
 
 -- `S HALT` may stand only where a code waits for its reply, and leads to the halt
-halt_from : (accounts : Accounts) (log : List LogLine) (next at : Place) (all told : List LoggedReply)
+halt_ends_code : (accounts : Accounts) (log : List LogLine) (next at : Place) (all told : List LoggedReply)
     → all ≡ told ++ told_at at (said halt)
     → Begins (demands accounts) log at told → IsTransition (demands accounts) at (said halt) next → EndsCode accounts log next all
-halt_from accounts log next (got_code account sent) all told same b goes =
-    (account, sent, quiet accounts log (got_code account sent) all told same b, goes)
-halt_from accounts log next at all told same b goes = absurd goes
+halt_ends_code accounts log next (got_code account sent) all told same b goes =
+    (account, sent, quiet_line_keeps_told accounts log (got_code account sent) all told same b, goes)
+halt_ends_code accounts log next at all told same b goes = absurd goes
 
 -- `S HALT` may stand exactly after a code, or two in a row, in place of the reply
-pub each_halt : EachHaltEndsACode
-each_halt accounts log next told = (
+pub each_halt_ends_a_code : EachHaltEndsACode
+each_halt_ends_a_code accounts log next told = (
   λ begins.
-      let s = stood_before accounts log (said halt) next told begins in halt_from accounts log next s.place told s.told s.tells s.begins
+      let s = log_has_last_transition accounts log (said halt) next told begins in halt_ends_code accounts log next s.place told s.told
+          s.tells s.begins
       s.goes,
-  λ is. on_quietly accounts log (got_code is.0 is.1) told (said halt) next refl is.2 is.3,
+  λ is. log_goes_on_quietly accounts log (got_code is.0 is.1) told (said halt) next refl is.2 is.3,
 )

@@ -12,66 +12,68 @@ use Rattle.otp_core.specs.declared.token.kinds.TokenFields.{TokenFields}
 use Rattle.log_grammar.specs.LoggedReply.{LoggedReply}
 use Rattle.log_grammar.specs.Demands.{Accounts, attempts_by, attempts_of, IsReplyDueBy, demands, AreReplies}
 use Rattle.log_grammar.specs.laws.Replies.{AreRising, NoCounterIsUsedTwice}
-use Rattle.log_grammar.proofs.lemmas.state_machine.LogSteps.{turned}
-use Rattle.log_grammar.proofs.lemmas.demands.EachAccount.{of_account}
-use Rattle.log_grammar.proofs.lemmas.reply_laws.Passed.{fits_above}
+use Rattle.log_grammar.proofs.lemmas.state_machine.LogSteps.{first_reply_stands_last}
+use Rattle.log_grammar.proofs.lemmas.demands.EachAccount.{same_or_other_account}
+use Rattle.log_grammar.proofs.lemmas.reply_laws.Passed.{fitting_counter_is_above}
 
 -- with a pass of a counter that can pass, the counters that an account's codes use go on rising
-pass_rises : CandidatesAreNew → (token : TokenFields) (attempts : List Attempt) (t : LoggedReply) (c : ℕ)
+pass_keeps_counters_rising : CandidatesAreNew → (token : TokenFields) (attempts : List Attempt) (t : LoggedReply) (c : ℕ)
     → IsFitting token attempts t.moment t.sent c
     → AreRising (used_in attempts) → AreRising (used_in (attempts_by t (Some (Pass c)) attempts))
-pass_rises new token attempts t c fits rising = by_sent t.sent fits
+pass_keeps_counters_rising new token attempts t c fits rising = by_sent t.sent fits
   where
     by_sent : (sent : CodeTexts) → IsFitting token attempts t.moment sent c → AreRising (used_in_reply sent (Pass c) ++ used_in attempts)
-    by_sent (OneText text) fits = (fits_above new token attempts t.moment (OneText text) c fits, rising)
+    by_sent (OneText text) fits = (fitting_counter_is_above new token attempts t.moment (OneText text) c fits, rising)
     by_sent (TwoTexts first second) fits =
         let before : c - 1 ≡ fits.0 = omega (arith, fits.1) in
-        let above = fits_above new token attempts t.moment (TwoTexts first second) c fits in
+        let above = fitting_counter_is_above new token attempts t.moment (TwoTexts first second) c fits in
         let first_above = subst (IsAbove (used_in attempts)) (sym before) (new token attempts t.moment fits.0 (inr fits.2)) in
         ((omega (arith, fits.1), above), (first_above, rising))
 
 -- with a reply that is due, of a token, of an account that may have none, and among those of other accounts, they go on rising:
-reply_rises : CandidatesAreNew → (token : TokenFields) (attempts : List Attempt) (t : LoggedReply) (reply : Reply)
+reply_keeps_counters_rising : CandidatesAreNew → (token : TokenFields) (attempts : List Attempt) (t : LoggedReply) (reply : Reply)
     → IsDueReply token attempts t.moment t.sent reply
     → AreRising (used_in attempts) → AreRising (used_in (attempts_by t (Some reply) attempts))
-reply_rises new token attempts t (Pass c) due rising = pass_rises new token attempts t c due.1 rising
-reply_rises new token attempts t Fail due rising = rising
-reply_rises new token attempts t Locked due rising = rising
+reply_keeps_counters_rising new token attempts t (Pass c) due rising = pass_keeps_counters_rising new token attempts t c due.1 rising
+reply_keeps_counters_rising new token attempts t Fail due rising = rising
+reply_keeps_counters_rising new token attempts t Locked due rising = rising
 
-due_rises : CandidatesAreNew → (o : Option TokenFields) (attempts : List Attempt) (t : LoggedReply)
+due_reply_keeps_counters_rising : CandidatesAreNew → (o : Option TokenFields) (attempts : List Attempt) (t : LoggedReply)
     → IsReplyDueBy o attempts t.moment t.sent t.reply
     → AreRising (used_in attempts) → AreRising (used_in (attempts_by t t.reply attempts))
-due_rises new None attempts t due rising = subst (λ (r : Option Reply). AreRising (used_in (attempts_by t r attempts))) (sym due) rising
-due_rises new (Some token) attempts t due rising =
+due_reply_keeps_counters_rising new None attempts t due rising =
+    subst (λ (r : Option Reply). AreRising (used_in (attempts_by t r attempts))) (sym due) rising
+due_reply_keeps_counters_rising new (Some token) attempts t due rising =
     subst (λ (r : Option Reply). AreRising (used_in (attempts_by t r attempts))) (sym due.1)
-    (reply_rises new token attempts t due.0 due.2 rising)
+    (reply_keeps_counters_rising new token attempts t due.0 due.2 rising)
 
-told_rises : CandidatesAreNew → (accounts : Accounts) (account : List ℕ) (before : List LoggedReply) (t : LoggedReply)
+told_reply_keeps_counters_rising : CandidatesAreNew → (accounts : Accounts) (account : List ℕ) (before : List LoggedReply) (t : LoggedReply)
     → (demands accounts).replied before t
     → AreRising (used_in (attempts_of account before)) → AreRising (used_in (attempts_of account (t ∷ before)))
-told_rises new accounts account before t due rising = elim (of_account t account) [
+told_reply_keeps_counters_rising new accounts account before t due rising = elim (same_or_other_account t account) [
   | inl is ↦
       let here = subst (λ (a : List ℕ). IsReplyDueBy (accounts.token t.account)
       (attempts_of a before) t.moment t.sent t.reply) is.0 due in
-      rw is.1 (due_rises new (accounts.token t.account) (attempts_of account before) t here rising)
+      rw is.1 (due_reply_keeps_counters_rising new (accounts.token t.account) (attempts_of account before) t here rising)
   | inr other ↦ rw other.0 rising
 ]
 
 -- the counters that an account's codes use go on rising with replies that are due, where they rose before these and a counter
 -- that can pass is above those that passed
-pub all_rise : CandidatesAreNew → (accounts : Accounts) (account : List ℕ) (before told : List LoggedReply)
+pub replies_keep_counters_rising : CandidatesAreNew → (accounts : Accounts) (account : List ℕ) (before told : List LoggedReply)
     → AreReplies (demands accounts) before told
     → AreRising (used_in (attempts_of account before)) → AreRising (used_in (attempts_of account (reverse told ++ before)))
-all_rise new accounts account before [] are rising = rising
-all_rise new accounts account before (t ∷ told) are rising =
-    subst (λ (l : List LoggedReply). AreRising (used_in (attempts_of account l))) (sym (turned t told before))
-    (all_rise new accounts account (t ∷ before) told are.1 (told_rises new accounts account before t are.0 rising))
+replies_keep_counters_rising new accounts account before [] are rising = rising
+replies_keep_counters_rising new accounts account before (t ∷ told) are rising =
+    subst (λ (l : List LoggedReply). AreRising (used_in (attempts_of account l))) (sym (first_reply_stands_last t told before))
+    (replies_keep_counters_rising new accounts account (t ∷ before) told are.1 (told_reply_keeps_counters_rising new accounts account before
+      t are.0 rising))
 
 -- the counters that an account's codes use in a log rise, so that none is used twice, where a counter that can pass is above
 -- those that passed
-pub none_used_twice : CandidatesAreNew → NoCounterIsUsedTwice
-none_used_twice new accounts log place told account (inl nothing) =
+pub no_counter_is_used_twice : CandidatesAreNew → NoCounterIsUsedTwice
+no_counter_is_used_twice new accounts log place told account (inl nothing) =
     subst (λ (l : List LoggedReply). AreRising (used_in (attempts_of account (reverse l)))) (sym nothing.2) tt
-none_used_twice new accounts log place told account (inr s) =
+no_counter_is_used_twice new accounts log place told account (inr s) =
     subst (λ (l : List LoggedReply). AreRising (used_in (attempts_of account l))) (append-nil (reverse told))
-    (all_rise new accounts account [] told s.replies tt)
+    (replies_keep_counters_rising new accounts account [] told s.replies tt)

@@ -18,137 +18,144 @@ use Rattle.log_grammar.specs.NumberedLines.{numbered_text, IsNumberedLine, IsNum
 use Rattle.log_grammar.specs.LogKinds.{IsCleanOf}
 use Rattle.log_grammar.specs.VersionTwo.{AreCleanVersionTwo, version_two}
 use Rattle.log_grammar.specs.laws.NumberedBySessions.{IsClosedVisit, IsHaltedVisit, IsNumberedLogOf, CleanNumberedLogsAreThoseOfSessions}
-use Rattle.log_grammar.proofs.lemmas.demands.EachAccount.{each_account}
-use Rattle.log_grammar.proofs.lemmas.session_laws.OfSessions.{closed_at, session_closed, halted_at_end, session_halted}
-use Rattle.log_grammar.proofs.lemmas.session_laws.MomentRanges.{Ranged, Timed, of_session, of_closing}
-use Rattle.log_grammar.proofs.lemmas.lines.NumberedReadBack.{numbered_lacks}
-use Rattle.scram_text.proofs.lemmas.ListEnds.{last_same}
+use Rattle.log_grammar.proofs.lemmas.demands.EachAccount.{each_account_has_its_history}
+use Rattle.log_grammar.proofs.lemmas.session_laws.OfSessions.{closed_session_is_between, session_between_is_closed, halted_session_is_at_halt, session_at_halt_is_halted}
+use Rattle.log_grammar.proofs.lemmas.session_laws.MomentRanges.{Ranged, Timed, session_tells_in_time, closing_tells_in_time}
+use Rattle.log_grammar.proofs.lemmas.lines.NumberedReadBack.{numbered_line_lacks_lf}
+use Rattle.scram_text.proofs.lemmas.ListEnds.{same_front_and_last}
 
 -- texts that are numbered lines are the texts that these lines are written as
-texts_of : (texts : List (List ℕ)) (log : List (Numbered LogLine)) → AllZip IsNumberedLine texts log → texts ≡ map numbered_text log
-texts_of [] [] are = refl
-texts_of [] (x ∷ log) are = absurd are
-texts_of (text ∷ texts) [] are = absurd are
-texts_of (text ∷ texts) (x ∷ log) are =
-    ap (λ (t : List ℕ). t ∷ texts) are.0.spelled ∙ ap (λ (ts : List (List ℕ)). numbered_text x ∷ ts) (texts_of texts log are.1)
+texts_spell_numbered_lines : (texts : List (List ℕ)) (log : List (Numbered LogLine)) → AllZip IsNumberedLine texts log
+    → texts ≡ map numbered_text log
+texts_spell_numbered_lines [] [] are = refl
+texts_spell_numbered_lines [] (x ∷ log) are = absurd are
+texts_spell_numbered_lines (text ∷ texts) [] are = absurd are
+texts_spell_numbered_lines (text ∷ texts) (x ∷ log) are =
+    ap (λ (t : List ℕ). t ∷ texts) are.0.spelled ∙ ap (λ (ts : List (List ℕ)). numbered_text x ∷ ts)
+        (texts_spell_numbered_lines texts log are.1)
 
 -- numbered lines that were read can be written
-written_of : (texts : List (List ℕ)) (log : List (Numbered LogLine)) → AllZip IsNumberedLine texts log
+read_numbered_lines_are_writable : (texts : List (List ℕ)) (log : List (Numbered LogLine)) → AllZip IsNumberedLine texts log
     → AllByRecursion IsNumberedWritable log
-written_of [] [] are = tt
-written_of [] (x ∷ log) are = absurd are
-written_of (text ∷ texts) [] are = absurd are
-written_of (text ∷ texts) (x ∷ log) are =
-    (subst (λ (t : List ℕ). IsNumberedLine t x) are.0.spelled are.0, written_of texts log are.1)
+read_numbered_lines_are_writable [] [] are = tt
+read_numbered_lines_are_writable [] (x ∷ log) are = absurd are
+read_numbered_lines_are_writable (text ∷ texts) [] are = absurd are
+read_numbered_lines_are_writable (text ∷ texts) (x ∷ log) are =
+    (subst (λ (t : List ℕ). IsNumberedLine t x) are.0.spelled are.0, read_numbered_lines_are_writable texts log are.1)
 
 -- numbered lines that can be written are read as they are
-pub are_written : (log : List (Numbered LogLine)) → AllByRecursion IsNumberedWritable log
+pub writable_numbered_lines_are_read : (log : List (Numbered LogLine)) → AllByRecursion IsNumberedWritable log
     → AllZip IsNumberedLine (map numbered_text log) log
-are_written [] all = tt
-are_written (x ∷ log) all = (all.0, are_written log all.1)
+writable_numbered_lines_are_read [] all = tt
+writable_numbered_lines_are_read (x ∷ log) all = (all.0, writable_numbered_lines_are_read log all.1)
 
 -- the texts of numbered lines that can be written have no LF
-pub each_lacks : (log : List (Numbered LogLine)) → AllByRecursion IsNumberedWritable log → AllByRecursion LacksLf (map numbered_text log)
-each_lacks [] all = tt
-each_lacks (x ∷ log) all = (numbered_lacks (numbered_text x) x all.0, each_lacks log all.1)
+pub writable_numbered_lines_lack_lf : (log : List (Numbered LogLine)) → AllByRecursion IsNumberedWritable log
+    → AllByRecursion LacksLf (map numbered_text log)
+writable_numbered_lines_lack_lf [] all = tt
+writable_numbered_lines_lack_lf (x ∷ log) all =
+    (numbered_line_lacks_lf (numbered_text x) x all.0, writable_numbered_lines_lack_lf log all.1)
 
 -- the lines of a number are in their ranges
-of_number_ranged : (n : ℕ) (log : List (Numbered LogLine)) → AllByRecursion IsNumberedWritable log → Ranged (of_number n log)
-of_number_ranged n [] all = tt
-of_number_ranged n (x ∷ log) all = elim (eqb_tells n x.number) [
-  | inl same ↦ rw same.0 (all.0.line.ranges, of_number_ranged n log all.1)
-  | inr other ↦ rw other.0 (of_number_ranged n log all.1)
+lines_of_number_are_in_range : (n : ℕ) (log : List (Numbered LogLine)) → AllByRecursion IsNumberedWritable log → Ranged (of_number n log)
+lines_of_number_are_in_range n [] all = tt
+lines_of_number_are_in_range n (x ∷ log) all = elim (eqb_tells n x.number) [
+  | inl same ↦ rw same.0 (all.0.line.ranges, lines_of_number_are_in_range n log all.1)
+  | inr other ↦ rw other.0 (lines_of_number_are_in_range n log all.1)
 ]
 
 -- what a number stands for tells at moments, where its lines are in their ranges
-timed_in : (o : Option Visit) → Ranged (visit_lines o) → Timed (visit_told o)
-timed_in None h = tt
-timed_in (Some (let_in s)) h = of_session s h
-timed_in (Some (turned_away closed)) h = of_closing closed h.1
+visit_tells_in_time : (o : Option Visit) → Ranged (visit_lines o) → Timed (visit_told o)
+visit_tells_in_time None h = tt
+visit_tells_in_time (Some (let_in s)) h = session_tells_in_time s h
+visit_tells_in_time (Some (turned_away closed)) h = closing_tells_in_time closed h.1
 
 -- where what was told under a number is at moments, so is it without the first that was told
-timed_rest : (n : ℕ) (t : Numbered LoggedReply) (numbered_told : List (Numbered LoggedReply)) → Timed (of_number n (t ∷ numbered_told))
+rest_told_in_time : (n : ℕ) (t : Numbered LoggedReply) (numbered_told : List (Numbered LoggedReply))
+    → Timed (of_number n (t ∷ numbered_told))
     → Timed (of_number n numbered_told)
-timed_rest n t numbered_told h = elim (eqb_tells n t.number) [
+rest_told_in_time n t numbered_told h = elim (eqb_tells n t.number) [
   | inl same ↦ (rw same.0 at h).1
   | inr other ↦ rw other.0 at h
 ]
 
 -- where what was told under a number is at moments, so is the first that was told
-timed_first : (t : Numbered LoggedReply) (numbered_told : List (Numbered LoggedReply)) → Timed (of_number t.number (t ∷ numbered_told))
+first_told_in_time : (t : Numbered LoggedReply) (numbered_told : List (Numbered LoggedReply))
+    → Timed (of_number t.number (t ∷ numbered_told))
     → IsMoment t.value.moment
-timed_first t numbered_told h = elim (eqb_tells t.number t.number) [
+first_told_in_time t numbered_told h = elim (eqb_tells t.number t.number) [
   | inl same ↦ (rw same.0 at h).0
   | inr other ↦ absurd (other.1 refl)
 ]
 
 -- where what was told under each number is at moments, so is all that was told
-timed_all : (numbered_told : List (Numbered LoggedReply)) → ((n : ℕ) → Timed (of_number n numbered_told))
+all_told_in_time : (numbered_told : List (Numbered LoggedReply)) → ((n : ℕ) → Timed (of_number n numbered_told))
     → Timed (map (λ t. t.value) numbered_told)
-timed_all [] each = tt
-timed_all (t ∷ numbered_told) each = (
-  timed_first t numbered_told (each t.number),
-  timed_all numbered_told
-      (λ n. timed_rest n t numbered_told (each n)),
+all_told_in_time [] each = tt
+all_told_in_time (t ∷ numbered_told) each = (
+  first_told_in_time t numbered_told (each t.number),
+  all_told_in_time numbered_told
+      (λ n. rest_told_in_time n t numbered_told (each n)),
 )
 
 -- all replies are at moments in their range, where the lines can be written, and each number has the lines and replies
 -- of what it stands for
-pub timed_numbers : (log : List (Numbered LogLine)) (visit : ℕ → Option Visit) (numbered_told : List (Numbered LoggedReply))
+pub numbered_log_tells_in_time : (log : List (Numbered LogLine)) (visit : ℕ → Option Visit) (numbered_told : List (Numbered LoggedReply))
     → AllByRecursion IsNumberedWritable log
     → ((n : ℕ) → of_number n log ≡ visit_lines (visit n)) → ((n : ℕ) → of_number n numbered_told ≡ visit_told (visit n))
     → Timed (map (λ t. t.value) numbered_told)
-timed_numbers log visit numbered_told written lines told_of_each =
-    timed_all numbered_told (λ n. subst Timed (sym (told_of_each n))
-    (timed_in (visit n) (subst Ranged (lines n) (of_number_ranged n log written))))
+numbered_log_tells_in_time log visit numbered_told written lines told_of_each =
+    all_told_in_time numbered_told (λ n. subst Timed (sym (told_of_each n))
+    (visit_tells_in_time (visit n) (subst Ranged (lines n) (lines_of_number_are_in_range n log written))))
 
 -- a number that was turned away and whose `E` is not written does not end with `E`, and never with a halt:
-no_end_yet : EndsWith (said busy ∷ []) (ended ∷ []) → ⊥
-no_end_yet (before, same) = let wrong = (last_same [] before (said busy) ended same).1 in cc wrong
+no_end_after_busy : EndsWith (said busy ∷ []) (ended ∷ []) → ⊥
+no_end_after_busy (before, same) = let wrong = (same_front_and_last [] before (said busy) ended same).1 in cc wrong
 
-no_halt : (closed : Bool) → EndsWith (said busy ∷ (closing closed).lines) (said halt ∷ []) → ⊥
-no_halt true (before, same) = let wrong = (last_same (said busy ∷ []) before ended (said halt) same).1 in cc wrong
-no_halt false (before, same) = let wrong = (last_same [] before (said busy) (said halt) same).1 in cc wrong
+no_halt_after_busy : (closed : Bool) → EndsWith (said busy ∷ (closing closed).lines) (said halt ∷ []) → ⊥
+no_halt_after_busy true (before, same) = let wrong = (same_front_and_last (said busy ∷ []) before ended (said halt) same).1 in cc wrong
+no_halt_after_busy false (before, same) = let wrong = (same_front_and_last [] before (said busy) (said halt) same).1 in cc wrong
 
 -- a number is between sessions exactly where its visit is closed, and halted exactly where it ends with `S HALT`:
-closed_place : (o : Option Visit) → IsClosedVisit o → visit_place o ≡ between
-closed_place None is = refl
-closed_place (Some (let_in s)) is = closed_at s is
-closed_place (Some (turned_away true)) is = refl
-closed_place (Some (turned_away false)) is = absurd (no_end_yet is)
+closed_visit_is_between : (o : Option Visit) → IsClosedVisit o → visit_place o ≡ between
+closed_visit_is_between None is = refl
+closed_visit_is_between (Some (let_in s)) is = closed_session_is_between s is
+closed_visit_is_between (Some (turned_away true)) is = refl
+closed_visit_is_between (Some (turned_away false)) is = absurd (no_end_after_busy is)
 
-closed_lines : (o : Option Visit) → visit_place o ≡ between → IsClosedVisit o
-closed_lines None is = tt
-closed_lines (Some (let_in s)) is = session_closed s is
-closed_lines (Some (turned_away true)) is = (said busy ∷ [], refl)
-closed_lines (Some (turned_away false)) is = absurd (cc is)
+visit_between_is_closed : (o : Option Visit) → visit_place o ≡ between → IsClosedVisit o
+visit_between_is_closed None is = tt
+visit_between_is_closed (Some (let_in s)) is = session_between_is_closed s is
+visit_between_is_closed (Some (turned_away true)) is = (said busy ∷ [], refl)
+visit_between_is_closed (Some (turned_away false)) is = absurd (cc is)
 
-halted_place : (o : Option Visit) → IsHaltedVisit o → visit_place o ≡ halted
-halted_place None is = absurd is
-halted_place (Some (let_in s)) is = halted_at_end s is
-halted_place (Some (turned_away closed)) is = absurd (no_halt closed is)
+halted_visit_is_at_halt : (o : Option Visit) → IsHaltedVisit o → visit_place o ≡ halted
+halted_visit_is_at_halt None is = absurd is
+halted_visit_is_at_halt (Some (let_in s)) is = halted_session_is_at_halt s is
+halted_visit_is_at_halt (Some (turned_away closed)) is = absurd (no_halt_after_busy closed is)
 
-halted_lines : (o : Option Visit) → visit_place o ≡ halted → IsHaltedVisit o
-halted_lines None is = absurd (cc is)
-halted_lines (Some (let_in s)) is = session_halted s is
-halted_lines (Some (turned_away true)) is = absurd (cc is)
-halted_lines (Some (turned_away false)) is = absurd (cc is)
+visit_at_halt_is_halted : (o : Option Visit) → visit_place o ≡ halted → IsHaltedVisit o
+visit_at_halt_is_halted None is = absurd (cc is)
+visit_at_halt_is_halted (Some (let_in s)) is = session_at_halt_is_halted s is
+visit_at_halt_is_halted (Some (turned_away true)) is = absurd (cc is)
+visit_at_halt_is_halted (Some (turned_away false)) is = absurd (cc is)
 
 -- a clean log of version 2 is one of some sessions
-of_ends : (limit : ℕ) (accounts : Accounts) (bytes : List ℕ) (texts : List (List ℕ)) → IsSplit bytes texts []
+clean_numbered_log_has_sessions : (limit : ℕ) (accounts : Accounts) (bytes : List ℕ) (texts : List (List ℕ)) → IsSplit bytes texts []
     → AreCleanVersionTwo limit accounts texts
     → (log : List (Numbered LogLine)) × IsNumberedLogOf limit accounts bytes log
-of_ends limit accounts bytes [] cut ends = absurd ends
-of_ends limit accounts bytes (first ∷ texts) cut (is, log, places, told, are, s, may) =
-    let written = written_of texts log are in
-    let moments = timed_numbers log s.visit s.numbered_told written s.sessions.lines s.sessions.told_of_each in
+clean_numbered_log_has_sessions limit accounts bytes [] cut ends = absurd ends
+clean_numbered_log_has_sessions limit accounts bytes (first ∷ texts) cut (is, log, places, told, are, s, may) =
+    let written = read_numbered_lines_are_writable texts log are in
+    let moments = numbered_log_tells_in_time log s.visit s.numbered_told written s.sessions.lines s.sessions.told_of_each in
     let replies = subst (λ (t : List LoggedReply). (account : List ℕ) → IsHistory (accounts.token account) account t) s.tells
-    ((each_account accounts told (subst Timed (sym s.tells) moments)).0 s.replies) in
+    ((each_account_has_its_history accounts told (subst Timed (sym s.tells) moments)).0 s.replies) in
     let finished = elim may as (λ m. ((n : ℕ) → IsClosedVisit (s.visit n)) ⊎ ((n : ℕ) × IsHaltedVisit (s.visit n))) [
-      | inl all ↦ inl (λ n. closed_lines (s.visit n) (sym (s.after n) ∙ all n))
-      | inr halts ↦ inr (halts.0, halted_lines (s.visit halts.0) (sym (s.after halts.0) ∙ halts.1))
+      | inl all ↦ inl (λ n. visit_between_is_closed (s.visit n) (sym (s.after n) ∙ all n))
+      | inr halts ↦ inr (halts.0, visit_at_halt_is_halted (s.visit halts.0) (sym (s.after halts.0) ∙ halts.1))
     ] in
-    let same = ap (λ (t : List ℕ). t ∷ texts) is ∙ ap (λ (ts : List (List ℕ)). log_line_text header_two ∷ ts) (texts_of texts log are) in (
+    let same = ap (λ (t : List ℕ). t ∷ texts) is ∙ ap (λ (ts : List (List ℕ)). log_line_text header_two ∷ ts)
+        (texts_spell_numbered_lines texts log are) in (
       log,
       record {
         spelled = cut.bytes_are ∙ append-nil (ended_by_lf (first ∷ texts)) ∙ ap ended_by_lf same;
@@ -162,31 +169,34 @@ of_ends limit accounts bytes (first ∷ texts) cut (is, log, places, told, are, 
     )
 
 -- a log of version 2 that is one of some sessions is clean
-clean_of : (limit : ℕ) (accounts : Accounts) (bytes : List ℕ) (log : List (Numbered LogLine)) → IsNumberedLogOf limit accounts bytes log
+numbered_log_of_sessions_is_clean : (limit : ℕ) (accounts : Accounts) (bytes : List ℕ) (log : List (Numbered LogLine))
+    → IsNumberedLogOf limit accounts bytes log
     → IsCleanOf (version_two limit accounts) bytes
-clean_of limit accounts bytes log l =
+numbered_log_of_sessions_is_clean limit accounts bytes log l =
     let texts = log_line_text header_two ∷ map numbered_text log in
     let cut : IsSplit bytes texts [] =
-    record { bytes_are = l.spelled ∙ sym (append-nil (ended_by_lf texts)); lines = (refl, each_lacks log l.written); after = refl } in
+    record { bytes_are = l.spelled ∙ sym (append-nil (ended_by_lf texts)); lines = (refl, writable_numbered_lines_lack_lf log l.written);
+        after = refl } in
     let told = map (λ (t : Numbered LoggedReply). t.value) l.numbered_told in
     let places = λ (n : ℕ). visit_place (l.visit n) in
-    let moments = timed_numbers log l.visit l.numbered_told l.written l.sessions.lines l.sessions.told_of_each in
+    let moments = numbered_log_tells_in_time log l.visit l.numbered_told l.written l.sessions.lines l.sessions.told_of_each in
     let spells : SpellsNumbered limit (demands accounts) log places told = record {
       visit = l.visit;
       numbered_told = l.numbered_told;
       sessions = l.sessions;
       tells = refl;
-      replies = (each_account accounts told moments).1 l.histories;
+      replies = (each_account_has_its_history accounts told moments).1 l.histories;
       after = λ n. refl;
     } in
     let may = elim l.finished as (λ o. MayEndNumbered places) [
-      | inl all ↦ inl (λ n. closed_place (l.visit n) (all n))
-      | inr halts ↦ inr (halts.0, halted_place (l.visit halts.0) halts.1)
+      | inl all ↦ inl (λ n. closed_visit_is_between (l.visit n) (all n))
+      | inr halts ↦ inr (halts.0, halted_visit_is_at_halt (l.visit halts.0) halts.1)
     ] in
-    (texts, cut, (refl, log, places, told, are_written log l.written, spells, may))
+    (texts, cut, (refl, log, places, told, writable_numbered_lines_are_read log l.written, spells, may))
 
 -- a log of version 2 is clean exactly where it is that of some sessions: all closed or one halted, as demanded,
 -- and with legal histories of the tokens
-pub clean_numbered_logs : CleanNumberedLogsAreThoseOfSessions
-clean_numbered_logs limit accounts bytes =
-    (λ clean. of_ends limit accounts bytes clean.0 clean.1 clean.2, λ l. clean_of limit accounts bytes l.0 l.1)
+pub clean_numbered_logs_are_of_sessions : CleanNumberedLogsAreThoseOfSessions
+clean_numbered_logs_are_of_sessions limit accounts bytes =
+    (λ clean. clean_numbered_log_has_sessions limit accounts bytes clean.0 clean.1 clean.2, λ l. numbered_log_of_sessions_is_clean limit
+      accounts bytes l.0 l.1)

@@ -17,74 +17,77 @@ abbrev BeginNone : List LogLine → Type 0
 BeginNone lines = count_by is_offer lines ≡ 0
 
 -- no line of a part of a session, after its first, begins a session:
-of_closing : (closed : Bool) → BeginNone (closing closed).lines
-of_closing true = refl
-of_closing false = refl
+closing_begins_none : (closed : Bool) → BeginNone (closing closed).lines
+closing_begins_none true = refl
+closing_begins_none false = refl
 
-of_farewell : (f : Farewell) → BeginNone (parting f).lines
-of_farewell no_farewell = refl
-of_farewell (farewell text closed) = of_closing closed
+farewell_begins_none : (f : Farewell) → BeginNone (parting f).lines
+farewell_begins_none no_farewell = refl
+farewell_begins_none (farewell text closed) = closing_begins_none closed
 
-of_quit : (q : Quit) → BeginNone (quitting q).lines
-of_quit (goes_away closed) = of_closing closed
-of_quit (aborts f) = of_farewell f
-of_quit (sends_bad f) = of_farewell f
+quit_begins_none : (q : Quit) → BeginNone (quitting q).lines
+quit_begins_none (goes_away closed) = closing_begins_none closed
+quit_begins_none (aborts f) = farewell_begins_none f
+quit_begins_none (sends_bad f) = farewell_begins_none f
 
-of_codes : (account : List ℕ) (c : AfterOk) → BeginNone (after_ok account c).lines
-of_codes account no_code = refl
-of_codes account (quits_codes q) = of_quit q
-of_codes account (unreplied sent) = refl
-of_codes account (replied sent moment reply more) = of_codes account more
-of_codes account (halted_at sent) = refl
+after_ok_begins_none : (account : List ℕ) (c : AfterOk) → BeginNone (after_ok account c).lines
+after_ok_begins_none account no_code = refl
+after_ok_begins_none account (quits_codes q) = quit_begins_none q
+after_ok_begins_none account (unreplied sent) = refl
+after_ok_begins_none account (replied sent moment reply more) = after_ok_begins_none account more
+after_ok_begins_none account (halted_at sent) = refl
 
-of_judgement : (m account first challenge last : List ℕ) (j : AfterFinal) → BeginNone (after_final m account first challenge last j).lines
-of_judgement m account first challenge last no_verdict = refl
-of_judgement m account first challenge last (denied text closed) = of_closing closed
-of_judgement m account first challenge last (granted text c) = of_codes account c
+after_final_begins_none : (m account first challenge last : List ℕ) (j : AfterFinal)
+    → BeginNone (after_final m account first challenge last j).lines
+after_final_begins_none m account first challenge last no_verdict = refl
+after_final_begins_none m account first challenge last (denied text closed) = closing_begins_none closed
+after_final_begins_none m account first challenge last (granted text c) = after_ok_begins_none account c
 
-of_proof : (m account first challenge : List ℕ) (p : AfterChallenge) → BeginNone (after_challenge m account first challenge p).lines
-of_proof m account first challenge no_final = refl
-of_proof m account first challenge (quits_final q) = of_quit q
-of_proof m account first challenge (sends_final last j) = of_judgement m account first challenge last j
+after_challenge_begins_none : (m account first challenge : List ℕ) (p : AfterChallenge)
+    → BeginNone (after_challenge m account first challenge p).lines
+after_challenge_begins_none m account first challenge no_final = refl
+after_challenge_begins_none m account first challenge (quits_final q) = quit_begins_none q
+after_challenge_begins_none m account first challenge (sends_final last j) = after_final_begins_none m account first challenge last j
 
-of_answer : (m first : List ℕ) (a : AfterFirst) → BeginNone (after_first m first a).lines
-of_answer m first no_answer = refl
-of_answer m first (refused text closed) = of_closing closed
-of_answer m first (challenged account text p) = of_proof m account first text p
+after_first_begins_none : (m first : List ℕ) (a : AfterFirst) → BeginNone (after_first m first a).lines
+after_first_begins_none m first no_answer = refl
+after_first_begins_none m first (refused text closed) = closing_begins_none closed
+after_first_begins_none m first (challenged account text p) = after_challenge_begins_none m account first text p
 
-of_first : (m : List ℕ) (f : AfterEmpty) → BeginNone (after_empty m f).lines
-of_first m no_first = refl
-of_first m (quits_first q) = of_quit q
-of_first m (sends_first first a) = of_answer m first a
+after_empty_begins_none : (m : List ℕ) (f : AfterEmpty) → BeginNone (after_empty m f).lines
+after_empty_begins_none m no_first = refl
+after_empty_begins_none m (quits_first q) = quit_begins_none q
+after_empty_begins_none m (sends_first first a) = after_first_begins_none m first a
 
-of_invitation : (m : List ℕ) (i : AfterAuth) → BeginNone (after_auth m i).lines
-of_invitation m no_invitation = refl
-of_invitation m (unoffered text closed) = of_closing closed
-of_invitation m (invited text f) = of_first m f
+after_auth_begins_none : (m : List ℕ) (i : AfterAuth) → BeginNone (after_auth m i).lines
+after_auth_begins_none m no_invitation = refl
+after_auth_begins_none m (unoffered text closed) = closing_begins_none closed
+after_auth_begins_none m (invited text f) = after_empty_begins_none m f
 
-of_login : (l : AfterMechs) → BeginNone (after_mechs l).lines
-of_login no_login = refl
-of_login (quits_login q) = of_quit q
-of_login (with_first m first a) = of_answer m first a
-of_login (without_first m i) = of_invitation m i
+after_mechs_begins_none : (l : AfterMechs) → BeginNone (after_mechs l).lines
+after_mechs_begins_none no_login = refl
+after_mechs_begins_none (quits_login q) = quit_begins_none q
+after_mechs_begins_none (with_first m first a) = after_first_begins_none m first a
+after_mechs_begins_none (without_first m i) = after_auth_begins_none m i
 
 -- one line of a session begins a session
-of_session : (s : Session) → count_by is_offer (session_lines s) ≡ 1
-of_session (session names l) =
-    sum_by-append (λ x. cond (is_offer x) 1 0) (said (mechs names) ∷ []) (after_mechs l).lines ∙ ap (λ (n : ℕ). 1 + n) (of_login l)
+session_begins_one : (s : Session) → count_by is_offer (session_lines s) ≡ 1
+session_begins_one (session names l) =
+    sum_by-append (λ x. cond (is_offer x) 1 0) (said (mechs names) ∷ []) (after_mechs l).lines
+        ∙ ap (λ (n : ℕ). 1 + n) (after_mechs_begins_none l)
 
 -- one and a number make the next number
-one_more : (n : ℕ) → 1 + n ≡ suc n
-one_more n = omega arith
+one_plus_is_suc : (n : ℕ) → 1 + n ≡ suc n
+one_plus_is_suc n = omega arith
 
 -- in the lines of some sessions as many lines begin a session as there are sessions
-of_sessions : (sessions : List Session) → count_by is_offer (flat_map session_lines sessions) ≡ length sessions
-of_sessions [] = refl
-of_sessions (s ∷ sessions) =
+sessions_begin_as_many : (sessions : List Session) → count_by is_offer (flat_map session_lines sessions) ≡ length sessions
+sessions_begin_as_many [] = refl
+sessions_begin_as_many (s ∷ sessions) =
     sum_by-append (λ x. cond (is_offer x) 1 0) (session_lines s) (flat_map session_lines sessions)
-    ∙ ap (λ (n : ℕ). n + count_by is_offer (flat_map session_lines sessions)) (of_session s)
-    ∙ ap (λ (n : ℕ). 1 + n) (of_sessions sessions) ∙ one_more (length sessions)
+    ∙ ap (λ (n : ℕ). n + count_by is_offer (flat_map session_lines sessions)) (session_begins_one s)
+    ∙ ap (λ (n : ℕ). 1 + n) (sessions_begin_as_many sessions) ∙ one_plus_is_suc (length sessions)
 
 -- as many sessions are counted in a log of version 1 as it has
-pub sessions_counted : (sessions : List Session) → (counts_of (header ∷ flat_map session_lines sessions)).sessions ≡ length sessions
-sessions_counted sessions = of_sessions sessions
+pub sessions_are_counted : (sessions : List Session) → (counts_of (header ∷ flat_map session_lines sessions)).sessions ≡ length sessions
+sessions_are_counted sessions = sessions_begin_as_many sessions

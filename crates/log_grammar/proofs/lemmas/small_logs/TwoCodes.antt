@@ -18,37 +18,38 @@ use Rattle.log_grammar.specs.Versions.{IsWhy}
 use Rattle.log_grammar.specs.Upgrades.{original_bytes}
 use Rattle.log_grammar.specs.laws.Logins.{Exchange, IsLoginTo, login_session, OtherRepliesAreAtFault}
 use Rattle.log_grammar.specs.laws.Replies.{passes, next_two}
-use Rattle.log_grammar.proofs.lemmas.reply_laws.Passed.{next_two_are_due, two_words}
+use Rattle.log_grammar.proofs.lemmas.reply_laws.Passed.{pass_is_due_to_two, next_two_are_code_words}
 
 -- a pass of two codes in a row by the counter of the first is at fault: after a valid login, in line 8, a pass by the second is due
-pub first_counter_why : OtherRepliesAreAtFault original_bytes
+pub first_counter_is_at_fault : OtherRepliesAreAtFault original_bytes
     → (accounts : Accounts) (mechanism name : List ℕ) (exchange : Exchange) (moment : ℕ) (t : HotpFields)
     → IsLoginTo accounts mechanism name exchange → IsMoment moment → accounts.token name ≡ Some (Hotp t)
     → t.failures < t.limit → IsDigitCount t.digits → IsCounter (t.next + 1)
     → IsWhy accounts (original_bytes (login_session mechanism exchange ++ next_two t ∷ passes moment t.next ∷ [])) 8
     (other_reply moment (Some (Pass (t.next + 1))))
-first_counter_why wrong accounts mechanism name exchange moment t login at has unlocked digits counter =
+first_counter_is_at_fault wrong accounts mechanism name exchange moment t login at has unlocked digits counter =
     let sent = TwoTexts (code_text (Hotp t) t.next) (code_text (Hotp t) (t.next + 1)) in
     let by = subst (λ (o : Option TokenFields). IsReplyDueBy o [] moment sent (Some (Pass (t.next + 1)))) (sym has)
-    (Pass (t.next + 1), refl, next_two_are_due t moment unlocked counter) in
-    wrong accounts mechanism name exchange sent moment (Some (Pass t.next)) (Some (Pass (t.next + 1))) login (two_words t digits) at
+    (Pass (t.next + 1), refl, pass_is_due_to_two t moment unlocked counter) in
+    wrong accounts mechanism name exchange sent moment (Some (Pass t.next)) (Some (Pass (t.next + 1))) login
+        (next_two_are_code_words t digits) at
     (omega (arith, counter)) by
     (λ same. let next : t.next ≡ t.next + 1 = cc same in omega (arith, next))
 
 -- two codes in a row fail with a TOTP token that failures do not lock
-no_two : (t : TotpFields) (moment : ℕ) (first second : List ℕ) → t.failures < t.limit
+two_totp_codes_fail : (t : TotpFields) (moment : ℕ) (first second : List ℕ) → t.failures < t.limit
     → IsDueReply (Totp t) [] moment (TwoTexts first second) Fail
-no_two t moment first second unlocked = (unlocked, λ k fits. fits.2)
+two_totp_codes_fail t moment first second unlocked = (unlocked, λ k fits. fits.2)
 
 -- a pass of two codes in a row by a TOTP token that failures do not lock is at fault: after a valid login, in line 8, FAIL is due
-pub totp_why : OtherRepliesAreAtFault original_bytes
+pub totp_pass_is_at_fault : OtherRepliesAreAtFault original_bytes
     → (accounts : Accounts) (mechanism name : List ℕ) (exchange : Exchange) (first second : List ℕ) (moment counter : ℕ) (t : TotpFields)
     → IsLoginTo accounts mechanism name exchange → IsMoment moment → accounts.token name ≡ Some (Totp t)
     → t.failures < t.limit → IsCodeWord first → IsCodeWord second → IsCounter counter
     → IsWhy accounts (original_bytes (login_session mechanism exchange ++ heard (sync first second) ∷ passes moment counter ∷ [])) 8
     (other_reply moment (Some Fail))
-totp_why wrong accounts mechanism name exchange first second moment counter t login at has unlocked one other range =
+totp_pass_is_at_fault wrong accounts mechanism name exchange first second moment counter t login at has unlocked one other range =
     let sent = TwoTexts first second in
     let by = subst (λ (o : Option TokenFields). IsReplyDueBy o [] moment sent (Some Fail)) (sym has)
-    (Fail, refl, no_two t moment first second unlocked) in
+    (Fail, refl, two_totp_codes_fail t moment first second unlocked) in
     wrong accounts mechanism name exchange sent moment (Some (Pass counter)) (Some Fail) login (one, other) at range by (λ same. cc same)

@@ -3,7 +3,7 @@
 use Rattle.std.proofs.Common.{◌≡◌, ◌⊎◌, inl, inr, ℕ, true, false, List, [], ◌∷◌, ◌++◌, refl, sym, ◌∙◌, ap, append_assoc}
 use Rattle.otp_core.specs.Attempt.{OneText, TwoTexts}
 use Rattle.log_grammar.specs.Lines.{LogLine, said, heard, bad, gone, ended, mechs, cont, accepts, refuses, replies, halt, auth, auth_with}
-use Rattle.log_grammar.specs.Lines.{resp, abort, code, sync, asking}
+use Rattle.log_grammar.specs.Lines.{resp, abort, code, sync, code_line}
 use Rattle.log_grammar.specs.LoggedReply.{LoggedReply, logged_reply_of}
 use Rattle.log_grammar.specs.Places.{Place, between}
 use Rattle.log_grammar.specs.Demands.{Demands}
@@ -29,12 +29,13 @@ abbrev pub GoesOn : {X : Type 0} → Demands → (X → Part) → X → LogLine 
 GoesOn d part old line next = ((part old).place ≡ between) ⊎ Grown d part old line next (told_at (part old).place line)
 
 -- where a part within another goes on, so does the other, and where it has its end, so has the other:
-lift : {X Y : Type 0} (d : Demands) (inner : X → Part) (outer : Y → Part) (wrap : X → Y) (front : List LogLine) (before : List LoggedReply)
+outer_grows : {X Y : Type 0} (d : Demands) (inner : X → Part) (outer : Y → Part) (wrap : X → Y) (front : List LogLine)
+    (before : List LoggedReply)
     → ((t : X) → (outer (wrap t)).lines ≡ front ++ (inner t).lines) → ((t : X) → (outer (wrap t)).place ≡ (inner t).place)
     → ((t : X) → (outer (wrap t)).told ≡ before ++ (inner t).told) → ((t : X) → (inner t).Meets d → (outer (wrap t)).Meets d)
     → (old : X) (line : LogLine) (next : Place) (more : List LoggedReply)
     → Grown d inner old line next more → Grown d outer (wrap old) line next more
-lift d inner outer wrap front before ls ps ts ms old line next more g = record {
+outer_grows d inner outer wrap front before ls ps ts ms old line next more g = record {
   tree = wrap g.tree;
   lines = ls g.tree ∙ ap (λ (l : List LogLine). front ++ l) g.lines ∙ sym (append_assoc front (inner old).lines (line ∷ [])) ∙ ap
       (λ (l : List LogLine). l ++ line ∷ []) (sym (ls old));
@@ -44,197 +45,201 @@ lift d inner outer wrap front before ls ps ts ms old line next more g = record {
   good = ms g.tree g.good;
 }
 
-within : {X Y : Type 0} (d : Demands) (inner : X → Part) (outer : Y → Part) (wrap : X → Y) (front : List LogLine)
+outer_goes_on : {X Y : Type 0} (d : Demands) (inner : X → Part) (outer : Y → Part) (wrap : X → Y) (front : List LogLine)
     (before : List LoggedReply)
     → ((t : X) → (outer (wrap t)).lines ≡ front ++ (inner t).lines) → ((t : X) → (outer (wrap t)).place ≡ (inner t).place)
     → ((t : X) → (outer (wrap t)).told ≡ before ++ (inner t).told) → ((t : X) → (inner t).Meets d → (outer (wrap t)).Meets d)
     → (old : X) (line : LogLine) (next : Place) → GoesOn d inner old line next
     → ((outer (wrap old)).place ≡ between) ⊎ Grown d outer (wrap old) line next (told_at (inner old).place line)
-within d inner outer wrap front before ls ps ts ms old line next (inl closed) = inl (ps old ∙ closed)
-within d inner outer wrap front before ls ps ts ms old line next (inr g) =
-    inr (lift d inner outer wrap front before ls ps ts ms old line next (told_at (inner old).place line) g)
+outer_goes_on d inner outer wrap front before ls ps ts ms old line next (inl closed) = inl (ps old ∙ closed)
+outer_goes_on d inner outer wrap front before ls ps ts ms old line next (inr g) =
+    inr (outer_grows d inner outer wrap front before ls ps ts ms old line next (told_at (inner old).place line) g)
 
 -- each part of a session, from its end to its beginning, has its end or goes on by a line that may stand at its place:
-farewell_on : (d : Demands) (t : Farewell) (line : LogLine) (next : Place) → (parting t).Meets d
+farewell_goes_on : (d : Demands) (t : Farewell) (line : LogLine) (next : Place) → (parting t).Meets d
     → IsTransition d (parting t).place line next
     → GoesOn d parting t line next
-farewell_on d no_farewell (said (refuses text)) next meets h = inr
+farewell_goes_on d no_farewell (said (refuses text)) next meets h = inr
     (record { tree = farewell text false; lines = refl; at = sym h.1; tells = refl; good = h.0 })
-farewell_on d no_farewell line next meets h = absurd h
-farewell_on d (farewell text true) line next meets h = inl refl
-farewell_on d (farewell text false) ended next meets h = inr
+farewell_goes_on d no_farewell line next meets h = absurd h
+farewell_goes_on d (farewell text true) line next meets h = inl refl
+farewell_goes_on d (farewell text false) ended next meets h = inr
     (record { tree = farewell text true; lines = refl; at = sym h; tells = refl; good = meets })
-farewell_on d (farewell text false) line next meets h = absurd h
+farewell_goes_on d (farewell text false) line next meets h = absurd h
 
-quit_on : (d : Demands) (t : Quit) (line : LogLine) (next : Place) → (quitting t).Meets d → IsTransition d (quitting t).place line next
+quit_goes_on : (d : Demands) (t : Quit) (line : LogLine) (next : Place) → (quitting t).Meets d → IsTransition d (quitting t).place line next
     → GoesOn d quitting t line next
-quit_on d (goes_away true) line next meets h = inl refl
-quit_on d (goes_away false) ended next meets h = inr (record {
+quit_goes_on d (goes_away true) line next meets h = inl refl
+quit_goes_on d (goes_away false) ended next meets h = inr (record {
   tree = goes_away true;
   lines = refl;
   at = sym h;
   tells = refl;
   good = meets;
 })
-quit_on d (goes_away false) line next meets h = absurd h
-quit_on d (aborts f) line next meets h =
-    within d parting quitting aborts (heard abort ∷ []) [] (λ t. refl) (λ t. refl) (λ t. refl) (λ t m. m) f line next
-    (farewell_on d f line next meets h)
-quit_on d (sends_bad f) line next meets h =
-    within d parting quitting sends_bad (bad ∷ []) [] (λ t. refl) (λ t. refl) (λ t. refl) (λ t m. m) f line next
-    (farewell_on d f line next meets h)
+quit_goes_on d (goes_away false) line next meets h = absurd h
+quit_goes_on d (aborts f) line next meets h =
+    outer_goes_on d parting quitting aborts (heard abort ∷ []) [] (λ t. refl) (λ t. refl) (λ t. refl) (λ t m. m) f line next
+    (farewell_goes_on d f line next meets h)
+quit_goes_on d (sends_bad f) line next meets h =
+    outer_goes_on d parting quitting sends_bad (bad ∷ []) [] (λ t. refl) (λ t. refl) (λ t. refl) (λ t m. m) f line next
+    (farewell_goes_on d f line next meets h)
 
-codes_on : (d : Demands) (account : List ℕ) (t : AfterOk) (line : LogLine) (next : Place) → (after_ok account t).Meets d
+after_ok_goes_on : (d : Demands) (account : List ℕ) (t : AfterOk) (line : LogLine) (next : Place) → (after_ok account t).Meets d
     → IsTransition d (after_ok account t).place line next
     → GoesOn d (after_ok account) t line next
-codes_on d account no_code (heard (code text)) next meets h = inr
+after_ok_goes_on d account no_code (heard (code text)) next meets h = inr
     (record { tree = unreplied (OneText text); lines = refl; at = sym h; tells = refl; good = tt })
-codes_on d account no_code (heard (sync first second)) next meets h = inr
+after_ok_goes_on d account no_code (heard (sync first second)) next meets h = inr
     (record { tree = unreplied (TwoTexts first second); lines = refl; at = sym h; tells = refl; good = tt })
-codes_on d account no_code (heard abort) next meets h = inr
+after_ok_goes_on d account no_code (heard abort) next meets h = inr
     (record { tree = quits_codes (aborts no_farewell); lines = refl; at = sym h; tells = refl; good = tt })
-codes_on d account no_code bad next meets h = inr
+after_ok_goes_on d account no_code bad next meets h = inr
     (record { tree = quits_codes (sends_bad no_farewell); lines = refl; at = sym h; tells = refl; good = tt })
-codes_on d account no_code gone next meets h = inr
+after_ok_goes_on d account no_code gone next meets h = inr
     (record { tree = quits_codes (goes_away false); lines = refl; at = sym h; tells = refl; good = tt })
-codes_on d account no_code line next meets h = absurd h
-codes_on d account (quits_codes q) line next meets h =
-    within d quitting (after_ok account) quits_codes [] [] (λ t. refl) (λ t. refl) (λ t. refl) (λ t m. m) q line next
-    (quit_on d q line next meets h)
-codes_on d account (unreplied sent) (said (replies moment reply)) next meets h = inr
+after_ok_goes_on d account no_code line next meets h = absurd h
+after_ok_goes_on d account (quits_codes q) line next meets h =
+    outer_goes_on d quitting (after_ok account) quits_codes [] [] (λ t. refl) (λ t. refl) (λ t. refl) (λ t m. m) q line next
+    (quit_goes_on d q line next meets h)
+after_ok_goes_on d account (unreplied sent) (said (replies moment reply)) next meets h = inr
     (record { tree = replied sent moment reply no_code; lines = refl; at = sym h; tells = refl; good = tt })
-codes_on d account (unreplied sent) (said halt) next meets h = inr
+after_ok_goes_on d account (unreplied sent) (said halt) next meets h = inr
     (record { tree = halted_at sent; lines = refl; at = sym h; tells = refl; good = tt })
-codes_on d account (unreplied sent) line next meets h = absurd h
-codes_on d account (replied sent moment reply more) line next meets h =
-    within d (after_ok account) (after_ok account) (replied sent moment reply) (heard (asking sent) ∷ said (replies moment reply) ∷ [])
+after_ok_goes_on d account (unreplied sent) line next meets h = absurd h
+after_ok_goes_on d account (replied sent moment reply more) line next meets h =
+    outer_goes_on d (after_ok account) (after_ok account) (replied sent moment reply)
+        (heard (code_line sent) ∷ said (replies moment reply) ∷ [])
     (logged_reply_of account moment sent reply ∷ []) (λ t. refl) (λ t. refl) (λ t. refl) (λ t m. m) more line next
-    (codes_on d account more line next meets h)
-codes_on d account (halted_at sent) line next meets h = absurd h
+    (after_ok_goes_on d account more line next meets h)
+after_ok_goes_on d account (halted_at sent) line next meets h = absurd h
 
-judgement_on : (d : Demands) (m account first challenge last : List ℕ) (t : AfterFinal) (line : LogLine) (next : Place)
+after_final_goes_on : (d : Demands) (m account first challenge last : List ℕ) (t : AfterFinal) (line : LogLine) (next : Place)
     → (after_final m account first challenge last t).Meets d → IsTransition d (after_final m account first challenge last t).place line next
     → GoesOn d (after_final m account first challenge last) t line next
-judgement_on d m account first challenge last no_verdict (said (refuses text)) next meets h = inr
+after_final_goes_on d m account first challenge last no_verdict (said (refuses text)) next meets h = inr
     (record { tree = denied text false; lines = refl; at = sym h.1; tells = refl; good = h.0 })
-judgement_on d m account first challenge last no_verdict (said (accepts text)) next meets h = inr
+after_final_goes_on d m account first challenge last no_verdict (said (accepts text)) next meets h = inr
     (record { tree = granted text no_code; lines = refl; at = sym h.1; tells = refl; good = (h.0, tt) })
-judgement_on d m account first challenge last no_verdict line next meets h = absurd h
-judgement_on d m account first challenge last (denied text true) line next meets h = inl refl
-judgement_on d m account first challenge last (denied text false) ended next meets h = inr
+after_final_goes_on d m account first challenge last no_verdict line next meets h = absurd h
+after_final_goes_on d m account first challenge last (denied text true) line next meets h = inl refl
+after_final_goes_on d m account first challenge last (denied text false) ended next meets h = inr
     (record { tree = denied text true; lines = refl; at = sym h; tells = refl; good = meets })
-judgement_on d m account first challenge last (denied text false) line next meets h = absurd h
-judgement_on d m account first challenge last (granted text c) line next meets h =
-    within d (after_ok account) (after_final m account first challenge last) (granted text) (said (accepts text) ∷ []) [] (λ t. refl)
+after_final_goes_on d m account first challenge last (denied text false) line next meets h = absurd h
+after_final_goes_on d m account first challenge last (granted text c) line next meets h =
+    outer_goes_on d (after_ok account) (after_final m account first challenge last) (granted text) (said (accepts text) ∷ []) [] (λ t. refl)
     (λ t. refl) (λ t. refl) (λ t more. (meets.0, more)) c line next
-    (codes_on d account c line next meets.1 h)
+    (after_ok_goes_on d account c line next meets.1 h)
 
-proof_on : (d : Demands) (m account first challenge : List ℕ) (t : AfterChallenge) (line : LogLine) (next : Place)
+after_challenge_goes_on : (d : Demands) (m account first challenge : List ℕ) (t : AfterChallenge) (line : LogLine) (next : Place)
     → (after_challenge m account first challenge t).Meets d → IsTransition d (after_challenge m account first challenge t).place line next
     → GoesOn d (after_challenge m account first challenge) t line next
-proof_on d m account first challenge no_final (heard (resp last)) next meets h = inr
+after_challenge_goes_on d m account first challenge no_final (heard (resp last)) next meets h = inr
     (record { tree = sends_final last no_verdict; lines = refl; at = sym h; tells = refl; good = tt })
-proof_on d m account first challenge no_final (heard abort) next meets h = inr
+after_challenge_goes_on d m account first challenge no_final (heard abort) next meets h = inr
     (record { tree = quits_final (aborts no_farewell); lines = refl; at = sym h; tells = refl; good = tt })
-proof_on d m account first challenge no_final bad next meets h = inr
+after_challenge_goes_on d m account first challenge no_final bad next meets h = inr
     (record { tree = quits_final (sends_bad no_farewell); lines = refl; at = sym h; tells = refl; good = tt })
-proof_on d m account first challenge no_final gone next meets h = inr
+after_challenge_goes_on d m account first challenge no_final gone next meets h = inr
     (record { tree = quits_final (goes_away false); lines = refl; at = sym h; tells = refl; good = tt })
-proof_on d m account first challenge no_final line next meets h = absurd h
-proof_on d m account first challenge (quits_final q) line next meets h =
-    within d quitting (after_challenge m account first challenge) quits_final [] [] (λ t. refl) (λ t. refl) (λ t. refl)
+after_challenge_goes_on d m account first challenge no_final line next meets h = absurd h
+after_challenge_goes_on d m account first challenge (quits_final q) line next meets h =
+    outer_goes_on d quitting (after_challenge m account first challenge) quits_final [] [] (λ t. refl) (λ t. refl) (λ t. refl)
     (λ t m. m) q line next
-    (quit_on d q line next meets h)
-proof_on d m account first challenge (sends_final last j) line next meets h =
-    within d (after_final m account first challenge last) (after_challenge m account first challenge) (sends_final last)
+    (quit_goes_on d q line next meets h)
+after_challenge_goes_on d m account first challenge (sends_final last j) line next meets h =
+    outer_goes_on d (after_final m account first challenge last) (after_challenge m account first challenge) (sends_final last)
     (heard (resp last) ∷ []) [] (λ t. refl) (λ t. refl) (λ t. refl) (λ t m. m) j line next
-    (judgement_on d m account first challenge last j line next meets h)
+    (after_final_goes_on d m account first challenge last j line next meets h)
 
-answer_on : (d : Demands) (m first : List ℕ) (t : AfterFirst) (line : LogLine) (next : Place) → (after_first m first t).Meets d
+after_first_goes_on : (d : Demands) (m first : List ℕ) (t : AfterFirst) (line : LogLine) (next : Place) → (after_first m first t).Meets d
     → IsTransition d (after_first m first t).place line next
     → GoesOn d (after_first m first) t line next
-answer_on d m first no_answer (said (refuses text)) next meets h = inr
+after_first_goes_on d m first no_answer (said (refuses text)) next meets h = inr
     (record { tree = refused text false; lines = refl; at = sym h.1; tells = refl; good = h.0 })
-answer_on d m first no_answer (said (cont text)) next meets h = inr
+after_first_goes_on d m first no_answer (said (cont text)) next meets h = inr
     (record { tree = challenged h.0 text no_final; lines = refl; at = sym h.2; tells = refl; good = (h.1, tt) })
-answer_on d m first no_answer line next meets h = absurd h
-answer_on d m first (refused text true) line next meets h = inl refl
-answer_on d m first (refused text false) ended next meets h = inr
+after_first_goes_on d m first no_answer line next meets h = absurd h
+after_first_goes_on d m first (refused text true) line next meets h = inl refl
+after_first_goes_on d m first (refused text false) ended next meets h = inr
     (record { tree = refused text true; lines = refl; at = sym h; tells = refl; good = meets })
-answer_on d m first (refused text false) line next meets h = absurd h
-answer_on d m first (challenged account text p) line next meets h =
-    within d (after_challenge m account first text) (after_first m first) (challenged account text) (said (cont text) ∷ []) [] (λ t. refl)
+after_first_goes_on d m first (refused text false) line next meets h = absurd h
+after_first_goes_on d m first (challenged account text p) line next meets h =
+    outer_goes_on d (after_challenge m account first text) (after_first m first) (challenged account text) (said (cont text) ∷ []) []
+        (λ t. refl)
     (λ t. refl) (λ t. refl) (λ t more. (meets.0, more)) p line next
-    (proof_on d m account first text p line next meets.1 h)
+    (after_challenge_goes_on d m account first text p line next meets.1 h)
 
-first_on : (d : Demands) (m : List ℕ) (t : AfterEmpty) (line : LogLine) (next : Place) → (after_empty m t).Meets d
+after_empty_goes_on : (d : Demands) (m : List ℕ) (t : AfterEmpty) (line : LogLine) (next : Place) → (after_empty m t).Meets d
     → IsTransition d (after_empty m t).place line next
     → GoesOn d (after_empty m) t line next
-first_on d m no_first (heard (resp first)) next meets h = inr
+after_empty_goes_on d m no_first (heard (resp first)) next meets h = inr
     (record { tree = sends_first first no_answer; lines = refl; at = sym h; tells = refl; good = tt })
-first_on d m no_first (heard abort) next meets h = inr
+after_empty_goes_on d m no_first (heard abort) next meets h = inr
     (record { tree = quits_first (aborts no_farewell); lines = refl; at = sym h; tells = refl; good = tt })
-first_on d m no_first bad next meets h = inr
+after_empty_goes_on d m no_first bad next meets h = inr
     (record { tree = quits_first (sends_bad no_farewell); lines = refl; at = sym h; tells = refl; good = tt })
-first_on d m no_first gone next meets h = inr
+after_empty_goes_on d m no_first gone next meets h = inr
     (record { tree = quits_first (goes_away false); lines = refl; at = sym h; tells = refl; good = tt })
-first_on d m no_first line next meets h = absurd h
-first_on d m (quits_first q) line next meets h =
-    within d quitting (after_empty m) quits_first [] [] (λ t. refl) (λ t. refl) (λ t. refl) (λ t m. m) q line next
-    (quit_on d q line next meets h)
-first_on d m (sends_first first a) line next meets h =
-    within d (after_first m first) (after_empty m) (sends_first first) (heard (resp first) ∷ []) [] (λ t. refl) (λ t. refl) (λ t. refl)
+after_empty_goes_on d m no_first line next meets h = absurd h
+after_empty_goes_on d m (quits_first q) line next meets h =
+    outer_goes_on d quitting (after_empty m) quits_first [] [] (λ t. refl) (λ t. refl) (λ t. refl) (λ t m. m) q line next
+    (quit_goes_on d q line next meets h)
+after_empty_goes_on d m (sends_first first a) line next meets h =
+    outer_goes_on d (after_first m first) (after_empty m) (sends_first first) (heard (resp first) ∷ []) [] (λ t. refl) (λ t. refl)
+        (λ t. refl)
     (λ t m. m) a line next
-    (answer_on d m first a line next meets h)
+    (after_first_goes_on d m first a line next meets h)
 
-invitation_on : (d : Demands) (m : List ℕ) (t : AfterAuth) (line : LogLine) (next : Place) → (after_auth m t).Meets d
+after_auth_goes_on : (d : Demands) (m : List ℕ) (t : AfterAuth) (line : LogLine) (next : Place) → (after_auth m t).Meets d
     → IsTransition d (after_auth m t).place line next
     → GoesOn d (after_auth m) t line next
-invitation_on d m no_invitation (said (refuses text)) next meets h = inr
+after_auth_goes_on d m no_invitation (said (refuses text)) next meets h = inr
     (record { tree = unoffered text false; lines = refl; at = sym h.1; tells = refl; good = h.0 })
-invitation_on d m no_invitation (said (cont text)) next meets h = inr
+after_auth_goes_on d m no_invitation (said (cont text)) next meets h = inr
     (record { tree = invited text no_first; lines = refl; at = sym h.1; tells = refl; good = (h.0, tt) })
-invitation_on d m no_invitation line next meets h = absurd h
-invitation_on d m (unoffered text true) line next meets h = inl refl
-invitation_on d m (unoffered text false) ended next meets h = inr
+after_auth_goes_on d m no_invitation line next meets h = absurd h
+after_auth_goes_on d m (unoffered text true) line next meets h = inl refl
+after_auth_goes_on d m (unoffered text false) ended next meets h = inr
     (record { tree = unoffered text true; lines = refl; at = sym h; tells = refl; good = meets })
-invitation_on d m (unoffered text false) line next meets h = absurd h
-invitation_on d m (invited text f) line next meets h =
-    within d (after_empty m) (after_auth m) (invited text) (said (cont text) ∷ []) [] (λ t. refl) (λ t. refl) (λ t. refl)
+after_auth_goes_on d m (unoffered text false) line next meets h = absurd h
+after_auth_goes_on d m (invited text f) line next meets h =
+    outer_goes_on d (after_empty m) (after_auth m) (invited text) (said (cont text) ∷ []) [] (λ t. refl) (λ t. refl) (λ t. refl)
     (λ t more. (meets.0, more)) f line next
-    (first_on d m f line next meets.1 h)
+    (after_empty_goes_on d m f line next meets.1 h)
 
-login_on : (d : Demands) (t : AfterMechs) (line : LogLine) (next : Place) → (after_mechs t).Meets d
+after_mechs_goes_on : (d : Demands) (t : AfterMechs) (line : LogLine) (next : Place) → (after_mechs t).Meets d
     → IsTransition d (after_mechs t).place line next
     → GoesOn d after_mechs t line next
-login_on d no_login (heard (auth m)) next meets h = inr
+after_mechs_goes_on d no_login (heard (auth m)) next meets h = inr
     (record { tree = without_first m no_invitation; lines = refl; at = sym h; tells = refl; good = tt })
-login_on d no_login (heard (auth_with m first)) next meets h = inr
+after_mechs_goes_on d no_login (heard (auth_with m first)) next meets h = inr
     (record { tree = with_first m first no_answer; lines = refl; at = sym h; tells = refl; good = tt })
-login_on d no_login (heard abort) next meets h = inr
+after_mechs_goes_on d no_login (heard abort) next meets h = inr
     (record { tree = quits_login (aborts no_farewell); lines = refl; at = sym h; tells = refl; good = tt })
-login_on d no_login bad next meets h = inr
+after_mechs_goes_on d no_login bad next meets h = inr
     (record { tree = quits_login (sends_bad no_farewell); lines = refl; at = sym h; tells = refl; good = tt })
-login_on d no_login gone next meets h = inr
+after_mechs_goes_on d no_login gone next meets h = inr
     (record { tree = quits_login (goes_away false); lines = refl; at = sym h; tells = refl; good = tt })
-login_on d no_login line next meets h = absurd h
-login_on d (quits_login q) line next meets h =
-    within d quitting after_mechs quits_login [] [] (λ t. refl) (λ t. refl) (λ t. refl) (λ t m. m) q line next
-    (quit_on d q line next meets h)
-login_on d (with_first m first a) line next meets h =
-    within d (after_first m first) after_mechs (with_first m first) (heard (auth_with m first) ∷ []) [] (λ t. refl) (λ t. refl) (λ t. refl)
+after_mechs_goes_on d no_login line next meets h = absurd h
+after_mechs_goes_on d (quits_login q) line next meets h =
+    outer_goes_on d quitting after_mechs quits_login [] [] (λ t. refl) (λ t. refl) (λ t. refl) (λ t m. m) q line next
+    (quit_goes_on d q line next meets h)
+after_mechs_goes_on d (with_first m first a) line next meets h =
+    outer_goes_on d (after_first m first) after_mechs (with_first m first) (heard (auth_with m first) ∷ []) [] (λ t. refl) (λ t. refl)
+        (λ t. refl)
     (λ t m. m) a line next
-    (answer_on d m first a line next meets h)
-login_on d (without_first m i) line next meets h =
-    within d (after_auth m) after_mechs (without_first m) (heard (auth m) ∷ []) [] (λ t. refl) (λ t. refl) (λ t. refl)
+    (after_first_goes_on d m first a line next meets h)
+after_mechs_goes_on d (without_first m i) line next meets h =
+    outer_goes_on d (after_auth m) after_mechs (without_first m) (heard (auth m) ∷ []) [] (λ t. refl) (λ t. refl) (λ t. refl)
     (λ t m. m) i line next
-    (invitation_on d m i line next meets h)
+    (after_auth_goes_on d m i line next meets h)
 
 -- a session that meets the demands is closed, or goes on with any line that may stand at its place and then meets them still
-pub session_on : (d : Demands) (t : Session) (line : LogLine) (next : Place) → (session_part t).Meets d
+pub session_goes_on : (d : Demands) (t : Session) (line : LogLine) (next : Place) → (session_part t).Meets d
     → IsTransition d (session_part t).place line next
     → GoesOn d session_part t line next
-session_on d (session names l) line next meets h =
-    within d after_mechs session_part (session names) (said (mechs names) ∷ []) [] (λ t. refl) (λ t. refl) (λ t. refl)
+session_goes_on d (session names l) line next meets h =
+    outer_goes_on d after_mechs session_part (session names) (said (mechs names) ∷ []) [] (λ t. refl) (λ t. refl) (λ t. refl)
     (λ t more. (meets.0, more)) l line next
-    (login_on d l line next meets.1 h)
+    (after_mechs_goes_on d l line next meets.1 h)

@@ -1,7 +1,7 @@
 -- How a line stands at a place: it goes on from there; no line of its class does; or one does, and this one is wrong.
 use Rattle.std.proofs.Common.{◌≡◌, ◌⊎◌, inl, inr, ℕ, List, [], reverse, refl}
 use Rattle.std.specs.Prelude.{codes}
-use Rattle.mac_core.proofs.lemmas.Decided.{Decided, decided_both, decided_same}
+use Rattle.mac_core.proofs.lemmas.Decided.{Decided, decided_both, decided_same_text}
 use Rattle.scram_ends.specs.Verdict.{Due}
 use Rattle.otp_core.specs.Attempt.{CodeTexts, OneText, TwoTexts}
 use Rattle.log_grammar.specs.Lines.{LogLine, header, said, heard, bad, gone, ended, mechs, cont, accepts, refuses, replies, halt, auth}
@@ -14,10 +14,10 @@ use Rattle.log_grammar.specs.state_machine.Steps.{IsTransition, told_at}
 use Rattle.log_grammar.specs.Why.{Why, other_mechs, other_challenge, other_outcome, other_reply, refused_with, outcome_of, LineClass}
 use Rattle.log_grammar.specs.Why.{of_abort, of_code, of_sync, of_bad, of_gone, class_of, IsWrongAnswer, IsWrongReply, IsWrong}
 use Rattle.log_grammar.specs.state_machine.DueClasses.{IsQuitting, IsDueAt}
-use Rattle.log_grammar.proofs.lemmas.demands.Challenges.{decided_offered, decided_login}
-use Rattle.log_grammar.proofs.lemmas.demands.StillChallenged.{Opened}
+use Rattle.log_grammar.proofs.lemmas.demands.Challenges.{decided_offered, decided_first_message}
+use Rattle.log_grammar.proofs.lemmas.demands.StillChallenged.{ChallengeMeetsDemand}
 use Rattle.log_grammar.proofs.lemmas.completions.Verdicts.{some_verdict}
-use Rattle.log_grammar.proofs.lemmas.demands.DemandsDecided.{Settled, decided_challenged, decided_denied, decided_granted, some_reply}
+use Rattle.log_grammar.proofs.lemmas.demands.DemandsDecided.{DecisionLaws, decided_challenged, decided_denied, decided_granted, some_reply}
 use Rattle.log_grammar.proofs.lemmas.demands.DemandsDecided.{decided_reply_due}
 
 -- a line goes on from a place, with the reply due where it is one
@@ -39,213 +39,230 @@ Standing accounts place told line = Follows accounts place told line
     ⊎ ((IsDueAt place (class_of line) → ⊥) ⊎ Fails accounts place told line)
 
 -- a line that goes on exactly where a decided demand is met stands at its place in one of the three ways
-by_demand : (accounts : Accounts) (place : Place) (told : List LoggedReply) (line : LogLine) (P : Type 0) → IsDueAt place (class_of line)
+demand_gives_standing : (accounts : Accounts) (place : Place) (told : List LoggedReply) (line : LogLine) (P : Type 0)
+    → IsDueAt place (class_of line)
     → (why : Why) × IsWrong accounts place told line why → (P → Follows accounts place told line) → (Follows accounts place told line → P)
     → Decided P → Standing accounts place told line
-by_demand accounts place told line P due why there back (inl meets) = inl (there meets)
-by_demand accounts place told line P due why there back (inr none) =
+demand_gives_standing accounts place told line P due why there back (inl meets) = inl (there meets)
+demand_gives_standing accounts place told line P due why there back (inr none) =
     inr (inr (record { of_class = due; stuck = λ f. none (back f); why = why.0; wrong = why.1 }))
 
 -- a line whose class is due at the place, and which never goes on there, fails
-never : (accounts : Accounts) (place : Place) (told : List LoggedReply) (line : LogLine) → IsDueAt place (class_of line)
+stuck_line_fails : (accounts : Accounts) (place : Place) (told : List LoggedReply) (line : LogLine) → IsDueAt place (class_of line)
     → (why : Why) × IsWrong accounts place told line why → (Follows accounts place told line → ⊥) → Standing accounts place told line
-never accounts place told line due why stuck = by_demand accounts place told line ⊥ due why (λ none. absurd none) stuck (inr (λ none. none))
+stuck_line_fails accounts place told line due why stuck =
+    demand_gives_standing accounts place told line ⊥ due why (λ none. absurd none) stuck (inr (λ none. none))
 
 -- a class that is not one due at a client's turn is not due there
-no_turn : (class own : LineClass) → (class ≡ own → ⊥) → (class ≡ of_abort → ⊥) → (class ≡ of_bad → ⊥) → (class ≡ of_gone → ⊥)
+no_due_class_at_turn : (class own : LineClass) → (class ≡ own → ⊥) → (class ≡ of_abort → ⊥) → (class ≡ of_bad → ⊥) → (class ≡ of_gone → ⊥)
     → (class ≡ own) ⊎ IsQuitting class → ⊥
-no_turn class own no_own no_abort no_bad no_gone (inl is) = no_own is
-no_turn class own no_own no_abort no_bad no_gone (inr (inl is)) = no_abort is
-no_turn class own no_own no_abort no_bad no_gone (inr (inr (inl is))) = no_bad is
-no_turn class own no_own no_abort no_bad no_gone (inr (inr (inr is))) = no_gone is
+no_due_class_at_turn class own no_own no_abort no_bad no_gone (inl is) = no_own is
+no_due_class_at_turn class own no_own no_abort no_bad no_gone (inr (inl is)) = no_abort is
+no_due_class_at_turn class own no_own no_abort no_bad no_gone (inr (inr (inl is))) = no_bad is
+no_due_class_at_turn class own no_own no_abort no_bad no_gone (inr (inr (inr is))) = no_gone is
 
 -- a class that is not one due where codes are due is not due there
-no_code_due : (class : LineClass) → (class ≡ of_code → ⊥) → (class ≡ of_sync → ⊥) → (class ≡ of_abort → ⊥) → (class ≡ of_bad → ⊥)
+no_due_class_for_codes : (class : LineClass) → (class ≡ of_code → ⊥) → (class ≡ of_sync → ⊥) → (class ≡ of_abort → ⊥) → (class ≡ of_bad → ⊥)
     → (class ≡ of_gone → ⊥) → (class ≡ of_code) ⊎ ((class ≡ of_sync) ⊎ IsQuitting class) → ⊥
-no_code_due class no_code no_sync no_abort no_bad no_gone (inl is) = no_code is
-no_code_due class no_code no_sync no_abort no_bad no_gone (inr other) = no_turn class of_sync no_sync no_abort no_bad no_gone other
+no_due_class_for_codes class no_code no_sync no_abort no_bad no_gone (inl is) = no_code is
+no_due_class_for_codes class no_code no_sync no_abort no_bad no_gone (inr other) =
+    no_due_class_at_turn class of_sync no_sync no_abort no_bad no_gone other
 
 -- where it is decided whether something exists, that is a decided fact, and so is its contrary:
-decided_there : {A : Type 0} {P : A → Type 0} → ((a : A) × P a) ⊎ ((a : A) → P a → ⊥) → Decided ((a : A) × P a)
-decided_there (inl is) = inl is
-decided_there (inr none) = inr (λ is. none is.0 is.1)
+decided_existence : {A : Type 0} {P : A → Type 0} → ((a : A) × P a) ⊎ ((a : A) → P a → ⊥) → Decided ((a : A) × P a)
+decided_existence (inl is) = inl is
+decided_existence (inr none) = inr (λ is. none is.0 is.1)
 
-decided_none : {A : Type 0} {P : A → Type 0} → ((a : A) × P a) ⊎ ((a : A) → P a → ⊥) → Decided ((a : A) → P a → ⊥)
-decided_none (inl is) = inr (λ none. none is.0 is.1)
-decided_none (inr none) = inl none
+decided_absence : {A : Type 0} {P : A → Type 0} → ((a : A) × P a) ⊎ ((a : A) → P a → ⊥) → Decided ((a : A) → P a → ⊥)
+decided_absence (inl is) = inr (λ none. none is.0 is.1)
+decided_absence (inr none) = inl none
 
 -- a line stands at each place in one of the three ways. The clauses for `S HALT` and `C ABORT` say what the last clause says too: with them
 -- the prover goes through the lines of the last clause one by one:
-at_start : (accounts : Accounts) (told : List LoggedReply) (line : LogLine) → Standing accounts before_all told line
-at_start accounts told header = inl (record { next = between; goes = refl; due = tt })
-at_start accounts told (said halt) = inr (inl (λ is. cc is))
-at_start accounts told (heard abort) = inr (inl (λ is. cc is))
-at_start accounts told line = inr (inl (λ is. cc is))
+before_all_gives_standing : (accounts : Accounts) (told : List LoggedReply) (line : LogLine) → Standing accounts before_all told line
+before_all_gives_standing accounts told header = inl (record { next = between; goes = refl; due = tt })
+before_all_gives_standing accounts told (said halt) = inr (inl (λ is. cc is))
+before_all_gives_standing accounts told (heard abort) = inr (inl (λ is. cc is))
+before_all_gives_standing accounts told line = inr (inl (λ is. cc is))
 
-at_between : (accounts : Accounts) (told : List LoggedReply) (line : LogLine) → Standing accounts between told line
-at_between accounts told (said (mechs names)) =
-    by_demand accounts between told (said (mechs names)) (names ≡ codes "SCRAM-SHA-256 SCRAM-SHA-1") refl (other_mechs, refl)
-    (λ is. record { next = offered; goes = (is, refl); due = tt }) (λ f. f.goes.0) (decided_same names (codes "SCRAM-SHA-256 SCRAM-SHA-1"))
-at_between accounts told (heard abort) = inr (inl (λ is. cc is))
-at_between accounts told line = inr (inl (λ is. cc is))
+between_gives_standing : (accounts : Accounts) (told : List LoggedReply) (line : LogLine) → Standing accounts between told line
+between_gives_standing accounts told (said (mechs names)) =
+    demand_gives_standing accounts between told (said (mechs names)) (names ≡ codes "SCRAM-SHA-256 SCRAM-SHA-1") refl (other_mechs, refl)
+    (λ is. record { next = offered; goes = (is, refl); due = tt }) (λ f. f.goes.0)
+      (decided_same_text names (codes "SCRAM-SHA-256 SCRAM-SHA-1"))
+between_gives_standing accounts told (heard abort) = inr (inl (λ is. cc is))
+between_gives_standing accounts told line = inr (inl (λ is. cc is))
 
-at_offered : (accounts : Accounts) (told : List LoggedReply) (line : LogLine) → Standing accounts offered told line
-at_offered accounts told (heard (auth m)) = inl (record { next = asks_bare m; goes = refl; due = tt })
-at_offered accounts told (heard (auth_with m first)) = inl (record { next = got_first m first; goes = refl; due = tt })
-at_offered accounts told (heard abort) = inl (record { next = leaving; goes = refl; due = tt })
-at_offered accounts told bad = inl (record { next = leaving; goes = refl; due = tt })
-at_offered accounts told gone = inl (record { next = over; goes = refl; due = tt })
-at_offered accounts told (said halt) = inr (inl (no_turn _ _ (λ e. cc e) (λ e. cc e) (λ e. cc e) (λ e. cc e)))
-at_offered accounts told line = inr (inl (no_turn _ _ (λ e. cc e) (λ e. cc e) (λ e. cc e) (λ e. cc e)))
+offered_gives_standing : (accounts : Accounts) (told : List LoggedReply) (line : LogLine) → Standing accounts offered told line
+offered_gives_standing accounts told (heard (auth m)) = inl (record { next = asks_bare m; goes = refl; due = tt })
+offered_gives_standing accounts told (heard (auth_with m first)) = inl (record { next = got_first m first; goes = refl; due = tt })
+offered_gives_standing accounts told (heard abort) = inl (record { next = leaving; goes = refl; due = tt })
+offered_gives_standing accounts told bad = inl (record { next = leaving; goes = refl; due = tt })
+offered_gives_standing accounts told gone = inl (record { next = over; goes = refl; due = tt })
+offered_gives_standing accounts told (said halt) = inr (inl (no_due_class_at_turn _ _ (λ e. cc e) (λ e. cc e) (λ e. cc e) (λ e. cc e)))
+offered_gives_standing accounts told line = inr (inl (no_due_class_at_turn _ _ (λ e. cc e) (λ e. cc e) (λ e. cc e) (λ e. cc e)))
 
 -- after `C AUTH` without a message there is a reason for which a word is wrong
-bare_why : (accounts : Accounts) (m : List ℕ) → (why : Why) × IsWrongAnswer accounts (asks_bare m) why
-bare_why accounts m = elim (decided_offered m) [
+some_why_after_auth : (accounts : Accounts) (m : List ℕ) → (why : Why) × IsWrongAnswer accounts (asks_bare m) why
+some_why_after_auth accounts m = elim (decided_offered m) [
   | inl is ↦ (other_challenge, inl (is, refl))
   | inr none ↦ (other_outcome (refused_with []), inr (none, refl))
 ]
 
 -- a line stands in one of the three ways after `C AUTH` without a message, and where a client-first message is due:
-at_asks_bare : (accounts : Accounts) (told : List LoggedReply) (m : List ℕ) (line : LogLine) → Standing accounts (asks_bare m) told line
-at_asks_bare accounts told m (said (refuses text)) =
-    by_demand accounts (asks_bare m) told (said (refuses text)) _ refl (bare_why accounts m)
+asks_bare_gives_standing : (accounts : Accounts) (told : List LoggedReply) (m : List ℕ) (line : LogLine)
+    → Standing accounts (asks_bare m) told line
+asks_bare_gives_standing accounts told m (said (refuses text)) =
+    demand_gives_standing accounts (asks_bare m) told (said (refuses text)) _ refl (some_why_after_auth accounts m)
     (λ is. record { next = over; goes = (is, refl); due = tt }) (λ f. f.goes.0)
-    (decided_both _ _ (decided_none (decided_offered m)) (decided_same text []))
-at_asks_bare accounts told m (said (cont text)) =
-    by_demand accounts (asks_bare m) told (said (cont text)) _ refl (bare_why accounts m)
+    (decided_both _ _ (decided_absence (decided_offered m)) (decided_same_text text []))
+asks_bare_gives_standing accounts told m (said (cont text)) =
+    demand_gives_standing accounts (asks_bare m) told (said (cont text)) _ refl (some_why_after_auth accounts m)
     (λ is. record { next = waits_first m; goes = (is, refl); due = tt }) (λ f. f.goes.0)
-    (decided_both _ _ (decided_there (decided_offered m)) (decided_same text []))
-at_asks_bare accounts told m (said (accepts text)) = never accounts (asks_bare m) told (said (accepts text)) refl (bare_why accounts m)
+    (decided_both _ _ (decided_existence (decided_offered m)) (decided_same_text text []))
+asks_bare_gives_standing accounts told m (said (accepts text)) =
+    stuck_line_fails accounts (asks_bare m) told (said (accepts text)) refl (some_why_after_auth accounts m)
     (λ f. f.goes)
-at_asks_bare accounts told m (heard abort) = inr (inl (λ is. cc is))
-at_asks_bare accounts told m line = inr (inl (λ is. cc is))
+asks_bare_gives_standing accounts told m (heard abort) = inr (inl (λ is. cc is))
+asks_bare_gives_standing accounts told m line = inr (inl (λ is. cc is))
 
-at_waits_first : (accounts : Accounts) (told : List LoggedReply) (m : List ℕ) (line : LogLine) → Standing accounts (waits_first m) told line
-at_waits_first accounts told m (heard (resp first)) = inl (record { next = got_first m first; goes = refl; due = tt })
-at_waits_first accounts told m (heard abort) = inl (record { next = leaving; goes = refl; due = tt })
-at_waits_first accounts told m bad = inl (record { next = leaving; goes = refl; due = tt })
-at_waits_first accounts told m gone = inl (record { next = over; goes = refl; due = tt })
-at_waits_first accounts told m (said halt) = inr (inl (no_turn _ _ (λ e. cc e) (λ e. cc e) (λ e. cc e) (λ e. cc e)))
-at_waits_first accounts told m line = inr (inl (no_turn _ _ (λ e. cc e) (λ e. cc e) (λ e. cc e) (λ e. cc e)))
+waits_first_gives_standing : (accounts : Accounts) (told : List LoggedReply) (m : List ℕ) (line : LogLine)
+    → Standing accounts (waits_first m) told line
+waits_first_gives_standing accounts told m (heard (resp first)) = inl (record { next = got_first m first; goes = refl; due = tt })
+waits_first_gives_standing accounts told m (heard abort) = inl (record { next = leaving; goes = refl; due = tt })
+waits_first_gives_standing accounts told m bad = inl (record { next = leaving; goes = refl; due = tt })
+waits_first_gives_standing accounts told m gone = inl (record { next = over; goes = refl; due = tt })
+waits_first_gives_standing accounts told m (said halt) =
+    inr (inl (no_due_class_at_turn _ _ (λ e. cc e) (λ e. cc e) (λ e. cc e) (λ e. cc e)))
+waits_first_gives_standing accounts told m line = inr (inl (no_due_class_at_turn _ _ (λ e. cc e) (λ e. cc e) (λ e. cc e) (λ e. cc e)))
 
 -- after a client-first message there is a reason for which a word is wrong
-first_why : Settled → (accounts : Accounts) (m first : List ℕ) → (why : Why) × IsWrongAnswer accounts (got_first m first) why
-first_why s accounts m first = elim (decided_login s.ground.once s.ground.firsts s.ground.names m first) [
+some_why_after_first : DecisionLaws → (accounts : Accounts) (m first : List ℕ)
+    → (why : Why) × IsWrongAnswer accounts (got_first m first) why
+some_why_after_first s accounts m first = elim (decided_first_message s.ground.once s.ground.firsts s.ground.names m first) [
   | inl is ↦ (other_challenge, inl (is, refl))
   | inr none ↦ (other_outcome (refused_with []), inr (none, refl))
 ]
 
 -- a line stands in one of the three ways after a client-first message, a challenge or a client-final one, and where a code is due:
-at_got_first : Settled → (accounts : Accounts) (told : List LoggedReply) (m first : List ℕ) (line : LogLine)
+got_first_gives_standing : DecisionLaws → (accounts : Accounts) (told : List LoggedReply) (m first : List ℕ) (line : LogLine)
     → Standing accounts (got_first m first) told line
-at_got_first s accounts told m first (said (refuses text)) =
-    by_demand accounts (got_first m first) told (said (refuses text)) _ refl (first_why s accounts m first)
+got_first_gives_standing s accounts told m first (said (refuses text)) =
+    demand_gives_standing accounts (got_first m first) told (said (refuses text)) _ refl (some_why_after_first s accounts m first)
     (λ is. record { next = over; goes = (is, refl); due = tt }) (λ f. f.goes.0)
-    (decided_both _ _ (decided_none (decided_login s.ground.once s.ground.firsts s.ground.names m first)) (decided_same text []))
-at_got_first s accounts told m first (said (cont text)) =
-    by_demand accounts (got_first m first) told (said (cont text)) _ refl (first_why s accounts m first)
+    (decided_both _ _ (decided_absence (decided_first_message s.ground.once s.ground.firsts s.ground.names m first))
+      (decided_same_text text []))
+got_first_gives_standing s accounts told m first (said (cont text)) =
+    demand_gives_standing accounts (got_first m first) told (said (cont text)) _ refl (some_why_after_first s accounts m first)
     (λ is. record { next = waits_final m is.0 first text; goes = (is.0, is.1, refl); due = tt }) (λ f. (f.goes.0, f.goes.1))
     (decided_challenged s accounts m first text)
-at_got_first s accounts told m first (said (accepts text)) =
-    never accounts (got_first m first) told (said (accepts text)) refl (first_why s accounts m first) (λ f. f.goes)
-at_got_first s accounts told m first (heard abort) = inr (inl (λ is. cc is))
-at_got_first s accounts told m first line = inr (inl (λ is. cc is))
+got_first_gives_standing s accounts told m first (said (accepts text)) =
+    stuck_line_fails accounts (got_first m first) told (said (accepts text)) refl (some_why_after_first s accounts m first) (λ f. f.goes)
+got_first_gives_standing s accounts told m first (heard abort) = inr (inl (λ is. cc is))
+got_first_gives_standing s accounts told m first line = inr (inl (λ is. cc is))
 
-at_waits_final : (accounts : Accounts) (told : List LoggedReply) (m account first challenge : List ℕ) (line : LogLine)
+waits_final_gives_standing : (accounts : Accounts) (told : List LoggedReply) (m account first challenge : List ℕ) (line : LogLine)
     → Standing accounts (waits_final m account first challenge) told line
-at_waits_final accounts told m account first challenge (heard (resp last)) =
+waits_final_gives_standing accounts told m account first challenge (heard (resp last)) =
     inl (record { next = got_final m account first challenge last; goes = refl; due = tt })
-at_waits_final accounts told m account first challenge (heard abort) = inl (record { next = leaving; goes = refl; due = tt })
-at_waits_final accounts told m account first challenge bad = inl (record { next = leaving; goes = refl; due = tt })
-at_waits_final accounts told m account first challenge gone = inl (record { next = over; goes = refl; due = tt })
-at_waits_final accounts told m account first challenge (said halt) =
-    inr (inl (no_turn _ _ (λ e. cc e) (λ e. cc e) (λ e. cc e) (λ e. cc e)))
-at_waits_final accounts told m account first challenge line = inr (inl (no_turn _ _ (λ e. cc e) (λ e. cc e) (λ e. cc e) (λ e. cc e)))
+waits_final_gives_standing accounts told m account first challenge (heard abort) = inl (record { next = leaving; goes = refl; due = tt })
+waits_final_gives_standing accounts told m account first challenge bad = inl (record { next = leaving; goes = refl; due = tt })
+waits_final_gives_standing accounts told m account first challenge gone = inl (record { next = over; goes = refl; due = tt })
+waits_final_gives_standing accounts told m account first challenge (said halt) =
+    inr (inl (no_due_class_at_turn _ _ (λ e. cc e) (λ e. cc e) (λ e. cc e) (λ e. cc e)))
+waits_final_gives_standing accounts told m account first challenge line =
+    inr (inl (no_due_class_at_turn _ _ (λ e. cc e) (λ e. cc e) (λ e. cc e) (λ e. cc e)))
 
-at_got_final : Settled → (accounts : Accounts) (told : List LoggedReply) (m account first challenge last : List ℕ)
+got_final_gives_standing : DecisionLaws → (accounts : Accounts) (told : List LoggedReply) (m account first challenge last : List ℕ)
     → (due : Due) × IsVerdictDue accounts m account first challenge last due
     → (line : LogLine) → Standing accounts (got_final m account first challenge last) told line
-at_got_final s accounts told m account first challenge last (due, is) (said (refuses text)) =
-    by_demand accounts (got_final m account first challenge last) told (said (refuses text)) _ refl
+got_final_gives_standing s accounts told m account first challenge last (due, is) (said (refuses text)) =
+    demand_gives_standing accounts (got_final m account first challenge last) told (said (refuses text)) _ refl
     (other_outcome (outcome_of due), (due, is, refl))
     (λ denied. record { next = over; goes = (denied, refl); due = tt }) (λ f. f.goes.0)
     (decided_denied s accounts m account first challenge last text due is)
-at_got_final s accounts told m account first challenge last (due, is) (said (accepts text)) =
-    by_demand accounts (got_final m account first challenge last) told (said (accepts text)) _ refl
+got_final_gives_standing s accounts told m account first challenge last (due, is) (said (accepts text)) =
+    demand_gives_standing accounts (got_final m account first challenge last) told (said (accepts text)) _ refl
     (other_outcome (outcome_of due), (due, is, refl))
     (λ granted. record { next = waits_code account; goes = (granted, refl); due = tt }) (λ f. f.goes.0)
     (decided_granted s accounts m account first challenge last text due is)
-at_got_final s accounts told m account first challenge last (due, is) (said (cont text)) =
-    never accounts (got_final m account first challenge last) told (said (cont text)) refl (other_outcome (outcome_of due), (due, is, refl))
+got_final_gives_standing s accounts told m account first challenge last (due, is) (said (cont text)) =
+    stuck_line_fails accounts (got_final m account first challenge last) told (said (cont text)) refl
+        (other_outcome (outcome_of due), (due, is, refl))
     (λ f. f.goes)
-at_got_final s accounts told m account first challenge last (due, is) (heard abort) = inr (inl (λ e. cc e))
-at_got_final s accounts told m account first challenge last (due, is) line = inr (inl (λ e. cc e))
+got_final_gives_standing s accounts told m account first challenge last (due, is) (heard abort) = inr (inl (λ e. cc e))
+got_final_gives_standing s accounts told m account first challenge last (due, is) line = inr (inl (λ e. cc e))
 
-at_waits_code : (accounts : Accounts) (told : List LoggedReply) (account : List ℕ) (line : LogLine)
+waits_code_gives_standing : (accounts : Accounts) (told : List LoggedReply) (account : List ℕ) (line : LogLine)
     → Standing accounts (waits_code account) told line
-at_waits_code accounts told account (heard (code text)) = inl (record { next = got_code account (OneText text); goes = refl; due = tt })
-at_waits_code accounts told account (heard (sync first second)) =
+waits_code_gives_standing accounts told account (heard (code text)) =
+    inl (record { next = got_code account (OneText text); goes = refl; due = tt })
+waits_code_gives_standing accounts told account (heard (sync first second)) =
     inl (record { next = got_code account (TwoTexts first second); goes = refl; due = tt })
-at_waits_code accounts told account (heard abort) = inl (record { next = leaving; goes = refl; due = tt })
-at_waits_code accounts told account bad = inl (record { next = leaving; goes = refl; due = tt })
-at_waits_code accounts told account gone = inl (record { next = over; goes = refl; due = tt })
-at_waits_code accounts told account (said halt) = inr (inl (no_code_due _ (λ e. cc e) (λ e. cc e) (λ e. cc e) (λ e. cc e) (λ e. cc e)))
-at_waits_code accounts told account line = inr (inl (no_code_due _ (λ e. cc e) (λ e. cc e) (λ e. cc e) (λ e. cc e) (λ e. cc e)))
+waits_code_gives_standing accounts told account (heard abort) = inl (record { next = leaving; goes = refl; due = tt })
+waits_code_gives_standing accounts told account bad = inl (record { next = leaving; goes = refl; due = tt })
+waits_code_gives_standing accounts told account gone = inl (record { next = over; goes = refl; due = tt })
+waits_code_gives_standing accounts told account (said halt) =
+    inr (inl (no_due_class_for_codes _ (λ e. cc e) (λ e. cc e) (λ e. cc e) (λ e. cc e) (λ e. cc e)))
+waits_code_gives_standing accounts told account line =
+    inr (inl (no_due_class_for_codes _ (λ e. cc e) (λ e. cc e) (λ e. cc e) (λ e. cc e) (λ e. cc e)))
 
 -- after a code there is a reason for which a reply is wrong
-reply_why : Settled → (accounts : Accounts) (account : List ℕ) (sent : CodeTexts) (told : List LoggedReply) (moment : ℕ)
+some_why_after_code : DecisionLaws → (accounts : Accounts) (account : List ℕ) (sent : CodeTexts) (told : List LoggedReply) (moment : ℕ)
     → (why : Why) × IsWrongReply accounts (got_code account sent) told moment why
-reply_why s accounts account sent told moment =
+some_why_after_code s accounts account sent told moment =
     let due = some_reply s.replies (accounts.token account) (attempts_of account (reverse told)) moment sent in
     (other_reply moment due.0, (due.0, due.1, refl))
 
 -- a line stands in one of the three ways after a code, after a client that leaves, and where `E` is due:
-at_got_code : Settled → (accounts : Accounts) (told : List LoggedReply) (account : List ℕ) (sent : CodeTexts) (line : LogLine)
+got_code_gives_standing : DecisionLaws → (accounts : Accounts) (told : List LoggedReply) (account : List ℕ) (sent : CodeTexts)
+    (line : LogLine)
     → Standing accounts (got_code account sent) told line
-at_got_code s accounts told account sent (said (replies moment reply)) =
-    by_demand accounts (got_code account sent) told (said (replies moment reply))
+got_code_gives_standing s accounts told account sent (said (replies moment reply)) =
+    demand_gives_standing accounts (got_code account sent) told (said (replies moment reply))
     (IsLoggedReplyDue accounts (reverse told) (logged_reply_of account moment sent reply))
-    refl (reply_why s accounts account sent told moment)
+    refl (some_why_after_code s accounts account sent told moment)
     (λ is. record { next = waits_code account; goes = refl; due = (is, tt) }) (λ f. f.due.0)
     (decided_reply_due s (accounts.token account) (attempts_of account (reverse told)) moment sent reply)
-at_got_code s accounts told account sent (said halt) = inl (record { next = halted; goes = refl; due = tt })
-at_got_code s accounts told account sent (heard abort) = inr (inl (λ is. cc is))
-at_got_code s accounts told account sent line = inr (inl (λ is. cc is))
+got_code_gives_standing s accounts told account sent (said halt) = inl (record { next = halted; goes = refl; due = tt })
+got_code_gives_standing s accounts told account sent (heard abort) = inr (inl (λ is. cc is))
+got_code_gives_standing s accounts told account sent line = inr (inl (λ is. cc is))
 
-at_leaving : (accounts : Accounts) (told : List LoggedReply) (line : LogLine) → Standing accounts leaving told line
-at_leaving accounts told (said (refuses text)) =
-    by_demand accounts leaving told (said (refuses text)) (text ≡ []) refl (other_outcome (refused_with []), refl)
-    (λ is. record { next = over; goes = (is, refl); due = tt }) (λ f. f.goes.0) (decided_same text [])
-at_leaving accounts told (said (cont text)) =
-    never accounts leaving told (said (cont text)) refl (other_outcome (refused_with []), refl) (λ f. f.goes)
-at_leaving accounts told (said (accepts text)) =
-    never accounts leaving told (said (accepts text)) refl (other_outcome (refused_with []), refl) (λ f. f.goes)
-at_leaving accounts told (heard abort) = inr (inl (λ is. cc is))
-at_leaving accounts told line = inr (inl (λ is. cc is))
+leaving_gives_standing : (accounts : Accounts) (told : List LoggedReply) (line : LogLine) → Standing accounts leaving told line
+leaving_gives_standing accounts told (said (refuses text)) =
+    demand_gives_standing accounts leaving told (said (refuses text)) (text ≡ []) refl (other_outcome (refused_with []), refl)
+    (λ is. record { next = over; goes = (is, refl); due = tt }) (λ f. f.goes.0) (decided_same_text text [])
+leaving_gives_standing accounts told (said (cont text)) =
+    stuck_line_fails accounts leaving told (said (cont text)) refl (other_outcome (refused_with []), refl) (λ f. f.goes)
+leaving_gives_standing accounts told (said (accepts text)) =
+    stuck_line_fails accounts leaving told (said (accepts text)) refl (other_outcome (refused_with []), refl) (λ f. f.goes)
+leaving_gives_standing accounts told (heard abort) = inr (inl (λ is. cc is))
+leaving_gives_standing accounts told line = inr (inl (λ is. cc is))
 
-at_over : (accounts : Accounts) (told : List LoggedReply) (line : LogLine) → Standing accounts over told line
-at_over accounts told ended = inl (record { next = between; goes = refl; due = tt })
-at_over accounts told (said halt) = inr (inl (λ is. cc is))
-at_over accounts told (heard abort) = inr (inl (λ is. cc is))
-at_over accounts told line = inr (inl (λ is. cc is))
+over_gives_standing : (accounts : Accounts) (told : List LoggedReply) (line : LogLine) → Standing accounts over told line
+over_gives_standing accounts told ended = inl (record { next = between; goes = refl; due = tt })
+over_gives_standing accounts told (said halt) = inr (inl (λ is. cc is))
+over_gives_standing accounts told (heard abort) = inr (inl (λ is. cc is))
+over_gives_standing accounts told line = inr (inl (λ is. cc is))
 
 -- at each place to which lines of a log lead, a line stands in one of the three ways
-pub standing_at : Settled → (accounts : Accounts) (place : Place) (told : List LoggedReply) (line : LogLine)
-    → Opened (demands accounts) place
+pub line_has_standing : DecisionLaws → (accounts : Accounts) (place : Place) (told : List LoggedReply) (line : LogLine)
+    → ChallengeMeetsDemand (demands accounts) place
     → Standing accounts place told line
-standing_at s accounts before_all told line opened = at_start accounts told line
-standing_at s accounts between told line opened = at_between accounts told line
-standing_at s accounts offered told line opened = at_offered accounts told line
-standing_at s accounts (asks_bare m) told line opened = at_asks_bare accounts told m line
-standing_at s accounts (waits_first m) told line opened = at_waits_first accounts told m line
-standing_at s accounts (got_first m first) told line opened = at_got_first s accounts told m first line
-standing_at s accounts (waits_final m account first challenge) told line opened = at_waits_final accounts told m account first challenge
+line_has_standing s accounts before_all told line opened = before_all_gives_standing accounts told line
+line_has_standing s accounts between told line opened = between_gives_standing accounts told line
+line_has_standing s accounts offered told line opened = offered_gives_standing accounts told line
+line_has_standing s accounts (asks_bare m) told line opened = asks_bare_gives_standing accounts told m line
+line_has_standing s accounts (waits_first m) told line opened = waits_first_gives_standing accounts told m line
+line_has_standing s accounts (got_first m first) told line opened = got_first_gives_standing s accounts told m first line
+line_has_standing s accounts (waits_final m account first challenge) told line opened =
+    waits_final_gives_standing accounts told m account first challenge
     line
-standing_at s accounts (got_final m account first challenge last) told line opened =
-    at_got_final s accounts told m account first challenge last
+line_has_standing s accounts (got_final m account first challenge last) told line opened =
+    got_final_gives_standing s accounts told m account first challenge last
     (some_verdict s.ground.verdicts accounts m account first challenge last opened) line
-standing_at s accounts (waits_code account) told line opened = at_waits_code accounts told account line
-standing_at s accounts (got_code account sent) told line opened = at_got_code s accounts told account sent line
-standing_at s accounts leaving told line opened = at_leaving accounts told line
-standing_at s accounts over told line opened = at_over accounts told line
-standing_at s accounts halted told line opened = inr (inl (λ none. none))
+line_has_standing s accounts (waits_code account) told line opened = waits_code_gives_standing accounts told account line
+line_has_standing s accounts (got_code account sent) told line opened = got_code_gives_standing s accounts told account sent line
+line_has_standing s accounts leaving told line opened = leaving_gives_standing accounts told line
+line_has_standing s accounts over told line opened = over_gives_standing accounts told line
+line_has_standing s accounts halted told line opened = inr (inl (λ none. none))

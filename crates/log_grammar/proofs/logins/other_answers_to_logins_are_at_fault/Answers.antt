@@ -1,8 +1,8 @@
-use Rattle.log_grammar.proofs.lemmas.login_laws.OtherAnswers.{refused_logins, other_replies}
+use Rattle.log_grammar.proofs.lemmas.login_laws.OtherAnswers.{refused_logins_are_at_fault, other_replies_are_at_fault}
 use Rattle.log_grammar.proofs.logins.other_answers_to_logins_are_at_fault.Goals as goal
 
 pub returns-clause-refused : goal.returns-clause-refused
-returns-clause-refused c = refused_logins (record {
+returns-clause-refused c = refused_logins_are_at_fault (record {
   one_first = c.has_one_client_first.ensures;
   names = c.spells_one_name.ensures;
   verdicts = c.at_most_one_verdict_is_due.ensures;
@@ -10,7 +10,7 @@ returns-clause-refused c = refused_logins (record {
 }) c.accepts_exactly_valid.ensures
 
 pub returns-clause-answered : goal.returns-clause-answered
-returns-clause-answered c = other_replies (record {
+returns-clause-answered c = other_replies_are_at_fault (record {
   one_first = c.has_one_client_first.ensures;
   names = c.spells_one_name.ensures;
   verdicts = c.at_most_one_verdict_is_due.ensures;

@@ -2,16 +2,16 @@ use Rattle.std.proofs.Common.{◌≡◌, ◌⊎◌, inl, inr, ℕ, ◌+◌, ◌�
 use Rattle.log_grammar.specs.Lines.{LogLine, said, busy}
 use Rattle.log_grammar.specs.Demands.{demands}
 use Rattle.log_grammar.specs.Numbered.{Numbered, numbered, given_in, closed_in}
-use Rattle.log_grammar.proofs.lemmas.many_sessions.OpenCounts.{Few, few_are_open}
+use Rattle.log_grammar.proofs.lemmas.many_sessions.OpenCounts.{FewOpen, few_are_open}
 use Rattle.log_grammar.proofs.numbered.few_sessions_are_open.Goals as goal
 
 -- at most `limit` sessions are open, or BUSY is the last line and one more is open, where the open and the closed are those given
-counted : (limit opens : ℕ) (log : List (Numbered LogLine)) → opens + closed_in log ≡ given_in log → Few limit log
+few_numbers_are_open : (limit opens : ℕ) (log : List (Numbered LogLine)) → opens + closed_in log ≡ given_in log → FewOpen limit log
     → (opens ≤ limit) ⊎ ((before : List (Numbered LogLine)) × (n : ℕ) × (log ≡ before ++ numbered n (said busy) ∷ []) × (opens ≡ limit + 1))
-counted limit opens log all (inl few) = inl (omega (arith, all, few))
-counted limit opens log all (inr (before, n, last, many)) = inr (before, n, last, omega (arith, all, many))
+few_numbers_are_open limit opens log all (inl few) = inl (omega (arith, all, few))
+few_numbers_are_open limit opens log all (inr (before, n, last, many)) = inr (before, n, last, omega (arith, all, many))
 
 pub returns : goal.returns
 returns c = λ limit accounts log places told s.
-    counted limit _ log (c.open_sessions_are_counted.ensures limit accounts log places told s).0
+    few_numbers_are_open limit _ log (c.open_sessions_are_counted.ensures limit accounts log places told s).0
     (few_are_open limit (demands accounts) (length log) log places told (omega arith) s)

@@ -7,48 +7,50 @@ use Rattle.log_grammar.specs.state_machine.Steps.{told_at}
 use Rattle.log_grammar.specs.Numbered.{Numbered, numbered, SpellsNumbered}
 use Rattle.log_grammar.specs.state_machine.NumberedSteps.{put, IsNumberedTransition}
 use Rattle.log_grammar.specs.laws.NumberedLaws.{GoesOnByANumberedLine, HasLastNumberedTransition}
-use Rattle.log_grammar.proofs.lemmas.many_sessions.OneReading.{goes_moved}
-use Rattle.log_grammar.proofs.lemmas.many_sessions.LinesOfNumber.{at_each, put_here, put_other}
+use Rattle.log_grammar.proofs.lemmas.many_sessions.OneReading.{own_place_decides_transition}
+use Rattle.log_grammar.proofs.lemmas.many_sessions.LinesOfNumber.{one_and_others_cover_each, put_sets_own, put_keeps_others}
 use Rattle.log_grammar.proofs.numbered.numbered_logs_go_on_exactly_so.Goals as goal
-use Rattle.log_grammar.proofs.lemmas.many_sessions.LogSteps.{with_places}
+use Rattle.log_grammar.proofs.lemmas.many_sessions.LogSteps.{equal_places_spell_log}
 
 -- the line may stand at its number after the log, it moves no other number, and this is all that was told with it
-abbrev Stands : ℕ → Demands → List (Numbered LogLine) → (ℕ → Place) → List LoggedReply → ℕ → LogLine → (ℕ → Place) → List LoggedReply
+abbrev StandsAndTells : ℕ → Demands → List (Numbered LogLine) → (ℕ → Place) → List LoggedReply → ℕ → LogLine → (ℕ → Place)
+    → List LoggedReply
     → Type 0
-Stands limit d log places told n line next all =
+StandsAndTells limit d log places told n line next all =
     IsNumberedTransition limit d log places told n line (next n) × ((m : ℕ) → (m ≡ n → ⊥) → next m ≡ places m)
     × (all ≡ told ++ told_at (places n) line)
 
 -- the last line of a log stands so after the lines before it
-there : (limit : ℕ) (d : Demands) (log : List (Numbered LogLine)) (places : ℕ → Place) (told : List LoggedReply) (n : ℕ) (line : LogLine)
+last_line_stands : (limit : ℕ) (d : Demands) (log : List (Numbered LogLine)) (places : ℕ → Place) (told : List LoggedReply) (n : ℕ)
+    (line : LogLine)
     (next : ℕ → Place) (all : List LoggedReply)
     → (s : HasLastNumberedTransition limit d log n line next all) → ((m : ℕ) → s.before m ≡ places m) → s.told ≡ told
-    → Stands limit d log places told n line next all
-there limit d log places told n line next all s same also = (
-  goes_moved limit d log s.before places s.told told n line (next n) s.goes (same n) also,
+    → StandsAndTells limit d log places told n line next all
+last_line_stands limit d log places told n line next all s same also = (
+  own_place_decides_transition limit d log s.before places s.told told n line (next n) s.goes (same n) also,
   λ m other. s.others m (λ e. other (sym e)) ∙ same m,
   s.tells ∙ ap (λ (t : List LoggedReply). t ++ told_at (s.before n) line) also ∙ ap (λ (p : Place). told ++ told_at p line) (same n),
 )
 
 -- a log goes on by a line that stands so
-back : GoesOnByANumberedLine → (limit : ℕ) (accounts : Accounts) (log : List (Numbered LogLine)) (places : ℕ → Place)
+standing_line_goes_on : GoesOnByANumberedLine → (limit : ℕ) (accounts : Accounts) (log : List (Numbered LogLine)) (places : ℕ → Place)
     (told : List LoggedReply) (n : ℕ) (line : LogLine)
     (next : ℕ → Place) (all : List LoggedReply) → SpellsNumbered limit (demands accounts) log places told
-    → Stands limit (demands accounts) log places told n line next all
+    → StandsAndTells limit (demands accounts) log places told n line next all
     → SpellsNumbered limit (demands accounts) (log ++ numbered n line ∷ []) next all
-back on limit accounts log places told n line next all s stands =
+standing_line_goes_on on limit accounts log places told n line next all s stands =
     let more = log ++ numbered n line ∷ [] in
     let longer = on limit accounts log places told n line (next n) s stands.0 in
-    let same = at_each (λ (m : ℕ). put n (next n) places m ≡ next m) n (put_here n (next n) places)
-    (λ m other. put_other n (next n) places m other ∙ sym (stands.1 m (λ e. other (sym e)))) in
+    let same = one_and_others_cover_each (λ (m : ℕ). put n (next n) places m ≡ next m) n (put_sets_own n (next n) places)
+    (λ m other. put_keeps_others n (next n) places m other ∙ sym (stands.1 m (λ e. other (sym e)))) in
     subst (λ (t : List LoggedReply). SpellsNumbered limit (demands accounts) more next t) (sym stands.2)
-    (with_places limit (demands accounts) more (put n (next n) places) next (told ++ told_at (places n) line) same longer)
+    (equal_places_spell_log limit (demands accounts) more (put n (next n) places) next (told ++ told_at (places n) line) same longer)
 
 pub returns : goal.returns
 returns c = λ limit accounts log places told n line next all s. (
   λ longer.
       let stood = c.goes_on_by_no_other_numbered_line.ensures limit accounts log n line next all longer in
       let same = c.has_one_numbered_reading.ensures limit accounts log stood.before places stood.told told stood.spells s in
-      there limit (demands accounts) log places told n line next all stood same.0 same.1,
-  λ stands. back c.goes_on_by_a_numbered_line.ensures limit accounts log places told n line next all s stands,
+      last_line_stands limit (demands accounts) log places told n line next all stood same.0 same.1,
+  λ stands. standing_line_goes_on c.goes_on_by_a_numbered_line.ensures limit accounts log places told n line next all s stands,
 )

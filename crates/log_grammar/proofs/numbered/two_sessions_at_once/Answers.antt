@@ -1,8 +1,8 @@
-use Rattle.log_grammar.proofs.lemmas.small_logs.TwoSessions.{whole_for_two, no_third, no_gap, no_early_busy, no_line_before_end}
+use Rattle.log_grammar.proofs.lemmas.small_logs.TwoSessions.{two_at_once_are_whole, no_third, no_gap, no_early_busy, no_line_before_end}
 use Rattle.log_grammar.proofs.numbered.two_sessions_at_once.Goals as goal
 
 pub returns-clause-whole : goal.returns-clause-whole
-returns-clause-whole c = whole_for_two
+returns-clause-whole c = two_at_once_are_whole
 
 pub returns-clause-third : goal.returns-clause-third
 returns-clause-third c = no_third

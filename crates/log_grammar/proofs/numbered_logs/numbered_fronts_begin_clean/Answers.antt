@@ -1,8 +1,8 @@
-use Rattle.log_grammar.proofs.lemmas.completions.NumberedFronts.{fronts_complete_two}
+use Rattle.log_grammar.proofs.lemmas.completions.NumberedFronts.{version_two_fronts_begin_clean}
 use Rattle.log_grammar.proofs.numbered_logs.numbered_fronts_begin_clean.Goals as goal
 
 pub returns : goal.returns
-returns c = fronts_complete_two (record {
+returns c = version_two_fronts_begin_clean (record {
   once = c.has_one_client_first.ensures;
   firsts = c.client_first_is_decided.ensures;
   names = c.name_is_decided.ensures;

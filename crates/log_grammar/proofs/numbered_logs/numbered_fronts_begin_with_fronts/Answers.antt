@@ -1,8 +1,8 @@
 use Rattle.log_grammar.specs.VersionTwo.{version_two}
-use Rattle.log_grammar.proofs.lemmas.kinds.Judged.{fronts_front}
-use Rattle.log_grammar.proofs.lemmas.kinds.VersionTwo.{shorter_two}
+use Rattle.log_grammar.proofs.lemmas.kinds.Judged.{fronts_begin_with_fronts}
+use Rattle.log_grammar.proofs.lemmas.kinds.VersionTwo.{version_two_can_be_shortened}
 use Rattle.log_grammar.proofs.numbered_logs.numbered_fronts_begin_with_fronts.Goals as goal
 
 pub returns : goal.returns
-returns c = λ limit accounts bytes texts k front cut. fronts_front (version_two limit accounts)
-    (shorter_two limit accounts) bytes texts k front cut
+returns c = λ limit accounts bytes texts k front cut. fronts_begin_with_fronts (version_two limit accounts)
+    (version_two_can_be_shortened limit accounts) bytes texts k front cut

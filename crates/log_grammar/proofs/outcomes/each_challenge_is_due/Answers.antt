@@ -1,5 +1,5 @@
-use Rattle.log_grammar.proofs.lemmas.reply_laws.ServerLines.{each_challenge}
+use Rattle.log_grammar.proofs.lemmas.reply_laws.ServerLines.{each_challenge_is_due}
 use Rattle.log_grammar.proofs.outcomes.each_challenge_is_due.Goals as goal
 
 pub returns : goal.returns
-returns c = each_challenge
+returns c = each_challenge_is_due

@@ -1,5 +1,5 @@
-use Rattle.log_grammar.proofs.lemmas.reply_laws.ServerLines.{each_halt}
+use Rattle.log_grammar.proofs.lemmas.reply_laws.ServerLines.{each_halt_ends_a_code}
 use Rattle.log_grammar.proofs.outcomes.each_halt_ends_a_code.Goals as goal
 
 pub returns : goal.returns
-returns c = each_halt
+returns c = each_halt_ends_a_code

@@ -1,5 +1,5 @@
-use Rattle.log_grammar.proofs.lemmas.reply_laws.ServerLines.{first_lines}
+use Rattle.log_grammar.proofs.lemmas.reply_laws.ServerLines.{first_lines_begin_logs}
 use Rattle.log_grammar.proofs.outcomes.first_lines_begin_logs.Goals as goal
 
 pub returns : goal.returns
-returns c = first_lines
+returns c = first_lines_begin_logs

@@ -1,5 +1,5 @@
-use Rattle.log_grammar.proofs.lemmas.demands.CounterRanges.{due_in_range}
+use Rattle.log_grammar.proofs.lemmas.demands.CounterRanges.{due_replies_can_be_written}
 use Rattle.log_grammar.proofs.reasons.due_replies_can_be_written.Goals as goal
 
 pub returns : goal.returns
-returns c = due_in_range
+returns c = due_replies_can_be_written

@@ -1,5 +1,5 @@
-use Rattle.sasl_desk.proofs.lemmas.runs.Restarts.{log_is_front}
+use Rattle.sasl_desk.proofs.lemmas.runs.Restarts.{desk_log_is_front}
 use Rattle.sasl_desk.proofs.laws.log_is_a_front.Goals as goal
 
 pub returns : goal.returns
-returns g c = log_is_front g.S.BookStore.facts g.S.BookStore.IsStored
+returns g c = desk_log_is_front g.S.BookStore.facts g.S.BookStore.IsStored

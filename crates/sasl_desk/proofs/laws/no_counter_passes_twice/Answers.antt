@@ -1,7 +1,7 @@
-use Rattle.sasl_desk.proofs.lemmas.runs.Restarts.{spent_over_changes}
+use Rattle.sasl_desk.proofs.lemmas.runs.Restarts.{changes_spend_counters}
 use Rattle.sasl_desk.proofs.laws.no_counter_passes_twice.Goals as goal
 
 pub returns : goal.returns
 returns g c =
-    spent_over_changes c.begins_with_itself.ensures c.spent_stays_spent.ensures c.tokens_are_apart.ensures
+    changes_spend_counters c.begins_with_itself.ensures c.spent_stays_spent.ensures c.tokens_are_apart.ensures
     c.candidates_are_new.ensures c.added_is_apart.ensures g.S.BookStore.facts g.S.BookStore.IsStored

@@ -1,5 +1,5 @@
-use Rattle.sasl_desk.proofs.lemmas.runs.Restarts.{left_book}
+use Rattle.sasl_desk.proofs.lemmas.runs.Restarts.{desk_store_holds_left_book}
 use Rattle.sasl_desk.proofs.laws.store_holds_a_book.Goals as goal
 
 pub returns : goal.returns
-returns g c = left_book g.S.BookStore.facts g.S.BookStore.IsStored
+returns g c = desk_store_holds_left_book g.S.BookStore.facts g.S.BookStore.IsStored

@@ -16,18 +16,18 @@ use Rattle.account_book.specs.SavedBooks.{needs_save}
 use Rattle.account_book.specs.Store.{StoreFacts}
 use Rattle.log_grammar.specs.Books.{accounts_in}
 use Rattle.log_grammar.specs.Bytes.{ended_by_lf}
-use Rattle.log_grammar.specs.Lines.{LogLine, heard, asking, log_line_text}
+use Rattle.log_grammar.specs.Lines.{LogLine, heard, code_line, log_line_text}
 use Rattle.log_grammar.specs.LoggedReply.{LoggedReply, logged_reply_of}
 use Rattle.log_grammar.specs.Places.{Place, between, waits_code, got_code, halted, is_closed}
 use Rattle.log_grammar.specs.Demands.{Accounts, demands}
 use Rattle.log_grammar.specs.Numbered.{Numbered, numbered, of_number}
 use Rattle.log_grammar.specs.NumberedLines.{numbered_text}
-use Rattle.log_grammar.proofs.lemmas.lines.LackLf.{reply_line}
-use Rattle.log_grammar.proofs.lemmas.state_machine.Shortening.{code_goes}
+use Rattle.log_grammar.proofs.lemmas.lines.LackLf.{reply_is_writable}
+use Rattle.log_grammar.proofs.lemmas.state_machine.Shortening.{code_may_stand}
 use Rattle.scram_text.proofs.lemmas.ListEnds.{same_cons}
 use Rattle.log_grammar.specs.Versions.{most_open}
-use Rattle.log_grammar.proofs.lemmas.lines.Written.{halt_written}
-use Rattle.sasl_desk.specs.Desks.{HoldsBook, IsBookWith, spent_by_all, session_phase}
+use Rattle.log_grammar.proofs.lemmas.lines.Written.{halt_is_writable}
+use Rattle.sasl_desk.specs.Desks.{HoldsBook, IsBookAfterReplies, spent_by_all, session_phase}
 use Rattle.sasl_desk.specs.SavedCalls.{is_saving, IsAttemptOf}
 use Rattle.sasl_desk.specs.Events.{ClientEvent}
 use Rattle.sasl_desk.specs.Guests.{guest_of}
@@ -50,76 +50,81 @@ use Rattle.sasl_desk.specs.declared.session.phase.Phase.{Phase}
 use Rattle.sasl_desk.specs.declared.session.phase.Phase.TheVariants as phase
 use Rattle.sasl_desk.specs.declared.turn.AfterTurn.{AfterTurn}
 use Rattle.sasl_desk.specs.declared.turn.AfterTurn.TheVariants.{Going, Over, Halted}
-use Rattle.sasl_desk.proofs.lemmas.halls.Paths.{ends_of, turn_of_turns, turn_closed, path_on, reply_on}
-use Rattle.sasl_desk.proofs.lemmas.halls.Turns.{turn_is_open, any_follows, holds_book, stands_reordered, LeavesAt, guests_after}
+use Rattle.sasl_desk.proofs.lemmas.halls.Paths.{ends_of, turn_has_turn_lines, turn_closes_its_session, numbered_goes_on_by_path, numbered_goes_on_by_reply}
+use Rattle.sasl_desk.proofs.lemmas.halls.Turns.{client_turn_is_open, any_line_follows_log, working_hall_holds_book, reordered_hall_stands, LeavesAt, guests_after}
 use Rattle.sasl_desk.proofs.lemmas.halls.Turns.{halted_after, HallStep, stands_by_step}
-use Rattle.sasl_desk.proofs.lemmas.turns.Keepers.{told_due}
-use Rattle.sasl_desk.proofs.lemmas.turns.Paths.{client_turn, turn_path, turn_no_reply}
-use Rattle.sasl_desk.proofs.lemmas.runs.IsDeskAfter.{book_after_told, stored_unless, left_going, kept_held, spent_after}
-use Rattle.sasl_desk.proofs.lemmas.runs.IsDeskAfter.{taken_by_turn, taken_by_reply, taken_by_halt, stored_by_halt}
-use Rattle.sasl_desk.proofs.lemmas.runs.Calls.{turn_saves, saves_by_code, asked_by_code, quiet_by_code, failed_by, open_goes_on}
+use Rattle.sasl_desk.proofs.lemmas.turns.Keepers.{judged_reply_is_due}
+use Rattle.sasl_desk.proofs.lemmas.turns.Paths.{session_has_client_turn, turn_is_path, turn_has_no_reply}
+use Rattle.sasl_desk.proofs.lemmas.runs.IsDeskAfter.{book_after_told, held_book_fits_place, left_place_not_halted, kept_store_holds_book, reply_spends_counters}
+use Rattle.sasl_desk.proofs.lemmas.runs.IsDeskAfter.{session_turn_is_taken, reply_turn_is_taken, halt_turn_is_taken, lost_save_fits_halt}
+use Rattle.sasl_desk.proofs.lemmas.runs.Calls.{session_turn_saves_nothing, code_counts_saves, code_asks_for_save, code_is_quiet, lost_store_has_failed, open_session_not_halted}
 
 -- lines written each after a number have the texts of that number's lines
-prefixed_texts : (n : ℕ) (lines : List LogLine)
+prefixed_texts_are_numbered : (n : ℕ) (lines : List LogLine)
     → map (λ line. prefix (Some n) ++ log_line_text line) lines ≡ map numbered_text (map (numbered n) lines)
-prefixed_texts n [] = refl
-prefixed_texts n (line ∷ lines) = same_cons _ _ _ _ (append_assoc (decimal n) (32 ∷ []) (log_line_text line)) (prefixed_texts n lines)
+prefixed_texts_are_numbered n [] = refl
+prefixed_texts_are_numbered n (line ∷ lines) =
+    same_cons _ _ _ _ (append_assoc (decimal n) (32 ∷ []) (log_line_text line)) (prefixed_texts_are_numbered n lines)
 
 -- lines written each after a session's number are, byte for byte, that session's numbered lines
-pub prefixed_numbered : (n : ℕ) (lines : List LogLine) → prefixed_bytes (Some n) lines ≡ numbered_bytes (map (numbered n) lines)
-prefixed_numbered n lines = ap ended_by_lf (prefixed_texts n lines)
+pub prefixed_bytes_are_numbered : (n : ℕ) (lines : List LogLine) → prefixed_bytes (Some n) lines ≡ numbered_bytes (map (numbered n) lines)
+prefixed_bytes_are_numbered n lines = ap ended_by_lf (prefixed_texts_are_numbered n lines)
 
 -- a session that is open, and so was not turned away, has a run
-run_of : (accounts : Accounts) (calls : List Call) (at : Place) → is_closed at ≡ false → IsSessionRun accounts calls at
+open_session_has_run : (accounts : Accounts) (calls : List Call) (at : Place) → is_closed at ≡ false → IsSessionRun accounts calls at
     → IsRun accounts calls at
-run_of accounts calls at is_open (inl run) = run
-run_of accounts calls at is_open (inr (turned, same)) =
+open_session_has_run accounts calls at is_open (inl run) = run
+open_session_has_run accounts calls at is_open (inr (turned, same)) =
     let never : is_closed between ≡ false = subst (λ (p : Place). is_closed p ≡ false) same is_open in absurd (cc never)
 
 -- a turn that leaves its session at a place, or ends it, leaves it so in a hall
-leaves_left : (accounts : Accounts) (next : Place) (ends : ℕ) (going : Option Session) → IsLeftAt accounts next going → ends ≡ ends_of going
+left_session_leaves_place : (accounts : Accounts) (next : Place) (ends : ℕ) (going : Option Session) → IsLeftAt accounts next going
+    → ends ≡ ends_of going
     → LeavesAt accounts next ends (after_turn_of going)
-leaves_left accounts next ends (Some going) is same = (is, same)
-leaves_left accounts next ends None is same = (is, same)
+left_session_leaves_place accounts next ends (Some going) is same = (is, same)
+left_session_leaves_place accounts next ends None is same = (is, same)
 
 -- a turn that a session answered is a step of its hall
-step_by_answer : BeginsWithItself → {S : Type 0} (facts : S → StoreFacts) (IsStored : List ℕ → Type 0) (start : BookFields)
+answer_is_hall_step : BeginsWithItself → {S : Type 0} (facts : S → StoreFacts) (IsStored : List ℕ → Type 0) (start : BookFields)
     (calls : List (Numbered Call)) (keeper : Keeper S) (n : ℕ)
     (going : Session) (server_nonce : List ℕ) (others : List Guest) (given : ℕ) (event : ClientEvent) (moment : ℕ) (lines : List LogLine)
     (left : AfterTurn) (new : Keeper S)
     (s : IsHallAfter facts IsStored start calls (hall_of keeper (guest_of n going server_nonce ∷ others) given false))
     → SessionAnswers keeper going server_nonce event lines left new
     → HallStep facts IsStored start calls s.places n event moment lines left new
-step_by_answer itself facts IsStored start calls keeper n going server_nonce others given event moment lines left new s t =
+answer_is_hall_step itself facts IsStored start calls keeper n going server_nonce others given event moment lines left new s t =
     let accounts = accounts_in start in
     let hall = hall_of keeper (guest_of n going server_nonce ∷ others) given false in
     let is = (s.seated refl).0 in
     let after = book_after_told itself start s.told keeper.book s.is_book in
     let turn = t.hears accounts (s.places n) after.entries is.0 in
     let next = turn.is_answer.next in
-    let path = turn_path accounts server_nonce event (s.places n) going t.turn t.message is.0 turn in
+    let path = turn_is_path accounts server_nonce event (s.places n) going t.turn t.message is.0 turn in
     rw (t.lines_are, t.is_left, t.same) (record {
       next = next;
       told = s.told;
-      taken = taken_by_turn accounts (server_nonce_of (of_number n calls)) server_nonce event moment (s.places n) going t.turn t.message
+      taken = session_turn_is_taken accounts (server_nonce_of (of_number n calls)) server_nonce event moment (s.places n) going t.turn
+          t.message
           is.1 is.0 turn;
-      spelled = path_on most_open (demands accounts) (hall_lines calls) s.places s.told n (turn_lines t.turn t.message) next s.spelled
-          (turn_of_turns t.turn t.message)
-          (turn_no_reply accounts server_nonce event (s.places n) t.turn t.message turn)
-          (λ line to goes. any_follows facts IsStored start calls hall s refl n line) path;
-      turns = turn_of_turns t.turn t.message;
+      spelled = numbered_goes_on_by_path most_open (demands accounts) (hall_lines calls) s.places s.told n (turn_lines t.turn t.message)
+          next s.spelled
+          (turn_has_turn_lines t.turn t.message)
+          (turn_has_no_reply accounts server_nonce event (s.places n) t.turn t.message turn)
+          (λ line to goes. any_line_follows_log facts IsStored start calls hall s refl n line) path;
+      turns = turn_has_turn_lines t.turn t.message;
       writable = rw t.lines_are at t.writable;
-      leaves = leaves_left accounts next _ t.turn.answer.session turn.is_answer.left (turn_closed n t.turn t.message);
+      leaves = left_session_leaves_place accounts next _ t.turn.answer.session turn.is_answer.left
+          (turn_closes_its_session n t.turn t.message);
       is_book = s.is_book;
-      stored = stored_unless IsStored accounts
+      stored = held_book_fits_place IsStored accounts
           (call_of (hears event moment) (turn_lines t.turn t.message) ∷ of_number n calls) next keeper.book (facts keeper.store)
-          (left_going accounts next t.turn.answer.session turn.is_answer.left)
-          (holds_book facts IsStored start calls hall s refl);
+          (left_place_not_halted accounts next t.turn.answer.session turn.is_answer.left)
+          (working_hall_holds_book facts IsStored start calls hall s refl);
       spent = s.spent;
     })
 
 -- a code, or two in a row, with its reply is a step of the hall
-step_by_reply : BeginsWithItself → SpentStaysSpent
+reply_is_hall_step : BeginsWithItself → SpentStaysSpent
     → {S : Type 0} (facts : S → StoreFacts) (IsStored : List ℕ → Type 0) (start : BookFields) (calls : List (Numbered Call))
     (old new : Keeper S)
     (n : ℕ) (going : Session) (server_nonce : List ℕ) (others : List Guest) (given : ℕ) (event : ClientEvent) (moment : ℕ) (name : List ℕ)
@@ -130,14 +135,14 @@ step_by_reply : BeginsWithItself → SpentStaysSpent
     → IsJudgedInRange (Replied reply)
     → HallStep facts IsStored start calls s.places n event moment (judged_lines moment sent (Replied reply))
     (after_judged name (Replied reply)) new
-step_by_reply itself stays facts IsStored start calls old new n going server_nonce others given event moment name sent reply s asked
+reply_is_hall_step itself stays facts IsStored start calls old new n going server_nonce others given event moment name sent reply s asked
     (one, kept) range =
     let accounts = accounts_in start in
     let hall = hall_of old (guest_of n going server_nonce ∷ others) given false in
     let seated = (s.seated refl).0 in
     let after = book_after_told itself start s.told old.book s.is_book in
     let asks = asked.asks accounts (s.places n) after.entries seated.0 in
-    let is_record = subst (λ (p : Place). IsRecord event p (heard (asking sent))) asks.place asks.is_record in
+    let is_record = subst (λ (p : Place). IsRecord event p (heard (code_line sent))) asks.place asks.is_record in
     let t = logged_reply_of name moment sent reply in
     let lines = judged_lines moment sent (Replied reply) in
     record {
@@ -145,22 +150,22 @@ step_by_reply itself stays facts IsStored start calls old new n going server_non
       told = s.told ++ t ∷ [];
       taken = subst (λ (p : Place). IsTurnTaken accounts (server_nonce_of (of_number n calls)) event moment p lines (waits_code name))
           (sym asks.place)
-          (taken_by_reply accounts (server_nonce_of (of_number n calls)) event moment name sent reply is_record);
-      spelled = reply_on most_open (demands accounts) (hall_lines calls) s.places s.told n name sent moment reply s.spelled
-          (any_follows facts IsStored start calls hall s refl n)
-          asks.place (told_due old.book new.book t one accounts s.told after);
+          (reply_turn_is_taken accounts (server_nonce_of (of_number n calls)) event moment name sent reply is_record);
+      spelled = numbered_goes_on_by_reply most_open (demands accounts) (hall_lines calls) s.places s.told n name sent moment reply s.spelled
+          (any_line_follows_log facts IsStored start calls hall s refl n)
+          asks.place (judged_reply_is_due old.book new.book t one accounts s.told after);
       turns = (tt, (tt, tt));
-      writable = (asked.writable, (reply_line moment reply one.is_moment range, tt));
+      writable = (asked.writable, (reply_is_writable moment reply one.is_moment range, tt));
       leaves = (refl, refl);
-      is_book = subst (λ (l : List LoggedReply). IsBookWith start l new.book) (sym (reverse-append s.told (t ∷ [])))
+      is_book = subst (λ (l : List LoggedReply). IsBookAfterReplies start l new.book) (sym (reverse-append s.told (t ∷ [])))
           (old.book, s.is_book, one);
-      stored = kept_held IsStored (needs_save reply) old.book new.book (facts old.store) (facts new.store) kept
-          (holds_book facts IsStored start calls hall s refl);
-      spent = spent_after itself stays start old.book new.book s.told t one s.spent;
+      stored = kept_store_holds_book IsStored (needs_save reply) old.book new.book (facts old.store) (facts new.store) kept
+          (working_hall_holds_book facts IsStored start calls hall s refl);
+      spent = reply_spends_counters itself stays start old.book new.book s.told t one s.spent;
     }
 
 -- a code, or two in a row, whose save failed is a step of the hall, which halts it
-step_by_halt : BeginsWithItself → {S : Type 0} (facts : S → StoreFacts) (IsStored : List ℕ → Type 0) (start : BookFields)
+halt_is_hall_step : BeginsWithItself → {S : Type 0} (facts : S → StoreFacts) (IsStored : List ℕ → Type 0) (start : BookFields)
     (calls : List (Numbered Call)) (old new : Keeper S)
     (n : ℕ) (going : Session) (server_nonce : List ℕ) (others : List Guest) (given : ℕ) (event : ClientEvent) (moment : ℕ) (name : List ℕ)
     (sent : CodeTexts)
@@ -168,39 +173,41 @@ step_by_halt : BeginsWithItself → {S : Type 0} (facts : S → StoreFacts) (IsS
     → AsksJudgement old going event name sent
     → IsJudged IsStored old.book (facts old.store) name moment sent Lost new.book (facts new.store)
     → HallStep facts IsStored start calls s.places n event moment (judged_lines moment sent Lost) (after_judged name Lost) new
-step_by_halt itself facts IsStored start calls old new n going server_nonce others given event moment name sent s asked judged =
+halt_is_hall_step itself facts IsStored start calls old new n going server_nonce others given event moment name sent s asked judged =
     let accounts = accounts_in start in
     let hall = hall_of old (guest_of n going server_nonce ∷ others) given false in
     let seated = (s.seated refl).0 in
     let after = book_after_told itself start s.told old.book s.is_book in
     let asks = asked.asks accounts (s.places n) after.entries seated.0 in
-    let is_record = subst (λ (p : Place). IsRecord event p (heard (asking sent))) asks.place asks.is_record in
-    let is_open = turn_is_open (s.places n) (client_turn accounts (s.places n) going seated.0) in
+    let is_record = subst (λ (p : Place). IsRecord event p (heard (code_line sent))) asks.place asks.is_record in
+    let is_open = client_turn_is_open (s.places n) (session_has_client_turn accounts (s.places n) going seated.0) in
     let run = subst (λ (p : Place). IsRun accounts (of_number n calls) p) asks.place
-    (run_of accounts (of_number n calls) (s.places n) is_open (s.session_runs n)) in
+    (open_session_has_run accounts (of_number n calls) (s.places n) is_open (s.session_runs n)) in
     let lines = judged_lines moment sent Lost in
-    let path : IsPath (demands accounts) (waits_code name) lines halted = (got_code name sent, code_goes name sent, (halted, refl, refl)) in
+    let path : IsPath (demands accounts) (waits_code name) lines halted = (got_code name sent, code_may_stand name sent,
+        (halted, refl, refl)) in
     record {
       next = halted;
       told = s.told;
       taken = subst (λ (p : Place). IsTurnTaken accounts (server_nonce_of (of_number n calls)) event moment p lines halted) (sym asks.place)
-          (taken_by_halt accounts (server_nonce_of (of_number n calls)) event moment name sent is_record);
-      spelled = path_on most_open (demands accounts) (hall_lines calls) s.places s.told n lines halted s.spelled (tt, (tt, tt))
+          (halt_turn_is_taken accounts (server_nonce_of (of_number n calls)) event moment name sent is_record);
+      spelled = numbered_goes_on_by_path most_open (demands accounts) (hall_lines calls) s.places s.told n lines halted s.spelled
           (tt, (tt, tt))
-          (λ line to goes. any_follows facts IsStored start calls hall s refl n line)
+          (tt, (tt, tt))
+          (λ line to goes. any_line_follows_log facts IsStored start calls hall s refl n line)
           (subst (λ (p : Place). IsPath (demands accounts) p lines halted) (sym asks.place) path);
       turns = (tt, (tt, tt));
-      writable = (asked.writable, (halt_written, tt));
+      writable = (asked.writable, (halt_is_writable, tt));
       leaves = (refl, refl);
-      is_book = subst (λ (b : BookFields). IsBookWith start (reverse s.told) b) (sym judged.0) s.is_book;
-      stored = stored_by_halt IsStored accounts (of_number n calls) old.book new.book (facts old.store)
+      is_book = subst (λ (b : BookFields). IsBookAfterReplies start (reverse s.told) b) (sym judged.0) s.is_book;
+      stored = lost_save_fits_halt IsStored accounts (of_number n calls) old.book new.book (facts old.store)
           (facts new.store) name event moment sent run
-          (holds_book facts IsStored start calls hall s refl) judged;
+          (working_hall_holds_book facts IsStored start calls hall s refl) judged;
       spent = λ ps spent. subst (λ (b : BookFields). AreSpent (spent_by_all (reverse s.told) ++ ps) b) (sym judged.0) (s.spent ps spent);
     }
 
 -- a code, or two in a row, that was judged is a step of the hall, with its reply or as the save failed
-step_by_code : BeginsWithItself → SpentStaysSpent
+code_is_hall_step : BeginsWithItself → SpentStaysSpent
     → {S : Type 0} (facts : S → StoreFacts) (IsStored : List ℕ → Type 0) (start : BookFields) (calls : List (Numbered Call))
     (old new : Keeper S)
     (n : ℕ) (going : Session) (server_nonce : List ℕ) (others : List Guest) (given : ℕ) (event : ClientEvent) (moment : ℕ) (name : List ℕ)
@@ -210,16 +217,18 @@ step_by_code : BeginsWithItself → SpentStaysSpent
     → IsJudged IsStored old.book (facts old.store) name moment sent judged new.book (facts new.store)
     → IsJudgedInRange judged
     → HallStep facts IsStored start calls s.places n event moment (judged_lines moment sent judged) (after_judged name judged) new
-step_by_code itself stays facts IsStored start calls old new n going server_nonce others given event moment name sent
+code_is_hall_step itself stays facts IsStored start calls old new n going server_nonce others given event moment name sent
     (Replied reply) s asked judged range =
-    step_by_reply itself stays facts IsStored start calls old new n going server_nonce others given event moment name sent reply s asked
+    reply_is_hall_step itself stays facts IsStored start calls old new n going server_nonce others given event moment name sent reply s
+        asked
     judged range
-step_by_code itself stays facts IsStored start calls old new n going server_nonce others given event moment name sent Lost s asked judged
+code_is_hall_step itself stays facts IsStored start calls old new n going server_nonce others given event moment name sent Lost s asked
+    judged
     range =
-    step_by_halt itself facts IsStored start calls old new n going server_nonce others given event moment name sent s asked judged
+    halt_is_hall_step itself facts IsStored start calls old new n going server_nonce others given event moment name sent s asked judged
 
 -- each turn of a session is a step of its hall
-step_by_turn : BeginsWithItself → SpentStaysSpent
+turn_is_hall_step : BeginsWithItself → SpentStaysSpent
     → {S : Type 0} (facts : S → StoreFacts) (IsStored : List ℕ → Type 0) (start : BookFields) (calls : List (Numbered Call))
     (old new : Keeper S)
     (n : ℕ) (going : Session) (server_nonce : List ℕ) (others : List Guest) (given : ℕ) (event : ClientEvent) (moment : ℕ)
@@ -228,12 +237,12 @@ step_by_turn : BeginsWithItself → SpentStaysSpent
     (s : IsHallAfter facts IsStored start calls (hall_of old (guest_of n going server_nonce ∷ others) given false))
     → IsTurnOf facts IsStored old going server_nonce event moment lines left new
     → HallStep facts IsStored start calls s.places n event moment lines left new
-step_by_turn itself stays facts IsStored start calls old new n going server_nonce others given event moment lines left s (inl t) =
-    step_by_answer itself facts IsStored start calls old n going server_nonce others given event moment lines left new s t
-step_by_turn itself stays facts IsStored start calls old new n going server_nonce others given event moment lines left s
+turn_is_hall_step itself stays facts IsStored start calls old new n going server_nonce others given event moment lines left s (inl t) =
+    answer_is_hall_step itself facts IsStored start calls old n going server_nonce others given event moment lines left new s t
+turn_is_hall_step itself stays facts IsStored start calls old new n going server_nonce others given event moment lines left s
     (inr (name, sent, asked, t)) =
     rw (t.lines_are, t.is_left)
-    (step_by_code itself stays facts IsStored start calls old new n going server_nonce others given event moment name sent t.judged s
+    (code_is_hall_step itself stays facts IsStored start calls old new n going server_nonce others given event moment name sent t.judged s
     asked t.is_judged t.in_range)
 
 -- the phase that a turn leaves its session in
@@ -243,74 +252,77 @@ phase_left Over = phase.Closed
 phase_left (Halted going) = phase.Halted
 
 -- an open session's phase is that of the place at which it stands
-pub session_phase_at : (accounts : Accounts) (at : Place) (going : Session) → IsSessionAt accounts at going
+pub session_phase_fits_place : (accounts : Accounts) (at : Place) (going : Session) → IsSessionAt accounts at going
     → IsPhaseOf at (session_phase going)
-session_phase_at accounts at WaitAuth is = is
-session_phase_at accounts at (WaitFirst mechanism) is = (_, is)
-session_phase_at accounts at (WaitFinal waiting) (first, challenge, is, stands) = (_, _, first, challenge, is)
-session_phase_at accounts at (WaitCode name) is = (name, is)
+session_phase_fits_place accounts at WaitAuth is = is
+session_phase_fits_place accounts at (WaitFirst mechanism) is = (_, is)
+session_phase_fits_place accounts at (WaitFinal waiting) (first, challenge, is, stands) = (_, _, first, challenge, is)
+session_phase_fits_place accounts at (WaitCode name) is = (name, is)
 
 -- the phase that a turn leaves is that of the place at which it leaves its session
-phase_left_at : (accounts : Accounts) (at : Place) (ends : ℕ) (left : AfterTurn) → LeavesAt accounts at ends left
+left_phase_fits_place : (accounts : Accounts) (at : Place) (ends : ℕ) (left : AfterTurn) → LeavesAt accounts at ends left
     → IsPhaseOf at (phase_left left)
-phase_left_at accounts at ends (Going going) is = session_phase_at accounts at going is.0
-phase_left_at accounts at ends Over is = is.0
-phase_left_at accounts at ends (Halted going) is = tt
+left_phase_fits_place accounts at ends (Going going) is = session_phase_fits_place accounts at going is.0
+left_phase_fits_place accounts at ends Over is = is.0
+left_phase_fits_place accounts at ends (Halted going) is = tt
 
 -- a turn makes as many saves as its lines stand for
-saves_by_turn : {S : Type 0} (facts : S → StoreFacts) (IsStored : List ℕ → Type 0) (old new : Keeper S) (going : Session)
+turn_counts_saves : {S : Type 0} (facts : S → StoreFacts) (IsStored : List ℕ → Type 0) (old new : Keeper S) (going : Session)
     (server_nonce : List ℕ)
     (event : ClientEvent) (moment : ℕ) (lines : List LogLine)
     (left : AfterTurn) → IsTurnOf facts IsStored old going server_nonce event moment lines left new
     → HoldsBook IsStored old.book (facts old.store)
     → (facts new.store).saves ≡ (facts old.store).saves + length (filter is_saving lines)
-saves_by_turn facts IsStored old new going server_nonce event moment lines left (inl t) held =
+turn_counts_saves facts IsStored old new going server_nonce event moment lines left (inl t) held =
     let none = ap (λ (l : List LogLine). length (filter is_saving l)) t.lines_are ∙ ap (λ (l : List LogLine). length l)
-    (turn_saves t.turn t.message) in
+    (session_turn_saves_nothing t.turn t.message) in
     let unasked = ap (λ (k : Keeper _). (facts k.store).saves) t.same in
     omega (arith, none, unasked)
-saves_by_turn facts IsStored old new going server_nonce event moment lines left (inr (name, sent, asked, t)) held =
-    rw t.lines_are (saves_by_code IsStored moment sent name t.judged old.book new.book (facts old.store) (facts new.store) held t.is_judged)
+turn_counts_saves facts IsStored old new going server_nonce event moment lines left (inr (name, sent, asked, t)) held =
+    rw t.lines_are (code_counts_saves IsStored moment sent name t.judged old.book new.book (facts old.store) (facts new.store) held
+        t.is_judged)
 
 -- a turn whose lines stand for no save changes neither the book nor the store
-quiet_by_turn : {S : Type 0} (facts : S → StoreFacts) (IsStored : List ℕ → Type 0) (old new : Keeper S) (going : Session)
+turn_is_quiet : {S : Type 0} (facts : S → StoreFacts) (IsStored : List ℕ → Type 0) (old new : Keeper S) (going : Session)
     (server_nonce : List ℕ)
     (event : ClientEvent) (moment : ℕ) (lines : List LogLine)
     (left : AfterTurn) → IsTurnOf facts IsStored old going server_nonce event moment lines left new → filter is_saving lines ≡ []
     → (new.book ≡ old.book) × (facts new.store ≡ facts old.store)
-quiet_by_turn facts IsStored old new going server_nonce event moment lines left (inl t) none =
+turn_is_quiet facts IsStored old new going server_nonce event moment lines left (inl t) none =
     (ap (λ (k : Keeper _). k.book) t.same, ap (λ (k : Keeper _). facts k.store) t.same)
-quiet_by_turn facts IsStored old new going server_nonce event moment lines left (inr (name, sent, asked, t)) none =
-    quiet_by_code IsStored moment sent name t.judged old.book new.book (facts old.store) (facts new.store) t.is_judged
+turn_is_quiet facts IsStored old new going server_nonce event moment lines left (inr (name, sent, asked, t)) none =
+    code_is_quiet IsStored moment sent name t.judged old.book new.book (facts old.store) (facts new.store) t.is_judged
     (rw t.lines_are at none)
 
 -- a code that halts a hall does so where its store has failed, and changes no book
-halts_judged : (IsStored : List ℕ → Type 0) (moment : ℕ) (sent : CodeTexts) (name : List ℕ) (judged : CodeJudged) (old new : BookFields)
+halted_hall_failed_saving : (IsStored : List ℕ → Type 0) (moment : ℕ) (sent : CodeTexts) (name : List ℕ) (judged : CodeJudged)
+    (old new : BookFields)
     (was now : StoreFacts)
     → IsJudged IsStored old was name moment sent judged new now → halted_after (after_judged name judged) ≡ true → (now.failed ≡ true)
     × (new ≡ old)
-halts_judged IsStored moment sent name (Replied reply) old new was now judged is = absurd (cc is)
-halts_judged IsStored moment sent name Lost old new was now (same, (reply, next, needs, one, loses)) is =
-    (failed_by was now loses.text loses.lost, same)
+halted_hall_failed_saving IsStored moment sent name (Replied reply) old new was now judged is = absurd (cc is)
+halted_hall_failed_saving IsStored moment sent name Lost old new was now (same, (reply, next, needs, one, loses)) is =
+    (lost_store_has_failed was now loses.text loses.lost, same)
 
 -- a session that goes on or has ended halts no hall
-goes_on_after : (going : Option Session) → halted_after (after_turn_of going) ≡ true → ⊥
-goes_on_after (Some going) is = cc is
-goes_on_after None is = cc is
+left_hall_not_halted : (going : Option Session) → halted_after (after_turn_of going) ≡ true → ⊥
+left_hall_not_halted (Some going) is = cc is
+left_hall_not_halted None is = cc is
 
 -- a turn that halts a hall does so where its store has failed, and changes no book
-halts_by_turn : {S : Type 0} (facts : S → StoreFacts) (IsStored : List ℕ → Type 0) (old new : Keeper S) (going : Session)
+halting_turn_failed_saving : {S : Type 0} (facts : S → StoreFacts) (IsStored : List ℕ → Type 0) (old new : Keeper S) (going : Session)
     (server_nonce : List ℕ)
     (event : ClientEvent) (moment : ℕ) (lines : List LogLine)
     (left : AfterTurn) → IsTurnOf facts IsStored old going server_nonce event moment lines left new → halted_after left ≡ true
     → ((facts new.store).failed ≡ true) × (new.book ≡ old.book)
-halts_by_turn facts IsStored old new going server_nonce event moment lines left (inl t) is = absurd
-    (goes_on_after t.turn.answer.session (rw t.is_left at is))
-halts_by_turn facts IsStored old new going server_nonce event moment lines left (inr (name, sent, asked, t)) is =
-    halts_judged IsStored moment sent name t.judged old.book new.book (facts old.store) (facts new.store) t.is_judged (rw t.is_left at is)
+halting_turn_failed_saving facts IsStored old new going server_nonce event moment lines left (inl t) is = absurd
+    (left_hall_not_halted t.turn.answer.session (rw t.is_left at is))
+halting_turn_failed_saving facts IsStored old new going server_nonce event moment lines left (inr (name, sent, asked, t)) is =
+    halted_hall_failed_saving IsStored moment sent name t.judged old.book new.book (facts old.store) (facts new.store) t.is_judged
+        (rw t.is_left at is)
 
 -- a turn with a line for which the store was asked to save is an attempt, and the store was asked to save the book with it
-asks_by_turn : BeginsWithItself → {S : Type 0} (facts : S → StoreFacts) (IsStored : List ℕ → Type 0) (start : BookFields)
+turn_asks_for_save : BeginsWithItself → {S : Type 0} (facts : S → StoreFacts) (IsStored : List ℕ → Type 0) (start : BookFields)
     (calls : List (Numbered Call)) (old new : Keeper S) (n : ℕ)
     (going : Session) (server_nonce : List ℕ) (others : List Guest) (given : ℕ) (event : ClientEvent) (moment : ℕ) (lines : List LogLine)
     (left : AfterTurn)
@@ -319,25 +331,25 @@ asks_by_turn : BeginsWithItself → {S : Type 0} (facts : S → StoreFacts) (IsS
     → (filter is_saving lines ≡ [] → ⊥)
     → (t : LoggedReply) × (next : BookFields) × IsAttemptOf (hears event moment) (s.places n) lines t × IsAttemptJudged old.book t next
     × IsBookText (facts new.store).asked next
-asks_by_turn itself facts IsStored start calls old new n going server_nonce others given event moment lines left s (inl t) some =
-    absurd (some (ap (filter is_saving) t.lines_are ∙ turn_saves t.turn t.message))
-asks_by_turn itself facts IsStored start calls old new n going server_nonce others given event moment lines left s
+turn_asks_for_save itself facts IsStored start calls old new n going server_nonce others given event moment lines left s (inl t) some =
+    absurd (some (ap (filter is_saving) t.lines_are ∙ session_turn_saves_nothing t.turn t.message))
+turn_asks_for_save itself facts IsStored start calls old new n going server_nonce others given event moment lines left s
     (inr (name, sent, asked, t)) some =
     let after = book_after_told itself start s.told old.book s.is_book in
     let asks = asked.asks (accounts_in start) (s.places n) after.entries (s.seated refl).0.0 in
     let hall = hall_of old (guest_of n going server_nonce ∷ others) given false in
-    rw t.lines_are (asked_by_code IsStored event moment sent name (s.places n) t.judged old.book new.book (facts old.store)
+    rw t.lines_are (code_asks_for_save IsStored event moment sent name (s.places n) t.judged old.book new.book (facts old.store)
     (facts new.store) asks.place
-    (holds_book facts IsStored start calls hall s refl) t.is_judged (rw t.lines_are at some))
+    (working_hall_holds_book facts IsStored start calls hall s refl) t.is_judged (rw t.lines_are at some))
 
 -- the phase that a turn leaves is Halted exactly where it has halted the hall
-tells_halt : (left : AfterTurn) → (phase_left left ≡ phase.Halted) ↔ (halted_after left ≡ true)
-tells_halt (Going going) = (λ is. absurd (open_goes_on going is), λ is. absurd (cc is))
-tells_halt Over = (λ is. absurd (cc is), λ is. absurd (cc is))
-tells_halt (Halted going) = (λ is. refl, λ is. refl)
+halted_phase_iff_halted : (left : AfterTurn) → (phase_left left ≡ phase.Halted) ↔ (halted_after left ≡ true)
+halted_phase_iff_halted (Going going) = (λ is. absurd (open_session_not_halted going is), λ is. absurd (cc is))
+halted_phase_iff_halted Over = (λ is. absurd (cc is), λ is. absurd (cc is))
+halted_phase_iff_halted (Halted going) = (λ is. refl, λ is. refl)
 
 -- where a guest's turn was taken and its lines written, the hall has answered the call
-pub answers_by_taken_in : BeginsWithItself → SpentStaysSpent
+pub turn_answers_hall_call : BeginsWithItself → SpentStaysSpent
     → {S : Type 0} (facts : S → StoreFacts) (IsStored : List ℕ → Type 0) (old new : Keeper S) (n : ℕ) (going : Session)
     (server_nonce : List ℕ)
     (others : List Guest) (given : ℕ) (event : ClientEvent) (moment : ℕ) (left : AfterTurn) (wire wire' log log' : List ℕ)
@@ -345,39 +357,41 @@ pub answers_by_taken_in : BeginsWithItself → SpentStaysSpent
     → AnswersIn facts IsStored (hall_of old (guest_of n going server_nonce ∷ others) given false) n (hears event moment)
     (phase_left left) wire wire' log log'
     (hall_of new (guests_after n server_nonce left others) given (halted_after left))
-answers_by_taken_in itself stays facts IsStored old new n going server_nonce others given event moment left wire wire' log log'
+turn_answers_hall_call itself stays facts IsStored old new n going server_nonce others given event moment left wire wire' log log'
     (lines, t, written) =
     let hall = hall_of old (guest_of n going server_nonce ∷ others) given false in
     record {
       lines = lines;
-      logged = written.logged ∙ ap (λ (b : List ℕ). log ++ b) (prefixed_numbered n lines);
+      logged = written.logged ∙ ap (λ (b : List ℕ). log ++ b) (prefixed_bytes_are_numbered n lines);
       sent = written.sent;
       stands = λ start calls s.
-          let step = step_by_turn itself stays facts IsStored start calls old new n going server_nonce others given event moment lines
+          let step = turn_is_hall_step itself stays facts IsStored start calls old new n going server_nonce others given event moment lines
           left s t in
           let after = stands_by_step facts IsStored start calls old new n going server_nonce others given event moment lines left s
           step in (
             after.0,
             subst (λ (p : Place). IsPhaseOf p (phase_left left)) (sym after.1)
-                (phase_left_at (accounts_in start) step.next _ left step.leaves),
+                (left_phase_fits_place (accounts_in start) step.next _ left step.leaves),
           );
-      saves = λ start calls s. saves_by_turn facts IsStored old new going server_nonce event moment lines left t
-          (holds_book facts IsStored start calls hall s refl);
-      asks = λ start calls s some. asks_by_turn itself facts IsStored start calls old new n going server_nonce others given event moment
+      saves = λ start calls s. turn_counts_saves facts IsStored old new going server_nonce event moment lines left t
+          (working_hall_holds_book facts IsStored start calls hall s refl);
+      asks = λ start calls s some. turn_asks_for_save itself facts IsStored start calls old new n going server_nonce others given event
+          moment
           lines left s t some;
-      quiet = λ none. quiet_by_turn facts IsStored old new going server_nonce event moment lines left t none;
-      tells = tells_halt left;
-      halts = λ is. halts_by_turn facts IsStored old new going server_nonce event moment lines left t is;
+      quiet = λ none. turn_is_quiet facts IsStored old new going server_nonce event moment lines left t none;
+      tells = halted_phase_iff_halted left;
+      halts = λ is. halting_turn_failed_saving facts IsStored old new going server_nonce event moment lines left t is;
     }
 
 -- a call does the same where the guests before it are in another order
-pub answers_reordered : {S : Type 0} (facts : S → StoreFacts) (IsStored : List ℕ → Type 0) (keeper : Keeper S) (guests others : List Guest)
+pub reordered_hall_answers : {S : Type 0} (facts : S → StoreFacts) (IsStored : List ℕ → Type 0) (keeper : Keeper S)
+    (guests others : List Guest)
     (given : ℕ) (is_halted : Bool) (m n : ℕ) (request : Request)
     (answered : Phase) (wire wire' log log' : List ℕ) (new : HallFields S) → IsPermutation guests others → m ≡ n
     → AnswersIn facts IsStored (hall_of keeper others given is_halted) m request answered wire wire' log log' new
     → AnswersIn facts IsStored (hall_of keeper guests given is_halted) n request answered wire wire' log log' new
-unfolding stands_reordered
-answers_reordered facts IsStored keeper guests others given is_halted m n request answered wire wire' log log' new same is was =
+unfolding reordered_hall_stands
+reordered_hall_answers facts IsStored keeper guests others given is_halted m n request answered wire wire' log log' new same is was =
     let a = subst (λ (k : ℕ). AnswersIn facts IsStored
     (hall_of keeper others given is_halted) k request answered wire wire' log log' new) is was in
     record {
@@ -385,21 +399,22 @@ answers_reordered facts IsStored keeper guests others given is_halted m n reques
       logged = a.logged;
       sent = a.sent;
       stands = λ start calls s. a.stands start calls
-          (stands_reordered facts IsStored start calls keeper guests others given is_halted same s);
+          (reordered_hall_stands facts IsStored start calls keeper guests others given is_halted same s);
       saves = λ start calls s. a.saves start calls
-          (stands_reordered facts IsStored start calls keeper guests others given is_halted same s);
+          (reordered_hall_stands facts IsStored start calls keeper guests others given is_halted same s);
       asks = λ start calls s some. a.asks start calls
-          (stands_reordered facts IsStored start calls keeper guests others given is_halted same s) some;
+          (reordered_hall_stands facts IsStored start calls keeper guests others given is_halted same s) some;
       quiet = a.quiet;
       tells = a.tells;
       halts = a.halts;
     }
 
 -- a hall that is the same as another, up to the order of the guests, is so in any order of its own guests
-pub same_reordered : {S : Type 0} (keeper : Keeper S) (guests others : List Guest) (given : ℕ) (is_halted : Bool) (new : HallFields S)
+pub reordered_hall_is_same : {S : Type 0} (keeper : Keeper S) (guests others : List Guest) (given : ℕ) (is_halted : Bool)
+    (new : HallFields S)
     → IsPermutation guests others
     → IsSameHall (hall_of keeper others given is_halted) new → IsSameHall (hall_of keeper guests given is_halted) new
-same_reordered keeper guests others given is_halted new same is = record {
+reordered_hall_is_same keeper guests others given is_halted new same is = record {
   book = is.book;
   store = is.store;
   guests = IsPermutation-trans guests others new.guests same is.guests;

@@ -11,58 +11,60 @@ use Rattle.std.proofs.lemmas.Option.{slice_get_cases}
 use Rattle.std.proofs.lemmas.List.Sums.{sum_by-append}
 use Rattle.sasl_desk.specs.Guests.{is_of}
 use Rattle.sasl_desk.specs.declared.hall.guest.Guest.{Guest}
-use Rattle.sasl_log.proofs.lemmas.ListCounts.{count_one, count_no, count_cons}
+use Rattle.sasl_log.proofs.lemmas.ListCounts.{passing_counts_one, failing_counts_none, first_adds_its_count}
 
 -- as many pass a test in two lists joined as in both
-count_append : {X : Type 0} (p : X → Bool) (xs ys : List X) → count_by p (xs ++ ys) ≡ count_by p xs + count_by p ys
-count_append p xs ys = sum_by-append _ xs ys
+count_by-append : {X : Type 0} (p : X → Bool) (xs ys : List X) → count_by p (xs ++ ys) ≡ count_by p xs + count_by p ys
+count_by-append p xs ys = sum_by-append _ xs ys
 
 -- a guest of a number adds one to the guests of that number
-pub count_here : (n : ℕ) (guest : Guest) (guests : List Guest) → guest.number ≡ n
+pub own_guest_counts : (n : ℕ) (guest : Guest) (guests : List Guest) → guest.number ≡ n
     → count_by (is_of n) (guest ∷ guests) ≡ 1 + count_by (is_of n) guests
-count_here n guest guests same =
-    count_cons (is_of n) guest guests ∙ ap (λ (k : ℕ). k + count_by (is_of n) guests)
-    (count_one (is_of n) guest (eq-eqb guest.number n same))
+own_guest_counts n guest guests same =
+    first_adds_its_count (is_of n) guest guests ∙ ap (λ (k : ℕ). k + count_by (is_of n) guests)
+    (passing_counts_one (is_of n) guest (eq-eqb guest.number n same))
 
 -- a guest of another number does not count among those of this one
-pub count_other : (n : ℕ) (guest : Guest) (guests : List Guest) → (guest.number ≡ n → ⊥)
+pub other_guest_counts_not : (n : ℕ) (guest : Guest) (guests : List Guest) → (guest.number ≡ n → ⊥)
     → count_by (is_of n) (guest ∷ guests) ≡ count_by (is_of n) guests
-count_other n guest guests other = elim (eqb_tells guest.number n) [
+other_guest_counts_not n guest guests other = elim (eqb_tells guest.number n) [
   | inl same ↦ absurd (other same.1)
   | inr differ ↦
-      omega (arith, count_no (is_of n) guest differ.0, count_cons (is_of n) guest guests)
+      omega (arith, failing_counts_none (is_of n) guest differ.0, first_adds_its_count (is_of n) guest guests)
 ]
 
 -- an element counts the same at the end of a list as at its head
-pub count_last : {X : Type 0} (p : X → Bool) (xs : List X) (x : X) → count_by p (xs ++ x ∷ []) ≡ count_by p (x ∷ xs)
-count_last p xs x = omega (arith, count_append p xs (x ∷ []), count_cons p x xs)
+pub last_counts_as_first : {X : Type 0} (p : X → Bool) (xs : List X) (x : X) → count_by p (xs ++ x ∷ []) ≡ count_by p (x ∷ xs)
+last_counts_as_first p xs x = omega (arith, count_by-append p xs (x ∷ []), first_adds_its_count p x xs)
 
 -- where a number has a guest, what holds of each guest holds of one with this number
-pub one_of : (P : Guest → Type 0) (n : ℕ) (guests : List Guest) → AllByRecursion P guests → (count_by (is_of n) guests ≡ 0 → ⊥)
+pub some_guest : (P : Guest → Type 0) (n : ℕ) (guests : List Guest) → AllByRecursion P guests → (count_by (is_of n) guests ≡ 0 → ⊥)
     → (guest : Guest) × P guest × (guest.number ≡ n)
-one_of P n [] all some = absurd (some refl)
-one_of P n (guest ∷ guests) all some = elim (eqb_tells guest.number n) [
+some_guest P n [] all some = absurd (some refl)
+some_guest P n (guest ∷ guests) all some = elim (eqb_tells guest.number n) [
   | inl same ↦ (guest, all.0, same.1)
-  | inr differ ↦ one_of P n guests all.1 (λ none. some (count_other n guest guests differ.1 ∙ none))
+  | inr differ ↦ some_guest P n guests all.1 (λ none. some (other_guest_counts_not n guest guests differ.1 ∙ none))
 ]
 
 -- no guest is of a number that has none
-pub none_of : (n : ℕ) (guests : List Guest) → count_by (is_of n) guests ≡ 0 → AllByRecursion (λ guest. guest.number ≡ n → ⊥) guests
-none_of n [] none = tt
-none_of n (guest ∷ guests) none = elim (eqb_tells guest.number n) [
-  | inl same ↦ absurd (omega (arith, none, count_here n guest guests same.1))
-  | inr differ ↦ (differ.1, none_of n guests (sym (count_other n guest guests differ.1) ∙ none))
+pub guests_are_of_others : (n : ℕ) (guests : List Guest) → count_by (is_of n) guests ≡ 0
+    → AllByRecursion (λ guest. guest.number ≡ n → ⊥) guests
+guests_are_of_others n [] none = tt
+guests_are_of_others n (guest ∷ guests) none = elim (eqb_tells guest.number n) [
+  | inl same ↦ absurd (omega (arith, none, own_guest_counts n guest guests same.1))
+  | inr differ ↦ (differ.1, guests_are_of_others n guests (sym (other_guest_counts_not n guest guests differ.1) ∙ none))
 ]
 
 -- what follows from two facts, each of which holds of each in a list, holds of each
-pub all_with : {X : Type 0} (P Q R : X → Type 0) (xs : List X) → AllByRecursion P xs → AllByRecursion Q xs → ((x : X) → P x → Q x → R x)
+pub each_follows_from_both : {X : Type 0} (P Q R : X → Type 0) (xs : List X) → AllByRecursion P xs → AllByRecursion Q xs
+    → ((x : X) → P x → Q x → R x)
     → AllByRecursion R xs
-all_with P Q R [] these those both = tt
-all_with P Q R (x ∷ xs) these those both = (both x these.0 those.0, all_with P Q R xs these.1 those.1 both)
+each_follows_from_both P Q R [] these those both = tt
+each_follows_from_both P Q R (x ∷ xs) these those both = (both x these.0 those.0, each_follows_from_both P Q R xs these.1 those.1 both)
 
 -- the element at the first place that passes is the first that does
-pub found_at : {X : Type 0} (p : X → Bool) (xs : List X) (i : ℕ) → position p xs ≡ Some i → find p xs ≡ slice_get xs i
-found_at p xs i is = elim (cases_Bool (nat_lt (position_or_len p xs) (length xs))) [
+pub found_is_at_position : {X : Type 0} (p : X → Bool) (xs : List X) (i : ℕ) → position p xs ≡ Some i → find p xs ≡ slice_get xs i
+found_is_at_position p xs i is = elim (cases_Bool (nat_lt (position_or_len p xs) (length xs))) [
   | inl less ↦
       let there = rw less at is in
       let same : position_or_len p xs ≡ i = cc there in
@@ -71,8 +73,8 @@ found_at p xs i is = elim (cases_Bool (nat_lt (position_or_len p xs) (length xs)
 ]
 
 -- where `position` finds no element that passes, `find` finds none
-pub found_nowhere : {X : Type 0} (p : X → Bool) (xs : List X) → position p xs ≡ None → find p xs ≡ None
-found_nowhere p xs is = elim (cases_Bool (nat_lt (position_or_len p xs) (length xs))) [
+pub no_position_finds_none : {X : Type 0} (p : X → Bool) (xs : List X) → position p xs ≡ None → find p xs ≡ None
+no_position_finds_none p xs is = elim (cases_Bool (nat_lt (position_or_len p xs) (length xs))) [
   | inl less ↦ let there = rw less at is in absurd (cc there)
   | inr not_less ↦
       let past = subst (λ (b : Bool). Decides b (position_or_len p xs < length xs)) not_less
@@ -84,31 +86,31 @@ found_nowhere p xs is = elim (cases_Bool (nat_lt (position_or_len p xs) (length 
 ]
 
 -- where `find` finds no element that passes, none is counted
-pub counted_none : {X : Type 0} (p : X → Bool) (xs : List X) → find p xs ≡ None → count_by p xs ≡ 0
-counted_none p [] none = refl
-counted_none p (x ∷ xs) none = elim (cases_Bool (p x)) [
+pub none_found_none_counted : {X : Type 0} (p : X → Bool) (xs : List X) → find p xs ≡ None → count_by p xs ≡ 0
+none_found_none_counted p [] none = refl
+none_found_none_counted p (x ∷ xs) none = elim (cases_Bool (p x)) [
   | inl passes ↦ let some = rw passes at none in absurd (cc some)
   | inr fails ↦
       let rest = rw fails at none in
-      omega (arith, count_no p x fails, count_cons p x xs, counted_none p xs rest)
+      omega (arith, failing_counts_none p x fails, first_adds_its_count p x xs, none_found_none_counted p xs rest)
 ]
 
 -- the element that `find` finds passes, and what holds of each holds of it
-pub found_holds : {X : Type 0} (P : X → Type 0) (p : X → Bool) (xs : List X) (y : X) → AllByRecursion P xs → find p xs ≡ Some y → P y
+pub found_has_property : {X : Type 0} (P : X → Type 0) (p : X → Bool) (xs : List X) (y : X) → AllByRecursion P xs → find p xs ≡ Some y → P y
     × (p y ≡ true)
-found_holds P p [] y all is = absurd (cc is)
-found_holds P p (x ∷ xs) y all is = elim (cases_Bool (p x)) [
+found_has_property P p [] y all is = absurd (cc is)
+found_has_property P p (x ∷ xs) y all is = elim (cases_Bool (p x)) [
   | inl passes ↦
       let there = rw passes at is in
       let same : x ≡ y = cc there in
       (subst P same all.0, subst (λ z. p z ≡ true) same passes)
-  | inr fails ↦ found_holds P p xs y all.1 (rw fails at is)
+  | inr fails ↦ found_has_property P p xs y all.1 (rw fails at is)
 ]
 
 -- an element that `find` finds is counted
-pub found_counted : {X : Type 0} (p : X → Bool) (xs : List X) (y : X) → find p xs ≡ Some y → count_by p xs ≡ 0 → ⊥
-found_counted p [] y is none = cc is
-found_counted p (x ∷ xs) y is none = elim (cases_Bool (p x)) [
-  | inl passes ↦ omega (arith, none, count_cons p x xs, count_one p x passes)
-  | inr fails ↦ found_counted p xs y (rw fails at is) (omega (arith, none, count_cons p x xs))
+pub found_is_counted : {X : Type 0} (p : X → Bool) (xs : List X) (y : X) → find p xs ≡ Some y → count_by p xs ≡ 0 → ⊥
+found_is_counted p [] y is none = cc is
+found_is_counted p (x ∷ xs) y is none = elim (cases_Bool (p x)) [
+  | inl passes ↦ omega (arith, none, first_adds_its_count p x xs, passing_counts_one p x passes)
+  | inr fails ↦ found_is_counted p xs y (rw fails at is) (omega (arith, none, first_adds_its_count p x xs))
 ]

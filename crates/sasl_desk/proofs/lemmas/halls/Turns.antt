@@ -17,14 +17,14 @@ use Rattle.log_grammar.specs.Demands.{Accounts, Demands, demands}
 use Rattle.log_grammar.specs.Numbered.{Numbered, numbered, of_number, closed_in, MayFollow, SpellsNumbered, FollowsLast}
 use Rattle.log_grammar.specs.NumberedLines.{IsSessionNumber, IsNumberedWritable}
 use Rattle.log_grammar.specs.state_machine.NumberedSteps.{put, IsVisitTransition}
-use Rattle.log_grammar.proofs.lemmas.many_sessions.WithoutLast.{numbered_before}
-use Rattle.log_grammar.proofs.lemmas.many_sessions.OpenCounts.{open_was_given}
-use Rattle.log_grammar.proofs.lemmas.many_sessions.LinesOfNumber.{at_each, put_here, put_other, given_append, closed_append}
+use Rattle.log_grammar.proofs.lemmas.many_sessions.WithoutLast.{numbered_log_has_last_transition}
+use Rattle.log_grammar.proofs.lemmas.many_sessions.OpenCounts.{open_number_is_in_range}
+use Rattle.log_grammar.proofs.lemmas.many_sessions.LinesOfNumber.{one_and_others_cover_each, put_sets_own, put_keeps_others, given_append, closed_append}
 use Rattle.log_grammar.proofs.lemmas.ListEnds.{all_append}
-use Rattle.log_grammar.proofs.lemmas.many_sessions.HaltAndBusy.{halt_leads_in, busy_leads_in}
-use Rattle.sasl_log.proofs.lemmas.ListCounts.{all_permuted, count_permuted}
+use Rattle.log_grammar.proofs.lemmas.many_sessions.HaltAndBusy.{visit_halt_leads_to_halted, visit_busy_leads_to_over}
+use Rattle.sasl_log.proofs.lemmas.ListCounts.{permutation_keeps_all, permutation_keeps_count}
 use Rattle.log_grammar.specs.Versions.{most_open}
-use Rattle.sasl_desk.specs.Desks.{HoldsBook, IsStoredAt, IsBookWith, spent_by_all}
+use Rattle.sasl_desk.specs.Desks.{HoldsBook, IsStoredAt, IsBookAfterReplies, spent_by_all}
 use Rattle.sasl_desk.specs.Events.{ClientEvent}
 use Rattle.sasl_desk.specs.Guests.{is_of, guest_of}
 use Rattle.sasl_desk.specs.Halls.{HallFields, hall_of, hall_lines, IsSessionRun, IsSeated, IsHallAfter}
@@ -37,108 +37,120 @@ use Rattle.sasl_desk.specs.declared.keeper.Keeper.{Keeper}
 use Rattle.sasl_desk.specs.declared.session.Session.{Session}
 use Rattle.sasl_desk.specs.declared.turn.AfterTurn.{AfterTurn}
 use Rattle.sasl_desk.specs.declared.turn.AfterTurn.TheVariants.{Going, Over, Halted}
-use Rattle.sasl_desk.proofs.lemmas.halls.Guests.{count_here, count_other, count_last, one_of, none_of, all_with}
-use Rattle.sasl_desk.proofs.lemmas.halls.Paths.{IsTurnLine, turn_number, turn_begun}
-use Rattle.sasl_desk.proofs.lemmas.turns.Paths.{client_turn}
-use Rattle.sasl_desk.proofs.lemmas.runs.IsDeskAfter.{held_unless}
+use Rattle.sasl_desk.proofs.lemmas.halls.Guests.{own_guest_counts, other_guest_counts_not, last_counts_as_first, some_guest, guests_are_of_others, each_follows_from_both}
+use Rattle.sasl_desk.proofs.lemmas.halls.Paths.{IsTurnLine, turn_line_may_have_number, turn_gives_no_number}
+use Rattle.sasl_desk.proofs.lemmas.turns.Paths.{session_has_client_turn}
+use Rattle.sasl_desk.proofs.lemmas.runs.IsDeskAfter.{unhalted_store_holds_book}
 
 -- the first element of a numbered list is the first of those of its number
-pub of_number_here : {X : Type 0} (n : ℕ) (x : X) (xs : List (Numbered X)) → of_number n (numbered n x ∷ xs) ≡ x ∷ of_number n xs
-of_number_here n x xs = rw (eq-eqb n n refl) refl
+pub own_item_comes_first : {X : Type 0} (n : ℕ) (x : X) (xs : List (Numbered X)) → of_number n (numbered n x ∷ xs) ≡ x ∷ of_number n xs
+own_item_comes_first n x xs = rw (eq-eqb n n refl) refl
 
 -- the first element of a numbered list is none of those of another number
-pub of_number_skip : {X : Type 0} (n m : ℕ) (x : X) (xs : List (Numbered X)) → (n ≡ m → ⊥)
+pub other_item_is_skipped : {X : Type 0} (n m : ℕ) (x : X) (xs : List (Numbered X)) → (n ≡ m → ⊥)
     → of_number m (numbered n x ∷ xs) ≡ of_number m xs
-of_number_skip n m x xs other = elim (eqb_tells m n) [
+other_item_is_skipped n m x xs other = elim (eqb_tells m n) [
   | inl same ↦ absurd (other (sym same.1))
   | inr differ ↦ rw differ.0 refl
 ]
 
 -- a place at which a session is open counts as one
-pub opened : (at : Place) → is_closed at ≡ false → open_at at ≡ 1
-opened at is = rw is refl
+pub open_place_counts_one : (at : Place) → is_closed at ≡ false → open_at at ≡ 1
+open_place_counts_one at is = rw is refl
 
 -- a place at which none is open counts as none
-pub closed : (at : Place) → is_closed at ≡ true → open_at at ≡ 0
-closed at is = rw is refl
+pub closed_place_counts_none : (at : Place) → is_closed at ≡ true → open_at at ≡ 0
+closed_place_counts_none at is = rw is refl
 
 -- a session is open where it is its client's turn
-pub turn_is_open : (at : Place) → is_client_turn at ≡ true → is_closed at ≡ false
-turn_is_open before_all turn = absurd (cc turn)
-turn_is_open between turn = absurd (cc turn)
-turn_is_open at turn = refl
+pub client_turn_is_open : (at : Place) → is_client_turn at ≡ true → is_closed at ≡ false
+client_turn_is_open before_all turn = absurd (cc turn)
+client_turn_is_open between turn = absurd (cc turn)
+client_turn_is_open at turn = refl
 
 -- nothing is left to be said at a place: no session is open there, or it is its client's turn. Unlike `IsAtRest`, this holds before
 -- all lines, and not where the log is halted.
-abbrev pub IsResting : Place → Type 0
-IsResting at = (is_closed at ≡ true) ⊎ (is_client_turn at ≡ true)
+abbrev pub IsClosedOrClientTurn : Place → Type 0
+IsClosedOrClientTurn at = (is_closed at ≡ true) ⊎ (is_client_turn at ≡ true)
 
 -- a place where the log is halted, or where `E` is due, is not at rest:
-halted_stirs : (at : Place) → at ≡ halted → IsResting at → ⊥
-halted_stirs at is (inl closed) = let same : is_closed halted ≡ true = subst (λ (p : Place). is_closed p ≡ true) is closed in cc same
-halted_stirs at is (inr turn) = let same : is_client_turn halted ≡ true = subst (λ (p : Place). is_client_turn p ≡ true) is turn in cc same
+halted_place_is_neither : (at : Place) → at ≡ halted → IsClosedOrClientTurn at → ⊥
+halted_place_is_neither at is (inl closed) =
+    let same : is_closed halted ≡ true = subst (λ (p : Place). is_closed p ≡ true) is closed in cc same
+halted_place_is_neither at is (inr turn) =
+    let same : is_client_turn halted ≡ true = subst (λ (p : Place). is_client_turn p ≡ true) is turn in cc same
 
-over_stirs : (at : Place) → at ≡ over → IsResting at → ⊥
-over_stirs at is (inl closed) = let same : is_closed over ≡ true = subst (λ (p : Place). is_closed p ≡ true) is closed in cc same
-over_stirs at is (inr turn) = let same : is_client_turn over ≡ true = subst (λ (p : Place). is_client_turn p ≡ true) is turn in cc same
+over_place_is_neither : (at : Place) → at ≡ over → IsClosedOrClientTurn at → ⊥
+over_place_is_neither at is (inl closed) = let same : is_closed over ≡ true = subst (λ (p : Place). is_closed p ≡ true) is closed in cc same
+over_place_is_neither at is (inr turn) =
+    let same : is_client_turn over ≡ true = subst (λ (p : Place). is_client_turn p ≡ true) is turn in cc same
 
 -- any line may follow one that leads to a place where nothing is left to be said
-may_follow : (d : Demands) (at next : Place) (n m : ℕ) (line more : LogLine) → IsVisitTransition d at line next → IsResting next
+any_line_may_follow : (d : Demands) (at next : Place) (n m : ℕ) (line more : LogLine) → IsVisitTransition d at line next
+    → IsClosedOrClientTurn next
     → MayFollow n line m more
-may_follow d at next n m (said halt) more goes rests = halted_stirs next (halt_leads_in d at (said halt) next refl goes) rests
-may_follow d at next n m (said busy) more goes rests = absurd (over_stirs next (busy_leads_in d at (said busy) next refl goes) rests)
-may_follow d at next n m line more goes rests = tt
+any_line_may_follow d at next n m (said halt) more goes rests =
+    halted_place_is_neither next (visit_halt_leads_to_halted d at (said halt) next refl goes) rests
+any_line_may_follow d at next n m (said busy) more goes rests =
+    absurd (over_place_is_neither next (visit_busy_leads_to_over d at (said busy) next refl goes) rests)
+any_line_may_follow d at next n m line more goes rests = tt
 
 -- where a hall has not halted, each session that is open has a guest, who stands where its place is
-pub seated_guest : {S : Type 0} (facts : S → StoreFacts) (IsStored : List ℕ → Type 0) (start : BookFields) (calls : List (Numbered Call))
+pub open_session_has_guest : {S : Type 0} (facts : S → StoreFacts) (IsStored : List ℕ → Type 0) (start : BookFields)
+    (calls : List (Numbered Call))
     (hall : HallFields S)
     (s : IsHallAfter facts IsStored start calls hall) → hall.is_halted ≡ false → (n : ℕ) → is_closed (s.places n) ≡ false
     → (guest : Guest) × IsSeated (accounts_in start) calls s.places guest × (guest.number ≡ n)
-seated_guest facts IsStored start calls hall s working n is_open =
-    one_of (IsSeated (accounts_in start) calls s.places) n hall.guests (s.seated working)
-    (λ none. absurd (omega (arith, none, s.guests n, opened (s.places n) is_open)))
+open_session_has_guest facts IsStored start calls hall s working n is_open =
+    some_guest (IsSeated (accounts_in start) calls s.places) n hall.guests (s.seated working)
+    (λ none. absurd (omega (arith, none, s.guests n, open_place_counts_one (s.places n) is_open)))
 
 -- where a hall has not halted, each number stands where no session is open, or where it is its client's turn
-pub at_rest : {S : Type 0} (facts : S → StoreFacts) (IsStored : List ℕ → Type 0) (start : BookFields) (calls : List (Numbered Call))
+pub closed_or_client_turn : {S : Type 0} (facts : S → StoreFacts) (IsStored : List ℕ → Type 0) (start : BookFields)
+    (calls : List (Numbered Call))
     (hall : HallFields S)
-    (s : IsHallAfter facts IsStored start calls hall) → hall.is_halted ≡ false → (n : ℕ) → IsResting (s.places n)
-at_rest facts IsStored start calls hall s working n = elim (cases_Bool (is_closed (s.places n))) [
+    (s : IsHallAfter facts IsStored start calls hall) → hall.is_halted ≡ false → (n : ℕ) → IsClosedOrClientTurn (s.places n)
+closed_or_client_turn facts IsStored start calls hall s working n = elim (cases_Bool (is_closed (s.places n))) [
   | inl closed ↦ inl closed
   | inr is_open ↦
-      let found = seated_guest facts IsStored start calls hall s working n is_open in
-      let turn = client_turn (accounts_in start) (s.places found.0.number) found.0.session found.1.0 in
+      let found = open_session_has_guest facts IsStored start calls hall s working n is_open in
+      let turn = session_has_client_turn (accounts_in start) (s.places found.0.number) found.0.session found.1.0 in
       inr (subst (λ (m : ℕ). is_client_turn (s.places m) ≡ true) found.2 turn)
 ]
 
 -- where a hall has not halted, any line of any number may follow the last of its log
-pub any_follows : {S : Type 0} (facts : S → StoreFacts) (IsStored : List ℕ → Type 0) (start : BookFields) (calls : List (Numbered Call))
+pub any_line_follows_log : {S : Type 0} (facts : S → StoreFacts) (IsStored : List ℕ → Type 0) (start : BookFields)
+    (calls : List (Numbered Call))
     (hall : HallFields S)
     (s : IsHallAfter facts IsStored start calls hall) → hall.is_halted ≡ false → (n : ℕ) (line : LogLine)
     → FollowsLast (hall_lines calls) n line
-any_follows facts IsStored start calls hall s working n line before x same =
+any_line_follows_log facts IsStored start calls hall s working n line before x same =
     let d = demands (accounts_in start) in
-    let b = numbered_before most_open d before x.number x.value s.places s.told
+    let b = numbered_log_has_last_transition most_open d before x.number x.value s.places s.told
     (subst (λ (l : List (Numbered LogLine)). SpellsNumbered most_open d l s.places s.told) same s.spelled) in
-    may_follow d (b.before x.number) (s.places x.number) x.number n x.value line b.goes.goes
-    (at_rest facts IsStored start calls hall s working x.number)
+    any_line_may_follow d (b.before x.number) (s.places x.number) x.number n x.value line b.goes.goes
+    (closed_or_client_turn facts IsStored start calls hall s working x.number)
 
 -- where a hall has not halted, its store has not failed and holds the text of its book
-pub holds_book : {S : Type 0} (facts : S → StoreFacts) (IsStored : List ℕ → Type 0) (start : BookFields) (calls : List (Numbered Call))
+pub working_hall_holds_book : {S : Type 0} (facts : S → StoreFacts) (IsStored : List ℕ → Type 0) (start : BookFields)
+    (calls : List (Numbered Call))
     (hall : HallFields S)
     (s : IsHallAfter facts IsStored start calls hall) → hall.is_halted ≡ false
     → HoldsBook IsStored hall.keeper.book (facts hall.keeper.store)
-holds_book facts IsStored start [] hall s working = s.is_stored
-holds_book facts IsStored start (c ∷ calls) hall s working =
-    held_unless IsStored (accounts_in start) (of_number c.number (c ∷ calls)) (s.places c.number) hall.keeper.book (facts hall.keeper.store)
-    (λ is. halted_stirs (s.places c.number) is (at_rest facts IsStored start (c ∷ calls) hall s working c.number)) s.is_stored
+working_hall_holds_book facts IsStored start [] hall s working = s.is_stored
+working_hall_holds_book facts IsStored start (c ∷ calls) hall s working =
+    unhalted_store_holds_book IsStored (accounts_in start) (of_number c.number (c ∷ calls)) (s.places c.number) hall.keeper.book
+        (facts hall.keeper.store)
+    (λ is. halted_place_is_neither (s.places c.number) is (closed_or_client_turn facts IsStored start (c ∷ calls) hall s working c.number))
+      s.is_stored
 
 -- a hall stands for the same calls with its guests in another order
-unfoldable pub stands_reordered : {S : Type 0} (facts : S → StoreFacts) (IsStored : List ℕ → Type 0) (start : BookFields)
+unfoldable pub reordered_hall_stands : {S : Type 0} (facts : S → StoreFacts) (IsStored : List ℕ → Type 0) (start : BookFields)
     (calls : List (Numbered Call)) (keeper : Keeper S) (guests others : List Guest)
     (given : ℕ) (is_halted : Bool) → IsPermutation guests others
     → IsHallAfter facts IsStored start calls (hall_of keeper guests given is_halted)
     → IsHallAfter facts IsStored start calls (hall_of keeper others given is_halted)
-stands_reordered facts IsStored start calls keeper guests others given is_halted same s = record {
+reordered_hall_stands facts IsStored start calls keeper guests others given is_halted same s = record {
   places = s.places;
   told = s.told;
   session_runs = s.session_runs;
@@ -147,9 +159,9 @@ stands_reordered facts IsStored start calls keeper guests others given is_halted
   writable = s.writable;
   given = s.given;
   last_number = s.last_number;
-  guests = λ n. count_permuted (is_of n) guests others same ∙ s.guests n;
+  guests = λ n. permutation_keeps_count (is_of n) guests others same ∙ s.guests n;
   open_are = omega (arith, length_permutation guests others same, s.open_are);
-  seated = λ working. all_permuted (IsSeated (accounts_in start) calls s.places) guests others same (s.seated working);
+  seated = λ working. permutation_keeps_all (IsSeated (accounts_in start) calls s.places) guests others same (s.seated working);
   is_book = s.is_book;
   is_stored = s.is_stored;
   spent = s.spent;
@@ -180,82 +192,87 @@ seats_of Over = 0
 seats_of (Halted going) = 1
 
 -- after a turn a session takes a seat exactly where it is open, and has one `E` line exactly where it takes none:
-seats_open : (accounts : Accounts) (next : Place) (ends : ℕ) (left : AfterTurn) → LeavesAt accounts next ends left
+seats_count_open : (accounts : Accounts) (next : Place) (ends : ℕ) (left : AfterTurn) → LeavesAt accounts next ends left
     → open_at next ≡ seats_of left
 unfolding seats_of
-seats_open accounts next ends (Going going) is = opened next (turn_is_open next (client_turn accounts next going is.0))
-seats_open accounts next ends Over is = closed next (rw is.0 refl)
-seats_open accounts next ends (Halted going) is = opened next (rw is.0 refl)
+seats_count_open accounts next ends (Going going) is =
+    open_place_counts_one next (client_turn_is_open next (session_has_client_turn accounts next going is.0))
+seats_count_open accounts next ends Over is = closed_place_counts_none next (rw is.0 refl)
+seats_count_open accounts next ends (Halted going) is = open_place_counts_one next (rw is.0 refl)
 
-seats_end : (accounts : Accounts) (next : Place) (ends : ℕ) (left : AfterTurn) → LeavesAt accounts next ends left → seats_of left + ends ≡ 1
+seat_or_end : (accounts : Accounts) (next : Place) (ends : ℕ) (left : AfterTurn) → LeavesAt accounts next ends left
+    → seats_of left + ends ≡ 1
 unfolding seats_of
-seats_end accounts next ends (Going going) is = omega (arith, is.1)
-seats_end accounts next ends Over is = omega (arith, is.1)
-seats_end accounts next ends (Halted going) is = omega (arith, is.1)
+seat_or_end accounts next ends (Going going) is = omega (arith, is.1)
+seat_or_end accounts next ends Over is = omega (arith, is.1)
+seat_or_end accounts next ends (Halted going) is = omega (arith, is.1)
 
 -- the guests after a turn are the others, and one more where the session takes a seat, who counts under the session's number alone:
-length_after : (n : ℕ) (server_nonce : List ℕ) (left : AfterTurn) (others : List Guest)
+turn_adds_its_seats : (n : ℕ) (server_nonce : List ℕ) (left : AfterTurn) (others : List Guest)
     → length (guests_after n server_nonce left others) ≡ length others + seats_of left
 unfolding seats_of
-length_after n server_nonce (Going going) others = length-append others (guest_of n going server_nonce ∷ [])
-length_after n server_nonce Over others = omega arith
-length_after n server_nonce (Halted going) others = length-append others (guest_of n going server_nonce ∷ [])
+turn_adds_its_seats n server_nonce (Going going) others = length-append others (guest_of n going server_nonce ∷ [])
+turn_adds_its_seats n server_nonce Over others = omega arith
+turn_adds_its_seats n server_nonce (Halted going) others = length-append others (guest_of n going server_nonce ∷ [])
 
-count_after_here : (n : ℕ) (server_nonce : List ℕ) (left : AfterTurn) (others : List Guest) → count_by (is_of n) others ≡ 0
+own_seats_count : (n : ℕ) (server_nonce : List ℕ) (left : AfterTurn) (others : List Guest) → count_by (is_of n) others ≡ 0
     → count_by (is_of n) (guests_after n server_nonce left others) ≡ seats_of left
 unfolding seats_of
-count_after_here n server_nonce (Going going) others none =
+own_seats_count n server_nonce (Going going) others none =
     omega (
       arith,
       none,
-      count_last (is_of n) others (guest_of n going server_nonce),
-      count_here n (guest_of n going server_nonce) others
+      last_counts_as_first (is_of n) others (guest_of n going server_nonce),
+      own_guest_counts n (guest_of n going server_nonce) others
           refl,
     )
-count_after_here n server_nonce Over others none = none
-count_after_here n server_nonce (Halted going) others none =
+own_seats_count n server_nonce Over others none = none
+own_seats_count n server_nonce (Halted going) others none =
     omega (
       arith,
       none,
-      count_last (is_of n) others (guest_of n going server_nonce),
-      count_here n (guest_of n going server_nonce) others
+      last_counts_as_first (is_of n) others (guest_of n going server_nonce),
+      own_guest_counts n (guest_of n going server_nonce) others
           refl,
     )
 
-count_after_other : (n m : ℕ) (server_nonce : List ℕ) (left : AfterTurn) (others : List Guest) → (n ≡ m → ⊥)
+other_seats_stay : (n m : ℕ) (server_nonce : List ℕ) (left : AfterTurn) (others : List Guest) → (n ≡ m → ⊥)
     → count_by (is_of m) (guests_after n server_nonce left others) ≡ count_by (is_of m) others
-count_after_other n m server_nonce (Going going) others other = count_last (is_of m) others (guest_of n going server_nonce) ∙ count_other m
+other_seats_stay n m server_nonce (Going going) others other =
+    last_counts_as_first (is_of m) others (guest_of n going server_nonce) ∙ other_guest_counts_not m
     (guest_of n going server_nonce) others other
-count_after_other n m server_nonce Over others other = refl
-count_after_other n m server_nonce (Halted going) others other = count_last (is_of m) others (guest_of n going server_nonce) ∙ count_other m
+other_seats_stay n m server_nonce Over others other = refl
+other_seats_stay n m server_nonce (Halted going) others other =
+    last_counts_as_first (is_of m) others (guest_of n going server_nonce) ∙ other_guest_counts_not m
     (guest_of n going server_nonce) others other
 
 -- lines of a turn that can be written can be written under a session's number too
-pub turn_written : (n : ℕ) → IsSessionNumber n → (lines : List LogLine) → AllByRecursion IsTurnLine lines → CanBeWritten lines
+pub numbered_turn_is_writable : (n : ℕ) → IsSessionNumber n → (lines : List LogLine) → AllByRecursion IsTurnLine lines → CanBeWritten lines
     → AllByRecursion IsNumberedWritable (map (numbered n) lines)
-turn_written n number [] turns written = tt
-turn_written n number (line ∷ lines) turns written = (
+numbered_turn_is_writable n number [] turns written = tt
+numbered_turn_is_writable n number (line ∷ lines) turns written = (
   record {
     spelled = refl;
     number = number;
-    has_number = turn_number line turns.0;
+    has_number = turn_line_may_have_number line turns.0;
     line = written.0;
   },
-  turn_written n number lines turns.1 written.1,
+  numbered_turn_is_writable n number lines turns.1 written.1,
 )
 
 -- guests of other numbers stand where they stood after a call of this one
-pub others_seated : (accounts : Accounts) (calls : List (Numbered Call)) (places : ℕ → Place) (n : ℕ) (call : Call) (next : Place)
+pub other_guests_stay_seated : (accounts : Accounts) (calls : List (Numbered Call)) (places : ℕ → Place) (n : ℕ) (call : Call)
+    (next : Place)
     (others : List Guest)
     → AllByRecursion (IsSeated accounts calls places) others → AllByRecursion (λ guest. guest.number ≡ n → ⊥) others
     → AllByRecursion (IsSeated accounts (numbered n call ∷ calls) (put n next places)) others
-others_seated accounts calls places n call next others seated differ =
-    all_with (IsSeated accounts calls places) (λ guest. guest.number ≡ n → ⊥)
+other_guests_stay_seated accounts calls places n call next others seated differ =
+    each_follows_from_both (IsSeated accounts calls places) (λ guest. guest.number ≡ n → ⊥)
     (IsSeated accounts (numbered n call ∷ calls) (put n next places)) others seated differ
     (λ guest is apart. (
       subst (λ (p : Place). IsSessionAt accounts p guest.session)
-          (sym (put_other n next places guest.number (λ same. apart (sym same)))) is.0,
-      is.1 ∙ ap server_nonce_of (sym (of_number_skip n guest.number call calls (λ same. apart (sym same)))),
+          (sym (put_keeps_others n next places guest.number (λ same. apart (sym same)))) is.0,
+      is.1 ∙ ap server_nonce_of (sym (other_item_is_skipped n guest.number call calls (λ same. apart (sym same)))),
     ))
 
 -- what a turn of the session of this number gives its hall: the place to which it leads, the log with its lines, and the book and the store
@@ -270,21 +287,22 @@ pub record HallStep {S : Type 0} (facts : S → StoreFacts) (IsStored : List ℕ
   pub turns : AllByRecursion IsTurnLine lines
   pub writable : CanBeWritten lines
   pub leaves : LeavesAt (accounts_in start) next (closed_in (map (numbered n) lines)) left
-  pub is_book : IsBookWith start (reverse told) keeper.book
+  pub is_book : IsBookAfterReplies start (reverse told) keeper.book
   pub stored : IsStoredAt IsStored (accounts_in start) (call_of (hears event moment) lines ∷ of_number n calls) next keeper.book
       (facts keeper.store)
   pub spent : (ps : List (List ℕ × ℕ)) → AreSpent ps start → AreSpent (spent_by_all (reverse told) ++ ps) keeper.book
 
 -- the guests after a turn stand at their places, where the others do
-seated_after : (accounts : Accounts) (calls : List (Numbered Call)) (places : ℕ → Place) (n : ℕ) (server_nonce : List ℕ) (left : AfterTurn)
+turn_leaves_guests_seated : (accounts : Accounts) (calls : List (Numbered Call)) (places : ℕ → Place) (n : ℕ) (server_nonce : List ℕ)
+    (left : AfterTurn)
     (others : List Guest) (ends : ℕ)
     → LeavesAt accounts (places n) ends left → AllByRecursion (IsSeated accounts calls places) others
     → server_nonce ≡ server_nonce_of (of_number n calls)
     → halted_after left ≡ false → AllByRecursion (IsSeated accounts calls places) (guests_after n server_nonce left others)
-seated_after accounts calls places n server_nonce (Going going) others ends is seated same working =
+turn_leaves_guests_seated accounts calls places n server_nonce (Going going) others ends is seated same working =
     all_append (IsSeated accounts calls places) others (guest_of n going server_nonce ∷ []) seated ((is.0, same), tt)
-seated_after accounts calls places n server_nonce Over others ends is seated same working = seated
-seated_after accounts calls places n server_nonce (Halted going) others ends is seated same working = absurd (cc working)
+turn_leaves_guests_seated accounts calls places n server_nonce Over others ends is seated same working = seated
+turn_leaves_guests_seated accounts calls places n server_nonce (Halted going) others ends is seated same working = absurd (cc working)
 
 -- a hall stands for one call more after a turn of one of its sessions, which then stands at the place to which the turn led
 pub stands_by_step : {S : Type 0} (facts : S → StoreFacts) (IsStored : List ℕ → Type 0) (start : BookFields) (calls : List (Numbered Call))
@@ -300,53 +318,53 @@ stands_by_step facts IsStored start calls old new n going server_nonce others gi
     let call = call_of (hears event moment) lines in
     let guest = guest_of n going server_nonce in
     let places = put n step.next s.places in
-    let here = put_here n step.next s.places in
-    let mine = of_number_here n call calls in
+    let here = put_sets_own n step.next s.places in
+    let mine = own_item_comes_first n call calls in
     let is = s.seated refl in
-    let is_open = turn_is_open (s.places n) (client_turn accounts (s.places n) going is.0.0) in
-    let range = open_was_given most_open (demands accounts) (hall_lines calls) s.places s.told s.spelled n is_open in
+    let is_open = client_turn_is_open (s.places n) (session_has_client_turn accounts (s.places n) going is.0.0) in
+    let range = open_number_is_in_range most_open (demands accounts) (hall_lines calls) s.places s.told s.spelled n is_open in
     let number : IsSessionNumber n = (range.0, omega (arith, range.1, s.given, s.last_number)) in
-    let counted = count_here n guest others refl in
-    let alone : count_by (is_of n) others ≡ 0 = omega (arith, counted, s.guests n, opened (s.places n) is_open) in
-    let none = turn_begun n lines step.turns in
+    let counted = own_guest_counts n guest others refl in
+    let alone : count_by (is_of n) others ≡ 0 = omega (arith, counted, s.guests n, open_place_counts_one (s.places n) is_open) in
+    let none = turn_gives_no_number n lines step.turns in
     let all_begun = given_append (hall_lines calls) (map (numbered n) lines) in
     let all_closed = closed_append (hall_lines calls) (map (numbered n) lines) in
     let leaves = subst (λ (p : Place). LeavesAt accounts p (closed_in (map (numbered n) lines)) left) (sym here) step.leaves in (
       record {
         places = places;
         told = step.told;
-        session_runs = at_each (λ (m : ℕ). IsSessionRun accounts (of_number m (numbered n call ∷ calls)) (places m)) n
+        session_runs = one_and_others_cover_each (λ (m : ℕ). IsSessionRun accounts (of_number m (numbered n call ∷ calls)) (places m)) n
             (subst (λ (l : List Call). IsSessionRun accounts l (places n)) (sym mine)
             (subst (λ (p : Place). IsSessionRun accounts (call ∷ of_number n calls) p) (sym here) (elim (s.session_runs n) [
               | inl run ↦ inl (s.places n, run, step.taken)
               | inr (turned, at) ↦ absurd
                   (let same : is_closed between ≡ false = subst (λ (p : Place). is_closed p ≡ false) at is_open in cc same)
             ])))
-            (λ m other. subst (λ (l : List Call). IsSessionRun accounts l (places m)) (sym (of_number_skip n m call calls other))
-            (subst (λ (p : Place). IsSessionRun accounts (of_number m calls) p) (sym (put_other n step.next s.places m other))
+            (λ m other. subst (λ (l : List Call). IsSessionRun accounts l (places m)) (sym (other_item_is_skipped n m call calls other))
+            (subst (λ (p : Place). IsSessionRun accounts (of_number m calls) p) (sym (put_keeps_others n step.next s.places m other))
             (s.session_runs m)));
-        fresh = λ m more. of_number_skip n m call calls (λ same. omega (arith, same, more, range.1, none, all_begun))
+        fresh = λ m more. other_item_is_skipped n m call calls (λ same. omega (arith, same, more, range.1, none, all_begun))
             ∙ s.fresh m (omega (arith, more, none, all_begun));
         spelled = step.spelled;
         writable = all_append IsNumberedWritable (hall_lines calls) (map (numbered n) lines) s.writable
-            (turn_written n number lines step.turns step.writable);
+            (numbered_turn_is_writable n number lines step.turns step.writable);
         given = omega (arith, s.given, none, all_begun);
         last_number = s.last_number;
-        guests = at_each (λ (m : ℕ). count_by (is_of m) (guests_after n server_nonce left others) ≡ open_at (places m)) n
-            (count_after_here n server_nonce left others alone ∙ sym (seats_open accounts (places n) _ left leaves))
-            (λ m other. count_after_other n m server_nonce left others other ∙ sym (count_other m guest others other) ∙ s.guests m
-            ∙ ap open_at (sym (put_other n step.next s.places m other)));
+        guests = one_and_others_cover_each (λ (m : ℕ). count_by (is_of m) (guests_after n server_nonce left others) ≡ open_at (places m)) n
+            (own_seats_count n server_nonce left others alone ∙ sym (seats_count_open accounts (places n) _ left leaves))
+            (λ m other. other_seats_stay n m server_nonce left others other ∙ sym (other_guest_counts_not m guest others other) ∙ s.guests m
+            ∙ ap open_at (sym (put_keeps_others n step.next s.places m other)));
         open_are = omega (
           arith,
-          length_after n server_nonce left others,
-          seats_end accounts step.next _ left step.leaves,
+          turn_adds_its_seats n server_nonce left others,
+          seat_or_end accounts step.next _ left step.leaves,
           s.open_are,
           none,
           all_begun,
           all_closed,
         );
-        seated = seated_after accounts (numbered n call ∷ calls) places n server_nonce left others _ leaves
-            (others_seated accounts calls s.places n call step.next others is.1 (none_of n others alone))
+        seated = turn_leaves_guests_seated accounts (numbered n call ∷ calls) places n server_nonce left others _ leaves
+            (other_guests_stay_seated accounts calls s.places n call step.next others is.1 (guests_are_of_others n others alone))
             (is.0.1 ∙ ap server_nonce_of (sym mine));
         is_book = step.is_book;
         is_stored = subst (λ (l : List Call). IsStoredAt IsStored accounts l (places n) new.book (facts new.store)) (sym mine)

@@ -10,7 +10,7 @@ use Rattle.book_format.specs.Trees.{IsBookText}
 use Rattle.account_book.specs.Store.{StoreFacts, IsFailedSave}
 use Rattle.log_grammar.specs.Books.{accounts_in}
 use Rattle.log_grammar.specs.laws.LogLaws.{GoesOnByALine}
-use Rattle.log_grammar.specs.Lines.{LogLine, said, heard, mechs, replies, halt, asking, log_bytes}
+use Rattle.log_grammar.specs.Lines.{LogLine, said, heard, mechs, replies, halt, code_line, log_bytes}
 use Rattle.log_grammar.specs.Words.{offered_names}
 use Rattle.log_grammar.specs.LoggedReply.{LoggedReply, logged_reply_of}
 use Rattle.log_grammar.specs.Places.{Place, waits_code}
@@ -38,58 +38,59 @@ use Rattle.sasl_desk.specs.declared.session.event.Recorded.TheVariants as record
 use Rattle.sasl_desk.specs.declared.session.event.Saying.{Saying}
 use Rattle.sasl_desk.specs.declared.session.event.Saying.TheVariants.{Nothing, Continues, Accepts, Refuses}
 use Rattle.sasl_desk.specs.declared.session.event.Turn.{Turn}
-use Rattle.sasl_desk.proofs.lemmas.turns.Paths.{client_turn}
-use Rattle.sasl_desk.proofs.lemmas.runs.IsDeskAfter.{book_after_told, held_in_turn, lost_now, stands_by_greeting, stands_by_turn}
-use Rattle.sasl_desk.proofs.lemmas.runs.IsDeskAfter.{stands_by_code}
+use Rattle.sasl_desk.proofs.lemmas.turns.Paths.{session_has_client_turn}
+use Rattle.sasl_desk.proofs.lemmas.runs.IsDeskAfter.{book_after_told, client_turn_store_holds_book, save_failed_now, greeting_adds_desk_call, turn_adds_desk_call}
+use Rattle.sasl_desk.proofs.lemmas.runs.IsDeskAfter.{code_adds_desk_call}
 
 -- what is recorded of a client stands for no save
-recorded_saves : (kept : Recorded) (lines : List LogLine) → filter is_saving (recorded_shown kept ∷ lines) ≡ filter is_saving lines
-recorded_saves (recorded.Line line) lines = refl
-recorded_saves recorded.Bad lines = refl
-recorded_saves recorded.Gone lines = refl
+record_saves_nothing : (kept : Recorded) (lines : List LogLine) → filter is_saving (recorded_shown kept ∷ lines) ≡ filter is_saving lines
+record_saves_nothing (recorded.Line line) lines = refl
+record_saves_nothing recorded.Bad lines = refl
+record_saves_nothing recorded.Gone lines = refl
 
 -- the end of a session stands for no save
-ends_save : (going : Option Session) → filter is_saving (end_lines going) ≡ []
-ends_save (Some going) = refl
-ends_save None = refl
+end_saves_nothing : (going : Option Session) → filter is_saving (end_lines going) ≡ []
+end_saves_nothing (Some going) = refl
+end_saves_nothing None = refl
 
 -- the lines that a session answers stand for no save
-answer_saves : (says : Saying) (going : Option Session) (message : List ℕ)
+answer_saves_nothing : (says : Saying) (going : Option Session) (message : List ℕ)
     → filter is_saving (said_lines says message ++ end_lines going) ≡ []
-answer_saves Nothing going message = ends_save going
-answer_saves Continues going message = ends_save going
-answer_saves Accepts going message = ends_save going
-answer_saves Refuses going message = ends_save going
+answer_saves_nothing Nothing going message = end_saves_nothing going
+answer_saves_nothing Continues going message = end_saves_nothing going
+answer_saves_nothing Accepts going message = end_saves_nothing going
+answer_saves_nothing Refuses going message = end_saves_nothing going
 
 -- the store is not asked to save for any line of a turn that a session answers
-pub turn_saves : (turn : Turn) (message : List ℕ) → filter is_saving (turn_lines turn message) ≡ []
-turn_saves turn message =
-    recorded_saves turn.recorded (lines_of_answer turn.answer message) ∙ answer_saves turn.answer.says turn.answer.session message
+pub session_turn_saves_nothing : (turn : Turn) (message : List ℕ) → filter is_saving (turn_lines turn message) ≡ []
+session_turn_saves_nothing turn message =
+    record_saves_nothing turn.recorded (lines_of_answer turn.answer message)
+        ∙ answer_saves_nothing turn.answer.says turn.answer.session message
 
 -- for a code, or two in a row, there is one save if the answer is PASS, FAIL or HALT, and none for another answer
-pub saves_by_code : (IsStored : List ℕ → Type 0) (moment : ℕ) (sent : CodeTexts) (name : List ℕ) (judged : CodeJudged)
+pub code_counts_saves : (IsStored : List ℕ → Type 0) (moment : ℕ) (sent : CodeTexts) (name : List ℕ) (judged : CodeJudged)
     (old new : BookFields)
     (was now : StoreFacts) → HoldsBook IsStored old was
     → IsJudged IsStored old was name moment sent judged new now
     → now.saves ≡ was.saves + length (filter is_saving (judged_lines moment sent judged))
-saves_by_code IsStored moment sent name (Replied (Some (Pass c))) old new was now held (one, kept) = kept.saved.begun.counted
-saves_by_code IsStored moment sent name (Replied (Some Fail)) old new was now held (one, kept) = kept.saved.begun.counted
-saves_by_code IsStored moment sent name (Replied (Some Locked)) old new was now held (one, kept) =
+code_counts_saves IsStored moment sent name (Replied (Some (Pass c))) old new was now held (one, kept) = kept.saved.begun.counted
+code_counts_saves IsStored moment sent name (Replied (Some Fail)) old new was now held (one, kept) = kept.saved.begun.counted
+code_counts_saves IsStored moment sent name (Replied (Some Locked)) old new was now held (one, kept) =
     let same = ap (λ (f : StoreFacts). f.saves) kept.1 in omega (arith, same)
-saves_by_code IsStored moment sent name (Replied None) old new was now held (one, kept) =
+code_counts_saves IsStored moment sent name (Replied None) old new was now held (one, kept) =
     let same = ap (λ (f : StoreFacts). f.saves) kept.1 in omega (arith, same)
-saves_by_code IsStored moment sent name Lost old new was now held (same, (reply, next, needs, one, loses)) =
-    (lost_now was now loses.text held.working loses.lost).begun.counted
+code_counts_saves IsStored moment sent name Lost old new was now held (same, (reply, next, needs, one, loses)) =
+    (save_failed_now was now loses.text held.working loses.lost).begun.counted
 
 -- a code that needs a save is an attempt, and the store was asked to save the book with it
-pub asked_by_code : (IsStored : List ℕ → Type 0) (event : ClientEvent) (moment : ℕ) (sent : CodeTexts) (name : List ℕ) (at : Place)
+pub code_asks_for_save : (IsStored : List ℕ → Type 0) (event : ClientEvent) (moment : ℕ) (sent : CodeTexts) (name : List ℕ) (at : Place)
     (judged : CodeJudged) (old new : BookFields) (was now : StoreFacts)
     → at ≡ waits_code name → HoldsBook IsStored old was → IsJudged IsStored old was name moment sent judged new now
     → (filter is_saving (judged_lines moment sent judged) ≡ [] → ⊥)
     → (t : LoggedReply) × (next : BookFields) × IsAttemptOf (hears event moment) at (judged_lines moment sent judged) t
     × IsAttemptJudged old t next
     × IsBookText now.asked next
-asked_by_code IsStored event moment sent name at (Replied (Some (Pass c))) old new was now here held (one, kept) some = (
+code_asks_for_save IsStored event moment sent name at (Replied (Some (Pass c))) old new was now here held (one, kept) some = (
   logged_reply_of name moment sent (Some (Pass c)),
   new,
   record {
@@ -103,66 +104,68 @@ asked_by_code IsStored event moment sent name at (Replied (Some (Pass c))) old n
   one,
   subst (λ (t : List ℕ). IsBookText t new) (sym kept.saved.begun.asked) kept.is_text,
 )
-asked_by_code IsStored event moment sent name at (Replied (Some Fail)) old new was now here held (one, kept) some = (
+code_asks_for_save IsStored event moment sent name at (Replied (Some Fail)) old new was now here held (one, kept) some = (
   logged_reply_of name moment sent (Some Fail),
   new,
   record { event = event; answer = said (replies moment (Some Fail)); is_request = refl; place = here; lines_are = refl; to_save = refl },
   one,
   subst (λ (t : List ℕ). IsBookText t new) (sym kept.saved.begun.asked) kept.is_text,
 )
-asked_by_code IsStored event moment sent name at (Replied (Some Locked)) old new was now here held judged some = absurd (some refl)
-asked_by_code IsStored event moment sent name at (Replied None) old new was now here held judged some = absurd (some refl)
-asked_by_code IsStored event moment sent name at Lost old new was now here held (same, (reply, next, needs, one, loses)) some = (
+code_asks_for_save IsStored event moment sent name at (Replied (Some Locked)) old new was now here held judged some = absurd (some refl)
+code_asks_for_save IsStored event moment sent name at (Replied None) old new was now here held judged some = absurd (some refl)
+code_asks_for_save IsStored event moment sent name at Lost old new was now here held (same, (reply, next, needs, one, loses)) some = (
   logged_reply_of name moment sent reply,
   next,
   record { event = event; answer = said halt; is_request = refl; place = here; lines_are = refl; to_save = needs },
   one,
-  subst (λ (t : List ℕ). IsBookText t next) (sym (lost_now was now loses.text held.working loses.lost).begun.asked) loses.is_text,
+  subst (λ (t : List ℕ). IsBookText t next) (sym (save_failed_now was now loses.text held.working loses.lost).begun.asked) loses.is_text,
 )
 
 -- where nothing is saved for a code, or two in a row, the book and the store stay as they were
-pub quiet_by_code : (IsStored : List ℕ → Type 0) (moment : ℕ) (sent : CodeTexts) (name : List ℕ) (judged : CodeJudged)
+pub code_is_quiet : (IsStored : List ℕ → Type 0) (moment : ℕ) (sent : CodeTexts) (name : List ℕ) (judged : CodeJudged)
     (old new : BookFields)
     (was now : StoreFacts)
     → IsJudged IsStored old was name moment sent judged new now → filter is_saving (judged_lines moment sent judged) ≡ [] → (new ≡ old)
     × (now ≡ was)
-quiet_by_code IsStored moment sent name (Replied (Some (Pass c))) old new was now judged none = absurd (cc none)
-quiet_by_code IsStored moment sent name (Replied (Some Fail)) old new was now judged none = absurd (cc none)
-quiet_by_code IsStored moment sent name (Replied (Some Locked)) old new was now (one, kept) none = kept
-quiet_by_code IsStored moment sent name (Replied None) old new was now (one, kept) none = kept
-quiet_by_code IsStored moment sent name Lost old new was now judged none = absurd (cc none)
+code_is_quiet IsStored moment sent name (Replied (Some (Pass c))) old new was now judged none = absurd (cc none)
+code_is_quiet IsStored moment sent name (Replied (Some Fail)) old new was now judged none = absurd (cc none)
+code_is_quiet IsStored moment sent name (Replied (Some Locked)) old new was now (one, kept) none = kept
+code_is_quiet IsStored moment sent name (Replied None) old new was now (one, kept) none = kept
+code_is_quiet IsStored moment sent name Lost old new was now judged none = absurd (cc none)
 
 -- a store that was to save and lost it, or that had failed before, has failed
-pub failed_by : (was now : StoreFacts) (text : List ℕ) → ((was.failed ≡ true) × (now ≡ was)) ⊎ IsFailedSave was text now → now.failed ≡ true
-failed_by was now text (inl (failed, same)) = rw same failed
-failed_by was now text (inr lost) = lost.failed
+pub lost_store_has_failed : (was now : StoreFacts) (text : List ℕ) → ((was.failed ≡ true) × (now ≡ was)) ⊎ IsFailedSave was text now
+    → now.failed ≡ true
+lost_store_has_failed was now text (inl (failed, same)) = rw same failed
+lost_store_has_failed was now text (inr lost) = lost.failed
 
 -- a desk that has halted after a code has a store that failed, and its book did not change
-halts_by_code : (IsStored : List ℕ → Type 0) (moment : ℕ) (sent : CodeTexts) (name server_nonce : List ℕ) (judged : CodeJudged)
+halted_desk_failed_saving : (IsStored : List ℕ → Type 0) (moment : ℕ) (sent : CodeTexts) (name server_nonce : List ℕ) (judged : CodeJudged)
     (old new : BookFields)
     (was now : StoreFacts)
     → IsJudged IsStored old was name moment sent judged new now
     → phase_of (state_after (after_judged name judged) server_nonce) ≡ phase.Halted
     → (now.failed ≡ true) × (new ≡ old)
-halts_by_code IsStored moment sent name server_nonce (Replied reply) old new was now judged is = absurd (cc is)
-halts_by_code IsStored moment sent name server_nonce Lost old new was now (same, (reply, next, needs, one, loses)) is =
-    (failed_by was now loses.text loses.lost, same)
+halted_desk_failed_saving IsStored moment sent name server_nonce (Replied reply) old new was now judged is = absurd (cc is)
+halted_desk_failed_saving IsStored moment sent name server_nonce Lost old new was now (same, (reply, next, needs, one, loses)) is =
+    (lost_store_has_failed was now loses.text loses.lost, same)
 
 -- an open session is no halt
-pub open_goes_on : (going : Session) → session_phase going ≡ phase.Halted → ⊥
-open_goes_on WaitAuth is = cc is
-open_goes_on (WaitFirst mechanism) is = cc is
-open_goes_on (WaitFinal waiting) is = cc is
-open_goes_on (WaitCode name) is = cc is
+pub open_session_not_halted : (going : Session) → session_phase going ≡ phase.Halted → ⊥
+open_session_not_halted WaitAuth is = cc is
+open_session_not_halted (WaitFirst mechanism) is = cc is
+open_session_not_halted (WaitFinal waiting) is = cc is
+open_session_not_halted (WaitCode name) is = cc is
 
 -- a desk whose session goes on or has ended has not halted
-left_goes_on : (going : Option Session) (server_nonce : List ℕ) → phase_of (state_after (after_turn_of going) server_nonce) ≡ phase.Halted
+left_desk_not_halted : (going : Option Session) (server_nonce : List ℕ)
+    → phase_of (state_after (after_turn_of going) server_nonce) ≡ phase.Halted
     → ⊥
-left_goes_on None server_nonce is = cc is
-left_goes_on (Some going) server_nonce is = open_goes_on going is
+left_desk_not_halted None server_nonce is = cc is
+left_desk_not_halted (Some going) server_nonce is = open_session_not_halted going is
 
 -- a desk whose open session judged a code, or two in a row, has answered the call
-answers_by_code : BeginsWithItself → SpentStaysSpent → GoesOnByALine
+code_answers_desk_call : BeginsWithItself → SpentStaysSpent → GoesOnByALine
     → {S : Type 0} (facts : S → StoreFacts) (IsStored : List ℕ → Type 0) (old : Keeper S) (going : Session)
     (server_nonce : List ℕ) (event : ClientEvent) (moment : ℕ) (lines : List LogLine) (left : AfterTurn) (wire wire' log log' : List ℕ)
     (new : Desk S)
@@ -170,12 +173,13 @@ answers_by_code : BeginsWithItself → SpentStaysSpent → GoesOnByALine
     → KeeperReplies facts IsStored old name moment sent lines left new.keeper
     → AreLoggedAndSent None lines wire wire' log log' → new.state ≡ state_after left server_nonce
     → Answers facts IsStored (desk_of old (Open going server_nonce)) (hears event moment) wire wire' log log' new
-answers_by_code itself stays law {S} facts IsStored old going server_nonce event moment lines left wire wire' log log' new name sent asked
+code_answers_desk_call itself stays law {S} facts IsStored old going server_nonce event moment lines left wire wire' log log' new name sent
+    asked
     t written is_state =
     let held = λ (start : BookFields) (calls : List Call) (s : IsDeskAfter facts IsStored start calls
     (desk_of old (Open going server_nonce))).
-    held_in_turn IsStored (accounts_in start) calls s.place old.book (facts old.store)
-    (client_turn (accounts_in start) s.place going s.is_state.0) s.is_stored in
+    client_turn_store_holds_book IsStored (accounts_in start) calls s.place old.book (facts old.store)
+    (session_has_client_turn (accounts_in start) s.place going s.is_state.0) s.is_stored in
     record {
       lines = lines;
       logged = written.logged;
@@ -184,47 +188,48 @@ answers_by_code itself stays law {S} facts IsStored old going server_nonce event
           let here = subst (λ (g : Session). IsDeskAfter facts IsStored start calls (desk_of old (Open g server_nonce))) asked.waits s in
           let after = book_after_told itself start s.told old.book s.is_book in
           let asks = asked.asks (accounts_in start) s.place after.entries s.is_state.0 in
-          let is_record = subst (λ (p : Place). IsRecord event p (heard (asking sent))) asks.place asks.is_record in
+          let is_record = subst (λ (p : Place). IsRecord event p (heard (code_line sent))) asks.place asks.is_record in
           rw (is_state, t.is_left, t.lines_are)
-          (stands_by_code itself stays law facts IsStored start calls old new.keeper name server_nonce event moment sent t.judged here
+          (code_adds_desk_call itself stays law facts IsStored start calls old new.keeper name server_nonce event moment sent t.judged here
           is_record
           asked.writable t.is_judged t.in_range);
       saves = λ start calls s.
           rw t.lines_are
-          (saves_by_code IsStored moment sent name t.judged old.book new.keeper.book (facts old.store) (facts new.keeper.store)
+          (code_counts_saves IsStored moment sent name t.judged old.book new.keeper.book (facts old.store) (facts new.keeper.store)
           (held start calls s) t.is_judged);
       asks = λ start calls s some.
           let here = subst (λ (g : Session). IsSessionAt (accounts_in start) s.place g) asked.waits s.is_state.0 in
           rw t.lines_are
-          (asked_by_code IsStored event moment sent name s.place t.judged old.book new.keeper.book (facts old.store)
+          (code_asks_for_save IsStored event moment sent name s.place t.judged old.book new.keeper.book (facts old.store)
           (facts new.keeper.store) here
           (held start calls s) t.is_judged (rw t.lines_are at some));
       quiet = λ none.
-          quiet_by_code IsStored moment sent name t.judged old.book new.keeper.book (facts old.store) (facts new.keeper.store) t.is_judged
+          code_is_quiet IsStored moment sent name t.judged old.book new.keeper.book (facts old.store) (facts new.keeper.store) t.is_judged
           (rw t.lines_are at none);
       halts = λ is.
-          halts_by_code IsStored moment sent name server_nonce t.judged old.book new.keeper.book (facts old.store)
+          halted_desk_failed_saving IsStored moment sent name server_nonce t.judged old.book new.keeper.book (facts old.store)
           (facts new.keeper.store) t.is_judged
           (rw (is_state, t.is_left) at is);
     }
 
 -- a desk whose open session answered a turn has answered the call
-answers_by_turn : BeginsWithItself → GoesOnByALine
+session_answers_desk_call : BeginsWithItself → GoesOnByALine
     → {S : Type 0} (facts : S → StoreFacts) (IsStored : List ℕ → Type 0) (keeper : Keeper S) (going : Session) (server_nonce : List ℕ)
     (event : ClientEvent)
     (moment : ℕ) (lines : List LogLine) (left : AfterTurn) (wire wire' log log' : List ℕ) (new : Desk S)
     → SessionAnswers keeper going server_nonce event lines left new.keeper → AreLoggedAndSent None lines wire wire' log log'
     → new.state ≡ state_after left server_nonce
     → Answers facts IsStored (desk_of keeper (Open going server_nonce)) (hears event moment) wire wire' log log' new
-answers_by_turn itself law facts IsStored keeper going server_nonce event moment lines left wire wire' log log' new t written is_state =
-    let none_saved : filter is_saving lines ≡ [] = rw t.lines_are (turn_saves t.turn t.message) in
+session_answers_desk_call itself law facts IsStored keeper going server_nonce event moment lines left wire wire' log log' new t written
+    is_state =
+    let none_saved : filter is_saving lines ≡ [] = rw t.lines_are (session_turn_saves_nothing t.turn t.message) in
     record {
       lines = lines;
       logged = written.logged;
       sent = written.sent;
       stands = λ start calls s.
           rw (t.same, is_state, t.is_left, t.lines_are)
-          (stands_by_turn itself law facts IsStored start calls keeper going server_nonce event moment t.turn t.message s t.hears
+          (turn_adds_desk_call itself law facts IsStored start calls keeper going server_nonce event moment t.turn t.message s t.hears
           (rw t.lines_are at t.writable));
       saves = λ start calls s.
           let none = ap (λ (l : List LogLine). length l) none_saved in
@@ -232,37 +237,40 @@ answers_by_turn itself law facts IsStored keeper going server_nonce event moment
           omega (arith, none, unasked);
       asks = λ start calls s some. absurd (some none_saved);
       quiet = λ none. (ap (λ (k : Keeper _). k.book) t.same, ap (λ (k : Keeper _). facts k.store) t.same);
-      halts = λ is. absurd (left_goes_on t.turn.answer.session server_nonce (rw (is_state, t.is_left) at is));
+      halts = λ is. absurd (left_desk_not_halted t.turn.answer.session server_nonce (rw (is_state, t.is_left) at is));
     }
 
 -- where the open session took a turn and its lines were written, the desk has answered the call
-pub answers_by_taken : BeginsWithItself → SpentStaysSpent → GoesOnByALine
+pub turn_answers_desk_call : BeginsWithItself → SpentStaysSpent → GoesOnByALine
     → {S : Type 0} (facts : S → StoreFacts) (IsStored : List ℕ → Type 0) (old : Keeper S) (going : Session) (server_nonce : List ℕ)
     (event : ClientEvent) (moment : ℕ) (left : AfterTurn) (wire wire' log log' : List ℕ) (new : Desk S)
     → IsTurnWritten facts IsStored old going server_nonce event moment None wire wire' log log' left new.keeper
     → new.state ≡ state_after left server_nonce
     → Answers facts IsStored (desk_of old (Open going server_nonce)) (hears event moment) wire wire' log log' new
-answers_by_taken itself stays law facts IsStored old going server_nonce event moment left wire wire' log log' new (lines, inl t, written)
+turn_answers_desk_call itself stays law facts IsStored old going server_nonce event moment left wire wire' log log' new
+    (lines, inl t, written)
     is_state =
-    answers_by_turn itself law facts IsStored old going server_nonce event moment lines left wire wire' log log' new t written is_state
-answers_by_taken itself stays law facts IsStored old going server_nonce event moment left wire wire' log log' new
+    session_answers_desk_call itself law facts IsStored old going server_nonce event moment lines left wire wire' log log' new t written
+        is_state
+turn_answers_desk_call itself stays law facts IsStored old going server_nonce event moment left wire wire' log log' new
     (lines, inr (name, sent, asked, t), written) is_state =
-    answers_by_code itself stays law facts IsStored old going server_nonce event moment lines left wire wire' log log' new name sent asked
+    code_answers_desk_call itself stays law facts IsStored old going server_nonce event moment lines left wire wire' log log' new name sent
+        asked
     t written is_state
 
 -- a closed desk that has written its offer has answered the greeting
-pub answers_by_greeting : GoesOnByALine
+pub greeting_answers_desk_call : GoesOnByALine
     → {S : Type 0} (facts : S → StoreFacts) (IsStored : List ℕ → Type 0) (keeper : Keeper S) (state : State)
     (server_nonce wire wire' log log' : List ℕ)
     → state ≡ Closed → log' ≡ log ++ log_bytes (said (mechs offered_names) ∷ [])
     → wire' ≡ wire ++ wire_bytes (said (mechs offered_names) ∷ [])
     → Answers facts IsStored (desk_of keeper state) (greets server_nonce) wire wire' log log' (desk_of keeper (Open WaitAuth server_nonce))
-answers_by_greeting law facts IsStored keeper state server_nonce wire wire' log log' closed logged sent = record {
+greeting_answers_desk_call law facts IsStored keeper state server_nonce wire wire' log log' closed logged sent = record {
   lines = said (mechs offered_names) ∷ [];
   logged = logged;
   sent = sent;
   stands = λ start calls s.
-      stands_by_greeting law facts IsStored start calls keeper server_nonce
+      greeting_adds_desk_call law facts IsStored start calls keeper server_nonce
       (subst (λ (st : State). IsDeskAfter facts IsStored start calls (desk_of keeper st)) closed s);
   saves = λ start calls s. omega arith;
   asks = λ start calls s some. absurd (some refl);

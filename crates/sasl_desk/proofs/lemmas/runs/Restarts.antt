@@ -15,10 +15,10 @@ use Rattle.log_grammar.specs.Places.{Place, MayEnd, halted}
 use Rattle.log_grammar.specs.Demands.{Accounts, demands}
 use Rattle.log_grammar.specs.Begins.{Begins, AreLines}
 use Rattle.log_grammar.specs.Versions.{IsFront, IsClean}
-use Rattle.log_grammar.proofs.lemmas.ListEnds.{each_rest}
-use Rattle.log_grammar.proofs.lemmas.many_sessions.HaltAndBusy.{halt_leads}
-use Rattle.log_grammar.proofs.lemmas.kinds.ShownByLines.{lines_front, lines_clean}
-use Rattle.log_grammar.proofs.lemmas.session_laws.OfSessions.{are_lines, each_lacks}
+use Rattle.log_grammar.proofs.lemmas.ListEnds.{all_back}
+use Rattle.log_grammar.proofs.lemmas.many_sessions.HaltAndBusy.{halt_leads_to_halted}
+use Rattle.log_grammar.proofs.lemmas.kinds.ShownByLines.{log_lines_are_front, log_lines_are_clean}
+use Rattle.log_grammar.proofs.lemmas.session_laws.OfSessions.{writable_lines_are_read, writable_lines_lack_lf}
 use Rattle.sasl_desk.specs.Keeper.{IsAttemptJudged}
 use Rattle.sasl_desk.specs.Sessions.{CanBeWritten}
 use Rattle.sasl_desk.specs.Runs.{Call, run_lines}
@@ -33,42 +33,42 @@ use Rattle.sasl_desk.specs.declared.desk.state.State.TheVariants.{Closed, Open, 
 use Rattle.sasl_desk.specs.declared.session.phase.Phase.TheVariants as phase
 use Rattle.sasl_desk.specs.declared.session.Session.{Session}
 use Rattle.sasl_desk.specs.declared.session.Session.TheVariants.{WaitAuth, WaitFirst, WaitFinal, WaitCode}
-use Rattle.sasl_desk.proofs.lemmas.turns.Keepers.{told_due, told_after}
-use Rattle.sasl_desk.proofs.lemmas.runs.IsDeskAfter.{lost_at}
-use Rattle.sasl_desk.proofs.lemmas.runs.Unlocks.{unlocks_keep, added_keeps}
-use Rattle.sasl_log.proofs.lemmas.audits.AuditedLineByLine.{book_first}
+use Rattle.sasl_desk.proofs.lemmas.turns.Keepers.{judged_reply_is_due, judged_book_is_after}
+use Rattle.sasl_desk.proofs.lemmas.runs.IsDeskAfter.{failed_store_means_halted}
+use Rattle.sasl_desk.proofs.lemmas.runs.Unlocks.{unlock_keeps_spent_counters, addition_keeps_spent_counters}
+use Rattle.sasl_log.proofs.lemmas.audits.AuditedLineByLine.{book_follows_nothing}
 
 -- the bytes of lines that can be written are these lines
 bytes_are_lines : (lines : List LogLine) → CanBeWritten lines → AreLines (log_bytes lines) lines []
 bytes_are_lines lines written = (
   map log_line_text lines,
-  record { bytes_are = sym (append-nil (log_bytes lines)); lines = each_lacks lines written; after = refl },
-  are_lines lines written,
+  record { bytes_are = sym (append-nil (log_bytes lines)); lines = writable_lines_lack_lf lines written; after = refl },
+  writable_lines_are_read lines written,
 )
 
 -- a desk's log is a front
-pub log_is_front : {S : Type 0} (facts : S → StoreFacts) (IsStored : List ℕ → Type 0) (start : BookFields) (calls : List Call)
+pub desk_log_is_front : {S : Type 0} (facts : S → StoreFacts) (IsStored : List ℕ → Type 0) (start : BookFields) (calls : List Call)
     (desk : Desk S) → IsDeskAfter facts IsStored start calls desk
     → IsFront (accounts_in start) (log_bytes (run_lines calls))
-log_is_front facts IsStored start calls desk s =
-    lines_front (accounts_in start) (log_bytes (run_lines calls)) (run_lines calls) s.place s.told
+desk_log_is_front facts IsStored start calls desk s =
+    log_lines_are_front (accounts_in start) (log_bytes (run_lines calls)) (run_lines calls) s.place s.told
     (bytes_are_lines (run_lines calls) s.writable) s.begins
 
 -- an open session is not Closed
-closed_open : (going : Session) → session_phase going ≡ phase.Closed → ⊥
-closed_open WaitAuth is = cc is
-closed_open (WaitFirst mechanism) is = cc is
-closed_open (WaitFinal waiting) is = cc is
-closed_open (WaitCode name) is = cc is
+open_session_not_closed : (going : Session) → session_phase going ≡ phase.Closed → ⊥
+open_session_not_closed WaitAuth is = cc is
+open_session_not_closed (WaitFirst mechanism) is = cc is
+open_session_not_closed (WaitFinal waiting) is = cc is
+open_session_not_closed (WaitCode name) is = cc is
 
 -- at a desk that is Closed a log may end
-closed_ends : (start : BookFields) (server_nonce : List ℕ) (place : Place) (state : State)
+closed_desk_may_end : (start : BookFields) (server_nonce : List ℕ) (place : Place) (state : State)
     → IsStateAt (accounts_in start) server_nonce place state
     → phase_of state ≡ phase.Closed
     → MayEnd place
-closed_ends start server_nonce place Closed at is = rw at tt
-closed_ends start server_nonce place (Open going kept) at is = absurd (closed_open going is)
-closed_ends start server_nonce place Halted at is = absurd (cc is)
+closed_desk_may_end start server_nonce place Closed at is = rw at tt
+closed_desk_may_end start server_nonce place (Open going kept) at is = absurd (open_session_not_closed going is)
+closed_desk_may_end start server_nonce place Halted at is = absurd (cc is)
 
 -- a desk's log is clean where no session is open, or where the store has failed
 pub log_is_clean : {S : Type 0} (facts : S → StoreFacts) (IsStored : List ℕ → Type 0) (start : BookFields) (calls : List Call)
@@ -76,107 +76,108 @@ pub log_is_clean : {S : Type 0} (facts : S → StoreFacts) (IsStored : List ℕ 
     → (phase_of desk.state ≡ phase.Closed) ⊎ ((facts desk.keeper.store).failed ≡ true)
     → IsClean (accounts_in start) (log_bytes (run_lines calls))
 log_is_clean facts IsStored start calls desk s ends =
-    lines_clean (accounts_in start) (log_bytes (run_lines calls)) (run_lines calls) s.place s.told
+    log_lines_are_clean (accounts_in start) (log_bytes (run_lines calls)) (run_lines calls) s.place s.told
     (bytes_are_lines (run_lines calls) s.writable) s.begins
     (elim ends [
-      | inl closed ↦ closed_ends start _ s.place desk.state s.is_state closed
-      | inr failed ↦ subst MayEnd (sym (lost_at IsStored (accounts_in start) calls s.place desk.keeper.book (facts desk.keeper.store)
+      | inl closed ↦ closed_desk_may_end start _ s.place desk.state s.is_state closed
+      | inr failed ↦ subst MayEnd (sym (failed_store_means_halted IsStored (accounts_in start) calls s.place desk.keeper.book
+          (facts desk.keeper.store)
           s.is_stored failed)) tt
     ])
 
 -- a desk's log whose last line is `S HALT` is clean
-pub halted_is_clean : GoesOnByNoOther → {S : Type 0} (facts : S → StoreFacts) (IsStored : List ℕ → Type 0) (start : BookFields)
+pub halted_desk_log_is_clean : GoesOnByNoOther → {S : Type 0} (facts : S → StoreFacts) (IsStored : List ℕ → Type 0) (start : BookFields)
     (calls : List Call) (desk : Desk S) → IsDeskAfter facts IsStored start calls desk
     → (lines : List LogLine) → run_lines calls ≡ lines ++ said halt ∷ [] → IsClean (accounts_in start) (log_bytes (run_lines calls))
-halted_is_clean law facts IsStored start calls desk s lines last =
+halted_desk_log_is_clean law facts IsStored start calls desk s lines last =
     let before = law (accounts_in start) lines (said halt) s.place s.told
     (subst (λ (l : List LogLine). Begins (demands (accounts_in start)) l s.place s.told) last s.begins) in
-    lines_clean (accounts_in start) (log_bytes (run_lines calls)) (run_lines calls) s.place s.told
+    log_lines_are_clean (accounts_in start) (log_bytes (run_lines calls)) (run_lines calls) s.place s.told
     (bytes_are_lines (run_lines calls) s.writable) s.begins
-    (subst MayEnd (sym (halt_leads (demands (accounts_in start)) before.place s.place before.goes)) tt)
+    (subst MayEnd (sym (halt_leads_to_halted (demands (accounts_in start)) before.place s.place before.goes)) tt)
 
 -- of spent counters that are all different, those in the last part of the list are so too
-different_at_end : (ps qs : List (List ℕ × ℕ)) → AreDifferent (ps ++ qs) → AreDifferent qs
-different_at_end [] qs all = all
-different_at_end (p ∷ ps) qs all = different_at_end ps qs all.1
+rest_is_different : (ps qs : List (List ℕ × ℕ)) → AreDifferent (ps ++ qs) → AreDifferent qs
+rest_is_different [] qs all = all
+rest_is_different (p ∷ ps) qs all = rest_is_different ps qs all.1
 
 -- of counters that are spent, those in the last part of the list are spent
-spent_at_end : (book : BookFields) (ps qs : List (List ℕ × ℕ)) → AreSpent (ps ++ qs) book → AreSpent qs book
-spent_at_end book ps qs spent = record {
-  different = different_at_end ps qs spent.different;
-  spent = each_rest (λ (p : List ℕ × ℕ). IsCounterSpent book p.0 p.1) ps qs spent.spent;
+rest_is_spent : (book : BookFields) (ps qs : List (List ℕ × ℕ)) → AreSpent (ps ++ qs) book → AreSpent qs book
+rest_is_spent book ps qs spent = record {
+  different = rest_is_different ps qs spent.different;
+  spent = all_back (λ (p : List ℕ × ℕ). IsCounterSpent book p.0 p.1) ps qs spent.spent;
 }
 
 -- what was spent, and what an attempt used, is spent in the book that judged it
-spent_after_told : BeginsWithItself → SpentStaysSpent → (old new : BookFields) (t : LoggedReply) (ps : List (List ℕ × ℕ))
+attempt_spends_counters : BeginsWithItself → SpentStaysSpent → (old new : BookFields) (t : LoggedReply) (ps : List (List ℕ × ℕ))
     → IsAttemptJudged old t new
     → AreSpent ps old → AreSpent (spent_by t ++ ps) new
-spent_after_told itself stays old new t ps one spent =
-    let self = book_first itself old in
-    stays old new t ps one.is_moment (told_due old new t one (accounts_in old) [] self)
-    (told_after old new t one (accounts_in old) [] self) spent
+attempt_spends_counters itself stays old new t ps one spent =
+    let self = book_follows_nothing itself old in
+    stays old new t ps one.is_moment (judged_reply_is_due old new t one (accounts_in old) [] self)
+    (judged_book_is_after old new t one (accounts_in old) [] self) spent
 
 -- what was spent, and what was told in a desk's run, is spent in the book that it leaves
-spent_after_run : BeginsWithItself → SpentStaysSpent
+desk_run_spends_counters : BeginsWithItself → SpentStaysSpent
     → {S : Type 0} (facts : S → StoreFacts) (IsStored : List ℕ → Type 0) (r : DeskRun) (ps : List (List ℕ × ℕ))
     → IsDeskRunOf facts IsStored r → AreSpent ps r.start → AreSpent (spent_by_all (reverse r.told) ++ ps) r.left
-spent_after_run itself stays facts IsStored r ps run spent =
+desk_run_spends_counters itself stays facts IsStored r ps run spent =
     let s = run.stands in
     let on = subst (λ (t : List LoggedReply). AreSpent (spent_by_all (reverse t) ++ ps) run.desk.keeper.book) (sym run.tells)
     (s.spent ps spent) in
     elim run.leaves [
       | inl left ↦ subst (λ (b : BookFields). AreSpent (spent_by_all (reverse r.told) ++ ps) b) (sym left) on
       | inr (t, one) ↦
-          spent_at_end r.left (spent_by t) (spent_by_all (reverse r.told) ++ ps)
-          (spent_after_told itself stays run.desk.keeper.book r.left t (spent_by_all (reverse r.told) ++ ps) one on)
+          rest_is_spent r.left (spent_by t) (spent_by_all (reverse r.told) ++ ps)
+          (attempt_spends_counters itself stays run.desk.keeper.book r.left t (spent_by_all (reverse r.told) ++ ps) one on)
     ]
 
 -- what was spent, and what was told in a hall's run, is spent in the book that it leaves
-spent_after_hall : BeginsWithItself → SpentStaysSpent
+hall_run_spends_counters : BeginsWithItself → SpentStaysSpent
     → {S : Type 0} (facts : S → StoreFacts) (IsStored : List ℕ → Type 0) (r : HallRun) (ps : List (List ℕ × ℕ))
     → IsHallRunOf facts IsStored r → AreSpent ps r.start → AreSpent (spent_by_all (reverse r.told) ++ ps) r.left
-spent_after_hall itself stays facts IsStored r ps run spent =
+hall_run_spends_counters itself stays facts IsStored r ps run spent =
     let s = run.stands in
     let on = subst (λ (t : List LoggedReply). AreSpent (spent_by_all (reverse t) ++ ps) run.hall.keeper.book) (sym run.tells)
     (s.spent ps spent) in
     elim run.leaves [
       | inl left ↦ subst (λ (b : BookFields). AreSpent (spent_by_all (reverse r.told) ++ ps) b) (sym left) on
       | inr (t, one) ↦
-          spent_at_end r.left (spent_by t) (spent_by_all (reverse r.told) ++ ps)
-          (spent_after_told itself stays run.hall.keeper.book r.left t (spent_by_all (reverse r.told) ++ ps) one on)
+          rest_is_spent r.left (spent_by t) (spent_by_all (reverse r.told) ++ ps)
+          (attempt_spends_counters itself stays run.hall.keeper.book r.left t (spent_by_all (reverse r.told) ++ ps) one on)
     ]
 
 -- what was spent, and what a change tells, is spent in the book after it
-spent_after_change : BeginsWithItself → SpentStaysSpent → TokensAreApart → CandidatesAreNew
+change_spends_counters : BeginsWithItself → SpentStaysSpent → TokensAreApart → CandidatesAreNew
     → AddedIsApart → {S : Type 0} (facts : S → StoreFacts) (IsStored : List ℕ → Type 0)
     (c : Change) (old new : BookFields) (ps : List (List ℕ × ℕ)) → IsChange facts IsStored c old new → AreSpent ps old
     → AreSpent (spent_by_change c ++ ps) new
-spent_after_change itself stays apart fresh added_apart facts IsStored (desk_ran r) old new ps (run, start, left) spent =
+change_spends_counters itself stays apart fresh added_apart facts IsStored (desk_ran r) old new ps (run, start, left) spent =
     subst (λ (b : BookFields). AreSpent (spent_by_all (reverse r.told) ++ ps) b) left
-    (spent_after_run itself stays facts IsStored r ps run (subst (λ (b : BookFields). AreSpent ps b) (sym start) spent))
-spent_after_change itself stays apart fresh added_apart facts IsStored (hall_ran r) old new ps (run, start, left) spent =
+    (desk_run_spends_counters itself stays facts IsStored r ps run (subst (λ (b : BookFields). AreSpent ps b) (sym start) spent))
+change_spends_counters itself stays apart fresh added_apart facts IsStored (hall_ran r) old new ps (run, start, left) spent =
     subst (λ (b : BookFields). AreSpent (spent_by_all (reverse r.told) ++ ps) b) left
-    (spent_after_hall itself stays facts IsStored r ps run (subst (λ (b : BookFields). AreSpent ps b) (sym start) spent))
-spent_after_change itself stays apart fresh added_apart facts IsStored
-    (judged t) old new ps one spent = spent_after_told itself stays old new t ps one spent
-spent_after_change itself stays apart fresh added_apart facts IsStored
-    (unlocked name) old new ps changed spent = unlocks_keep apart fresh old new name ps changed spent
-spent_after_change itself stays apart fresh added_apart facts IsStored (added name account) old new ps is spent =
-    added_keeps added_apart old new name account ps is spent
+    (hall_run_spends_counters itself stays facts IsStored r ps run (subst (λ (b : BookFields). AreSpent ps b) (sym start) spent))
+change_spends_counters itself stays apart fresh added_apart facts IsStored
+    (judged t) old new ps one spent = attempt_spends_counters itself stays old new t ps one spent
+change_spends_counters itself stays apart fresh added_apart facts IsStored
+    (unlocked name) old new ps changed spent = unlock_keeps_spent_counters apart fresh old new name ps changed spent
+change_spends_counters itself stays apart fresh added_apart facts IsStored (added name account) old new ps is spent =
+    addition_keeps_spent_counters added_apart old new name account ps is spent
 
 -- what was spent, and what any number of changes tell, is spent in the book after them
-pub spent_over_changes : BeginsWithItself → SpentStaysSpent → TokensAreApart → CandidatesAreNew
+pub changes_spend_counters : BeginsWithItself → SpentStaysSpent → TokensAreApart → CandidatesAreNew
     → AddedIsApart → {S : Type 0}
     (facts : S → StoreFacts) (IsStored : List ℕ → Type 0) (first : BookFields) (changes : List Change) (last : BookFields)
     (ps : List (List ℕ × ℕ)) → AreChanges facts IsStored first changes last
     → AreSpent ps first → AreSpent (spent_by_changes changes ++ ps) last
-spent_over_changes itself stays apart fresh added_apart facts IsStored first [] last ps same spent = subst
+changes_spend_counters itself stays apart fresh added_apart facts IsStored first [] last ps same spent = subst
     (λ (b : BookFields). AreSpent ps b) (sym same) spent
-spent_over_changes itself stays apart fresh added_apart facts IsStored first (c ∷ before) last ps
+changes_spend_counters itself stays apart fresh added_apart facts IsStored first (c ∷ before) last ps
     (middle, earlier, change) spent =
-    let until = spent_over_changes itself stays apart fresh added_apart facts IsStored first before middle ps earlier spent in
+    let until = changes_spend_counters itself stays apart fresh added_apart facts IsStored first before middle ps earlier spent in
     subst (λ (l : List (List ℕ × ℕ)). AreSpent l last) (sym (append_assoc (spent_by_change c) (spent_by_changes before) ps))
-    (spent_after_change itself stays apart fresh added_apart facts IsStored c middle last (spent_by_changes before ++ ps) change until)
+    (change_spends_counters itself stays apart fresh added_apart facts IsStored c middle last (spent_by_changes before ++ ps) change until)
 
 -- the store holds the book, or it failed in its last save
 pub held_or_lost : (IsStored : List ℕ → Type 0) (accounts : Accounts) (calls : List Call) (place : Place) (book : BookFields)
@@ -186,11 +187,11 @@ held_or_lost IsStored accounts calls halted book store lost = inr lost
 held_or_lost IsStored accounts calls place book store held = inl held
 
 -- wherever its log stands, the book was saved
-pub was_saved : (IsStored : List ℕ → Type 0) (accounts : Accounts) (calls : List Call) (place : Place) (book : BookFields)
+pub book_was_saved : (IsStored : List ℕ → Type 0) (accounts : Accounts) (calls : List Call) (place : Place) (book : BookFields)
     (store : StoreFacts)
     → IsStoredAt IsStored accounts calls place book store → HasStoredText IsStored book
-was_saved IsStored accounts calls halted book store lost = lost.before
-was_saved IsStored accounts calls place book store held = (store.saved, held.saved, held.stored)
+book_was_saved IsStored accounts calls halted book store lost = lost.before
+book_was_saved IsStored accounts calls place book store held = (store.saved, held.saved, held.stored)
 
 -- the book to which all that a log tells leads was saved
 pub log_is_saved : {S : Type 0} (facts : S → StoreFacts) (IsStored : List ℕ → Type 0) (start : BookFields) (calls : List Call)
@@ -205,16 +206,17 @@ log_is_saved facts IsStored start calls desk s = record {
   saved = record {
     last = desk.keeper.book;
     is_last = s.is_book;
-    saved = was_saved IsStored (accounts_in start) calls s.place desk.keeper.book (facts desk.keeper.store) s.is_stored;
+    saved = book_was_saved IsStored (accounts_in start) calls s.place desk.keeper.book (facts desk.keeper.store) s.is_stored;
   };
 }
 
 -- a book that the desk has, or had with one attempt more, is one that its run may leave
-run_to : {S : Type 0} (facts : S → StoreFacts) (IsStored : List ℕ → Type 0) (start : BookFields) (calls : List Call) (desk : Desk S)
+desk_run_may_leave : {S : Type 0} (facts : S → StoreFacts) (IsStored : List ℕ → Type 0) (start : BookFields) (calls : List Call)
+    (desk : Desk S)
     (s : IsDeskAfter facts IsStored start calls desk) (left : BookFields)
     → (left ≡ desk.keeper.book) ⊎ ((t : LoggedReply) × IsAttemptJudged desk.keeper.book t left)
     → IsDeskRunLeaving facts IsStored start calls left
-run_to facts IsStored start calls desk s left leaves = (
+desk_run_may_leave facts IsStored start calls desk s left leaves = (
   record { start = start; calls = calls; told = s.told; left = left },
   record { desk = desk; stands = s; tells = refl; leaves = leaves },
   refl,
@@ -223,37 +225,41 @@ run_to facts IsStored start calls desk s left leaves = (
 )
 
 -- the store holds the text of a book that the desk leaves
-pub left_book : {S : Type 0} (facts : S → StoreFacts) (IsStored : List ℕ → Type 0) (start : BookFields) (calls : List Call) (desk : Desk S)
+pub desk_store_holds_left_book : {S : Type 0} (facts : S → StoreFacts) (IsStored : List ℕ → Type 0) (start : BookFields) (calls : List Call)
+    (desk : Desk S)
     → IsDeskAfter facts IsStored start calls desk
     → (left : BookFields) × IsDeskRunLeaving facts IsStored start calls left × IsBookText (facts desk.keeper.store).saved left
-left_book facts IsStored start calls desk s =
+desk_store_holds_left_book facts IsStored start calls desk s =
     let book = desk.keeper.book in
     elim (held_or_lost IsStored (accounts_in start) calls s.place book (facts desk.keeper.store) s.is_stored) [
-      | inl held ↦ (book, run_to facts IsStored start calls desk s book (inl refl), held.saved)
+      | inl held ↦ (book, desk_run_may_leave facts IsStored start calls desk s book (inl refl), held.saved)
       | inr lost ↦ elim lost.saved [
-        | inl before ↦ (book, run_to facts IsStored start calls desk s book (inl refl), before.0)
-        | inr after ↦ (lost.next, run_to facts IsStored start calls desk s lost.next (inr (lost.t, lost.is_judged)), after)
+        | inl before ↦ (book, desk_run_may_leave facts IsStored start calls desk s book (inl refl), before.0)
+        | inr after ↦ (lost.next, desk_run_may_leave facts IsStored start calls desk s lost.next (inr (lost.t, lost.is_judged)), after)
       ]
     ]
 
 -- a run that stops within a call may leave the book with the attempt that was judged
-pub stopped_run : {S : Type 0} (facts : S → StoreFacts) (IsStored : List ℕ → Type 0) (start : BookFields) (calls : List Call)
+pub stopped_desk_leaves_attempt : {S : Type 0} (facts : S → StoreFacts) (IsStored : List ℕ → Type 0) (start : BookFields)
+    (calls : List Call)
     (desk : Desk S) (t : LoggedReply) (next : BookFields)
     → IsDeskAfter facts IsStored start calls desk → IsAttemptJudged desk.keeper.book t next
     → IsDeskRunLeaving facts IsStored start calls next
-stopped_run facts IsStored start calls desk t next s one = run_to facts IsStored start calls desk s next (inr (t, one))
+stopped_desk_leaves_attempt facts IsStored start calls desk t next s one =
+    desk_run_may_leave facts IsStored start calls desk s next (inr (t, one))
 
 -- what was spent is spent after one more attempt
-pub told_spent : BeginsWithItself → SpentStaysSpent → (old new : BookFields) (t : LoggedReply) (ps : List (List ℕ × ℕ))
+pub attempt_keeps_spent_counters : BeginsWithItself → SpentStaysSpent → (old new : BookFields) (t : LoggedReply) (ps : List (List ℕ × ℕ))
     → IsAttemptJudged old t new → AreSpent ps old → AreSpent ps new
-told_spent itself stays old new t ps one spent = spent_at_end new (spent_by t) ps (spent_after_told itself stays old new t ps one spent)
+attempt_keeps_spent_counters itself stays old new t ps one spent =
+    rest_is_spent new (spent_by t) ps (attempt_spends_counters itself stays old new t ps one spent)
 
 -- each counter that was told is spent in the book whose text the store holds
-pub saved_spent : BeginsWithItself → SpentStaysSpent
+pub desk_store_keeps_spent_counters : BeginsWithItself → SpentStaysSpent
     → {S : Type 0} (facts : S → StoreFacts) (IsStored : List ℕ → Type 0) (start : BookFields) (calls : List Call) (desk : Desk S)
     (s : IsDeskAfter facts IsStored start calls desk) (ps : List (List ℕ × ℕ)) → AreSpent ps start
     → (saved : BookFields) × IsBookText (facts desk.keeper.store).saved saved × AreSpent (spent_by_all (reverse s.told) ++ ps) saved
-saved_spent itself stays facts IsStored start calls desk s ps spent =
+desk_store_keeps_spent_counters itself stays facts IsStored start calls desk s ps spent =
     let book = desk.keeper.book in
     let mine = s.spent ps spent in
     elim (held_or_lost IsStored (accounts_in start) calls s.place book (facts desk.keeper.store) s.is_stored) [
@@ -263,17 +269,17 @@ saved_spent itself stays facts IsStored start calls desk s ps spent =
         | inr after ↦ (
           lost.next,
           after,
-          told_spent itself stays book lost.next lost.t (spent_by_all (reverse s.told) ++ ps) lost.is_judged
+          attempt_keeps_spent_counters itself stays book lost.next lost.t (spent_by_all (reverse s.told) ++ ps) lost.is_judged
               mine,
         )
       ]
     ]
 
 -- each counter that was told is spent in the book that a stop within a call leaves
-pub stopped_spent : BeginsWithItself → SpentStaysSpent
+pub stopped_desk_keeps_spent_counters : BeginsWithItself → SpentStaysSpent
     → {S : Type 0} (facts : S → StoreFacts) (IsStored : List ℕ → Type 0) (start : BookFields) (calls : List Call) (desk : Desk S)
     (s : IsDeskAfter facts IsStored start calls desk) (ps : List (List ℕ × ℕ)) (t : LoggedReply) (next : BookFields) → AreSpent ps start
     → IsAttemptJudged desk.keeper.book t next
     → AreSpent (spent_by_all (reverse s.told) ++ ps) next
-stopped_spent itself stays facts IsStored start calls desk s ps t next spent one =
-    told_spent itself stays desk.keeper.book next t (spent_by_all (reverse s.told) ++ ps) one (s.spent ps spent)
+stopped_desk_keeps_spent_counters itself stays facts IsStored start calls desk s ps t next spent one =
+    attempt_keeps_spent_counters itself stays desk.keeper.book next t (spent_by_all (reverse s.told) ++ ps) one (s.spent ps spent)

@@ -20,21 +20,21 @@ use Rattle.account_book.specs.Store.{StoreFacts}
 use Rattle.log_grammar.specs.Books.{accounts_in}
 use Rattle.log_grammar.specs.Numbered.{Numbered, of_number}
 use Rattle.sasl_desk.proofs.lemmas.halls.Laws.{of_number_lines}
-use Rattle.sasl_desk.proofs.lemmas.runs.OneAnswer.{Texts, has_acceptance, accepted_left, accepted_right, no_more, call_once}
+use Rattle.sasl_desk.proofs.lemmas.runs.OneAnswer.{UniquenessLaws, has_acceptance, front_brings_acceptance, rest_brings_acceptance, acceptance_cuts_rest, one_answer_to_call}
 
 -- after calls that asked the same, sessions have the same part of the nonce:
-server_nonce_after_alike : (request other : Request) (server_nonce theirs : List ℕ) → IsSameRequest request other → server_nonce ≡ theirs
+same_request_has_same_nonce : (request other : Request) (server_nonce theirs : List ℕ) → IsSameRequest request other → server_nonce ≡ theirs
     → server_nonce_after request server_nonce ≡ server_nonce_after other theirs
-server_nonce_after_alike (greets one) (greets two) server_nonce theirs same alike = same
-server_nonce_after_alike (hears event moment) (hears other later) server_nonce theirs same alike = alike
-server_nonce_after_alike request other server_nonce theirs same alike = absurd same
+same_request_has_same_nonce (greets one) (greets two) server_nonce theirs same alike = same
+same_request_has_same_nonce (hears event moment) (hears other later) server_nonce theirs same alike = alike
+same_request_has_same_nonce request other server_nonce theirs same alike = absurd same
 
-server_nonce_alike : (calls others : List Call) → HaveSameRequests calls others → server_nonce_of calls ≡ server_nonce_of others
-server_nonce_alike [] [] same = refl
-server_nonce_alike (c ∷ calls) (d ∷ others) same = server_nonce_after_alike c.request d.request (server_nonce_of calls)
+same_requests_have_same_nonce : (calls others : List Call) → HaveSameRequests calls others → server_nonce_of calls ≡ server_nonce_of others
+same_requests_have_same_nonce [] [] same = refl
+same_requests_have_same_nonce (c ∷ calls) (d ∷ others) same = same_request_has_same_nonce c.request d.request (server_nonce_of calls)
     (server_nonce_of others) same.0
-    (server_nonce_alike calls others same.1)
-server_nonce_alike calls others same = absurd same
+    (same_requests_have_same_nonce calls others same.1)
+same_requests_have_same_nonce calls others same = absurd same
 
 -- of two runs of a session: both have come to the same acceptance, or they are the same so far and wait for no code
 abbrev AreSameOrAccepted : List Call → List Call → Place → Place → Type 0
@@ -44,26 +44,27 @@ AreSameOrAccepted calls others at also =
     ⊎ ((call_lines calls ≡ call_lines others) × (at ≡ also) × ((account : List ℕ) → at ≡ waits_code account → ⊥))
 
 -- two runs of a session that were asked the same are the same so far, or have both come to the same acceptance
-same_or_accepted : Texts → (accounts : Accounts) (calls others : List Call) (at also : Place) → IsRun accounts calls at
+same_or_accepted : UniquenessLaws → (accounts : Accounts) (calls others : List Call) (at also : Place) → IsRun accounts calls at
     → IsRun accounts others also → HaveSameRequests calls others → AreSameOrAccepted calls others at also
 same_or_accepted t accounts [] [] at also run runs same =
     inr (refl, run ∙ sym runs, λ account is. let wrong : between ≡ waits_code account = sym run ∙ is in cc wrong)
 same_or_accepted t accounts (c ∷ calls) (d ∷ others) at also (place, run, answered) (other, runs, answers) same =
     elim (same_or_accepted t accounts calls others place other run runs same.1) [
       | inl (one, two, told) ↦ inl (
-        accepted_left (call_lines calls) c.lines one,
-        accepted_left (call_lines others) d.lines two,
-        no_more (call_lines calls) c.lines one ∙ told ∙ sym (no_more (call_lines others) d.lines two),
+        front_brings_acceptance (call_lines calls) c.lines one,
+        front_brings_acceptance (call_lines others) d.lines two,
+        acceptance_cuts_rest (call_lines calls) c.lines one ∙ told ∙ sym (acceptance_cuts_rest (call_lines others) d.lines two),
       )
       | inr (lines, here, apart) ↦
-          let once = call_once t accounts (server_nonce_of calls) (server_nonce_of others) c.request d.request place c.lines d.lines at also
+          let once = one_answer_to_call t accounts (server_nonce_of calls) (server_nonce_of others) c.request d.request place c.lines
+              d.lines at also
           apart
-          (server_nonce_alike calls others same.1) same.0
+          (same_requests_have_same_nonce calls others same.1) same.0
           answered (subst (λ (p : Place). IsAnsweredBy accounts (server_nonce_of others) d.request p d.lines also) (sym here) answers) in
           let whole = ap (λ (l : List LogLine). l ++ c.lines) lines ∙ ap (λ (l : List LogLine). call_lines others ++ l) once.0 in
           elim once.2 [
             | inl is ↦
-                let accepted = accepted_right (call_lines calls) c.lines is in
+                let accepted = rest_brings_acceptance (call_lines calls) c.lines is in
                 inl (accepted, subst (λ (l : List LogLine). has_acceptance l ≡ true) whole accepted, ap up_to_acceptance whole)
             | inr apart_too ↦ inr (whole, once.1, apart_too)
           ]
@@ -71,15 +72,15 @@ same_or_accepted t accounts (c ∷ calls) (d ∷ others) at also (place, run, an
 same_or_accepted t accounts calls others at also run runs same = absurd same
 
 -- what is demanded of a session, and its whole run, are the same by accounts with the same entries:
-verdict_moved : (one other : Accounts) → HaveSameEntries other one → (mechanism name first challenge last : List ℕ) (due : Due)
+entries_fix_verdict : (one other : Accounts) → HaveSameEntries other one → (mechanism name first challenge last : List ℕ) (due : Due)
     → IsVerdictDue other mechanism name first challenge last due → IsVerdictDue one mechanism name first challenge last due
-verdict_moved one other same mechanism name first challenge last due (m, named, is) =
+entries_fix_verdict one other same mechanism name first challenge last due (m, named, is) =
     (m, named, subst (λ (e : Entry). IsDue (challenged_login e m first challenge) last due) (same m name) is)
 
-goes_moved : (one other : Accounts) → HaveSameEntries other one → (at : Place) (line : LogLine) (next : Place)
+entries_fix_transition : (one other : Accounts) → HaveSameEntries other one → (at : Place) (line : LogLine) (next : Place)
     → IsTransition (demands other) at line next
     → IsTransition (demands one) at line next
-goes_moved one other same (got_first m first) (said (cont text)) next (account, c, at) = (
+entries_fix_transition one other same (got_first m first) (said (cont text)) next (account, c, at) = (
   account,
   record {
     m = c.m;
@@ -90,84 +91,88 @@ goes_moved one other same (got_first m first) (said (cont text)) next (account, 
   },
   at,
 )
-goes_moved one other same (got_first m first) line next goes = goes
-goes_moved one other same (got_final m account first challenge last) (said (refuses text)) next ((why, is, e), at) =
-    ((why, verdict_moved one other same m account first challenge last (refuse why) is, e), at)
-goes_moved one other same (got_final m account first challenge last) (said (accepts text)) next ((signature, is, authentic), at) =
-    ((signature, verdict_moved one other same m account first challenge last (accept signature) is, authentic), at)
-goes_moved one other same (got_final m account first challenge last) line next goes = goes
-goes_moved one other same at line next goes = goes
+entries_fix_transition one other same (got_first m first) line next goes = goes
+entries_fix_transition one other same (got_final m account first challenge last) (said (refuses text)) next ((why, is, e), at) =
+    ((why, entries_fix_verdict one other same m account first challenge last (refuse why) is, e), at)
+entries_fix_transition one other same (got_final m account first challenge last) (said (accepts text)) next
+    ((signature, is, authentic), at) =
+    ((signature, entries_fix_verdict one other same m account first challenge last (accept signature) is, authentic), at)
+entries_fix_transition one other same (got_final m account first challenge last) line next goes = goes
+entries_fix_transition one other same at line next goes = goes
 
-path_moved : (one other : Accounts) → HaveSameEntries other one → (at : Place) (lines : List LogLine) (next : Place)
+entries_fix_path : (one other : Accounts) → HaveSameEntries other one → (at : Place) (lines : List LogLine) (next : Place)
     → IsPath (demands other) at lines next → IsPath (demands one) at lines next
-path_moved one other same at [] next path = path
-path_moved one other same at (line ∷ lines) next (middle, goes, path) =
-    (middle, goes_moved one other same at line middle goes, path_moved one other same middle lines next path)
+entries_fix_path one other same at [] next path = path
+entries_fix_path one other same at (line ∷ lines) next (middle, goes, path) =
+    (middle, entries_fix_transition one other same at line middle goes, entries_fix_path one other same middle lines next path)
 
-challenge_moved : (one other : Accounts) → HaveSameEntries other one → (server_nonce : List ℕ) (at : Place)
+entries_fix_challenge : (one other : Accounts) → HaveSameEntries other one → (server_nonce : List ℕ) (at : Place)
     → IsChallengeWith other server_nonce at
     → IsChallengeWith one server_nonce at
-challenge_moved one other same server_nonce (waits_final mechanism account first challenge) (m, named, is) =
+entries_fix_challenge one other same server_nonce (waits_final mechanism account first challenge) (m, named, is) =
     (m, named, subst (λ (e : Entry). IsChallengeTo e first server_nonce challenge) (same m account) is)
-challenge_moved one other same server_nonce at is = tt
+entries_fix_challenge one other same server_nonce at is = tt
 
-answered_moved : (one other : Accounts) → HaveSameEntries other one
+entries_fix_answer : (one other : Accounts) → HaveSameEntries other one
     → (server_nonce : List ℕ) (request : Request) (at : Place) (lines : List LogLine) (next : Place)
     → IsAnsweredBy other server_nonce request at lines next → IsAnsweredBy one server_nonce request at lines next
-answered_moved one other same server_nonce (greets new) at lines next g = g
-answered_moved one other same server_nonce (hears event moment) at lines next t = record {
+entries_fix_answer one other same server_nonce (greets new) at lines next g = g
+entries_fix_answer one other same server_nonce (hears event moment) at lines next t = record {
   recorded = t.recorded;
   answered = t.answered;
   lines_are = t.lines_are;
   is_record = t.is_record;
   answers = t.answers;
-  path = path_moved one other same at lines next t.path;
+  path = entries_fix_path one other same at lines next t.path;
   rests = t.rests;
-  challenge = challenge_moved one other same server_nonce next t.challenge;
+  challenge = entries_fix_challenge one other same server_nonce next t.challenge;
   plain = t.plain;
   moments = t.moments;
 }
 
-run_moved : (one other : Accounts) → HaveSameEntries other one → (calls : List Call) (at : Place) → IsRun other calls at
+entries_fix_run : (one other : Accounts) → HaveSameEntries other one → (calls : List Call) (at : Place) → IsRun other calls at
     → IsRun one calls at
-run_moved one other same [] at run = run
-run_moved one other same (c ∷ calls) at (place, run, answered) = (
+entries_fix_run one other same [] at run = run
+entries_fix_run one other same (c ∷ calls) at (place, run, answered) = (
   place,
-  run_moved one other same calls place run,
-  answered_moved one other same (server_nonce_of calls) c.request place c.lines at
+  entries_fix_run one other same calls place run,
+  entries_fix_answer one other same (server_nonce_of calls) c.request place c.lines at
       answered,
 )
 
 -- two runs that were asked the same, over books with the same entries, tell the same up to the acceptance
-pub told_alone : Texts → (one other : Accounts) (calls others : List Call) (at also : Place) → HaveSameEntries one other
+pub runs_tell_same : UniquenessLaws → (one other : Accounts) (calls others : List Call) (at also : Place) → HaveSameEntries one other
     → IsRun one calls at
     → IsRun other others also → HaveSameRequests calls others → up_to_acceptance (call_lines calls) ≡ up_to_acceptance (call_lines others)
-told_alone t one other calls others at also entries run runs same =
-    elim (same_or_accepted t one calls others at also run (run_moved one other (λ m name. sym (entries m name)) others also runs) same) [
+runs_tell_same t one other calls others at also entries run runs same =
+    elim (same_or_accepted t one calls others at also run (entries_fix_run one other (λ m name. sym (entries m name)) others also runs)
+      same) [
       | inl (accepted, too, told) ↦ told
       | inr (lines, here, apart) ↦ ap up_to_acceptance lines
     ]
 
 -- a session that was not turned away has a run
-not_away : (accounts : Accounts) (calls : List Call) (at : Place) → (call_lines calls ≡ busy_lines → ⊥) → IsSessionRun accounts calls at
+admitted_session_has_run : (accounts : Accounts) (calls : List Call) (at : Place) → (call_lines calls ≡ busy_lines → ⊥)
+    → IsSessionRun accounts calls at
     → IsRun accounts calls at
-not_away accounts calls at let_in (inl run) = run
-not_away accounts calls at let_in (inr (turned, is)) = absurd (let_in (ap call_lines turned.1))
+admitted_session_has_run accounts calls at let_in (inl run) = run
+admitted_session_has_run accounts calls at let_in (inr (turned, is)) = absurd (let_in (ap call_lines turned.1))
 
 -- two sessions with equal entries and requests, neither turned away, have equal lines up to an acceptance
-pub sessions_alone : Texts
+pub sessions_tell_same : UniquenessLaws
     → {S : Type 0} (facts : S → StoreFacts) (IsStored : List ℕ → Type 0) (start begun : BookFields) (calls others : List (Numbered Call))
     (hall other : HallFields S) (n m : ℕ) → IsHallAfter facts IsStored start calls hall → IsHallAfter facts IsStored begun others other
     → HaveSameEntries (accounts_in start) (accounts_in begun)
     → of_number n (hall_lines calls) ≢ busy_lines → of_number m (hall_lines others) ≢ busy_lines
     → HaveSameRequests (of_number n calls) (of_number m others)
     → up_to_acceptance (of_number n (hall_lines calls)) ≡ up_to_acceptance (of_number m (hall_lines others))
-sessions_alone t facts IsStored start begun calls others hall other n m s r entries let_in let_in_too same =
-    let one = not_away (accounts_in start) (of_number n calls) (s.places n) (λ is. let_in (of_number_lines n calls ∙ is))
+sessions_tell_same t facts IsStored start begun calls others hall other n m s r entries let_in let_in_too same =
+    let one = admitted_session_has_run (accounts_in start) (of_number n calls) (s.places n) (λ is. let_in (of_number_lines n calls ∙ is))
     (s.session_runs n) in
-    let two = not_away (accounts_in begun) (of_number m others) (r.places m) (λ is. let_in_too (of_number_lines m others ∙ is))
+    let two = admitted_session_has_run (accounts_in begun) (of_number m others) (r.places m)
+        (λ is. let_in_too (of_number_lines m others ∙ is))
     (r.session_runs m) in
     ap up_to_acceptance (of_number_lines n calls)
-    ∙ told_alone t (accounts_in start) (accounts_in begun) (of_number n calls) (of_number m others) (s.places n)
+    ∙ runs_tell_same t (accounts_in start) (accounts_in begun) (of_number n calls) (of_number m others) (s.places n)
     (r.places m) entries one two same
     ∙ ap up_to_acceptance (sym (of_number_lines m others))

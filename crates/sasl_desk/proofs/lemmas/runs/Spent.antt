@@ -19,7 +19,7 @@ use Rattle.log_grammar.specs.Books.{accounts_in}
 use Rattle.log_grammar.specs.LoggedReply.{LoggedReply, logged_reply_of}
 use Rattle.log_grammar.specs.Demands.{attempts_of, IsReplyDueBy}
 use Rattle.sasl_log.specs.Tokens.{LeadsTo, IsBookAfter}
-use Rattle.log_grammar.proofs.lemmas.ListEnds.{each_first, each_rest}
+use Rattle.log_grammar.proofs.lemmas.ListEnds.{all_front, all_back}
 use Rattle.sasl_desk.specs.Spent.{IsCounterSpent, AreSpent, used_by_reply, of_account, SpentStaysSpent}
 
 -- a counter is below each that can pass with a token
@@ -28,68 +28,71 @@ IsBelow token counter = (history : List Attempt) (moment c : ℕ) → IsMoment m
     → (IsCandidate token history moment c ⊎ IsPairCandidate token history c) → counter < c
 
 -- attempts that lead from a token lead to a token after them
-token_later : (start : TokenFields) (attempts : List Attempt) (o : Option TokenFields) → LeadsTo (Some start) attempts o
+attempts_lead_to_token : (start : TokenFields) (attempts : List Attempt) (o : Option TokenFields) → LeadsTo (Some start) attempts o
     → (token : TokenFields) × (o ≡ Some token) × IsAfter start attempts token
-token_later start attempts None leads = absurd leads
-token_later start attempts (Some token) leads = (token, refl, leads)
+attempts_lead_to_token start attempts None leads = absurd leads
+attempts_lead_to_token start attempts (Some token) leads = (token, refl, leads)
 
 -- a counter that can pass after a legal history of a later token can pass after that history and the attempts before it of the first token
-could_pass : LegalHistoriesJoin → (start : TokenFields) (attempts : List Attempt) (token : TokenFields) → IsAfter start attempts token
+later_candidate_was_candidate : LegalHistoriesJoin → (start : TokenFields) (attempts : List Attempt) (token : TokenFields)
+    → IsAfter start attempts token
     → (history : List Attempt) (moment c : ℕ) → IsMoment moment → IsLegal token history
     → (IsCandidate token history moment c ⊎ IsPairCandidate token history c)
     → IsLegal start (history ++ attempts)
     × (IsCandidate start (history ++ attempts) moment c ⊎ IsPairCandidate start (history ++ attempts) c)
-could_pass join start attempts token after history moment c is legal can =
+later_candidate_was_candidate join start attempts token after history moment c is legal can =
     let joined = join start attempts token history after legal in
     (joined.0, elim can [ inl h ↦ inl ((joined.1.candidates moment c is).1 h) | inr h ↦ inr ((joined.1.pairs c).1 h) ])
 
 -- a counter that is below each that can pass is so after attempts too
-still_below : LegalHistoriesJoin → (start : TokenFields) (attempts : List Attempt) (token : TokenFields) (counter : ℕ)
+attempts_keep_below : LegalHistoriesJoin → (start : TokenFields) (attempts : List Attempt) (token : TokenFields) (counter : ℕ)
     → IsAfter start attempts token
     → IsBelow start counter → IsBelow token counter
-still_below join start attempts token counter after below history moment c is legal can =
-    let before = could_pass join start attempts token after history moment c is legal can in
+attempts_keep_below join start attempts token counter after below history moment c is legal can =
+    let before = later_candidate_was_candidate join start attempts token after history moment c is legal can in
     below (history ++ attempts) moment c is before.0 before.1
 
 -- what is above the counters of some attempts is above those of the earlier of them
-above_earlier : (later earlier : List Attempt) (c : ℕ) → IsAbove (used_in (later ++ earlier)) c → IsAbove (used_in earlier) c
-above_earlier [] earlier c above = above
-above_earlier (a ∷ later) earlier c above =
-    above_earlier later earlier c (each_rest (λ (used : ℕ). used < c) (used_in_reply a.sent a.reply) (used_in (later ++ earlier)) above)
+above_all_is_above_earlier : (later earlier : List Attempt) (c : ℕ) → IsAbove (used_in (later ++ earlier)) c → IsAbove (used_in earlier) c
+above_all_is_above_earlier [] earlier c above = above
+above_all_is_above_earlier (a ∷ later) earlier c above =
+    above_all_is_above_earlier later earlier c (all_back (λ (used : ℕ). used < c) (used_in_reply a.sent a.reply)
+        (used_in (later ++ earlier)) above)
 
 -- what can pass after an attempt is above each counter that the attempt used
-now_above : LegalHistoriesJoin → CandidatesAreNew → (start : TokenFields) (a : Attempt) (token : TokenFields) → IsAfter start (a ∷ []) token
+candidate_is_above_used : LegalHistoriesJoin → CandidatesAreNew → (start : TokenFields) (a : Attempt) (token : TokenFields)
+    → IsAfter start (a ∷ []) token
     → (history : List Attempt) (moment c : ℕ) → IsMoment moment → IsLegal token history
     → (IsCandidate token history moment c ⊎ IsPairCandidate token history c) → IsAbove (used_in_reply a.sent a.reply) c
-now_above join fresh start a token after history moment c is legal can =
-    let before = could_pass join start (a ∷ []) token after history moment c is legal can in
-    each_first (λ (used : ℕ). used < c) (used_in_reply a.sent a.reply) []
-    (above_earlier history (a ∷ []) c (fresh start (history ++ a ∷ []) moment c before.1))
+candidate_is_above_used join fresh start a token after history moment c is legal can =
+    let before = later_candidate_was_candidate join start (a ∷ []) token after history moment c is legal can in
+    all_front (λ (used : ℕ). used < c) (used_in_reply a.sent a.reply) []
+    (above_all_is_above_earlier history (a ∷ []) c (fresh start (history ++ a ∷ []) moment c before.1))
 
 -- the attempts that an account's own reply adds are that one
-own_attempt : (t : LoggedReply) (r : Reply) → t.reply ≡ Some r → attempts_of t.account (t ∷ []) ≡ attempt_of t.moment t.sent r ∷ []
-own_attempt t r is = rw ((bytes_eq-Decides t.account t.account).1 refl, is) refl
+reply_is_one_attempt : (t : LoggedReply) (r : Reply) → t.reply ≡ Some r → attempts_of t.account (t ∷ []) ≡ attempt_of t.moment t.sent r ∷ []
+reply_is_one_attempt t r is = rw ((bytes_eq-Decides t.account t.account).1 refl, is) refl
 
 -- a counter that is spent stays so after one more reply
-stays_spent : LegalHistoriesJoin → (old new : BookFields) (t : LoggedReply) → IsBookAfter (accounts_in old) (t ∷ []) new
+reply_keeps_spent_counter : LegalHistoriesJoin → (old new : BookFields) (t : LoggedReply) → IsBookAfter (accounts_in old) (t ∷ []) new
     → (name : List ℕ) (counter : ℕ) → IsCounterSpent old name counter → IsCounterSpent new name counter
-stays_spent join old new t after name counter used =
+reply_keeps_spent_counter join old new t after name counter used =
     let leads = subst (λ (o : Option TokenFields). LeadsTo o (attempts_of name (t ∷ [])) (token_at new name)) used.has
     (after.tokens name) in
-    let later = token_later used.token (attempts_of name (t ∷ [])) (token_at new name) leads in
-    record { token = later.0; has = later.1; below = still_below join used.token _ later.0 counter later.2 used.below }
+    let later = attempts_lead_to_token used.token (attempts_of name (t ∷ [])) (token_at new name) leads in
+    record { token = later.0; has = later.1; below = attempts_keep_below join used.token _ later.0 counter later.2 used.below }
 
 -- where each in a list has a property, and another follows from it, each has the other
-pub all_stay : {X : Type 0} (P Q : X → Type 0) → ((x : X) → P x → Q x) → (xs : List X) → AllByRecursion P xs → AllByRecursion Q xs
-all_stay P Q on [] all = tt
-all_stay P Q on (x ∷ xs) all = (on x all.0, all_stay P Q on xs all.1)
+pub each_follows : {X : Type 0} (P Q : X → Type 0) → ((x : X) → P x → Q x) → (xs : List X) → AllByRecursion P xs → AllByRecursion Q xs
+each_follows P Q on [] all = tt
+each_follows P Q on (x ∷ xs) all = (on x all.0, each_follows P Q on xs all.1)
 
 -- a counter that could pass is none of those that are spent
-is_other : (old : BookFields) (name : List ℕ) (start : TokenFields) (counter c moment : ℕ) → token_at old name ≡ Some start
+candidate_is_not_spent : (old : BookFields) (name : List ℕ) (start : TokenFields) (counter c moment : ℕ) → token_at old name ≡ Some start
     → IsMoment moment
     → (IsCandidate start [] moment c ⊎ IsPairCandidate start [] c) → c ≤ counter
     → (q : List ℕ × ℕ) → IsCounterSpent old q.0 q.1 → (name, counter) ≢ q
-is_other old name start counter c moment has is can at (other, used) up same =
+candidate_is_not_spent old name start counter c moment has is can at (other, used) up same =
     let names : name ≡ other = ap (λ (p : List ℕ × ℕ). p.0) same in
     let counters : counter ≡ used = ap (λ (p : List ℕ × ℕ). p.1) same in
     let tokens : start ≡ up.token = same_Some start up.token (sym has ∙ (ap (token_at old) names ∙ up.has)) in
@@ -98,42 +101,42 @@ is_other old name start counter c moment has is can at (other, used) up same =
     ⊎ IsPairCandidate token [] c) tokens can) in omega (arith, apart, at, counters)
 
 -- counters that are spent stay so after one more reply
-spent_stays : LegalHistoriesJoin → (old new : BookFields) (t : LoggedReply) (ps : List (List ℕ × ℕ))
+reply_keeps_spent_counters : LegalHistoriesJoin → (old new : BookFields) (t : LoggedReply) (ps : List (List ℕ × ℕ))
     → IsBookAfter (accounts_in old) (t ∷ []) new
     → AreSpent ps old → AreSpent ps new
-spent_stays join old new t ps after spent = record {
+reply_keeps_spent_counters join old new t ps after spent = record {
   different = spent.different;
-  spent = all_stay (λ p. IsCounterSpent old p.0 p.1) (λ p. IsCounterSpent new p.0 p.1)
-      (λ p used. stays_spent join old new t after p.0 p.1 used) ps spent.spent;
+  spent = each_follows (λ p. IsCounterSpent old p.0 p.1) (λ p. IsCounterSpent new p.0 p.1)
+      (λ p used. reply_keeps_spent_counter join old new t after p.0 p.1 used) ps spent.spent;
 }
 
 -- after a pass there is a token still, and what can pass with it is above the counters that the pass used
-after_pass_of : LegalHistoriesJoin → CandidatesAreNew
+pass_leaves_higher_candidates : LegalHistoriesJoin → CandidatesAreNew
     → (old new : BookFields) (name : List ℕ) (moment : ℕ) (sent : CodeTexts) (c : ℕ) (start : TokenFields)
     → token_at old name ≡ Some start → IsBookAfter (accounts_in old) (logged_reply_of name moment sent (Some (Pass c)) ∷ []) new
     → (token : TokenFields) × (token_at new name ≡ Some token)
     × ((history : List Attempt) (later k : ℕ) → IsMoment later → IsLegal token history
     → (IsCandidate token history later k ⊎ IsPairCandidate token history k) → IsAbove (used_in_reply sent (Pass c)) k)
-after_pass_of join fresh old new name moment sent c start has after =
+pass_leaves_higher_candidates join fresh old new name moment sent c start has after =
     let t = logged_reply_of name moment sent (Some (Pass c)) in
     let a = attempt_of moment sent (Pass c) in
     let leads = subst (λ (o : Option TokenFields). LeadsTo o (attempts_of name (t ∷ [])) (token_at new name)) has (after.tokens name) in
     let by_attempt = subst (λ (attempts : List Attempt). LeadsTo (Some start) attempts (token_at new name))
-    (own_attempt t (Pass c) refl) leads in
-    let later = token_later start (a ∷ []) (token_at new name) by_attempt in
-    (later.0, later.1, now_above join fresh start a later.0 later.2)
+    (reply_is_one_attempt t (Pass c) refl) leads in
+    let later = attempts_lead_to_token start (a ∷ []) (token_at new name) by_attempt in
+    (later.0, later.1, candidate_is_above_used join fresh start a later.0 later.2)
 
 -- the counter of a pass is spent after it, and so are both of a pass of two codes in a row:
-spent_by_one : LegalHistoriesJoin → CandidatesAreNew
+code_pass_spends_counter : LegalHistoriesJoin → CandidatesAreNew
     → (old new : BookFields) (name : List ℕ) (moment : ℕ) (text : List ℕ) (c : ℕ) (start : TokenFields)
     (ps : List (List ℕ × ℕ)) → token_at old name ≡ Some start → IsMoment moment → IsFitting start [] moment (OneText text) c
     → IsBookAfter (accounts_in old) (logged_reply_of name moment (OneText text) (Some (Pass c)) ∷ []) new → AreSpent ps old
     → AreSpent ((name, c) ∷ ps) new
-spent_by_one join fresh old new name moment text c start ps has is fits after spent =
-    let token = after_pass_of join fresh old new name moment (OneText text) c start has after in
-    let stays = spent_stays join old new (logged_reply_of name moment (OneText text) (Some (Pass c))) ps after spent in
-    let others = all_stay (λ p. IsCounterSpent old p.0 p.1) (λ q. (name, c) ≢ q)
-    (is_other old name start c c moment has is (inl fits.0) (omega arith)) ps spent.spent in
+code_pass_spends_counter join fresh old new name moment text c start ps has is fits after spent =
+    let token = pass_leaves_higher_candidates join fresh old new name moment (OneText text) c start has after in
+    let stays = reply_keeps_spent_counters join old new (logged_reply_of name moment (OneText text) (Some (Pass c))) ps after spent in
+    let others = each_follows (λ p. IsCounterSpent old p.0 p.1) (λ q. (name, c) ≢ q)
+    (candidate_is_not_spent old name start c c moment has is (inl fits.0) (omega arith)) ps spent.spent in
     record {
       different = (others, spent.different);
       spent = (
@@ -146,18 +149,20 @@ spent_by_one join fresh old new name moment text c start ps has is fits after sp
       );
     }
 
-spent_by_two : LegalHistoriesJoin → CandidatesAreNew → (old new : BookFields) (name : List ℕ) (moment : ℕ) (first second : List ℕ) (c : ℕ)
+pair_pass_spends_counters : LegalHistoriesJoin → CandidatesAreNew
+    → (old new : BookFields) (name : List ℕ) (moment : ℕ) (first second : List ℕ) (c : ℕ)
     (start : TokenFields) (ps : List (List ℕ × ℕ)) → token_at old name ≡ Some start → IsMoment moment
     → IsFitting start [] moment (TwoTexts first second) c
     → IsBookAfter (accounts_in old) (logged_reply_of name moment (TwoTexts first second) (Some (Pass c)) ∷ []) new → AreSpent ps old
     → AreSpent ((name, c) ∷ (name, c - 1) ∷ ps) new
-spent_by_two join fresh old new name moment first second c start ps has is (w, next, can, one, two) after spent =
-    let token = after_pass_of join fresh old new name moment (TwoTexts first second) c start has after in
-    let stays = spent_stays join old new (logged_reply_of name moment (TwoTexts first second) (Some (Pass c))) ps after spent in
-    let greater = all_stay (λ p. IsCounterSpent old p.0 p.1) (λ q. (name, c) ≢ q)
-    (is_other old name start c w moment has is (inr can) (omega (arith, next))) ps spent.spent in
-    let lesser = all_stay (λ p. IsCounterSpent old p.0 p.1) (λ q. (name, c - 1) ≢ q)
-    (is_other old name start (c - 1) w moment has is (inr can) (omega (arith, next))) ps spent.spent in
+pair_pass_spends_counters join fresh old new name moment first second c start ps has is (w, next, can, one, two) after spent =
+    let token = pass_leaves_higher_candidates join fresh old new name moment (TwoTexts first second) c start has after in
+    let stays = reply_keeps_spent_counters join old new (logged_reply_of name moment (TwoTexts first second) (Some (Pass c))) ps after
+        spent in
+    let greater = each_follows (λ p. IsCounterSpent old p.0 p.1) (λ q. (name, c) ≢ q)
+    (candidate_is_not_spent old name start c w moment has is (inr can) (omega (arith, next))) ps spent.spent in
+    let lesser = each_follows (λ p. IsCounterSpent old p.0 p.1) (λ q. (name, c - 1) ≢ q)
+    (candidate_is_not_spent old name start (c - 1) w moment has is (inr can) (omega (arith, next))) ps spent.spent in
     let apart : (name, c) ≢ (name, c - 1) = λ same. let counters : c
     ≡ c - 1 = ap (λ (p : List ℕ × ℕ). p.1) same in omega (arith, counters, next) in
     record {
@@ -176,31 +181,37 @@ spent_by_two join fresh old new name moment first second c start ps has is (w, n
     }
 
 -- the reply of a token without attempts is the one due, and there is none without a token:
-due_is : (start : TokenFields) (moment : ℕ) (sent : CodeTexts) (r : Reply) → IsReplyDueBy (Some start) [] moment sent (Some r)
+reply_by_token_is_due : (start : TokenFields) (moment : ℕ) (sent : CodeTexts) (r : Reply)
+    → IsReplyDueBy (Some start) [] moment sent (Some r)
     → IsDueReply start [] moment sent r
-due_is start moment sent r (reply, same, due) = subst (λ (x : Reply). IsDueReply start [] moment sent x)
+reply_by_token_is_due start moment sent r (reply, same, due) = subst (λ (x : Reply). IsDueReply start [] moment sent x)
     (sym (same_Some r reply same)) due
 
-none_due : (moment : ℕ) (sent : CodeTexts) (r : Reply) → IsReplyDueBy None [] moment sent (Some r) → ⊥
-none_due moment sent r same = cc
+no_reply_without_token : (moment : ℕ) (sent : CodeTexts) (r : Reply) → IsReplyDueBy None [] moment sent (Some r) → ⊥
+no_reply_without_token moment sent r same = cc
 
 -- with each reply that is due, what it used is spent, and what was spent before
-spent_next : LegalHistoriesJoin → CandidatesAreNew
+due_reply_spends_counters : LegalHistoriesJoin → CandidatesAreNew
     → (old new : BookFields) (name : List ℕ) (moment : ℕ) (sent : CodeTexts) (reply : Option Reply)
     (ps : List (List ℕ × ℕ)) (o : Option TokenFields) → token_at old name ≡ o → IsReplyDueBy o [] moment sent reply → IsMoment moment
     → IsBookAfter (accounts_in old) (logged_reply_of name moment sent reply ∷ []) new → AreSpent ps old
     → AreSpent (of_account name (used_by_reply sent reply) ++ ps) new
-spent_next join fresh old new name moment sent None ps o has due is after spent = spent_stays join old new _ ps after spent
-spent_next join fresh old new name moment sent (Some Fail) ps o has due is after spent = spent_stays join old new _ ps after spent
-spent_next join fresh old new name moment sent (Some Locked) ps o has due is after spent = spent_stays join old new _ ps after spent
-spent_next join fresh old new name moment sent (Some (Pass c)) ps None has due is after spent = absurd (none_due moment sent (Pass c) due)
-spent_next join fresh old new name moment (OneText text) (Some (Pass c)) ps (Some start) has due is after spent =
-    spent_by_one join fresh old new name moment text c start ps has is (due_is start moment (OneText text) (Pass c) due).1 after spent
-spent_next join fresh old new name moment (TwoTexts first second) (Some (Pass c)) ps (Some start) has due is after spent =
-    spent_by_two join fresh old new name moment first second c start ps has is
-    (due_is start moment (TwoTexts first second) (Pass c) due).1 after spent
+due_reply_spends_counters join fresh old new name moment sent None ps o has due is after spent =
+    reply_keeps_spent_counters join old new _ ps after spent
+due_reply_spends_counters join fresh old new name moment sent (Some Fail) ps o has due is after spent =
+    reply_keeps_spent_counters join old new _ ps after spent
+due_reply_spends_counters join fresh old new name moment sent (Some Locked) ps o has due is after spent =
+    reply_keeps_spent_counters join old new _ ps after spent
+due_reply_spends_counters join fresh old new name moment sent (Some (Pass c)) ps None has due is after spent =
+    absurd (no_reply_without_token moment sent (Pass c) due)
+due_reply_spends_counters join fresh old new name moment (OneText text) (Some (Pass c)) ps (Some start) has due is after spent =
+    code_pass_spends_counter join fresh old new name moment text c start ps has is
+        (reply_by_token_is_due start moment (OneText text) (Pass c) due).1 after spent
+due_reply_spends_counters join fresh old new name moment (TwoTexts first second) (Some (Pass c)) ps (Some start) has due is after spent =
+    pair_pass_spends_counters join fresh old new name moment first second c start ps has is
+    (reply_by_token_is_due start moment (TwoTexts first second) (Pass c) due).1 after spent
 
 -- the law: what was spent stays spent over each reply that is due
 pub spent_stays_spent : LegalHistoriesJoin → CandidatesAreNew → SpentStaysSpent
 spent_stays_spent join fresh old new t ps is due after spent =
-    spent_next join fresh old new t.account t.moment t.sent t.reply ps (token_at old t.account) refl due is after spent
+    due_reply_spends_counters join fresh old new t.account t.moment t.sent t.reply ps (token_at old t.account) refl due is after spent

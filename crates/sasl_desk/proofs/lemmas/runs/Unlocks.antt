@@ -23,7 +23,7 @@ use Rattle.account_book.specs.Accounts.{account_at, with_account, with_changed, 
 use Rattle.account_book.specs.Laws.{TokensAreApart, AddedIsApart}
 use Rattle.account_book.specs.Tokens.{token_at, with_token, IsUnlocked}
 use Rattle.sasl_desk.specs.Spent.{IsCounterSpent, AreSpent}
-use Rattle.sasl_desk.proofs.lemmas.runs.Spent.{IsBelow, all_stay}
+use Rattle.sasl_desk.proofs.lemmas.runs.Spent.{IsBelow, each_follows}
 
 -- a counter can pass after a history, alone or as the first of a pair
 abbrev CanPass : TokenFields → List Attempt → ℕ → ℕ → Type 0
@@ -34,28 +34,29 @@ abbrev IsBelowAfter : TokenFields → List Attempt → ℕ → Type 0
 IsBelowAfter token history counter = (moment c : ℕ) → IsMoment moment → CanPass token history moment c → counter < c
 
 -- what can pass after FAIL, or after LOCKED, could pass before it:
-fail_can : (token : TokenFields) (before : List Attempt) (at : ℕ) (sent : CodeTexts) (moment c : ℕ)
+fail_admits_no_more : (token : TokenFields) (before : List Attempt) (at : ℕ) (sent : CodeTexts) (moment c : ℕ)
     → CanPass token (attempt_of at sent Fail ∷ before) moment c → CanPass token before moment c
-fail_can (Hotp t) before at sent moment c can = can
-fail_can (Totp t) before at sent moment c can = can
+fail_admits_no_more (Hotp t) before at sent moment c can = can
+fail_admits_no_more (Totp t) before at sent moment c can = can
 
-locked_can : (token : TokenFields) (before : List Attempt) (at : ℕ) (sent : CodeTexts) (moment c : ℕ)
+locked_admits_no_more : (token : TokenFields) (before : List Attempt) (at : ℕ) (sent : CodeTexts) (moment c : ℕ)
     → CanPass token (attempt_of at sent Locked ∷ before) moment c → CanPass token before moment c
-locked_can (Hotp t) before at sent moment c can = can
-locked_can (Totp t) before at sent moment c can = can
+locked_admits_no_more (Hotp t) before at sent moment c can = can
+locked_admits_no_more (Totp t) before at sent moment c can = can
 
 -- a counter below each that can pass before an attempt is below each that can pass after it
-below_next : CandidatesAreNew → (token : TokenFields) (counter : ℕ) (before : List Attempt) (at : ℕ) (sent : CodeTexts) (reply : Reply)
+attempt_keeps_below : CandidatesAreNew → (token : TokenFields) (counter : ℕ) (before : List Attempt) (at : ℕ) (sent : CodeTexts)
+    (reply : Reply)
     → IsMoment at → IsDueReply token before at sent reply → IsBelowAfter token before counter
     → IsBelowAfter token (attempt_of at sent reply ∷ before) counter
-below_next fresh token counter before at sent Fail is due below moment c later can = below moment c later
-    (fail_can token before at sent moment c can)
-below_next fresh token counter before at sent Locked is due below moment c later can = below moment c later
-    (locked_can token before at sent moment c can)
-below_next fresh token counter before at (OneText text) (Pass w) is due below moment c later can =
+attempt_keeps_below fresh token counter before at sent Fail is due below moment c later can = below moment c later
+    (fail_admits_no_more token before at sent moment c can)
+attempt_keeps_below fresh token counter before at sent Locked is due below moment c later can = below moment c later
+    (locked_admits_no_more token before at sent moment c can)
+attempt_keeps_below fresh token counter before at (OneText text) (Pass w) is due below moment c later can =
     let passed : counter < w = below at w is (inl due.1.0) in
     let apart = (fresh token (attempt_of at (OneText text) (Pass w) ∷ before) moment c can).0 in omega (arith, passed, apart)
-below_next fresh token counter before at (TwoTexts first second) (Pass w) is due below moment c later can =
+attempt_keeps_below fresh token counter before at (TwoTexts first second) (Pass w) is due below moment c later can =
     let (first_one, next, can_pair, one, other) = due.1 in
     let passed : counter < first_one = below at first_one is (inr can_pair) in
     let apart = (fresh token (attempt_of at (TwoTexts first second) (Pass w) ∷ before) moment c can).0 in omega (arith, passed, next, apart)
@@ -66,24 +67,27 @@ below_ever : CandidatesAreNew → (token : TokenFields) (counter : ℕ) → IsBe
     → IsBelowAfter token history counter
 below_ever fresh token counter below [] legal = below
 below_ever fresh token counter below (a ∷ before) legal =
-    below_next fresh token counter before a.moment a.sent a.reply legal.0 legal.1 (below_ever fresh token counter below before legal.2)
+    attempt_keeps_below fresh token counter before a.moment a.sent a.reply legal.0 legal.1
+        (below_ever fresh token counter below before legal.2)
 
 -- what can pass in an unlocked token could pass before: failures have no part in it
-unlocked_can : (token : TokenFields) (moment c : ℕ) → CanPass (unlocked token) [] moment c → CanPass token [] moment c
-unlocked_can (Hotp t) moment c can = can
-unlocked_can (Totp t) moment c can = can
+unlocked_admits_no_more : (token : TokenFields) (moment c : ℕ) → CanPass (unlocked token) [] moment c → CanPass token [] moment c
+unlocked_admits_no_more (Hotp t) moment c can = can
+unlocked_admits_no_more (Totp t) moment c can = can
 
 -- a counter below each that can pass is so after the token is unlocked
-unlocked_below : CandidatesAreNew → (token : TokenFields) (counter : ℕ) → IsBelow token counter → IsBelow (unlocked token) counter
-unlocked_below fresh token counter below history moment c is legal can =
-    below_ever fresh (unlocked token) counter (λ m k at now. below [] m k at tt (unlocked_can token m k now)) history legal moment c is can
+unlocked_token_keeps_below : CandidatesAreNew → (token : TokenFields) (counter : ℕ) → IsBelow token counter
+    → IsBelow (unlocked token) counter
+unlocked_token_keeps_below fresh token counter below history moment c is legal can =
+    below_ever fresh (unlocked token) counter (λ m k at now. below [] m k at tt (unlocked_admits_no_more token m k now)) history legal
+        moment c is can
 
 -- where the token of one account is unlocked, a counter that is spent stays so
-spent_unlocked : TokensAreApart → CandidatesAreNew → (old : BookFields) (name : List ℕ) (token : TokenFields)
+unlocked_token_keeps_spent_counter : TokensAreApart → CandidatesAreNew → (old : BookFields) (name : List ℕ) (token : TokenFields)
     → token_at old name ≡ Some token
     → (other : List ℕ) (counter : ℕ) → IsCounterSpent old other counter
     → IsCounterSpent (with_changed old name (with_token (unlocked token))) other counter
-spent_unlocked apart fresh old name token has other counter used =
+unlocked_token_keeps_spent_counter apart fresh old name token has other counter used =
     let now = apart old name token (unlocked token) has other in
     elim (cases_Bool (bytes_eq name other)) [
       | inl is ↦
@@ -92,7 +96,7 @@ spent_unlocked apart fresh old name token has other counter used =
           record {
             token = unlocked token;
             has = rw is at now;
-            below = unlocked_below fresh token counter (subst (λ (t : TokenFields). IsBelow t counter) same used.below);
+            below = unlocked_token_keeps_below fresh token counter (subst (λ (t : TokenFields). IsBelow t counter) same used.below);
           }
       | inr not ↦
           let same : token_at (with_changed old name (with_token (unlocked token))) other ≡ token_at old other = rw not at now in
@@ -100,51 +104,53 @@ spent_unlocked apart fresh old name token has other counter used =
     ]
 
 -- a counter that is spent stays so after the book's account is unlocked, if it has a token
-unlocked_as : TokensAreApart → CandidatesAreNew → (old new : BookFields) (name : List ℕ) (o : Option TokenFields) → token_at old name ≡ o
+unlock_keeps_spent_counter : TokensAreApart → CandidatesAreNew → (old new : BookFields) (name : List ℕ) (o : Option TokenFields)
+    → token_at old name ≡ o
     → IsUnlocked old name new
     → (other : List ℕ) (counter : ℕ) → IsCounterSpent old other counter → IsCounterSpent new other counter
-unlocked_as apart fresh old new name None has changed other counter used =
+unlock_keeps_spent_counter apart fresh old new name None has changed other counter used =
     let same : new ≡ old = rw has at changed in subst (λ (b : BookFields). IsCounterSpent b other counter) (sym same) used
-unlocked_as apart fresh old new name (Some token) has changed other counter used =
+unlock_keeps_spent_counter apart fresh old new name (Some token) has changed other counter used =
     let is = rw has at changed in
     subst (λ (b : BookFields). IsCounterSpent b other counter) (sym is.book)
-    (spent_unlocked apart fresh old name token has other counter used)
+    (unlocked_token_keeps_spent_counter apart fresh old name token has other counter used)
 
 -- what was spent stays spent where a token is unlocked
-pub unlocks_keep : TokensAreApart → CandidatesAreNew → (old new : BookFields) (name : List ℕ) (ps : List (List ℕ × ℕ))
+pub unlock_keeps_spent_counters : TokensAreApart → CandidatesAreNew → (old new : BookFields) (name : List ℕ) (ps : List (List ℕ × ℕ))
     → IsUnlocked old name new
     → AreSpent ps old → AreSpent ps new
-unlocks_keep apart fresh old new name ps changed spent = record {
+unlock_keeps_spent_counters apart fresh old new name ps changed spent = record {
   different = spent.different;
-  spent = all_stay (λ p. IsCounterSpent old p.0 p.1) (λ p. IsCounterSpent new p.0 p.1)
-      (λ p used. unlocked_as apart fresh old new name (token_at old name) refl changed p.0 p.1 used) ps spent.spent;
+  spent = each_follows (λ p. IsCounterSpent old p.0 p.1) (λ p. IsCounterSpent new p.0 p.1)
+      (λ p used. unlock_keeps_spent_counter apart fresh old new name (token_at old name) refl changed p.0 p.1 used) ps spent.spent;
 }
 
 -- an account that has a token is not free
-token_free : (o : Option AccountFields) (token : TokenFields) → o ≡ None → option_and_then (λ account. account.token) o ≡ Some token → ⊥
-token_free None token free has = cc has
-token_free (Some account) token free has = cc free
+token_is_not_free : (o : Option AccountFields) (token : TokenFields) → o ≡ None → option_and_then (λ account. account.token) o ≡ Some token
+    → ⊥
+token_is_not_free None token free has = cc has
+token_is_not_free (Some account) token free has = cc free
 
 -- where an account is added, a counter that is spent stays so
-spent_with : AddedIsApart → (old : BookFields) (name : List ℕ) (account : AccountFields) → account_at old name ≡ None
+addition_keeps_spent_counter : AddedIsApart → (old : BookFields) (name : List ℕ) (account : AccountFields) → account_at old name ≡ None
     → (other : List ℕ) (counter : ℕ) → IsCounterSpent old other counter → IsCounterSpent (with_account old name account) other counter
-spent_with apart old name account free other counter used =
+addition_keeps_spent_counter apart old name account free other counter used =
     let now = apart old name account other in
     elim (cases_Bool (bytes_eq name other)) [
       | inl is ↦
           let names : name ≡ other = (bytes_eq-Decides name other).0 is in
-          absurd (token_free (account_at old other) used.token (subst (λ (n : List ℕ). account_at old n ≡ None) names free) used.has)
+          absurd (token_is_not_free (account_at old other) used.token (subst (λ (n : List ℕ). account_at old n ≡ None) names free) used.has)
       | inr not ↦
           let same : account_at (with_account old name account) other ≡ account_at old other = rw not at now in
           record { token = used.token; has = ap (option_and_then (λ a. a.token)) same ∙ used.has; below = used.below }
     ]
 
 -- where an account is added, counters that are spent stay so
-pub added_keeps : AddedIsApart → (old new : BookFields) (name : List ℕ) (account : AccountFields) (ps : List (List ℕ × ℕ))
+pub addition_keeps_spent_counters : AddedIsApart → (old new : BookFields) (name : List ℕ) (account : AccountFields) (ps : List (List ℕ × ℕ))
     → IsAdded old name account new → AreSpent ps old → AreSpent ps new
-added_keeps apart old new name account ps is spent = record {
+addition_keeps_spent_counters apart old new name account ps is spent = record {
   different = spent.different;
-  spent = all_stay (λ p. IsCounterSpent old p.0 p.1) (λ p. IsCounterSpent new p.0 p.1)
+  spent = each_follows (λ p. IsCounterSpent old p.0 p.1) (λ p. IsCounterSpent new p.0 p.1)
       (λ p used. subst (λ (b : BookFields). IsCounterSpent b p.0 p.1) (sym is.added.book)
-      (spent_with apart old name account is.free p.0 p.1 used)) ps spent.spent;
+      (addition_keeps_spent_counter apart old name account is.free p.0 p.1 used)) ps spent.spent;
 }

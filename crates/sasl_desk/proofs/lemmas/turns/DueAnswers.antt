@@ -19,7 +19,7 @@ use Rattle.scram_ends.specs.declared.verdict.Refusal.{Refusal}
 use Rattle.scram_ends.specs.declared.verdict.Verdict.{Verdict}
 use Rattle.log_grammar.specs.Places.{Place, between, asks_bare, waits_first, got_first, waits_final, got_final, waits_code, leaving, over}
 use Rattle.log_grammar.specs.Demands.{Accounts, NamesMechanism, IsFirstOf}
-use Rattle.sasl_log.proofs.lemmas.steps.Logins.{stands_same, challenge_of}
+use Rattle.sasl_log.proofs.lemmas.steps.Logins.{stands_for_equal_login, login_is_challenged}
 use Rattle.sasl_desk.specs.ChallengedLogin.{challenged_login_of}
 use Rattle.sasl_desk.specs.Sessions.{answer_of, verdict_answer, IsBareNoDue, IsAnswer}
 use Rattle.sasl_desk.specs.declared.session.Session.TheVariants.{WaitFirst, WaitFinal}
@@ -59,20 +59,22 @@ departure_due accounts server_nonce = record {
 }
 
 -- a mechanism that is not offered opens no login
-pub not_offered : (mechanism first : List ℕ) → ((m : Mechanism) → NamesMechanism mechanism m → ⊥) → (name : List ℕ)
+pub unoffered_opens_no_login : (mechanism first : List ℕ) → ((m : Mechanism) → NamesMechanism mechanism m → ⊥) → (name : List ℕ)
     → IsFirstOf mechanism first name → ⊥
-not_offered mechanism first unknown name is = unknown is.m is.offered
+unoffered_opens_no_login mechanism first unknown name is = unknown is.m is.offered
 
 -- a message that is refused opens no login
-pub not_first : RefusedIsNotTakenUp → (mechanism first : List ℕ) (fault : FirstFault) → IsRefusedWith first fault → (name : List ℕ)
+pub refused_first_opens_no_login : RefusedIsNotTakenUp → (mechanism first : List ℕ) (fault : FirstFault) → IsRefusedWith first fault
+    → (name : List ℕ)
     → IsFirstOf mechanism first name → ⊥
-not_first law mechanism first fault refusal name is = law first fault is.parts name is.authzid refusal is.is_first is.taken_up
+refused_first_opens_no_login law mechanism first fault refusal name is =
+    law first fault is.parts name is.authzid refusal is.is_first is.taken_up
 
 -- a message that is taken up opens a login by a mechanism that is offered
-pub first_of : (mechanism first name : List ℕ) (m : Mechanism) (p : ClientFirstParts) (authzid : Option (List ℕ))
+pub taken_first_opens_login : (mechanism first name : List ℕ) (m : Mechanism) (p : ClientFirstParts) (authzid : Option (List ℕ))
     → NamesMechanism mechanism m
     → IsClientFirst first p → IsTakenUp p name authzid → IsFirstOf mechanism first name
-first_of mechanism first name m p authzid named is taken =
+taken_first_opens_login mechanism first name m p authzid named is taken =
     record { m = m; offered = named; parts = p; authzid = authzid; is_first = is; taken_up = taken }
 
 -- the empty challenge is due to a client that asks for a mechanism that is offered
@@ -87,18 +89,18 @@ invitation_due accounts server_nonce mechanism m named = record {
 }
 
 -- the challenge that a server writes is due, and the server stands for its login
-challenge_to : HasOneClientFirst → SpellsOneName
+account_challenge_due : HasOneClientFirst → SpellsOneName
     → (accounts : Accounts) (server_nonce : List ℕ) (wait : ServerWait) (m : Mechanism) (mechanism name client_first server_first : List ℕ)
     → NamesMechanism mechanism m → IsFirstOf mechanism client_first name
     → IsChallengeTo (accounts.entry m name) client_first server_nonce server_first
     → StandsFor wait (challenged_login (accounts.entry m name) m client_first server_first)
     → IsAnswer accounts server_nonce (got_first mechanism client_first)
     (answer_of Continues (Some (WaitFinal (challenged_login_of wait m name)))) server_first
-challenge_to once names accounts server_nonce wait m mechanism name client_first server_first named first shows stands = record {
+account_challenge_due once names accounts server_nonce wait m mechanism name client_first server_first named first shows stands = record {
   next = waits_final mechanism name client_first server_first;
   path = (
     waits_final mechanism name client_first server_first,
-    (name, challenge_of once names accounts wait m mechanism name client_first server_first named first stands, refl),
+    (name, login_is_challenged once names accounts wait m mechanism name client_first server_first named first stands, refl),
     refl,
   );
   left = (client_first, server_first, ap (λ (t : List ℕ). waits_final t name client_first server_first) named, stands);
@@ -117,10 +119,11 @@ pub challenge_due : HasOneClientFirst → SpellsOneName → (accounts : Accounts
 challenge_due once names accounts server_nonce wait m mechanism name client_first server_first message entry same written named first
     shows stands =
     let here = subst (λ (e : Entry). IsChallengeTo e client_first server_nonce server_first) same shows in
-    let stood = stands_same wait entry (accounts.entry m name) m client_first client_first server_first same refl stands in
+    let stood = stands_for_equal_login wait entry (accounts.entry m name) m client_first client_first server_first same refl stands in
     subst (λ (t : List ℕ). IsAnswer accounts server_nonce (got_first mechanism client_first)
     (answer_of Continues (Some (WaitFinal (challenged_login_of wait m name)))) t)
-    (sym written) (challenge_to once names accounts server_nonce wait m mechanism name client_first server_first named first here stood)
+    (sym written) (account_challenge_due once names accounts server_nonce wait m mechanism name client_first server_first named first here
+      stood)
 
 -- an acceptance is due where its verdict is
 pub acceptance_due : (accounts : Accounts) (server_nonce : List ℕ) (m : Mechanism)
@@ -155,13 +158,13 @@ acceptance_due accounts server_nonce m name client_first server_first client_fin
 }
 
 -- a refusal is due where its verdict is, with the message that says why
-pub denial_due : (accounts : Accounts) (server_nonce : List ℕ) (m : Mechanism) (name client_first server_first client_final : List ℕ)
+pub refusal_due : (accounts : Accounts) (server_nonce : List ℕ) (m : Mechanism) (name client_first server_first client_final : List ℕ)
     (why : Refusal)
     → IsDue (challenged_login (accounts.entry m name) m client_first server_first) client_final (refuse why)
     → IsAnswer accounts server_nonce (got_final (name_of m) name client_first server_first client_final)
     (verdict_answer (verdict_of (refuse why)) name)
     (due_text (refuse why))
-denial_due accounts server_nonce m name client_first server_first client_final why due = record {
+refusal_due accounts server_nonce m name client_first server_first client_final why due = record {
   next = between;
   path = (over, ((why, (m, refl, due), refl), refl), (between, refl, refl));
   left = refl;
@@ -170,15 +173,16 @@ denial_due accounts server_nonce m name client_first server_first client_final w
 }
 
 -- the answer that bears a verdict is due where the verdict is
-by_due : (accounts : Accounts) (server_nonce : List ℕ) (m : Mechanism) (name client_first server_first client_final : List ℕ) (d : Due)
+either_verdict_due : (accounts : Accounts) (server_nonce : List ℕ) (m : Mechanism) (name client_first server_first client_final : List ℕ)
+    (d : Due)
     → IsDue (challenged_login (accounts.entry m name) m client_first server_first) client_final d → IsServerFinal (due_text d) (final_due d)
     → IsAnswer accounts server_nonce (got_final (name_of m) name client_first server_first client_final)
     (verdict_answer (verdict_of d) name)
     (due_text d)
-by_due accounts server_nonce m name client_first server_first client_final (accept signature) due is =
+either_verdict_due accounts server_nonce m name client_first server_first client_final (accept signature) due is =
     acceptance_due accounts server_nonce m name client_first server_first client_final signature due is
-by_due accounts server_nonce m name client_first server_first client_final (refuse why) due is =
-    denial_due accounts server_nonce m name client_first server_first client_final why due
+either_verdict_due accounts server_nonce m name client_first server_first client_final (refuse why) due is =
+    refusal_due accounts server_nonce m name client_first server_first client_final why due
 
 -- the answer that bears the verdict is due
 pub verdict_due : (accounts : Accounts) (server_nonce : List ℕ) (m : Mechanism)
@@ -189,6 +193,6 @@ pub verdict_due : (accounts : Accounts) (server_nonce : List ℕ) (m : Mechanism
     → IsAnswer accounts server_nonce (got_final (name_of m) name client_first server_first client_final) (verdict_answer v name) message
 verdict_due accounts server_nonce m name client_first server_first client_final message v d due says written is =
     let at = got_final (name_of m) name client_first server_first client_final in
-    let here = by_due accounts server_nonce m name client_first server_first client_final d due is in
+    let here = either_verdict_due accounts server_nonce m name client_first server_first client_final d due is in
     let worded = subst (λ (w : Verdict). IsAnswer accounts server_nonce at (verdict_answer w name) (due_text d)) (sym says) here in
     subst (λ (t : List ℕ). IsAnswer accounts server_nonce at (verdict_answer v name) t) (sym written) worded

@@ -5,7 +5,7 @@ use Rattle.std.specs.declared.result.Result.{Result}
 use Rattle.std.specs.declared.result.Result.TheVariants.{Ok, Err}
 use Rattle.log_grammar.specs.laws.LineLaws.{EachTextIsAtMostOneLine}
 use Rattle.otp_core.specs.Attempt.{CodeTexts, OneText, TwoTexts}
-use Rattle.log_grammar.specs.Lines.{LogLine, heard, bad, ClientLine, asking, from_client, IsLine}
+use Rattle.log_grammar.specs.Lines.{LogLine, heard, bad, ClientLine, code_line, from_client, IsLine}
 use Rattle.log_grammar.specs.Places.{Place}
 use Rattle.log_grammar.specs.Demands.{Accounts}
 use Rattle.sasl_desk.specs.Events.{ClientEvent, sends, goes_away}
@@ -19,66 +19,69 @@ use Rattle.sasl_desk.specs.declared.session.event.HearResult.{HearResult}
 use Rattle.sasl_desk.specs.declared.session.event.HearResult.TheVariants.{Answered, ToJudge}
 
 -- two lines of a client are the same, where they are the same as lines of the protocol
-pub line_inside : (one other : ClientLine) → from_client one ≡ from_client other → one ≡ other
-line_inside one other same = cc
+pub from_client_is_injective : (one other : ClientLine) → from_client one ≡ from_client other → one ≡ other
+from_client_is_injective one other same = cc
 
 -- the record of a line is that of an event which is this line and, since a text is one line, no other
-pub record_of_line : EachTextIsAtMostOneLine → (event : ClientEvent) (line : ClientLine) (at : Place) (recorded : LogLine)
+pub line_record_is_event_record : EachTextIsAtMostOneLine → (event : ClientEvent) (line : ClientLine) (at : Place) (recorded : LogLine)
     → IsLineOf event line → IsRecordOfLine line at recorded
     → IsRecord event at recorded
-record_of_line once goes_away line at recorded is kept = absurd is
-record_of_line once (sends text) line at (heard recorded) is kept = (
+line_record_is_event_record once goes_away line at recorded is kept = absurd is
+line_record_is_event_record once (sends text) line at (heard recorded) is kept = (
   subst (λ (l : ClientLine). IsLine text (from_client l)) (sym kept.0) is,
   subst (λ (l : ClientLine). is_due at l ≡ true) (sym kept.0) kept.1,
 )
-record_of_line once (sends text) line at bad is kept = λ other also.
-    subst (λ (l : ClientLine). is_due at l ≡ false) (line_inside line other (once text (from_client line) (from_client other) is also)) kept
-record_of_line once (sends text) line at recorded is kept = absurd kept
+line_record_is_event_record once (sends text) line at bad is kept = λ other also.
+    subst (λ (l : ClientLine). is_due at l ≡ false) (from_client_is_injective line other
+        (once text (from_client line) (from_client other) is also)) kept
+line_record_is_event_record once (sends text) line at recorded is kept = absurd kept
 
 -- what came of a line of the client came of the event that was this line
-heard_of_line : EachTextIsAtMostOneLine → (accounts : Accounts) (server_nonce : List ℕ) (event : ClientEvent) (line : ClientLine)
+line_result_is_event_result : EachTextIsAtMostOneLine
+    → (accounts : Accounts) (server_nonce : List ℕ) (event : ClientEvent) (line : ClientLine)
     (at : Place)
     (h : HearResult) (message : List ℕ)
     → IsLineOf event line → ComesOfLine accounts server_nonce line at h message → ComesOfEvent accounts server_nonce event at h message
-heard_of_line once accounts server_nonce event line at (Answered turn) message is came =
-    record { is_record = record_of_line once event line at _ is came.is_record; is_answer = came.is_answer }
-heard_of_line once accounts server_nonce event line at (ToJudge name sent) message is came =
-    record { place = came.0; is_record = record_of_line once event line at (heard (asking (texts_of sent))) is came.1 }
+line_result_is_event_result once accounts server_nonce event line at (Answered turn) message is came =
+    record { is_record = line_record_is_event_record once event line at _ is came.is_record; is_answer = came.is_answer }
+line_result_is_event_result once accounts server_nonce event line at (ToJudge name sent) message is came =
+    record { place = came.0; is_record = line_record_is_event_record once event line at (heard (code_line (texts_of sent))) is came.1 }
 
 -- what came of a line of the client, unless the call failed, came of the event that was this line
-pub all_heard_of_line : EachTextIsAtMostOneLine
+pub ok_result_is_event_result : EachTextIsAtMostOneLine
     → (accounts : Accounts) (server_nonce : List ℕ) (event : ClientEvent) (line : ClientLine) (at : Place) (r : Result HearResult Session)
     (message : List ℕ)
     → IsLineOf event line → IfOk r (λ h. ComesOfLine accounts server_nonce line at h message)
     → IfOk r (λ h. ComesOfEvent accounts server_nonce event at h message)
-all_heard_of_line once accounts server_nonce event line at (Ok h) message is came = heard_of_line once accounts server_nonce event line at
+ok_result_is_event_result once accounts server_nonce event line at (Ok h) message is came =
+    line_result_is_event_result once accounts server_nonce event line at
     h message is came
-all_heard_of_line once accounts server_nonce event line at (Err back) message is came = tt
+ok_result_is_event_result once accounts server_nonce event line at (Err back) message is came = tt
 
 -- a text that is no line of a client is recorded as `C BAD`
-pub no_line_record : (event : ClientEvent) (at : Place) → ((line : ClientLine) → IsLineOf event line → ⊥) → (event ≡ goes_away → ⊥)
+pub no_line_is_recorded_bad : (event : ClientEvent) (at : Place) → ((line : ClientLine) → IsLineOf event line → ⊥) → (event ≡ goes_away → ⊥)
     → IsRecord event at bad
-no_line_record goes_away at no_line sent = absurd (sent refl)
-no_line_record (sends text) at no_line sent = λ line is. absurd (no_line line is)
+no_line_is_recorded_bad goes_away at no_line sent = absurd (sent refl)
+no_line_is_recorded_bad (sends text) at no_line sent = λ line is. absurd (no_line line is)
 
 -- a code that is to be judged is that of the event, where it is that of the line that the event was
-sent_by_line : (event : ClientEvent) (line : ClientLine) (h : HearResult) → IsLineOf event line → JudgesOnlyLine h line
+judged_code_was_sent : (event : ClientEvent) (line : ClientLine) (h : HearResult) → IsLineOf event line → JudgesOnlyLine h line
     → JudgesOnlyWhatWasSent h event
-sent_by_line event line (Answered turn) is same = tt
-sent_by_line event line (ToJudge name sent) is same = subst (λ (l : ClientLine). IsLineOf event l) same is
+judged_code_was_sent event line (Answered turn) is same = tt
+judged_code_was_sent event line (ToJudge name sent) is same = subst (λ (l : ClientLine). IsLineOf event l) same is
 
 -- unless the call failed, a code that is to be judged is that of the event, where it is that of the line that the event was
-pub all_sent_by_line : (event : ClientEvent) (line : ClientLine) (r : Result HearResult Session) → IsLineOf event line
+pub ok_judged_code_was_sent : (event : ClientEvent) (line : ClientLine) (r : Result HearResult Session) → IsLineOf event line
     → IfOk r (λ h. JudgesOnlyLine h line)
     → IfOk r (λ h. JudgesOnlyWhatWasSent h event)
-all_sent_by_line event line (Ok h) is same = sent_by_line event line h is same
-all_sent_by_line event line (Err back) is same = tt
+ok_judged_code_was_sent event line (Ok h) is same = judged_code_was_sent event line h is same
+ok_judged_code_was_sent event line (Err back) is same = tt
 
 -- a line with a code, or with two in a row, takes memory to answer
-takes_code : (sent : CodeTexts) → TakesMemory (asking sent)
-takes_code (OneText text) = tt
-takes_code (TwoTexts first second) = tt
+code_takes_memory : (sent : CodeTexts) → TakesMemory (code_line sent)
+code_takes_memory (OneText text) = tt
+code_takes_memory (TwoTexts first second) = tt
 
 -- a client that sent a code, or two in a row, sent a line whose answer takes memory
-pub sent_code : (event : ClientEvent) (sent : CodeTexts) → IsLineOf event (asking sent) → SentWhatTakesMemory event
-sent_code event sent is = (asking sent, is, takes_code sent)
+pub sent_code_takes_memory : (event : ClientEvent) (sent : CodeTexts) → IsLineOf event (code_line sent) → SentWhatTakesMemory event
+sent_code_takes_memory event sent is = (code_line sent, is, code_takes_memory sent)

@@ -13,39 +13,43 @@ use Rattle.account_book.specs.Accounts.{IsChanged, with_changed}
 use Rattle.account_book.specs.SavedBooks.{needs_save, SavesBook}
 use Rattle.account_book.specs.Store.{StoreFacts}
 use Rattle.account_book.specs.Tokens.{token_at, with_token}
-use Rattle.account_book.proofs.lemmas.Maps.{is_changed}
+use Rattle.account_book.proofs.lemmas.Maps.{account_is_changed}
 use Rattle.account_book.proofs.lemmas.Tokens.{tokens_go_back, tokens_stay}
 use Rattle.log_grammar.specs.Lines.{IsReplyInRange}
 use Rattle.log_grammar.specs.LoggedReply.{LoggedReply, logged_reply_of}
 use Rattle.log_grammar.specs.Demands.{Accounts, IsLoggedReplyDue}
-use Rattle.sasl_log.proofs.lemmas.steps.Tokens.{reply_by, book_after}
+use Rattle.sasl_log.proofs.lemmas.steps.Tokens.{book_reply_is_due, book_follows_attempt}
 use Rattle.sasl_log.specs.Tokens.{IsBookAfter}
 use Rattle.sasl_desk.specs.Keeper.{IsAttemptJudged, IsKept}
 
 -- an attempt that an account's token judged is judged in the book: the reply is the token's, and the new book has the token after it
-pub told_by : (old new : BookFields) (name : List ℕ) (token now : TokenFields) (moment : ℕ) (sent : CodeTexts) (reply : Reply)
+pub token_attempt_is_judged : (old new : BookFields) (name : List ℕ) (token now : TokenFields) (moment : ℕ) (sent : CodeTexts)
+    (reply : Reply)
     → IsMoment moment
     → token_at old name ≡ Some token → IsTokenAttempt token moment sent reply now → IsChanged old name (with_token now) new
     → IsAttemptJudged old (logged_reply_of name moment sent (Some reply)) new
-told_by old new name token now moment sent reply is has attempt put =
+token_attempt_is_judged old new name token now moment sent reply is has attempt put =
     record { is_moment = is; answered = rw has (reply, refl, record { next = now; judged = attempt; kept = put }) }
 
 -- an attempt of an account without a token is judged: there is no reply, and the book stays as it was
-pub told_none : (old : BookFields) (name : List ℕ) (moment : ℕ) (sent : CodeTexts) → IsMoment moment → token_at old name ≡ None
+pub tokenless_attempt_is_judged : (old : BookFields) (name : List ℕ) (moment : ℕ) (sent : CodeTexts) → IsMoment moment
+    → token_at old name ≡ None
     → IsAttemptJudged old (logged_reply_of name moment sent None) old
-told_none old name moment sent is has = record { is_moment = is; answered = rw has (refl, refl) }
+tokenless_attempt_is_judged old name moment sent is has = record { is_moment = is; answered = rw has (refl, refl) }
 
 -- what is told is the reply that is due, and leads on from what was told before
-pub told_due : (old new : BookFields) (t : LoggedReply) → IsAttemptJudged old t new → (accounts : Accounts) (told : List LoggedReply)
+pub judged_reply_is_due : (old new : BookFields) (t : LoggedReply) → IsAttemptJudged old t new
+    → (accounts : Accounts) (told : List LoggedReply)
     → IsBookAfter accounts told old
     → IsLoggedReplyDue accounts (reverse told) t
-told_due old new t one accounts told h = reply_by accounts told old t.account t.moment t.sent t.reply new one.answered h
+judged_reply_is_due old new t one accounts told h = book_reply_is_due accounts told old t.account t.moment t.sent t.reply new one.answered h
 
 -- the book in which an attempt was judged is the book after what was told before, with that attempt's reply told last
-pub told_after : (old new : BookFields) (t : LoggedReply) → IsAttemptJudged old t new → (accounts : Accounts) (told : List LoggedReply)
+pub judged_book_is_after : (old new : BookFields) (t : LoggedReply) → IsAttemptJudged old t new
+    → (accounts : Accounts) (told : List LoggedReply)
     → IsBookAfter accounts told old
     → IsBookAfter accounts (told ++ t ∷ []) new
-told_after old new t one accounts told h = book_after accounts told old t.account t.moment t.sent t.reply new
+judged_book_is_after old new t one accounts told h = book_follows_attempt accounts told old t.account t.moment t.sent t.reply new
     (token_at old t.account) refl one.answered h
 
 -- the reply of a token whose counter is at most the largest is in its range
@@ -55,34 +59,36 @@ reply_in_range Fail most = tt
 reply_in_range Locked most = tt
 
 -- a reply other than LOCKED needs a save
-pub saved_unless_locked : (reply : Reply) → reply ≢ Locked → needs_save (Some reply) ≡ true
-saved_unless_locked (Pass counter) apart = refl
-saved_unless_locked Fail apart = refl
-saved_unless_locked Locked apart = absurd (apart refl)
+pub needs_save_unless_locked : (reply : Reply) → reply ≢ Locked → needs_save (Some reply) ≡ true
+needs_save_unless_locked (Pass counter) apart = refl
+needs_save_unless_locked Fail apart = refl
+needs_save_unless_locked Locked apart = absurd (apart refl)
 
 -- an attempt that LOCKED answers is judged and kept, and the book and the store stay as they were
-pub told_locked : (IsStored : List ℕ → Type 0) (old : BookFields) (name : List ℕ) (token now : TokenFields) (moment : ℕ) (sent : CodeTexts)
+pub locked_attempt_is_judged : (IsStored : List ℕ → Type 0) (old : BookFields) (name : List ℕ) (token now : TokenFields) (moment : ℕ)
+    (sent : CodeTexts)
     (reply : Reply) → IsMoment moment
     → token_at old name ≡ Some token → IsTokenAttempt token moment sent reply now → reply ≡ Locked → (was : StoreFacts)
     → IsAttemptJudged old (logged_reply_of name moment sent (Some reply)) old × IsKept IsStored (needs_save (Some reply)) old was old was
-told_locked IsStored old name token now moment sent reply is has attempt locked was =
+locked_attempt_is_judged IsStored old name token now moment sent reply is has attempt locked was =
     let same : now ≡ token = attempt.state ∙ ap (after_reply token moment) locked in
     let stays : old ≡ with_changed old name (with_token now) =
     sym (ap (λ (t : TokenFields). with_changed old name (with_token t)) same ∙ tokens_stay old name token has) in
-    let put = is_changed old name (with_token now) old stays in
-    (told_by old old name token now moment sent reply is has attempt put, rw locked (refl, refl))
+    let put = account_is_changed old name (with_token now) old stays in
+    (token_attempt_is_judged old old name token now moment sent reply is has attempt put, rw locked (refl, refl))
 
 -- a reply that is not LOCKED is kept by a store that holds the book's text
-pub kept_by : (IsStored : List ℕ → Type 0) (old new : BookFields) (was now : StoreFacts) (reply : Reply) → reply ≢ Locked
+pub kept_unless_locked : (IsStored : List ℕ → Type 0) (old new : BookFields) (was now : StoreFacts) (reply : Reply) → reply ≢ Locked
     → SavesBook IsStored was new now → IsKept IsStored (needs_save (Some reply)) old was new now
-kept_by IsStored old new was now (Pass counter) apart holds = holds
-kept_by IsStored old new was now Fail apart holds = holds
-kept_by IsStored old new was now Locked apart holds = absurd (apart refl)
+kept_unless_locked IsStored old new was now (Pass counter) apart holds = holds
+kept_unless_locked IsStored old new was now Fail apart holds = holds
+kept_unless_locked IsStored old new was now Locked apart holds = absurd (apart refl)
 
 -- where a token is put back, the book is as it was
-pub put_back : (old mid new : BookFields) (name : List ℕ) (token next back : TokenFields) → token_at old name ≡ Some token → back ≡ token
+pub put_back_restores_book : (old mid new : BookFields) (name : List ℕ) (token next back : TokenFields) → token_at old name ≡ Some token
+    → back ≡ token
     → IsChanged old name (with_token next) mid → IsChanged mid name (with_token back) new → new ≡ old
-put_back old mid new name token next back has same first second =
+put_back_restores_book old mid new name token next back has same first second =
     second.book
     ∙ ap (λ (b : BookFields). with_changed b name (with_token back)) first.book
     ∙ ap (λ (t : TokenFields). with_changed (with_changed old name (with_token next)) name (with_token t)) same

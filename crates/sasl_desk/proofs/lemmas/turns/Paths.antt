@@ -18,33 +18,34 @@ use Rattle.sasl_desk.specs.declared.session.Session.TheVariants.{WaitAuth, WaitF
 use Rattle.sasl_desk.specs.declared.session.event.Saying.{Saying}
 use Rattle.sasl_desk.specs.declared.session.event.Saying.TheVariants.{Nothing, Continues, Accepts, Refuses}
 use Rattle.sasl_desk.specs.declared.session.event.Turn.{Turn}
-use Rattle.sasl_desk.proofs.lemmas.turns.DueRecords.{due_goes, bad_goes, gone_goes}
+use Rattle.sasl_desk.proofs.lemmas.turns.DueRecords.{due_line_may_stand, bad_may_stand, gone_may_stand}
 
 -- the place where a session stands is its client's turn
-pub client_turn : (accounts : Accounts) (at : Place) (going : Session) → IsSessionAt accounts at going → is_client_turn at ≡ true
-client_turn accounts at WaitAuth is = rw is refl
-client_turn accounts at (WaitFirst mechanism) is = rw is refl
-client_turn accounts at (WaitFinal waiting) (client_first, server_first, place, stands) = rw place refl
-client_turn accounts at (WaitCode name) is = rw is refl
+pub session_has_client_turn : (accounts : Accounts) (at : Place) (going : Session) → IsSessionAt accounts at going
+    → is_client_turn at ≡ true
+session_has_client_turn accounts at WaitAuth is = rw is refl
+session_has_client_turn accounts at (WaitFirst mechanism) is = rw is refl
+session_has_client_turn accounts at (WaitFinal waiting) (client_first, server_first, place, stands) = rw place refl
+session_has_client_turn accounts at (WaitCode name) is = rw is refl
 
 -- what is recorded of an event may stand at a client's turn
-pub record_goes : (d : Demands) (at : Place) (event : ClientEvent) (recorded : LogLine) → is_client_turn at ≡ true
+pub record_may_stand : (d : Demands) (at : Place) (event : ClientEvent) (recorded : LogLine) → is_client_turn at ≡ true
     → IsRecord event at recorded
     → IsTransition d at recorded (record_place at recorded)
-record_goes d at (sends text) (heard line) turn is = due_goes d line at is.1
-record_goes d at (sends text) bad turn is = bad_goes d at turn
-record_goes d at goes_away gone turn is = gone_goes d at turn
-record_goes d at event recorded turn is = absurd is
+record_may_stand d at (sends text) (heard line) turn is = due_line_may_stand d line at is.1
+record_may_stand d at (sends text) bad turn is = bad_may_stand d at turn
+record_may_stand d at goes_away gone turn is = gone_may_stand d at turn
+record_may_stand d at event recorded turn is = absurd is
 
 -- the lines of a turn are a path from the session's place to the one after the turn
-pub turn_path : (accounts : Accounts) (server_nonce : List ℕ) (event : ClientEvent) (at : Place) (going : Session) (turn : Turn)
+pub turn_is_path : (accounts : Accounts) (server_nonce : List ℕ) (event : ClientEvent) (at : Place) (going : Session) (turn : Turn)
     (message : List ℕ)
     → IsSessionAt accounts at going
     → (t : IsTurnOnEvent accounts server_nonce event at turn message)
     → IsPath (demands accounts) at (turn_lines turn message) t.is_answer.next
-turn_path accounts server_nonce event at going turn message is t = (
+turn_is_path accounts server_nonce event at going turn message is t = (
   record_place at (recorded_shown turn.recorded),
-  record_goes (demands accounts) at event (recorded_shown turn.recorded) (client_turn accounts at going is) t.is_record,
+  record_may_stand (demands accounts) at event (recorded_shown turn.recorded) (session_has_client_turn accounts at going is) t.is_record,
   t.is_answer.path,
 )
 
@@ -54,36 +55,37 @@ IsNoReply (said (replies moment reply)) = ⊥
 IsNoReply line = Unit {0}
 
 -- what is recorded of a client is no reply
-pub record_no_reply : (event : ClientEvent) (at : Place) (recorded : LogLine) → IsRecord event at recorded → IsNoReply recorded
-record_no_reply (sends text) at (heard line) is = tt
-record_no_reply (sends text) at bad is = tt
-record_no_reply goes_away at gone is = tt
-record_no_reply event at recorded is = absurd is
+pub record_is_no_reply : (event : ClientEvent) (at : Place) (recorded : LogLine) → IsRecord event at recorded → IsNoReply recorded
+record_is_no_reply (sends text) at (heard line) is = tt
+record_is_no_reply (sends text) at bad is = tt
+record_is_no_reply goes_away at gone is = tt
+record_is_no_reply event at recorded is = absurd is
 
 -- the end of a session and the lines of its answer are no replies:
-ends_no_reply : (going : Option Session) → AllByRecursion IsNoReply (end_lines going)
-ends_no_reply (Some going) = tt
-ends_no_reply None = (tt, tt)
+end_has_no_reply : (going : Option Session) → AllByRecursion IsNoReply (end_lines going)
+end_has_no_reply (Some going) = tt
+end_has_no_reply None = (tt, tt)
 
-answer_no_reply : (says : Saying) (going : Option Session) (message : List ℕ)
+answer_has_no_reply : (says : Saying) (going : Option Session) (message : List ℕ)
     → AllByRecursion IsNoReply (said_lines says message ++ end_lines going)
-answer_no_reply Nothing going message = ends_no_reply going
-answer_no_reply Continues going message = (tt, ends_no_reply going)
-answer_no_reply Accepts going message = (tt, ends_no_reply going)
-answer_no_reply Refuses going message = (tt, ends_no_reply going)
+answer_has_no_reply Nothing going message = end_has_no_reply going
+answer_has_no_reply Continues going message = (tt, end_has_no_reply going)
+answer_has_no_reply Accepts going message = (tt, end_has_no_reply going)
+answer_has_no_reply Refuses going message = (tt, end_has_no_reply going)
 
 -- no line of a turn is a reply
-pub turn_no_reply : (accounts : Accounts) (server_nonce : List ℕ) (event : ClientEvent) (at : Place) (turn : Turn) (message : List ℕ)
+pub turn_has_no_reply : (accounts : Accounts) (server_nonce : List ℕ) (event : ClientEvent) (at : Place) (turn : Turn) (message : List ℕ)
     → IsTurnOnEvent accounts server_nonce event at turn message
     → AllByRecursion IsNoReply (turn_lines turn message)
-turn_no_reply accounts server_nonce event at turn message t =
-    (record_no_reply event at (recorded_shown turn.recorded) t.is_record, answer_no_reply turn.answer.says turn.answer.session message)
+turn_has_no_reply accounts server_nonce event at turn message t =
+    (record_is_no_reply event at (recorded_shown turn.recorded) t.is_record, answer_has_no_reply turn.answer.says turn.answer.session
+      message)
 
 -- a line that is no reply tells nothing
-pub quiet_at : (at : Place) (line : LogLine) → IsNoReply line → told_at at line ≡ []
-quiet_at (got_code account sent) (said (replies moment reply)) no_reply = absurd no_reply
-quiet_at (got_code account sent) line no_reply = refl
-quiet_at at line no_reply = refl
+pub no_reply_tells_nothing : (at : Place) (line : LogLine) → IsNoReply line → told_at at line ≡ []
+no_reply_tells_nothing (got_code account sent) (said (replies moment reply)) no_reply = absurd no_reply
+no_reply_tells_nothing (got_code account sent) line no_reply = refl
+no_reply_tells_nothing at line no_reply = refl
 
 -- a log goes on by a path without replies, and tells nothing new
 pub goes_on_by_path : GoesOnByALine → (accounts : Accounts) (log : List LogLine) (at : Place) (told : List LoggedReply)
@@ -94,7 +96,7 @@ goes_on_by_path law accounts log at told [] next begins path no_replies =
     let here = subst (λ (p : Place). Begins (demands accounts) log p told) (sym path) begins in
     subst (λ (l : List LogLine). Begins (demands accounts) l next told) (sym (append-nil log)) here
 goes_on_by_path law accounts log at told (line ∷ lines) next begins (middle, goes, path) no_replies =
-    let quiet = quiet_at at line no_replies.0 in
+    let quiet = no_reply_tells_nothing at line no_replies.0 in
     let due = subst (λ (t : List LoggedReply). AreReplies (demands accounts) (reverse told) t) (sym quiet) tt in
     let step = law accounts log at told line middle begins goes due in
     let told_here = subst (λ (t : List LoggedReply). Begins (demands accounts) (log ++ line ∷ []) middle (told ++ t)) quiet step in

@@ -1,7 +1,7 @@
 use Rattle.std.proofs.Common.{◌≡◌, ◌≤◌, ℕ, List, length, sym, ◌∙◌, subst, ap, refl, inl, inr, arith, length-append}
 use Rattle.scram_text.specs.Limits.{longest_message}
 use Rattle.scram_text.specs.Messages.{ClientFirstParts, header_text, bare_text, client_first_text, IsClientFirst}
-use Rattle.scram_text.proofs.lemmas.FirstUnmet.{first_found}
+use Rattle.scram_text.proofs.lemmas.FirstUnmet.{found_is_first}
 use Rattle.scram_ends.specs.Opening.{IsUnbound}
 use Rattle.scram_ends.specs.First.{first_faults_in_order, AsksOfFirst}
 use Rattle.scram_ends.specs.declared.first.FirstFault.TheVariants.{OutsideProfile}
@@ -13,7 +13,7 @@ returns-in_default-clause-err c =
     let shows = found.2 in (
       found.0,
       found.1,
-      first_found (λ row. AsksOfFirst row found.0) first_faults_in_order OutsideProfile (inr (
+      found_is_first (λ row. AsksOfFirst row found.0) first_faults_in_order OutsideProfile (inr (
         sym shows.mandatory ∙ c.if-message.false,
         inr (
           subst IsUnbound shows.flag c.if-not-is_unbound.ensures.unbound,
@@ -26,13 +26,13 @@ returns-in_default-clause-err c =
     )
 
 -- the header of a client-first message is no longer than a message may be
-header_short : (client_first : List ℕ) (p : ClientFirstParts) (header : List ℕ) → IsClientFirst client_first p → header ≡ header_text p
+header_is_short : (client_first : List ℕ) (p : ClientFirstParts) (header : List ℕ) → IsClientFirst client_first p → header ≡ header_text p
     → length header ≤ longest_message
 unfolding client_first_text
-header_short client_first p header is same = omega
+header_is_short client_first p header is same = omega
     (arith, ap length is.spelled, ap length same, length-append (header_text p) (bare_text p), is.short)
 
 pub returns-clause-header : goal.returns-clause-header
 returns-clause-header c =
     let found = c.in_ok-message.ensures.found in
-    header_short c.args.client_first.now found.0 c.in_ok-message.message.header.now found.1 found.2.header
+    header_is_short c.args.client_first.now found.0 c.in_ok-message.message.header.now found.1 found.2.header

@@ -4,7 +4,7 @@ use Rattle.scram_text.specs.Written.{server_first_of}
 use Rattle.scram_ends.specs.Entry.{entry_of}
 use Rattle.scram_ends.specs.TakenFirst.{ShowsOpening}
 use Rattle.scram_ends.proofs.lemmas.Servers.{challenge_opens}
-use Rattle.scram_ends.proofs.lemmas.Written.{after_front}
+use Rattle.scram_ends.proofs.lemmas.Written.{slice_after_front_is_text}
 use Rattle.scram_ends.proofs.server.server_first.Goals as goal
 
 pub returns-in-Ok-write_challenge-clause-ok : goal.returns-in-Ok-write_challenge-clause-ok
@@ -25,7 +25,7 @@ returns-in-Ok-write_challenge-clause-ok g c =
     let start : c.len-start.result ≡ length c.args.out.now.items = search rules in
     let whole : c.as_slice.result.now ≡ c.args.out.now.items ++ server_first = c.as_slice.ensures.value ∙ written in
     let slice : take (length c.as_slice.result.now - c.len-start.result) (drop c.len-start.result c.as_slice.result.now) ≡ server_first =
-    after_front c.as_slice.result.now c.args.out.now.items server_first c.len-start.result whole start in (
+    slice_after_front_is_text c.as_slice.result.now c.args.out.now.items server_first c.len-start.result whole start in (
       server_first,
       written,
       record {

@@ -1,7 +1,7 @@
 use Rattle.std.proofs.Common.{length, arith, inl, inr}
 use Rattle.std.proofs.lemmas.Bool.{cases_lt}
-use Rattle.scram_text.proofs.lemmas.Base64.{field_of_bytes}
-use Rattle.scram_ends.proofs.lemmas.Written.{can_be_signature, signature_fits}
+use Rattle.scram_text.proofs.lemmas.Base64.{bytes_are_field}
+use Rattle.scram_ends.proofs.lemmas.Written.{signature_can_be_written, signature_fits}
 use Rattle.scram_ends.proofs.written.write_signature.Goals as goal
 
 pub returns-clause-unwritable : goal.returns-clause-unwritable
@@ -10,8 +10,8 @@ returns-clause-unwritable g c = λ refused.
     elim (cases_lt 0 (length signature)) [
       | inr none ↦ omega (arith, none)
       | inl some ↦
-          let can = can_be_signature signature
-          (field_of_bytes 64 signature (λ i. omega (arith, c.type_inv.signature i)) (omega (arith, some)) c.requires) in
+          let can = signature_can_be_written signature
+          (bytes_are_field 64 signature (λ i. omega (arith, c.type_inv.signature i)) (omega (arith, some)) c.requires) in
           absurd (c.write_server_final.ensures.unwritable refused (rw c.copy_of.ensures can))
     ]
 

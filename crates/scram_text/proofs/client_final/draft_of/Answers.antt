@@ -1,7 +1,7 @@
 use Rattle.std.proofs.Common.{ℕ, List, subst, arith}
 use Rattle.base64.specs.GeneralPurpose.{IsBytes}
 use Rattle.scram_text.specs.Draft.{IsDraftOf}
-use Rattle.scram_text.proofs.lemmas.Composed.{without_proof_composed, without_proof_text}
+use Rattle.scram_text.proofs.lemmas.Composed.{without_proof_composed, without_proof_is_text}
 use Rattle.scram_text.proofs.client_final.draft_of.Goals as goal
 
 pub returns-clause-draft : goal.returns-clause-draft
@@ -13,4 +13,4 @@ returns-clause-draft c = λ proof.
 pub returns-clause-utf8_text : goal.returns-clause-utf8_text
 returns-clause-utf8_text c = λ proof.
     let channel : IsBytes c.args.channel.now = λ i. omega (arith, c.type_inv.channel i) in
-    without_proof_text c.args.channel.now c.args.nonce.now c.args.extensions.now proof channel c.requires
+    without_proof_is_text c.args.channel.now c.args.nonce.now c.args.extensions.now proof channel c.requires

@@ -1,7 +1,7 @@
 use Rattle.std.proofs.Common.{ℕ, List, subst}
 use Rattle.std.specs.Option.{option_copied}
 use Rattle.scram_text.specs.Draft.{IsDraftOf}
-use Rattle.scram_text.proofs.lemmas.Composed.{client_first_composed, client_first_related}
+use Rattle.scram_text.proofs.lemmas.Composed.{client_first_composed, written_is_client_first}
 use Rattle.scram_text.proofs.client_first.draft_of.Goals as goal
 
 pub returns-clause-draft : goal.returns-clause-draft
@@ -14,5 +14,5 @@ returns-clause-draft c =
 
 pub returns-clause-is_message : goal.returns-clause-is_message
 returns-clause-is_message c = λ short.
-    client_first_related c.args.flag.now (option_copied c.args.authzid) c.args.name.now c.args.nonce.now c.args.extensions.now
+    written_is_client_first c.args.flag.now (option_copied c.args.authzid) c.args.name.now c.args.nonce.now c.args.extensions.now
     c.add_authzid.ensures.plain c.add_name.ensures.plain c.bytes.ensures.fits c.requires short

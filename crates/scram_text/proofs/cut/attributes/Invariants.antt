@@ -1,13 +1,13 @@
 use Rattle.std.proofs.Common.{length}
 use Rattle.std.specs.Option.{option_copied}
 use Rattle.scram_text.specs.Parts.{parts, parts_of_some}
-use Rattle.scram_text.proofs.lemmas.Extensions.{Leads}
+use Rattle.scram_text.proofs.lemmas.Extensions.{RestShowsAll}
 use Rattle.scram_text.proofs.cut.attributes.Given as goal
 
 -- what holds of the extensions that are left holds of all
 abbrev pub invariant-loop-left : goal.invariant-loop-left
 invariant-loop-left l =
-    Leads l.first (parts l.fn.text) l.index l.mandatory (parts_of_some (option_copied l.left))
+    RestShowsAll l.first (parts l.fn.text) l.index l.mandatory (parts_of_some (option_copied l.left))
 
 abbrev pub decreases-loop-left : goal.decreases-loop-left
 decreases-loop-left l = length (parts_of_some (option_copied l.left))

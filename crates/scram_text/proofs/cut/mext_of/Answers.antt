@@ -4,7 +4,7 @@ use Rattle.scram_text.specs.Parts.{parts, is_named}
 use Rattle.scram_text.specs.Faults.{first_of, fault}
 use Rattle.scram_text.specs.Pieces.{IsMextMisfit}
 use Rattle.scram_text.specs.declared.fault.TextWhy.TheVariants.{Mandatory}
-use Rattle.scram_text.proofs.lemmas.Marked.{mext_misfit}
+use Rattle.scram_text.proofs.lemmas.MextAndRest.{mext_misfit}
 use Rattle.scram_text.proofs.cut.mext_of.Goals as goal
 
 pub returns-in_default-value_of-clause-fault : goal.returns-in_default-value_of-clause-fault

@@ -1,5 +1,5 @@
-use Rattle.scram_text.proofs.lemmas.ClientFinal.{client_final_once}
+use Rattle.scram_text.proofs.lemmas.ClientFinal.{has_one_client_final}
 use Rattle.scram_text.proofs.laws.has_one_client_final.Goals as goal
 
 pub returns : goal.returns
-returns c = client_final_once
+returns c = has_one_client_final

@@ -2,7 +2,7 @@
 use Rattle.std.proofs.Common.{◌≡◌, ℕ, ◌≤◌, List, [], ◌∷◌, ◌++◌, length, refl, sym, ◌∙◌, ap, arith, subst, length-append}
 use Rattle.std.specs.Prelude.{codes}
 use Rattle.std.proofs.lemmas.List.Splits.{join_with_byte-slice_split}
-use Rattle.mac_core.proofs.lemmas.Decided.{Decided, decided_by}
+use Rattle.mac_core.proofs.lemmas.Decided.{Decided, decided_equivalent}
 use Rattle.scram_text.specs.Limits.{longest_message, longest_nonce}
 use Rattle.scram_text.specs.Class.{IsUtf8Text}
 use Rattle.scram_text.specs.Base64Field.{base64}
@@ -12,38 +12,38 @@ use Rattle.scram_text.specs.Faults.{places}
 use Rattle.scram_text.specs.Laws.{ClientFinalIsDecided}
 use Rattle.scram_text.specs.declared.fault.TextWhy.{TextWhy}
 use Rattle.scram_text.specs.declared.fault.TextWhy.TheVariants.{Nonce, Channel, Proof}
-use Rattle.scram_text.proofs.lemmas.ListEnds.{with_last}
-use Rattle.scram_text.proofs.lemmas.Places.{AllFit, fits_first, fits_split}
-use Rattle.scram_text.proofs.lemmas.Decided.{decided_some}
-use Rattle.scram_text.proofs.lemmas.ClientFinal.{final_parts, parts_final, client_final_fit, final_places}
+use Rattle.scram_text.proofs.lemmas.ListEnds.{nonempty_has_last}
+use Rattle.scram_text.proofs.lemmas.Places.{AllFit, first_part_fits, extensions_and_rest_fit}
+use Rattle.scram_text.proofs.lemmas.Decided.{some_or_none}
+use Rattle.scram_text.proofs.lemmas.ClientFinal.{client_final_parts, parts_client_final, client_final_fit, client_final_places_unfold}
 use Rattle.scram_text.proofs.lemmas.Composed.{joined_last}
-use Rattle.scram_text.proofs.lemmas.messages_decided.Fitting.{Fitting, decided_fitting_text}
+use Rattle.scram_text.proofs.lemmas.messages_decided.Fitting.{IsFittingText, decided_fitting_text}
 
 -- the parts of client-final, joined by commas, are its text
-client_final_joined : (p : ClientFinalParts) → joined (final_parts p) ≡ client_final_text p
+client_final_joined : (p : ClientFinalParts) → joined (client_final_parts p) ≡ client_final_text p
 unfolding client_final_text client_final_without_proof
 client_final_joined p = joined_last (codes "c=" ++ base64 p.channel) ((codes "r=" ++ p.nonce) ∷ p.extensions) (codes "p=" ++ base64 p.proof)
 
 -- a short text whose parts are those of client-final is one
-client_final_of_fit : (text channel nonce proof : List ℕ) (extensions : List (List ℕ))
+fitting_parts_are_client_final : (text channel nonce proof : List ℕ) (extensions : List (List ℕ))
     → parts text ≡ channel ∷ nonce ∷ (extensions ++ proof ∷ [])
     → length text ≤ longest_message → IsUtf8Text text
     → AllFit longest_nonce (places (Channel ∷ Nonce ∷ []) (Proof ∷ []) (length (channel ∷ nonce ∷ (extensions ++ proof ∷ []))))
     (channel ∷ nonce ∷ (extensions ++ proof ∷ []))
     → (p : ClientFinalParts) × IsClientFinal text p
-client_final_of_fit text channel nonce proof extensions cut short utf8_text fit =
+fitting_parts_are_client_final text channel nonce proof extensions cut short utf8_text fit =
     let placed = subst (λ (ps : List TextWhy). AllFit longest_nonce ps (channel ∷ nonce ∷ (extensions ++ proof ∷ [])))
-    (final_places channel nonce proof extensions) fit in
-    let first = fits_first longest_nonce Channel _ channel _ placed in
-    let second = fits_first longest_nonce Nonce _ nonce _ first.1 in
-    let after = fits_split longest_nonce (Proof ∷ []) extensions (proof ∷ []) second.1 in
-    let last = fits_first longest_nonce Proof [] proof [] after.1 in
+    (client_final_places_unfold channel nonce proof extensions) fit in
+    let first = first_part_fits longest_nonce Channel _ channel _ placed in
+    let second = first_part_fits longest_nonce Nonce _ nonce _ first.1 in
+    let after = extensions_and_rest_fit longest_nonce (Proof ∷ []) extensions (proof ∷ []) second.1 in
+    let last = first_part_fits longest_nonce Proof [] proof [] after.1 in
     let (channel_text, channel_is, (channel_bytes, channel_spelled, channel_field)) = first.0 in
     let (nonce_text, nonce_is, nonce_class) = second.0 in
     let (proof_text, proof_is, (proof_bytes, proof_spelled, proof_field)) = last.0 in
     let p : ClientFinalParts = record { channel = channel_bytes; nonce = nonce_text; extensions = extensions; proof = proof_bytes } in
     let pieces : channel ∷ nonce ∷ (extensions ++ proof ∷ [])
-    ≡ final_parts p = cc (channel_is, channel_spelled, nonce_is, proof_is, proof_spelled) in (
+    ≡ client_final_parts p = cc (channel_is, channel_spelled, nonce_is, proof_is, proof_spelled) in (
       p,
       record {
         spelled = sym (join_with_byte-slice_split 44 text) ∙ ap joined (cut ∙ pieces) ∙ client_final_joined p;
@@ -57,25 +57,26 @@ client_final_of_fit text channel nonce proof extensions cut short utf8_text fit 
     )
 
 -- a short text with enough parts, which fit those of client-final, is one
-client_final_built : (text : List ℕ) (pieces : List (List ℕ)) → parts text ≡ pieces → 3 ≤ length pieces → length text ≤ longest_message
+fitting_text_is_client_final : (text : List ℕ) (pieces : List (List ℕ)) → parts text ≡ pieces → 3 ≤ length pieces
+    → length text ≤ longest_message
     → IsUtf8Text text
     → AllFit longest_nonce (places (Channel ∷ Nonce ∷ []) (Proof ∷ []) (length pieces)) pieces → (p : ClientFinalParts)
     × IsClientFinal text p
-client_final_built text [] cut enough short utf8_text fit = absurd (omega (arith, enough))
-client_final_built text (channel ∷ []) cut enough short utf8_text fit = absurd (omega (arith, enough))
-client_final_built text (channel ∷ nonce ∷ []) cut enough short utf8_text fit = absurd (omega (arith, enough))
-client_final_built text (channel ∷ nonce ∷ next ∷ rest) cut enough short utf8_text fit =
-    let (extensions, proof, same) = with_last next rest in
-    client_final_of_fit text channel nonce proof extensions
+fitting_text_is_client_final text [] cut enough short utf8_text fit = absurd (omega (arith, enough))
+fitting_text_is_client_final text (channel ∷ []) cut enough short utf8_text fit = absurd (omega (arith, enough))
+fitting_text_is_client_final text (channel ∷ nonce ∷ []) cut enough short utf8_text fit = absurd (omega (arith, enough))
+fitting_text_is_client_final text (channel ∷ nonce ∷ next ∷ rest) cut enough short utf8_text fit =
+    let (extensions, proof, same) = nonempty_has_last next rest in
+    fitting_parts_are_client_final text channel nonce proof extensions
     (cut ∙ ap (λ (ps : List (List ℕ)). channel ∷ nonce ∷ ps) same) short utf8_text
     (subst (λ (ps : List (List ℕ)). AllFit longest_nonce (places (Channel ∷ Nonce ∷ []) (Proof ∷ []) (length (channel ∷ nonce ∷ ps)))
     (channel ∷ nonce ∷ ps)) same fit)
 
 -- a client-final message is a short text with enough parts, all of which fit
-client_final_fitting : (text : List ℕ) (p : ClientFinalParts) → IsClientFinal text p
-    → Fitting longest_nonce 3 (places (Channel ∷ Nonce ∷ []) (Proof ∷ []) (length (parts text))) text
-client_final_fitting text p is =
-    let cut = parts_final text p is in record {
+client_final_is_fitting : (text : List ℕ) (p : ClientFinalParts) → IsClientFinal text p
+    → IsFittingText longest_nonce 3 (places (Channel ∷ Nonce ∷ []) (Proof ∷ []) (length (parts text))) text
+client_final_is_fitting text p is =
+    let cut = parts_client_final text p is in record {
       short = is.short;
       utf8_text = is.utf8_text;
       enough = rw cut (omega (arith, length-append p.extensions ((codes "p=" ++ base64 p.proof) ∷ [])));
@@ -86,11 +87,12 @@ client_final_fitting text p is =
 -- whether a text is client-final, and with which parts, is decided
 decided_client_final : (text : List ℕ) → Decided ((p : ClientFinalParts) × IsClientFinal text p)
 decided_client_final text =
-    decided_by (Fitting longest_nonce 3 (places (Channel ∷ Nonce ∷ []) (Proof ∷ []) (length (parts text))) text)
+    decided_equivalent (IsFittingText longest_nonce 3 (places (Channel ∷ Nonce ∷ []) (Proof ∷ []) (length (parts text))) text)
     ((p : ClientFinalParts) × IsClientFinal text p)
-    (λ r. client_final_built text (parts text) refl r.enough r.short r.utf8_text r.fit) (λ (p, is). client_final_fitting text p is)
+    (λ r. fitting_text_is_client_final text (parts text) refl r.enough r.short r.utf8_text r.fit)
+      (λ (p, is). client_final_is_fitting text p is)
     (decided_fitting_text longest_nonce 3 (places (Channel ∷ Nonce ∷ []) (Proof ∷ []) (length (parts text))) text)
 
 -- the law: whether a text is client-final is decided
 pub client_final_is_decided : ClientFinalIsDecided
-client_final_is_decided text = decided_some ClientFinalParts (IsClientFinal text) (decided_client_final text)
+client_final_is_decided text = some_or_none ClientFinalParts (IsClientFinal text) (decided_client_final text)

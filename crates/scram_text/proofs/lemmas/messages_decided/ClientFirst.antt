@@ -3,46 +3,46 @@ use Rattle.std.proofs.Common.{◌≡◌, ℕ, ◌≤◌, List, [], ◌∷◌, �
 use Rattle.std.specs.Prelude.{codes}
 use Rattle.std.specs.declared.option.Option.{Option}
 use Rattle.std.proofs.lemmas.List.Splits.{join_with_byte-slice_split}
-use Rattle.mac_core.proofs.lemmas.Decided.{Decided, decided_by}
+use Rattle.mac_core.proofs.lemmas.Decided.{Decided, decided_equivalent}
 use Rattle.scram_text.specs.Limits.{longest_message, longest_nonce_part}
 use Rattle.scram_text.specs.Class.{IsNonce, IsUtf8Text}
 use Rattle.scram_text.specs.Name.{IsSaslName}
 use Rattle.scram_text.specs.Parts.{parts, joined, authzid_text, mext_parts, AreExtensions}
 use Rattle.scram_text.specs.Messages.{ClientFirstParts, header_text, bare_text, bare_parts, client_first_text, IsClientFirst}
-use Rattle.scram_text.specs.Faults.{places, marked_places, client_first_places}
+use Rattle.scram_text.specs.Faults.{places, places_with_mext, client_first_places}
 use Rattle.scram_text.specs.Laws.{ClientFirstIsDecided}
-use Rattle.scram_text.specs.Pieces.{IsMarked}
+use Rattle.scram_text.specs.Pieces.{IsMextAndRest}
 use Rattle.scram_text.specs.declared.fault.TextWhy.{TextWhy}
 use Rattle.scram_text.specs.declared.fault.TextWhy.TheVariants.{Flag, Authzid, Name, Nonce}
-use Rattle.scram_text.proofs.lemmas.Places.{AllFit, fits_first, fits_extensions}
-use Rattle.scram_text.proofs.lemmas.Marked.{marked_length, marked_some, marked_split}
+use Rattle.scram_text.proofs.lemmas.Places.{AllFit, first_part_fits, fitting_are_extensions}
+use Rattle.scram_text.proofs.lemmas.MextAndRest.{mext_and_rest_lengths, mext_and_rest_nonempty, some_mext_and_rest}
 use Rattle.scram_text.proofs.lemmas.Composed.{joined_cons}
-use Rattle.scram_text.proofs.lemmas.Decided.{decided_some}
-use Rattle.scram_text.proofs.lemmas.ClientFirst.{later_places as first_later_places, parts_client_first, header_fit, header_places}
-use Rattle.scram_text.proofs.lemmas.ClientFirst.{bare_marked, bare_fit, regroup}
-use Rattle.scram_text.proofs.lemmas.messages_decided.Fitting.{Fitting, decided_fitting_text}
+use Rattle.scram_text.proofs.lemmas.Decided.{some_or_none}
+use Rattle.scram_text.proofs.lemmas.ClientFirst.{client_first_rest_places_unfold as first_later_places, parts_client_first, header_fit, header_places_unfold}
+use Rattle.scram_text.proofs.lemmas.ClientFirst.{bare_mext_and_rest, bare_fit, header_pieces_regroup}
+use Rattle.scram_text.proofs.lemmas.messages_decided.Fitting.{IsFittingText, decided_fitting_text}
 
 -- the parts of client-first, joined by commas, are its text
 client_first_joined : (p : ClientFirstParts) → joined (p.flag ∷ authzid_text p.authzid ∷ bare_parts p) ≡ client_first_text p
 unfolding client_first_text header_text bare_text
 client_first_joined p =
     ap (λ (t : List ℕ). p.flag ++ 44 ∷ t)
-    (joined_cons (authzid_text p.authzid) (bare_parts p) (marked_some p.mext (codes "n=" ++ p.name) _))
-    ∙ sym (regroup p.flag (authzid_text p.authzid) (joined (bare_parts p)))
+    (joined_cons (authzid_text p.authzid) (bare_parts p) (mext_and_rest_nonempty p.mext (codes "n=" ++ p.name) _))
+    ∙ sym (header_pieces_regroup p.flag (authzid_text p.authzid) (joined (bare_parts p)))
 
 -- parts of a bare message that fit are its name, its nonce and extensions, after a mandatory one if there is one
-bare_of_rest : (pieces rest : List (List ℕ)) (mext : Option (List ℕ)) → IsMarked pieces rest mext → 2 ≤ length rest
+fitting_rest_is_bare : (pieces rest : List (List ℕ)) (mext : Option (List ℕ)) → IsMextAndRest pieces rest mext → 2 ≤ length rest
     → AllFit longest_nonce_part (places (Name ∷ Nonce ∷ []) [] (length rest)) rest
     → (name : List ℕ) × (nonce : List ℕ) × (extensions : List (List ℕ))
     × (pieces ≡ mext_parts mext ++ ((codes "n=" ++ name) ∷ (codes "r=" ++ nonce) ∷ extensions))
     × IsSaslName name × IsNonce longest_nonce_part nonce × AreExtensions extensions
-bare_of_rest pieces [] mext marked enough fit = absurd (omega (arith, enough))
-bare_of_rest pieces (name ∷ []) mext marked enough fit = absurd (omega (arith, enough))
-bare_of_rest pieces (name ∷ nonce ∷ extensions) mext marked enough fit =
+fitting_rest_is_bare pieces [] mext marked enough fit = absurd (omega (arith, enough))
+fitting_rest_is_bare pieces (name ∷ []) mext marked enough fit = absurd (omega (arith, enough))
+fitting_rest_is_bare pieces (name ∷ nonce ∷ extensions) mext marked enough fit =
     let placed = subst (λ (ps : List TextWhy). AllFit longest_nonce_part ps (name ∷ nonce ∷ extensions))
     (first_later_places name nonce extensions) fit in
-    let first = fits_first longest_nonce_part Name _ name _ placed in
-    let second = fits_first longest_nonce_part Nonce _ nonce _ first.1 in
+    let first = first_part_fits longest_nonce_part Name _ name _ placed in
+    let second = first_part_fits longest_nonce_part Nonce _ nonce _ first.1 in
     let (name_text, name_is, name_class) = first.0 in
     let (nonce_text, nonce_is, nonce_class) = second.0 in
     let later : name ∷ nonce ∷ extensions ≡ (codes "n=" ++ name_text) ∷ (codes "r=" ++ nonce_text) ∷ extensions = cc
@@ -55,24 +55,24 @@ bare_of_rest pieces (name ∷ nonce ∷ extensions) mext marked enough fit =
           ++ ps) later,
       name_class,
       nonce_class,
-      fits_extensions longest_nonce_part extensions second.1,
+      fitting_are_extensions longest_nonce_part extensions second.1,
     )
 
 -- a short text with a header and a bare message whose parts fit is client-first
-client_first_of_bare : (text flag authzid : List ℕ) (bare : List (List ℕ)) → parts text ≡ flag ∷ authzid ∷ bare
+fitting_bare_is_client_first : (text flag authzid : List ℕ) (bare : List (List ℕ)) → parts text ≡ flag ∷ authzid ∷ bare
     → length text ≤ longest_message → IsUtf8Text text
-    → length (marked_places bare (Name ∷ Nonce ∷ [])) ≤ length bare
-    → AllFit longest_nonce_part (places (Flag ∷ Authzid ∷ marked_places bare (Name ∷ Nonce ∷ [])) [] (length (flag ∷ authzid ∷ bare)))
+    → length (places_with_mext bare (Name ∷ Nonce ∷ [])) ≤ length bare
+    → AllFit longest_nonce_part (places (Flag ∷ Authzid ∷ places_with_mext bare (Name ∷ Nonce ∷ [])) [] (length (flag ∷ authzid ∷ bare)))
     (flag ∷ authzid ∷ bare)
     → (p : ClientFirstParts) × IsClientFirst text p
-client_first_of_bare text flag authzid bare cut short utf8_text enough fit =
+fitting_bare_is_client_first text flag authzid bare cut short utf8_text enough fit =
     let placed = subst (λ (ps : List TextWhy). AllFit longest_nonce_part ps (flag ∷ authzid ∷ bare))
-    (header_places (marked_places bare (Name ∷ Nonce ∷ [])) (length bare)) fit in
-    let first = fits_first longest_nonce_part Flag _ flag _ placed in
-    let second = fits_first longest_nonce_part Authzid _ authzid _ first.1 in
+    (header_places_unfold (places_with_mext bare (Name ∷ Nonce ∷ [])) (length bare)) fit in
+    let first = first_part_fits longest_nonce_part Flag _ flag _ placed in
+    let second = first_part_fits longest_nonce_part Authzid _ authzid _ first.1 in
     let (spelled, authzid_is, authzid_class) = second.0 in
-    let (mext, rest, marked, some, later) = marked_split longest_nonce_part 2 (Name ∷ Nonce ∷ []) bare refl enough second.1 in
-    let (name, nonce, extensions, bare_is, name_class, nonce_class, are) = bare_of_rest bare rest mext marked some later in
+    let (mext, rest, marked, some, later) = some_mext_and_rest longest_nonce_part 2 (Name ∷ Nonce ∷ []) bare refl enough second.1 in
+    let (name, nonce, extensions, bare_is, name_class, nonce_class, are) = fitting_rest_is_bare bare rest mext marked some later in
     let p : ClientFirstParts = record {
       flag = flag;
       authzid = spelled;
@@ -97,25 +97,26 @@ client_first_of_bare text flag authzid bare cut short utf8_text enough fit =
     )
 
 -- a short text with enough parts, which fit those of client-first, is one
-client_first_built : (text : List ℕ) (pieces : List (List ℕ)) → parts text ≡ pieces → length text ≤ longest_message → IsUtf8Text text
+fitting_text_is_client_first : (text : List ℕ) (pieces : List (List ℕ)) → parts text ≡ pieces → length text ≤ longest_message
+    → IsUtf8Text text
     → length (client_first_places pieces) ≤ length pieces
     → AllFit longest_nonce_part (places (client_first_places pieces) [] (length pieces)) pieces
     → (p : ClientFirstParts) × IsClientFirst text p
-client_first_built text [] cut short utf8_text enough fit = absurd (omega (arith, enough))
-client_first_built text (flag ∷ []) cut short utf8_text enough fit = absurd (omega (arith, enough))
-client_first_built text (flag ∷ authzid ∷ bare) cut short utf8_text enough fit =
-    client_first_of_bare text flag authzid bare cut short utf8_text (omega (arith, enough)) fit
+fitting_text_is_client_first text [] cut short utf8_text enough fit = absurd (omega (arith, enough))
+fitting_text_is_client_first text (flag ∷ []) cut short utf8_text enough fit = absurd (omega (arith, enough))
+fitting_text_is_client_first text (flag ∷ authzid ∷ bare) cut short utf8_text enough fit =
+    fitting_bare_is_client_first text flag authzid bare cut short utf8_text (omega (arith, enough)) fit
 
 -- a text is short, and has enough parts, all of which fit those of client-first
-abbrev first_fits : List ℕ → Type 0
-first_fits text = Fitting longest_nonce_part (length (client_first_places (parts text)))
+abbrev FitsClientFirst : List ℕ → Type 0
+FitsClientFirst text = IsFittingText longest_nonce_part (length (client_first_places (parts text)))
     (places (client_first_places (parts text)) [] (length (parts text))) text
 
 -- a client-first message is a short text with enough parts, all of which fit
-client_first_fitting : (text : List ℕ) (p : ClientFirstParts) → IsClientFirst text p → first_fits text
-client_first_fitting text p is =
+client_first_is_fitting : (text : List ℕ) (p : ClientFirstParts) → IsClientFirst text p → FitsClientFirst text
+client_first_is_fitting text p is =
     let cut = parts_client_first text p is in
-    let lengths = marked_length (Name ∷ Nonce ∷ []) (bare_parts p) _ p.mext (bare_marked p is.mext) in record {
+    let lengths = mext_and_rest_lengths (Name ∷ Nonce ∷ []) (bare_parts p) _ p.mext (bare_mext_and_rest p is.mext) in record {
       short = is.short;
       utf8_text = is.utf8_text;
       enough = subst (λ (ps : List (List ℕ)). length (client_first_places ps) ≤ length ps) (sym cut) (omega (arith, lengths.0, lengths.1));
@@ -127,10 +128,10 @@ client_first_fitting text p is =
 -- whether a text is client-first, and with which parts, is decided
 decided_client_first : (text : List ℕ) → Decided ((p : ClientFirstParts) × IsClientFirst text p)
 decided_client_first text =
-    decided_by (first_fits text) ((p : ClientFirstParts) × IsClientFirst text p)
-    (λ r. client_first_built text (parts text) refl r.short r.utf8_text r.enough r.fit)
-    (λ (p, is). client_first_fitting text p is) (decided_fitting_text longest_nonce_part _ _ text)
+    decided_equivalent (FitsClientFirst text) ((p : ClientFirstParts) × IsClientFirst text p)
+    (λ r. fitting_text_is_client_first text (parts text) refl r.short r.utf8_text r.enough r.fit)
+    (λ (p, is). client_first_is_fitting text p is) (decided_fitting_text longest_nonce_part _ _ text)
 
 -- the law: whether a text is client-first is decided
 pub client_first_is_decided : ClientFirstIsDecided
-client_first_is_decided text = decided_some ClientFirstParts (IsClientFirst text) (decided_client_first text)
+client_first_is_decided text = some_or_none ClientFirstParts (IsClientFirst text) (decided_client_first text)

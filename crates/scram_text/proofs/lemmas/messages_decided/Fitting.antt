@@ -1,6 +1,6 @@
 -- Whether a text is short, and has enough parts, all of which fit their places, is decided.
 use Rattle.std.proofs.Common.{ℕ, ◌≤◌, List, length}
-use Rattle.mac_core.proofs.lemmas.Decided.{Decided, decided_by, decided_both, decided_le}
+use Rattle.mac_core.proofs.lemmas.Decided.{Decided, decided_equivalent, decided_both, decided_le}
 use Rattle.scram_text.specs.Limits.{longest_message}
 use Rattle.scram_text.specs.Class.{IsUtf8Text}
 use Rattle.scram_text.specs.Parts.{parts}
@@ -9,17 +9,18 @@ use Rattle.scram_text.proofs.lemmas.Places.{AllFit}
 use Rattle.scram_text.proofs.lemmas.Decided.{decided_text, decided_all_fit}
 
 -- a text is short, and has enough parts, all of which fit their places
-pub record Fitting (most : ℕ) (least : ℕ) (later : List TextWhy) (text : List ℕ) : Type 0 where
+pub record IsFittingText (most : ℕ) (least : ℕ) (later : List TextWhy) (text : List ℕ) : Type 0 where
   pub short : length text ≤ longest_message
   pub utf8_text : IsUtf8Text text
   pub enough : least ≤ length (parts text)
   pub fit : AllFit most later (parts text)
 
 -- whether a text is a short one with enough parts, all of which fit, is decided
-pub decided_fitting_text : (most least : ℕ) (later : List TextWhy) (text : List ℕ) → Decided (Fitting most least later text)
+pub decided_fitting_text : (most least : ℕ) (later : List TextWhy) (text : List ℕ) → Decided (IsFittingText most least later text)
 decided_fitting_text most least later text =
-    decided_by ((length text ≤ longest_message) × (IsUtf8Text text × ((least ≤ length (parts text)) × AllFit most later (parts text))))
-    (Fitting most least later text)
+    decided_equivalent ((length text ≤ longest_message) × (IsUtf8Text text × ((least ≤ length (parts text))
+        × AllFit most later (parts text))))
+    (IsFittingText most least later text)
     (λ h. record { short = h.0; utf8_text = h.1.0; enough = h.1.1.0; fit = h.1.1.1 }) (λ r. (r.short, (r.utf8_text, (r.enough, r.fit))))
     (decided_both _ _ (decided_le (length text) longest_message) (decided_both _ _ (decided_text text)
     (decided_both _ _ (decided_le least (length (parts text))) (decided_all_fit most later (parts text)))))

@@ -2,54 +2,55 @@
 use Rattle.std.proofs.Common.{◌≡◌, inl, inr, ℕ, ◌≤◌, List, [], ◌∷◌, ◌++◌, length, replicate, refl, sym, ◌∙◌, ap, arith, subst}
 use Rattle.std.specs.Prelude.{codes}
 use Rattle.std.proofs.lemmas.Bool.{cases_Bool}
-use Rattle.mac_core.proofs.lemmas.Decided.{Decided, decided_by}
+use Rattle.mac_core.proofs.lemmas.Decided.{Decided, decided_equivalent}
 use Rattle.scram_text.specs.Limits.{longest_message, longest_nonce}
 use Rattle.scram_text.specs.Class.{IsUtf8Text}
 use Rattle.scram_text.specs.Parts.{parts, is_named}
 use Rattle.scram_text.specs.Messages.{VerifierOrError, verifier, server_error, verifier_or_error_text, IsVerifierOrError, ServerFinalParts}
 use Rattle.scram_text.specs.Messages.{IsServerFinal}
-use Rattle.scram_text.specs.Faults.{Fits, places, result_place, server_final_places}
+use Rattle.scram_text.specs.Faults.{Fits, places, outcome_place, server_final_places}
 use Rattle.scram_text.specs.Laws.{ServerFinalIsDecided}
 use Rattle.scram_text.specs.declared.fault.TextWhy.{TextWhy}
 use Rattle.scram_text.specs.declared.fault.TextWhy.TheVariants.{Extension}
 use Rattle.scram_text.proofs.lemmas.Parts.{parts_count}
-use Rattle.scram_text.proofs.lemmas.Places.{AllFit, fits_first, fits_extensions}
-use Rattle.scram_text.proofs.lemmas.Decided.{decided_some}
-use Rattle.scram_text.proofs.lemmas.ServerFinal.{parts_server_final, server_final_fit, outcome_fits, result_places, server_final_spelled}
-use Rattle.scram_text.proofs.lemmas.messages_decided.Fitting.{Fitting, decided_fitting_text}
+use Rattle.scram_text.proofs.lemmas.Places.{AllFit, first_part_fits, fitting_are_extensions}
+use Rattle.scram_text.proofs.lemmas.Decided.{some_or_none}
+use Rattle.scram_text.proofs.lemmas.ServerFinal.{parts_server_final, server_final_fit, outcome_fits, server_final_places_unfold, server_final_spelled}
+use Rattle.scram_text.proofs.lemmas.messages_decided.Fitting.{IsFittingText, decided_fitting_text}
 
 -- a first part that fits the place of an outcome is the text of one
-outcome_of_part : (part : List ℕ) → Fits longest_nonce (result_place part) part → (outcome : VerifierOrError)
+fitting_part_is_outcome : (part : List ℕ) → Fits longest_nonce (outcome_place part) part → (outcome : VerifierOrError)
     × (part ≡ verifier_or_error_text outcome) × IsVerifierOrError outcome
-outcome_of_part part fits = elim (cases_Bool (is_named 101 part)) [
+fitting_part_is_outcome part fits = elim (cases_Bool (is_named 101 part)) [
   | inl hit ↦ let (value, spelled, is) = rw hit at fits in (server_error value, spelled, is)
   | inr miss ↦ let (value, spelled, (bytes, is, field)) = rw miss at fits in
       (verifier bytes, spelled ∙ ap (λ (v : List ℕ). codes "v=" ++ v) is, field)
 ]
 
 -- a short text whose parts fit those of server-final is one
-server_final_built : (text : List ℕ) (pieces : List (List ℕ)) → parts text ≡ pieces → length text ≤ longest_message → IsUtf8Text text
+fitting_text_is_server_final : (text : List ℕ) (pieces : List (List ℕ)) → parts text ≡ pieces → length text ≤ longest_message
+    → IsUtf8Text text
     → AllFit longest_nonce (places (server_final_places pieces) [] (length pieces)) pieces → (p : ServerFinalParts) × IsServerFinal text p
-server_final_built text [] cut short utf8_text fit = absurd (omega (arith, parts_count text, ap length cut))
-server_final_built text (first ∷ extensions) cut short utf8_text fit =
-    let each = fits_first longest_nonce (result_place first) (replicate (length extensions) Extension) first extensions
-    (subst (λ (ps : List TextWhy). AllFit longest_nonce ps (first ∷ extensions)) (result_places first extensions) fit) in
-    let (outcome, spelled, is) = outcome_of_part first each.0 in
+fitting_text_is_server_final text [] cut short utf8_text fit = absurd (omega (arith, parts_count text, ap length cut))
+fitting_text_is_server_final text (first ∷ extensions) cut short utf8_text fit =
+    let each = first_part_fits longest_nonce (outcome_place first) (replicate (length extensions) Extension) first extensions
+    (subst (λ (ps : List TextWhy). AllFit longest_nonce ps (first ∷ extensions)) (server_final_places_unfold first extensions) fit) in
+    let (outcome, spelled, is) = fitting_part_is_outcome first each.0 in
     let p : ServerFinalParts = record { outcome = outcome; extensions = extensions } in (
       p,
       record {
         spelled = server_final_spelled text first p cut spelled;
         outcome = is;
-        extensions = fits_extensions longest_nonce extensions each.1;
+        extensions = fitting_are_extensions longest_nonce extensions each.1;
         utf8_text = utf8_text;
         short = short;
       },
     )
 
 -- a server-final message is a short text with enough parts, all of which fit
-server_final_fitting : (text : List ℕ) (p : ServerFinalParts) → IsServerFinal text p
-    → Fitting longest_nonce 1 (places (server_final_places (parts text)) [] (length (parts text))) text
-server_final_fitting text p is =
+server_final_is_fitting : (text : List ℕ) (p : ServerFinalParts) → IsServerFinal text p
+    → IsFittingText longest_nonce 1 (places (server_final_places (parts text)) [] (length (parts text))) text
+server_final_is_fitting text p is =
     let cut = parts_server_final text p is in record {
       short = is.short;
       utf8_text = is.utf8_text;
@@ -61,11 +62,11 @@ server_final_fitting text p is =
 -- whether a text is server-final, and with which parts, is decided
 decided_server_final : (text : List ℕ) → Decided ((p : ServerFinalParts) × IsServerFinal text p)
 decided_server_final text =
-    decided_by (Fitting longest_nonce 1 (places (server_final_places (parts text)) [] (length (parts text))) text)
+    decided_equivalent (IsFittingText longest_nonce 1 (places (server_final_places (parts text)) [] (length (parts text))) text)
     ((p : ServerFinalParts) × IsServerFinal text p)
-    (λ r. server_final_built text (parts text) refl r.short r.utf8_text r.fit) (λ (p, is). server_final_fitting text p is)
+    (λ r. fitting_text_is_server_final text (parts text) refl r.short r.utf8_text r.fit) (λ (p, is). server_final_is_fitting text p is)
     (decided_fitting_text longest_nonce 1 (places (server_final_places (parts text)) [] (length (parts text))) text)
 
 -- the law: whether a text is server-final is decided
 pub server_final_is_decided : ServerFinalIsDecided
-server_final_is_decided text = decided_some ServerFinalParts (IsServerFinal text) (decided_server_final text)
+server_final_is_decided text = some_or_none ServerFinalParts (IsServerFinal text) (decided_server_final text)

@@ -2,34 +2,34 @@
 use Rattle.std.proofs.Common.{ℕ, ◌≤◌, List, [], ◌∷◌, ◌++◌, length, refl, ◌∙◌, ap, arith, subst}
 use Rattle.std.specs.Prelude.{codes}
 use Rattle.std.specs.declared.option.Option.{Option}
-use Rattle.mac_core.proofs.lemmas.Decided.{Decided, decided_by}
+use Rattle.mac_core.proofs.lemmas.Decided.{Decided, decided_equivalent}
 use Rattle.scram_text.specs.Limits.{longest_message, longest_nonce}
 use Rattle.scram_text.specs.Class.{IsUtf8Text}
 use Rattle.scram_text.specs.Parts.{parts}
 use Rattle.scram_text.specs.Messages.{ServerFirstParts, IsServerFirst}
 use Rattle.scram_text.specs.Faults.{places, server_first_places}
 use Rattle.scram_text.specs.Laws.{ServerFirstIsDecided}
-use Rattle.scram_text.specs.Pieces.{IsMarked}
+use Rattle.scram_text.specs.Pieces.{IsMextAndRest}
 use Rattle.scram_text.specs.declared.fault.TextWhy.{TextWhy}
 use Rattle.scram_text.specs.declared.fault.TextWhy.TheVariants.{Nonce, Salt, Count}
-use Rattle.scram_text.proofs.lemmas.Places.{AllFit, fits_first, fits_extensions}
-use Rattle.scram_text.proofs.lemmas.Marked.{marked_length, marked_split}
-use Rattle.scram_text.proofs.lemmas.Decided.{decided_some}
-use Rattle.scram_text.proofs.lemmas.ServerFirst.{is_marked, server_first_fit, server_first_spelled, later_places}
-use Rattle.scram_text.proofs.lemmas.messages_decided.Fitting.{Fitting, decided_fitting_text}
+use Rattle.scram_text.proofs.lemmas.Places.{AllFit, first_part_fits, fitting_are_extensions}
+use Rattle.scram_text.proofs.lemmas.MextAndRest.{mext_and_rest_lengths, some_mext_and_rest}
+use Rattle.scram_text.proofs.lemmas.Decided.{some_or_none}
+use Rattle.scram_text.proofs.lemmas.ServerFirst.{server_first_mext_and_rest, server_first_fit, server_first_spelled, server_first_rest_places_unfold}
+use Rattle.scram_text.proofs.lemmas.messages_decided.Fitting.{IsFittingText, decided_fitting_text}
 
 -- a short text whose parts are those of server-first is one, whether with a mandatory extension or without:
-server_first_of_fit : (text nonce salt count : List ℕ) (extensions : List (List ℕ)) (mext : Option (List ℕ))
-    → IsMarked (parts text) (nonce ∷ salt ∷ count ∷ extensions) mext → length text ≤ longest_message → IsUtf8Text text
+fitting_parts_are_server_first : (text nonce salt count : List ℕ) (extensions : List (List ℕ)) (mext : Option (List ℕ))
+    → IsMextAndRest (parts text) (nonce ∷ salt ∷ count ∷ extensions) mext → length text ≤ longest_message → IsUtf8Text text
     → AllFit longest_nonce (places (Nonce ∷ Salt ∷ Count ∷ []) [] (length (nonce ∷ salt ∷ count ∷ extensions)))
     (nonce ∷ salt ∷ count ∷ extensions)
     → (p : ServerFirstParts) × IsServerFirst text p
-server_first_of_fit text nonce salt count extensions mext marked short utf8_text fit =
+fitting_parts_are_server_first text nonce salt count extensions mext marked short utf8_text fit =
     let placed = subst (λ (ps : List TextWhy). AllFit longest_nonce ps (nonce ∷ salt ∷ count ∷ extensions))
-    (later_places nonce salt count extensions) fit in
-    let first = fits_first longest_nonce Nonce _ nonce _ placed in
-    let second = fits_first longest_nonce Salt _ salt _ first.1 in
-    let third = fits_first longest_nonce Count _ count _ second.1 in
+    (server_first_rest_places_unfold nonce salt count extensions) fit in
+    let first = first_part_fits longest_nonce Nonce _ nonce _ placed in
+    let second = first_part_fits longest_nonce Salt _ salt _ first.1 in
+    let third = first_part_fits longest_nonce Count _ count _ second.1 in
     let (nonce_text, nonce_is, nonce_class) = first.0 in
     let (salt_text, salt_is, (salt_bytes, salt_spelled, salt_field)) = second.0 in
     let (count_text, count_is, (number, count_spelled, count_class)) = third.0 in
@@ -42,41 +42,42 @@ server_first_of_fit text nonce salt count extensions mext marked short utf8_text
         nonce = nonce_class;
         salt = salt_field;
         count = count_class;
-        extensions = fits_extensions longest_nonce extensions third.1;
+        extensions = fitting_are_extensions longest_nonce extensions third.1;
         utf8_text = utf8_text;
         short = short;
       },
     )
 
-server_first_of_rest : (text : List ℕ) (rest : List (List ℕ)) (mext : Option (List ℕ)) → IsMarked (parts text) rest mext → 3 ≤ length rest
+fitting_rest_is_server_first : (text : List ℕ) (rest : List (List ℕ)) (mext : Option (List ℕ)) → IsMextAndRest (parts text) rest mext
+    → 3 ≤ length rest
     → length text ≤ longest_message → IsUtf8Text text → AllFit longest_nonce (places (Nonce ∷ Salt ∷ Count ∷ []) [] (length rest)) rest
     → (p : ServerFirstParts) × IsServerFirst text p
-server_first_of_rest text [] mext marked enough short utf8_text fit = absurd (omega (arith, enough))
-server_first_of_rest text (nonce ∷ []) mext marked enough short utf8_text fit = absurd (omega (arith, enough))
-server_first_of_rest text (nonce ∷ salt ∷ []) mext marked enough short utf8_text fit = absurd (omega (arith, enough))
-server_first_of_rest text (nonce ∷ salt ∷ count ∷ extensions) mext marked enough short utf8_text fit =
-    server_first_of_fit text nonce salt count extensions mext marked short utf8_text fit
+fitting_rest_is_server_first text [] mext marked enough short utf8_text fit = absurd (omega (arith, enough))
+fitting_rest_is_server_first text (nonce ∷ []) mext marked enough short utf8_text fit = absurd (omega (arith, enough))
+fitting_rest_is_server_first text (nonce ∷ salt ∷ []) mext marked enough short utf8_text fit = absurd (omega (arith, enough))
+fitting_rest_is_server_first text (nonce ∷ salt ∷ count ∷ extensions) mext marked enough short utf8_text fit =
+    fitting_parts_are_server_first text nonce salt count extensions mext marked short utf8_text fit
 
 -- the places of server-first's parts after a mandatory extension
-abbrev server_later : List TextWhy
-server_later = Nonce ∷ Salt ∷ Count ∷ []
+abbrev server_first_rest_places : List TextWhy
+server_first_rest_places = Nonce ∷ Salt ∷ Count ∷ []
 
 -- a text is short, and has enough parts, all of which fit those of server-first
-abbrev server_fits : List ℕ → Type 0
-server_fits text = Fitting longest_nonce (length (server_first_places (parts text)))
+abbrev FitsServerFirst : List ℕ → Type 0
+FitsServerFirst text = IsFittingText longest_nonce (length (server_first_places (parts text)))
     (places (server_first_places (parts text)) [] (length (parts text))) text
 
 -- a short text with enough parts, which fit those of server-first, is one
-server_first_built : (text : List ℕ) → server_fits text → (p : ServerFirstParts) × IsServerFirst text p
-server_first_built text r =
-    let (mext, rest, marked, enough, fit) = marked_split longest_nonce 3 server_later (parts text) refl r.enough r.fit in
-    server_first_of_rest text rest mext marked enough r.short r.utf8_text fit
+fitting_text_is_server_first : (text : List ℕ) → FitsServerFirst text → (p : ServerFirstParts) × IsServerFirst text p
+fitting_text_is_server_first text r =
+    let (mext, rest, marked, enough, fit) = some_mext_and_rest longest_nonce 3 server_first_rest_places (parts text) refl r.enough r.fit in
+    fitting_rest_is_server_first text rest mext marked enough r.short r.utf8_text fit
 
 -- a server-first message is a short text with enough parts, all of which fit
-server_first_fitting : (text : List ℕ) (p : ServerFirstParts) → IsServerFirst text p → server_fits text
-server_first_fitting text p is =
-    let marked = is_marked text p is in
-    let lengths = marked_length server_later (parts text) _ p.mext marked in record {
+server_first_is_fitting : (text : List ℕ) (p : ServerFirstParts) → IsServerFirst text p → FitsServerFirst text
+server_first_is_fitting text p is =
+    let marked = server_first_mext_and_rest text p is in
+    let lengths = mext_and_rest_lengths server_first_rest_places (parts text) _ p.mext marked in record {
       short = is.short;
       utf8_text = is.utf8_text;
       enough = omega (arith, lengths.0, lengths.1);
@@ -86,9 +87,9 @@ server_first_fitting text p is =
 -- whether a text is server-first, and with which parts, is decided
 decided_server_first : (text : List ℕ) → Decided ((p : ServerFirstParts) × IsServerFirst text p)
 decided_server_first text =
-    decided_by (server_fits text) ((p : ServerFirstParts) × IsServerFirst text p) (server_first_built text)
-    (λ (p, is). server_first_fitting text p is) (decided_fitting_text longest_nonce _ _ text)
+    decided_equivalent (FitsServerFirst text) ((p : ServerFirstParts) × IsServerFirst text p) (fitting_text_is_server_first text)
+    (λ (p, is). server_first_is_fitting text p is) (decided_fitting_text longest_nonce _ _ text)
 
 -- the law: whether a text is server-first is decided
 pub server_first_is_decided : ServerFirstIsDecided
-server_first_is_decided text = decided_some ServerFirstParts (IsServerFirst text) (decided_server_first text)
+server_first_is_decided text = some_or_none ServerFirstParts (IsServerFirst text) (decided_server_first text)

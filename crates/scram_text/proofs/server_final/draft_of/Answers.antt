@@ -1,7 +1,7 @@
 use Rattle.std.proofs.Common.{ℕ, List, subst}
 use Rattle.scram_text.specs.Shown.{verifier_or_error_of}
 use Rattle.scram_text.specs.Draft.{IsDraftOf}
-use Rattle.scram_text.proofs.lemmas.Composed.{server_final_composed, server_final_related}
+use Rattle.scram_text.proofs.lemmas.Composed.{server_final_composed, written_is_server_final}
 use Rattle.scram_text.proofs.server_final.draft_of.Goals as goal
 
 pub returns-clause-draft : goal.returns-clause-draft
@@ -12,5 +12,6 @@ returns-clause-draft c =
 
 pub returns-clause-is_message : goal.returns-clause-is_message
 returns-clause-is_message c = λ short.
-    server_final_related (verifier_or_error_of c.args.outcome.now) c.args.extensions.now c.outcome_draft-draft.ensures.utf8_text c.requires
+    written_is_server_final (verifier_or_error_of c.args.outcome.now) c.args.extensions.now c.outcome_draft-draft.ensures.utf8_text
+        c.requires
     short

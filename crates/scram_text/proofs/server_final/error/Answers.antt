@@ -1,5 +1,5 @@
-use Rattle.scram_text.proofs.lemmas.Composed.{error_text}
+use Rattle.scram_text.proofs.lemmas.Composed.{error_is_text}
 use Rattle.scram_text.proofs.server_final.error.Goals as goal
 
 pub returns-clause-utf8_text : goal.returns-clause-utf8_text
-returns-clause-utf8_text c = error_text c.args.value.now c.requires
+returns-clause-utf8_text c = error_is_text c.args.value.now c.requires

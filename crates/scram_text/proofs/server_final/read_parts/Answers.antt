@@ -4,13 +4,13 @@ use Rattle.std.proofs.lemmas.Result.{err_from_is_err_and}
 use Rattle.scram_text.specs.Parts.{parts_of_some}
 use Rattle.scram_text.specs.Messages.{ServerFinalParts}
 use Rattle.scram_text.specs.Shown.{verifier_or_error_of}
-use Rattle.scram_text.proofs.lemmas.ServerFinal.{result_fault, extension_fault, result_fits, server_final_spelled}
+use Rattle.scram_text.proofs.lemmas.ServerFinal.{outcome_fault, extension_fault, outcome_part_fits, server_final_spelled}
 use Rattle.scram_text.proofs.server_final.read_parts.Goals as goal
 
 pub returns-in_err-result-clause-fault : goal.returns-in_err-result-clause-fault
 returns-in_err-result-clause-fault c =
     let p = err_from_is_err_and c.from_residual-in_err-result.result c.from_residual-in_err-result.ensures.1 in
-    rw (p.1, p.2) (result_fault c.args.message.now c.cut.result.0.now _ _ c.in_ok-checked_part_count.ensures.short
+    rw (p.1, p.2) (outcome_fault c.args.message.now c.cut.result.0.now _ _ c.in_ok-checked_part_count.ensures.short
     c.in_ok-checked_part_count.ensures.utf8_text
     c.cut.ensures.parts c.in_err-result.ensures.fault)
 
@@ -19,7 +19,7 @@ returns-in_err-extensions-clause-fault c =
     let p = err_from_is_err_and c.from_residual-in_err-extensions.result c.from_residual-in_err-extensions.ensures.1 in
     rw (p.1, p.2) (extension_fault c.args.message.now c.cut.result.0.now _ _ c.in_ok-checked_part_count.ensures.short
     c.in_ok-checked_part_count.ensures.utf8_text
-    c.cut.ensures.parts (result_fits c.cut.result.0.now
+    c.cut.ensures.parts (outcome_part_fits c.cut.result.0.now
     (verifier_or_error_of c.in_ok-result.result) c.in_ok-result.ensures.spelled c.in_ok-result.ensures.class)
     c.in_err-extensions.ensures.fault)
 

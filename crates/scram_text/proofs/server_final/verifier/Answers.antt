@@ -1,9 +1,9 @@
 use Rattle.std.proofs.Common.{arith}
 use Rattle.base64.specs.GeneralPurpose.{IsBytes}
-use Rattle.scram_text.proofs.lemmas.Composed.{signature_text}
+use Rattle.scram_text.proofs.lemmas.Composed.{signature_is_text}
 use Rattle.scram_text.proofs.server_final.verifier.Goals as goal
 
 pub returns-clause-utf8_text : goal.returns-clause-utf8_text
 returns-clause-utf8_text c =
     let fits : IsBytes c.args.signature.now = λ i. omega (arith, c.type_inv.signature i) in
-    signature_text c.args.signature.now fits
+    signature_is_text c.args.signature.now fits

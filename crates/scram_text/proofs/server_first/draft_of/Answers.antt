@@ -1,7 +1,7 @@
 use Rattle.std.proofs.Common.{ℕ, List, subst, arith}
 use Rattle.base64.specs.GeneralPurpose.{IsBytes}
 use Rattle.scram_text.specs.Draft.{IsDraftOf}
-use Rattle.scram_text.proofs.lemmas.Composed.{server_first_composed, server_first_related}
+use Rattle.scram_text.proofs.lemmas.Composed.{server_first_composed, written_is_server_first}
 use Rattle.scram_text.proofs.server_first.draft_of.Goals as goal
 
 pub returns-clause-draft : goal.returns-clause-draft
@@ -14,4 +14,4 @@ returns-clause-draft c =
 pub returns-clause-is_message : goal.returns-clause-is_message
 returns-clause-is_message c = λ short.
     let salt : IsBytes c.args.salt.now = λ i. omega (arith, c.type_inv.salt i) in
-    server_first_related c.args.nonce.now c.args.salt.now c.args.count c.args.extensions.now salt c.requires short
+    written_is_server_first c.args.nonce.now c.args.salt.now c.args.count c.args.extensions.now salt c.requires short

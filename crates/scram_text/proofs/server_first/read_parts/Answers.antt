@@ -10,18 +10,18 @@ use Rattle.scram_text.proofs.server_first.read_parts.Goals as goal
 pub returns-in_default-clause-fault : goal.returns-in_default-clause-fault
 returns-in_default-clause-fault c =
     let cut = c.in_ok-pieces.ensures.cut in
-    nonce_fault c.args.message.now _ _ _ _ cut.mext _ cut.short cut.utf8_text cut.marked cut.index c.in_default.ensures.none
+    nonce_fault c.args.message.now _ _ _ _ cut.mext _ cut.short cut.utf8_text cut.mext_and_rest cut.index c.in_default.ensures.none
 
 pub returns-in_default-salt_of-clause-fault : goal.returns-in_default-salt_of-clause-fault
 returns-in_default-salt_of-clause-fault c =
     let cut = c.in_ok-pieces.ensures.cut in
-    salt_fault c.args.message.now _ _ _ _ cut.mext _ cut.short cut.utf8_text cut.marked cut.index
+    salt_fault c.args.message.now _ _ _ _ cut.mext _ cut.short cut.utf8_text cut.mext_and_rest cut.index
     (c.in-Some.nonce.now, c.in-Some.ensures.spelled, c.in-Some.ensures.class) c.in_default-salt_of.ensures.none
 
 pub returns-in_default-count_of-clause-fault : goal.returns-in_default-count_of-clause-fault
 returns-in_default-count_of-clause-fault c =
     let cut = c.in_ok-pieces.ensures.cut in
-    count_fault c.args.message.now _ _ _ _ cut.mext _ cut.short cut.utf8_text cut.marked cut.index
+    count_fault c.args.message.now _ _ _ _ cut.mext _ cut.short cut.utf8_text cut.mext_and_rest cut.index
     (c.in-Some.nonce.now, c.in-Some.ensures.spelled, c.in-Some.ensures.class)
     (field_fits 115 64 _ _ c.in-Some-salt_of.ensures.spelled c.in-Some-salt_of.ensures.class) c.in_default-count_of.ensures.none
 
@@ -29,7 +29,7 @@ pub returns-in_err-extensions-clause-fault : goal.returns-in_err-extensions-clau
 returns-in_err-extensions-clause-fault c =
     let cut = c.in_ok-pieces.ensures.cut in
     let p = err_from_is_err_and c.from_residual-in_err-extensions.result c.from_residual-in_err-extensions.ensures.1 in
-    rw (p.1, p.2) (extension_fault c.args.message.now _ _ _ _ cut.mext _ _ cut.short cut.utf8_text cut.marked cut.index
+    rw (p.1, p.2) (extension_fault c.args.message.now _ _ _ _ cut.mext _ _ cut.short cut.utf8_text cut.mext_and_rest cut.index
     (c.in-Some.nonce.now, c.in-Some.ensures.spelled, c.in-Some.ensures.class)
     (field_fits 115 64 _ _ c.in-Some-salt_of.ensures.spelled c.in-Some-salt_of.ensures.class)
     (_, c.in-Some-count_of.ensures.spelled, (c.in-Some-count_of.count, refl, c.in-Some-count_of.ensures.class))
@@ -47,9 +47,10 @@ returns-clause-found c =
     } in (
       p,
       record {
-        spelled = server_first_spelled c.args.message.now _ _ _ p cut.marked c.in-Some.ensures.spelled c.in-Some-salt_of.ensures.spelled
+        spelled = server_first_spelled c.args.message.now _ _ _ p cut.mext_and_rest c.in-Some.ensures.spelled
+            c.in-Some-salt_of.ensures.spelled
             c.in-Some-count_of.ensures.spelled;
-        mext = cut.marked.value;
+        mext = cut.mext_and_rest.value;
         nonce = c.in-Some.ensures.class;
         salt = c.in-Some-salt_of.ensures.class;
         count = c.in-Some-count_of.ensures.class;
@@ -58,7 +59,7 @@ returns-clause-found c =
         short = cut.short;
       },
       record {
-        mandatory = rw (cut.is_marked, c.in_ok-extensions.ensures.mandatory) refl;
+        mandatory = rw (cut.has_mext_is, c.in_ok-extensions.ensures.mandatory) refl;
         nonce = refl;
         salt = refl;
         count = refl;

@@ -2,22 +2,22 @@ use Rattle.std.proofs.Common.{rules, ◌≤◌, length, lit≤, sym, subst}
 use Rattle.mac_core.specs.Mechanism.{length_by}
 use Rattle.mac_core.specs.declared.mechanism.Mechanism.TheVariants.{ScramSha1, ScramSha256}
 use Rattle.book_format.specs.Account.{AreKeys, most_names}
-use Rattle.account_book.proofs.lemmas.Ranges.{all_inserted, for_some}
-use Rattle.account_book.proofs.lemmas.Maps.{is_added}
+use Rattle.account_book.proofs.lemmas.Ranges.{insertion_keeps_ranges, fact_holds_for_some}
+use Rattle.account_book.proofs.lemmas.Maps.{account_is_added}
 use Rattle.account_book.proofs.book.Book.enrol.Goals as goal
 
 pub invariant_of-self-inside : goal.invariant_of-self-inside
 invariant_of-self-inside c =
     record {
       count = c.self-inside.invariant.count;
-      accounts = all_inserted c.insert.result _ _ _ _ _ c.insert.ensures.entries c.insert.ensures.err
+      accounts = insertion_keeps_ranges c.insert.result _ _ _ _ _ c.insert.ensures.entries c.insert.ensures.err
           c.self-inside.invariant.accounts
           (record {
-            sha1 = for_some (AreKeys (length_by ScramSha1)) _ c.made_keys.ensures.range;
-            sha256 = for_some (AreKeys (length_by ScramSha256)) _ c.made_keys-2.ensures.range;
+            sha1 = fact_holds_for_some (AreKeys (length_by ScramSha1)) _ c.made_keys.ensures.range;
+            sha256 = fact_holds_for_some (AreKeys (length_by ScramSha256)) _ c.made_keys-2.ensures.range;
             names = subst (λ names. length names ≤ most_names) (sym c.new.ensures.items) (lit≤ tt);
           });
     }
 
 pub returns-in-Ok-clause-added : goal.returns-in-Ok-clause-added
-returns-in-Ok-clause-added c = is_added _ _ _ _ (search rules) (search rules)
+returns-in-Ok-clause-added c = account_is_added _ _ _ _ (search rules) (search rules)

@@ -1,22 +1,22 @@
 use Rattle.std.proofs.Common.{rules, sym, subst, IfSome}
 use Rattle.book_format.specs.Account.{IsAccount}
 use Rattle.book_format.specs.Book.{AreAccounts}
-use Rattle.account_book.proofs.lemmas.Ranges.{token_put, all_set, found}
-use Rattle.account_book.proofs.lemmas.Maps.{is_changed}
+use Rattle.account_book.proofs.lemmas.Ranges.{token_keeps_ranges, set_value_keeps_ranges, found_account_is_in_range}
+use Rattle.account_book.proofs.lemmas.Maps.{account_is_changed}
 use Rattle.account_book.proofs.book.Book.put_token.Goals as goal
 
 pub invariant_of-self-inside : goal.invariant_of-self-inside
 invariant_of-self-inside c =
     let account = subst IsAccount (sym c.account.view_is)
-    (subst (λ o. IfSome o IsAccount) (sym c.in-Some.ensures.value) (found _ _ c.self-inside.invariant.accounts)) in
+    (subst (λ o. IfSome o IsAccount) (sym c.in-Some.ensures.value) (found_account_is_in_range _ _ c.self-inside.invariant.accounts)) in
     record {
       count = c.self-inside.invariant.count;
       accounts = subst AreAccounts (sym (c.get_mut.follows.holds _).0)
-          (all_set _ _ _ c.self-inside.invariant.accounts (token_put _ _ account));
+          (set_value_keeps_ranges _ _ _ c.self-inside.invariant.accounts (token_keeps_ranges _ _ account));
     }
 
 pub returns-in-Some-clause-put : goal.returns-in-Some-clause-put
-returns-in-Some-clause-put c = is_changed _ _ _ _ (search rules)
+returns-in-Some-clause-put c = account_is_changed _ _ _ _ (search rules)
 
 pub returns-in-None-clause-put : goal.returns-in-None-clause-put
-returns-in-None-clause-put c = is_changed _ _ _ _ (search rules)
+returns-in-None-clause-put c = account_is_changed _ _ _ _ (search rules)

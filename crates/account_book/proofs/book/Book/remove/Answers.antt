@@ -1,17 +1,17 @@
 use Rattle.std.proofs.Common.{ap, ◌∙◌, sym, subst}
 use Rattle.book_format.specs.Book.{AreAccounts}
-use Rattle.account_book.proofs.lemmas.Ranges.{all_removed}
-use Rattle.account_book.proofs.lemmas.Maps.{is_removed}
+use Rattle.account_book.proofs.lemmas.Ranges.{remove_entry_keeps_ranges}
+use Rattle.account_book.proofs.lemmas.Maps.{account_is_removed}
 use Rattle.account_book.proofs.book.Book.remove.Goals as goal
 
 pub invariant_of-self-inside : goal.invariant_of-self-inside
 invariant_of-self-inside c =
     record {
       count = c.self-inside.invariant.count;
-      accounts = subst AreAccounts (sym c.remove.ensures.entries) (all_removed _ _ c.self-inside.invariant.accounts);
+      accounts = subst AreAccounts (sym c.remove.ensures.entries) (remove_entry_keeps_ranges _ _ c.self-inside.invariant.accounts);
     }
 
 pub returns-clause-removed : goal.returns-clause-removed
 returns-clause-removed c =
-    is_removed _ _ _ _ (ap (λ book. book.contents) c.self-inside.view_is ∙ c.self.view_is)
+    account_is_removed _ _ _ _ (ap (λ book. book.contents) c.self-inside.view_is ∙ c.self.view_is)
     c.remove.ensures.entries c.remove.ensures.updates.0

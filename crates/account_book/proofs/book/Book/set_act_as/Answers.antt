@@ -1,22 +1,22 @@
 use Rattle.std.proofs.Common.{rules, sym, subst, IfSome}
 use Rattle.book_format.specs.Account.{IsAccount}
 use Rattle.book_format.specs.Book.{AreAccounts}
-use Rattle.account_book.proofs.lemmas.Ranges.{act_as_set, all_set, found}
-use Rattle.account_book.proofs.lemmas.Maps.{is_changed}
+use Rattle.account_book.proofs.lemmas.Ranges.{act_as_keeps_ranges, set_value_keeps_ranges, found_account_is_in_range}
+use Rattle.account_book.proofs.lemmas.Maps.{account_is_changed}
 use Rattle.account_book.proofs.book.Book.set_act_as.Goals as goal
 
 pub invariant_of-self-inside : goal.invariant_of-self-inside
 invariant_of-self-inside c =
     let account = subst IsAccount (sym c.account.view_is)
-    (subst (λ o. IfSome o IsAccount) (sym c.in-Some.ensures.value) (found _ _ c.self-inside.invariant.accounts)) in
+    (subst (λ o. IfSome o IsAccount) (sym c.in-Some.ensures.value) (found_account_is_in_range _ _ c.self-inside.invariant.accounts)) in
     record {
       count = c.self-inside.invariant.count;
       accounts = subst AreAccounts (sym (c.get_mut.follows.holds _).0)
-          (all_set _ _ _ c.self-inside.invariant.accounts (act_as_set _ _ c.requires account));
+          (set_value_keeps_ranges _ _ _ c.self-inside.invariant.accounts (act_as_keeps_ranges _ _ c.requires account));
     }
 
 pub returns-in-Some-clause-set : goal.returns-in-Some-clause-set
-returns-in-Some-clause-set c = is_changed _ _ _ _ (search rules)
+returns-in-Some-clause-set c = account_is_changed _ _ _ _ (search rules)
 
 pub returns-in-None-clause-set : goal.returns-in-None-clause-set
-returns-in-None-clause-set c = is_changed _ _ _ _ (search rules)
+returns-in-None-clause-set c = account_is_changed _ _ _ _ (search rules)

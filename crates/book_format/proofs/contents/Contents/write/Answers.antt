@@ -4,12 +4,12 @@ use Rattle.std.proofs.lemmas.Bool.{false≢true}
 use Rattle.toml.specs.Data.{members_depth, members_have_valid_dates}
 use Rattle.toml.specs.Parse.{parse_document}
 use Rattle.book_format.specs.Written.{book_tree}
-use Rattle.book_format.proofs.lemmas.Depths.{book_flat}
+use Rattle.book_format.proofs.lemmas.Depths.{book_is_flat}
 use Rattle.book_format.proofs.contents.Contents.write.Goals as goal
 
 pub returns-in-Ok-clause-stands : goal.returns-in-Ok-clause-stands
 returns-in-Ok-clause-stands c =
-    let flat = book_flat c.args.self.now in
+    let flat = book_is_flat c.args.self.now in
     record {
       tree = book_tree c.args.self.now;
       utf8 = IsUtf8-string_bytes c.in-Ok.text;
@@ -21,4 +21,4 @@ returns-in-Ok-clause-stands c =
 pub unreachable-requires : goal.unreachable-requires
 unreachable-requires c =
     let faulty = c.table_to_string.ensures.dates.0 (c.in-Err-DateInvalid.is ∙ ap Err c.in-Err-DateInvalid.field-0-is) in
-    false≢true (sym faulty ∙ ap members_have_valid_dates c.in_ok-book_table.ensures.tree ∙ (book_flat c.args.self.now).1)
+    false≢true (sym faulty ∙ ap members_have_valid_dates c.in_ok-book_table.ensures.tree ∙ (book_is_flat c.args.self.now).1)

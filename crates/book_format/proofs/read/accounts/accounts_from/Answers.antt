@@ -10,18 +10,20 @@ use Rattle.toml.proofs.Views.{Entry}
 use Rattle.book_format.specs.reading.Books.{accounts_from, named_account_of}
 use Rattle.book_format.specs.reading.Steps.{◌>>=◌}
 use Rattle.book_format.specs.declared.fault.BookFault.{BookFault}
-use Rattle.book_format.proofs.lemmas.Steps.{on_ok}
-use Rattle.book_format.proofs.lemmas.InOrder.{Named, HaveKeys-last, inserted_last}
-use Rattle.book_format.proofs.lemmas.Tables.{entry_name}
-use Rattle.book_format.proofs.lemmas.Lists.{moved}
+use Rattle.book_format.proofs.lemmas.Steps.{fact_holds_unless_err}
+use Rattle.book_format.proofs.lemmas.InOrder.{Named, HaveKeys-last, inserted_account_goes_last}
+use Rattle.book_format.proofs.lemmas.Tables.{entry_name_is_key}
+use Rattle.book_format.proofs.lemmas.Lists.{value_moves_to_front}
 use Rattle.book_format.proofs.read.accounts.accounts_from.Goals as goal
 
 -- one more account moves from those that are left to those that were read
-step : (index : ℕ) (key : List ℕ) (d : Data) (ms : Members) (entry : Named) (front : List Named) (whole : Result (List Named) BookFault)
+account_moves_to_front : (index : ℕ) (key : List ℕ) (d : Data) (ms : Members) (entry : Named) (front : List Named)
+    (whole : Result (List Named) BookFault)
     → named_account_of key d ≡ Ok entry → (accounts_from index (member key d ms) >>= λ left. Ok (front ++ left)) ≡ whole
     → (accounts_from (index + 1) ms >>= λ left. Ok ((front ++ entry ∷ []) ++ left)) ≡ whole
 unfolding accounts_from
-step index key d ms entry front whole read h = sym (moved front entry (accounts_from (index + 1) ms)) ∙ (rw read at h)
+account_moves_to_front index key d ms entry front whole read h =
+    sym (value_moves_to_front front entry (accounts_from (index + 1) ms)) ∙ (rw read at h)
 
 pub loop-key-preserved : goal.loop-key-preserved
 loop-key-preserved c =
@@ -32,11 +34,11 @@ loop-key-preserved c =
     let entry : Named = c.in-Ok.entry in
     let all : c.args.table.now.entries ≡ done ++ e ∷ left = l.invariant.1 ∙ ap (λ es. done ++ es) c.in-Some.ensures.steps in
     let read : named_account_of (string_bytes e.0) (view e.1) ≡ Ok entry = rw (← c.as_str.ensures.value) c.in-Ok.ensures in
-    let named : entry.0 ≡ string_bytes e.0 = entry_name (string_bytes e.0) (view e.1) entry read in
-    let last = inserted_last l.accounts.entries done e left entry.1
+    let named : entry.0 ≡ string_bytes e.0 = entry_name_is_key (string_bytes e.0) (view e.1) entry read in
+    let last = inserted_account_goes_last l.accounts.entries done e left entry.1
     (subst (λ es. IsStrictlySortedBy string_cmp (keys_of es)) all c.iter-key-items.ensures.ordered) l.invariant.2 in
     let put : c.insert.new.self.entries ≡ l.accounts.entries ++ entry ∷ [] =
-    on_ok (c.insert.new.self.entries ≡ insert_entry (slice_cmp nat_cmp) l.accounts.entries entry.0 entry.1) c.insert.result
+    fact_holds_unless_err (c.insert.new.self.entries ≡ insert_entry (slice_cmp nat_cmp) l.accounts.entries entry.0 entry.1) c.insert.result
     (sym c.if-is_err.ensures.value) c.insert.ensures.entries
     ∙ subst (λ key. insert_entry (slice_cmp nat_cmp) l.accounts.entries key entry.1 ≡ l.accounts.entries ++ (key, entry.1) ∷ [])
     (sym named) last in
@@ -44,6 +46,7 @@ loop-key-preserved c =
       done ++ e ∷ [],
       all ∙ sym (append_assoc done (e ∷ []) left),
       rw put (HaveKeys-last l.accounts.entries done entry e l.invariant.2 named),
-      rw put (step l.index (string_bytes e.0) (view e.1) _ entry l.accounts.entries _ read (rw c.in-Some.ensures.steps at l.invariant.3)),
+      rw put (account_moves_to_front l.index (string_bytes e.0) (view e.1) _ entry l.accounts.entries _ read
+          (rw c.in-Some.ensures.steps at l.invariant.3)),
       omega (arith, count),
     )

@@ -4,7 +4,7 @@ use Rattle.scram_text.specs.Class.{IsPlainName}
 use Rattle.toml.specs.Data.{string}
 use Rattle.toml.specs.View.{view}
 use Rattle.book_format.specs.Names.{AreNames}
-use Rattle.book_format.proofs.lemmas.WritesItself.{names_more}
+use Rattle.book_format.proofs.lemmas.WritesItself.{more_names_are_plain}
 use Rattle.book_format.proofs.write.account.names_value.Goals as goal
 
 pub loop-name-preserved : goal.loop-name-preserved
@@ -19,5 +19,5 @@ loop-name-preserved c =
           ∙ map_push view l.values.items c.in_ok-string.field-0
           ∙ rw (l.invariant.texts, seen) (sym (map_more string names l.name-index name below));
       plain = subst AreNames (sym (take_more names l.name-index name below))
-          (names_more _ _ l.invariant.plain (subst IsPlainName c.name-item.is c.text.ensures.fits));
+          (more_names_are_plain _ _ l.invariant.plain (subst IsPlainName c.name-item.is c.text.ensures.fits));
     }

@@ -9,18 +9,21 @@ use Rattle.book_format.specs.declared.account.MechKeys.{MechKeys}
 use Rattle.book_format.proofs.write.account.put_keys.Goals as goal
 
 -- what holds anyway holds where a result is Ok
-on_any : {A E : Type 0} (P : Type 0) (r : Result A E) → P → OnOk r P
-on_any P (Ok x) p = p
-on_any P (Err e) p = tt
+fact_holds_on_ok : {A E : Type 0} (P : Type 0) (r : Result A E) → P → OnOk r P
+fact_holds_on_ok P (Ok x) p = p
+fact_holds_on_ok P (Err e) p = tt
 
 -- keys in their ranges write themselves
-each : (m : MechKeys) (o : Option MechKeys) → o ≡ Some m → ((len : ℕ) → AreKeys len m → WritesItself (in_table (mech len)) m)
+keys_write_themselves : (m : MechKeys) (o : Option MechKeys) → o ≡ Some m
+    → ((len : ℕ) → AreKeys len m → WritesItself (in_table (mech len)) m)
     → (len : ℕ) → ForSome o (AreKeys len) → ForSome o (WritesItself (in_table (mech len)))
-each m o is itself len fits k there = subst (λ k. WritesItself (in_table (mech len)) k) (same m k o is there) (itself len (fits m is))
+keys_write_themselves m o is itself len fits k there =
+    subst (λ k. WritesItself (in_table (mech len)) k) (same m k o is there) (itself len (fits m is))
   where
     same : (m k : MechKeys) (o : Option MechKeys) → o ≡ Some m → o ≡ Some k → m ≡ k
     same m k o one two = cc (one, two)
 
 pub returns-in_ok-mech_value-in-Some-clause-itself : goal.returns-in_ok-mech_value-in-Some-clause-itself
 returns-in_ok-mech_value-in-Some-clause-itself c =
-    on_any _ c.put.result (each c.in-Some.keys c.args.keys.now c.in-Some.is c.in_ok-mech_value-in-Some.ensures.itself)
+    fact_holds_on_ok _ c.put.result (keys_write_themselves c.in-Some.keys c.args.keys.now c.in-Some.is
+        c.in_ok-mech_value-in-Some.ensures.itself)

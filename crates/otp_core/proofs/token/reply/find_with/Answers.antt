@@ -5,15 +5,15 @@ use Rattle.otp_core.specs.Code.{hotp_text}
 use Rattle.otp_core.proofs.token.reply.find_with.Goals as goal
 
 -- no counter up to i has the text, where none before i has it and i does not
-none_up_to : (text_of : ℕ → List ℕ) (text : List ℕ) (first i : ℕ)
+no_counter_has_text : (text_of : ℕ → List ℕ) (text : List ℕ) (first i : ℕ)
     → ((k : ℕ) → first ≤ k → k < i → text_of k ≡ text → ⊥) → (text_of i ≡ text → ⊥)
     → (k : ℕ) → first ≤ k → k < i + 1 → text_of k ≡ text → ⊥
-none_up_to text_of text first i before here k from up same =
+no_counter_has_text text_of text first i before here k from up same =
     below_more (λ n. first ≤ n → text_of n ≡ text → ⊥) i (λ n below reach. before n reach below) (λ reach. here) k up from same
 
 pub loop-counter-preserved : goal.loop-counter-preserved
 loop-counter-preserved g c =
     let text_of = λ (k : ℕ). hotp_text g.H.HashFn.digest_of g.H.HashFn.BLOCK c.args.digits c.args.secret.now k in
     let code = rw (c.bytes.ensures.value) at (c.hotp_with.ensures _ c.new-prepared.ensures) in
-    none_up_to text_of _ _ _ c.loop-counter.invariant (λ same.
+    no_counter_has_text text_of _ _ _ c.loop-counter.invariant (λ same.
     both_ways c.code_is.result c.if-code_is.false (c.code_is.ensures.1 (code ∙ same)))

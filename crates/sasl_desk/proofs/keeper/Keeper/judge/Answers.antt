@@ -1,13 +1,14 @@
 use Rattle.std.proofs.Common.{rules, ◌≡◌, ◌≢◌, refl, sym, ◌∙◌}
 use Rattle.std.specs.declared.option.Option.TheVariants.{Some}
 use Rattle.otp_core.specs.declared.token.reply.Reply.TheVariants.{Locked}
-use Rattle.sasl_desk.proofs.lemmas.turns.Keepers.{reply_in_range, told_by, told_none, told_locked, saved_unless_locked, kept_by, put_back}
+use Rattle.sasl_desk.proofs.lemmas.turns.Keepers.{reply_in_range, token_attempt_is_judged, tokenless_attempt_is_judged, locked_attempt_is_judged, needs_save_unless_locked, kept_unless_locked, put_back_restores_book}
 use Rattle.sasl_desk.proofs.keeper.Keeper.judge.Goals as goal
 
 pub returns-then-eq-clause-ok : goal.returns-then-eq-clause-ok
 returns-then-eq-clause-ok g c =
     let locked : c.judge-reply.result ≡ Locked = search rules in
-    told_locked g.S.BookStore.IsStored _ c.args.name.now c.in-Some.token c.judge-reply.new.self c.args.moment _ c.judge-reply.result
+    locked_attempt_is_judged g.S.BookStore.IsStored _ c.args.name.now c.in-Some.token c.judge-reply.new.self c.args.moment _
+        c.judge-reply.result
     c.moment_is_in_range.ensures (sym c.token.ensures ∙ c.in-Some.is)
     c.judge-reply.ensures
     locked _
@@ -17,7 +18,7 @@ returns-then-eq-clause-counter g c = reply_in_range c.judge-reply.result c.judge
 
 pub returns-in-Err-clause-err : goal.returns-in-Err-clause-err
 returns-in-Err-clause-err g c = (
-  put_back _ _ _ c.args.name.now c.in-Some.token c.judge-reply.new.self c.copy-before.result
+  put_back_restores_book _ _ _ c.args.name.now c.in-Some.token c.judge-reply.new.self c.copy-before.result
       (sym c.token.ensures ∙ c.in-Some.is) c.copy-before.ensures
       c.put_token.ensures.put c.put_token-in-Err.ensures.put,
   refl,
@@ -27,8 +28,9 @@ pub returns-in-Err-clause-memory : goal.returns-in-Err-clause-memory
 returns-in-Err-clause-memory g c = (
   Some c.judge-reply.result,
   c.put_token.new.self,
-  (let apart : c.judge-reply.result ≢ Locked = search rules in saved_unless_locked c.judge-reply.result apart),
-  told_by _ _ c.args.name.now c.in-Some.token c.judge-reply.new.self c.args.moment _ c.judge-reply.result c.moment_is_in_range.ensures
+  (let apart : c.judge-reply.result ≢ Locked = search rules in needs_save_unless_locked c.judge-reply.result apart),
+  token_attempt_is_judged _ _ c.args.name.now c.in-Some.token c.judge-reply.new.self c.args.moment _ c.judge-reply.result
+      c.moment_is_in_range.ensures
       (sym c.token.ensures ∙ c.in-Some.is)
       c.judge-reply.ensures
       c.put_token.ensures.put,
@@ -36,11 +38,12 @@ returns-in-Err-clause-memory g c = (
 
 pub returns-in-Ok-saved-clause-ok : goal.returns-in-Ok-saved-clause-ok
 returns-in-Ok-saved-clause-ok g c = let apart : c.judge-reply.result ≢ Locked = search rules in (
-  told_by _ _ c.args.name.now c.in-Some.token c.judge-reply.new.self c.args.moment _ c.judge-reply.result c.moment_is_in_range.ensures
+  token_attempt_is_judged _ _ c.args.name.now c.in-Some.token c.judge-reply.new.self c.args.moment _ c.judge-reply.result
+      c.moment_is_in_range.ensures
       (sym c.token.ensures ∙ c.in-Some.is)
       c.judge-reply.ensures
       c.put_token.ensures.put,
-  kept_by g.S.BookStore.IsStored _ _ _ _ c.judge-reply.result apart
+  kept_unless_locked g.S.BookStore.IsStored _ _ _ _ c.judge-reply.result apart
       (record { text = _; is_text = c.in-Ok.ensures.stands; saved = c.in-Ok-saved.ensures.saves; stored = c.in-Ok-saved.ensures.stored }),
 )
 
@@ -49,14 +52,15 @@ returns-in-Ok-saved-clause-counter g c = reply_in_range c.judge-reply.result c.j
 
 pub returns-in-Err-saved-clause-ok : goal.returns-in-Err-saved-clause-ok
 returns-in-Err-saved-clause-ok g c = (
-  put_back _ _ _ c.args.name.now c.in-Some.token c.judge-reply.new.self c.copy-before.result
+  put_back_restores_book _ _ _ c.args.name.now c.in-Some.token c.judge-reply.new.self c.copy-before.result
       (sym c.token.ensures ∙ c.in-Some.is) c.copy-before.ensures
       c.put_token.ensures.put c.put_token-in-Err-saved.ensures.put,
   (
     Some c.judge-reply.result,
     c.put_token.new.self,
-    (let apart : c.judge-reply.result ≢ Locked = search rules in saved_unless_locked c.judge-reply.result apart),
-    told_by _ _ c.args.name.now c.in-Some.token c.judge-reply.new.self c.args.moment _ c.judge-reply.result c.moment_is_in_range.ensures
+    (let apart : c.judge-reply.result ≢ Locked = search rules in needs_save_unless_locked c.judge-reply.result apart),
+    token_attempt_is_judged _ _ c.args.name.now c.in-Some.token c.judge-reply.new.self c.args.moment _ c.judge-reply.result
+        c.moment_is_in_range.ensures
         (sym c.token.ensures ∙ c.in-Some.is)
         c.judge-reply.ensures
         c.put_token.ensures.put,
@@ -66,7 +70,7 @@ returns-in-Err-saved-clause-ok g c = (
 
 pub returns-in_default-clause-ok : goal.returns-in_default-clause-ok
 returns-in_default-clause-ok g c = (
-  told_none _ c.args.name.now c.args.moment _ c.moment_is_in_range.ensures
+  tokenless_attempt_is_judged _ c.args.name.now c.args.moment _ c.moment_is_in_range.ensures
       (sym c.token.ensures ∙ c.in_default.is),
   (refl, refl),
 )

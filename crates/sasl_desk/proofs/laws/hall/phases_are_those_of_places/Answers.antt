@@ -1,5 +1,5 @@
-use Rattle.sasl_desk.proofs.lemmas.halls.Laws.{phases_of_places}
+use Rattle.sasl_desk.proofs.lemmas.halls.Laws.{hall_phase_fits_place}
 use Rattle.sasl_desk.proofs.laws.hall.phases_are_those_of_places.Goals as goal
 
 pub returns : goal.returns
-returns g c = phases_of_places g.S.BookStore.facts g.S.BookStore.IsStored
+returns g c = hall_phase_fits_place g.S.BookStore.facts g.S.BookStore.IsStored

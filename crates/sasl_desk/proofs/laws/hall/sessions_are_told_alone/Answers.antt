@@ -1,9 +1,9 @@
-use Rattle.sasl_desk.proofs.lemmas.runs.SameRequests.{sessions_alone}
+use Rattle.sasl_desk.proofs.lemmas.runs.SameRequests.{sessions_tell_same}
 use Rattle.sasl_desk.proofs.laws.hall.sessions_are_told_alone.Goals as goal
 
 pub returns : goal.returns
 returns g c =
-    sessions_alone
+    sessions_tell_same
     (record {
       one_first = c.has_one_client_first.ensures;
       one_last = c.has_one_server_final.ensures;

@@ -1,5 +1,5 @@
-use Rattle.sasl_desk.proofs.lemmas.halls.Laws.{session_records}
+use Rattle.sasl_desk.proofs.lemmas.halls.Laws.{session_has_its_records}
 use Rattle.sasl_desk.proofs.laws.hall.sessions_have_their_records.Goals as goal
 
 pub returns : goal.returns
-returns g c = session_records g.S.BookStore.facts g.S.BookStore.IsStored
+returns g c = session_has_its_records g.S.BookStore.facts g.S.BookStore.IsStored

@@ -1,7 +1,7 @@
 use Rattle.std.proofs.lemmas.Result.{on_err_weaker}
 use Rattle.sasl_log.specs.Shown.{client_shown}
 use Rattle.sasl_desk.specs.Events.{sends, goes_away}
-use Rattle.sasl_desk.proofs.lemmas.turns.HeardLines.{all_heard_of_line, no_line_record, all_sent_by_line}
+use Rattle.sasl_desk.proofs.lemmas.turns.HeardLines.{ok_result_is_event_result, no_line_is_recorded_bad, ok_judged_code_was_sent}
 use Rattle.sasl_desk.proofs.session.Session.hear.Goals as goal
 
 pub returns-in-Gone-clause-heard : goal.returns-in-Gone-clause-heard
@@ -11,7 +11,7 @@ returns-in-Gone-clause-heard g c = λ accounts at keeps is. rw (c.in-Gone.is, c.
 pub returns-in-Some-clause-heard : goal.returns-in-Some-clause-heard
 returns-in-Some-clause-heard g c = λ accounts at keeps is.
     rw c.in-Line.is
-    (all_heard_of_line c.each_text_is_at_most_one_line.ensures accounts c.args.server_nonce.now (sends c.in-Line.text.now)
+    (ok_result_is_event_result c.each_text_is_at_most_one_line.ensures accounts c.args.server_nonce.now (sends c.in-Line.text.now)
     (client_shown c.in-Some.line) at c.hear_line.result
     c.hear_line.new.message.items c.in-Some.ensures.some (c.hear_line.ensures.heard accounts at keeps is))
 
@@ -19,12 +19,12 @@ pub returns-in-None-clause-heard : goal.returns-in-None-clause-heard
 returns-in-None-clause-heard g c = λ accounts at keeps is.
     rw (c.in-Line.is, c.requires)
     (c.bad_turn.ensures.turn accounts c.args.server_nonce.now at (sends c.in-Line.text.now)
-    (no_line_record (sends c.in-Line.text.now) at c.in-None.ensures.none (λ same. cc same)))
+    (no_line_is_recorded_bad (sends c.in-Line.text.now) at c.in-None.ensures.none (λ same. cc same)))
 
 pub returns-in-Some-clause-sent : goal.returns-in-Some-clause-sent
 returns-in-Some-clause-sent g c =
     rw c.in-Line.is
-    (all_sent_by_line (sends c.in-Line.text.now)
+    (ok_judged_code_was_sent (sends c.in-Line.text.now)
     (client_shown c.in-Some.line) c.hear_line.result c.in-Some.ensures.some c.hear_line.ensures.sent)
 
 pub returns-in-Some-clause-memory : goal.returns-in-Some-clause-memory

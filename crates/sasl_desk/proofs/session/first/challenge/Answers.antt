@@ -3,8 +3,8 @@ use Rattle.scram_ends.specs.Entry.{entry_of}
 use Rattle.log_grammar.specs.Lines.{said, cont}
 use Rattle.log_grammar.specs.Places.{got_first}
 use Rattle.sasl_desk.specs.Sessions.{CanBeWritten}
-use Rattle.sasl_desk.proofs.lemmas.turns.DueAnswers.{first_of, not_first, challenge_due}
-use Rattle.sasl_desk.proofs.lemmas.turns.Writable.{challenge_written}
+use Rattle.sasl_desk.proofs.lemmas.turns.DueAnswers.{taken_first_opens_login, refused_first_opens_no_login, challenge_due}
+use Rattle.sasl_desk.proofs.lemmas.turns.Writable.{server_first_is_writable}
 use Rattle.sasl_desk.proofs.session.first.challenge.Goals as goal
 
 pub new-requires : goal.new-requires
@@ -25,13 +25,13 @@ returns-in-Ok-clause-due g c = λ accounts name keeps named.
     (challenge_due c.has_one_client_first.ensures c.spells_one_name.ensures accounts c.args.server_nonce.now c.in-Ok.wait m name user
     first server_first
     c.server_first.new.out.items (entry_of c.view-view.result) entry message named
-    (first_of name first user m parts authzid named is taken) shows stands)
+    (taken_first_opens_login name first user m parts authzid named is taken) shows stands)
 
 pub returns-in-Ok-clause-lines : goal.returns-in-Ok-clause-lines
 returns-in-Ok-clause-lines g c =
     let (server_first, written, shows, stands) = c.in-Ok.ensures.ok in
     let message : c.server_first.new.out.items ≡ server_first = written ∙ ap (λ (t : List ℕ). t ++ server_first) c.requires.empty in
-    subst (λ (t : List ℕ). CanBeWritten (said (cont t) ∷ [])) (sym message) (challenge_written server_first _ shows.is_challenge)
+    subst (λ (t : List ℕ). CanBeWritten (said (cont t) ∷ [])) (sym message) (server_first_is_writable server_first _ shows.is_challenge)
 
 pub returns-in-Err-First-clause-due : goal.returns-in-Err-First-clause-due
 returns-in-Err-First-clause-due g c = λ accounts name keeps named.
@@ -39,4 +39,4 @@ returns-in-Err-First-clause-due g c = λ accounts name keeps named.
     let refused = c.in-Err-First.ensures.first _ c.in-Err-First.field-0-is in
     rw (c.in-Err-First.ensures.unchanged, c.requires.empty)
     (c.bare_no.ensures.due accounts c.args.server_nonce.now (got_first name first)
-    (not_first c.refused_is_not_taken_up.ensures name first _ refused))
+    (refused_first_opens_no_login c.refused_is_not_taken_up.ensures name first _ refused))

@@ -1,7 +1,7 @@
 use Rattle.std.proofs.Common.{refl}
 use Rattle.log_grammar.specs.Places.{offered}
-use Rattle.sasl_desk.proofs.lemmas.turns.NotDue.{all_but_auth}
-use Rattle.sasl_desk.proofs.lemmas.turns.Writable.{heard_can_be}
+use Rattle.sasl_desk.proofs.lemmas.turns.NotDue.{only_auth_is_due}
+use Rattle.sasl_desk.proofs.lemmas.turns.Writable.{heard_line_is_writable}
 use Rattle.sasl_desk.proofs.session.hear.hear_auth.Goals as goal
 
 pub returns-in-Abort-clause-turn : goal.returns-in-Abort-clause-turn
@@ -10,13 +10,13 @@ returns-in-Abort-clause-turn g c = λ accounts keeps. rw (c.in-Abort.is, c.requi
 
 pub returns-in-Auth-clause-lines : goal.returns-in-Auth-clause-lines
 returns-in-Auth-clause-lines g c = (
-  heard_can_be _
+  heard_line_is_writable _
       (rw c.in-Auth.is at c.requires.line),
   rw c.requires.empty c.auth_answer-answer.ensures.lines,
 )
 
 pub returns-in-Ok-clause-lines : goal.returns-in-Ok-clause-lines
-returns-in-Ok-clause-lines g c = (heard_can_be _ (rw c.in-AuthWith.is at c.requires.line), c.in-Ok.ensures.lines)
+returns-in-Ok-clause-lines g c = (heard_line_is_writable _ (rw c.in-AuthWith.is at c.requires.line), c.in-Ok.ensures.lines)
 
 pub returns-in-Abort-clause-lines : goal.returns-in-Abort-clause-lines
 returns-in-Abort-clause-lines g c = rw c.requires.empty c.abort_turn.ensures.lines
@@ -24,7 +24,7 @@ returns-in-Abort-clause-lines g c = rw c.requires.empty c.abort_turn.ensures.lin
 pub returns-in_default-clause-turn : goal.returns-in_default-clause-turn
 returns-in_default-clause-turn g c = λ accounts keeps. rw c.requires.empty
     (c.bad_turn.ensures.line accounts c.args.server_nonce.now offered _
-    (all_but_auth c.args.line c.in_default.not-Auth c.in_default.not-AuthWith c.in_default.not-Abort))
+    (only_auth_is_due c.args.line c.in_default.not-Auth c.in_default.not-AuthWith c.in_default.not-Abort))
 
 pub returns-in_default-clause-lines : goal.returns-in_default-clause-lines
 returns-in_default-clause-lines g c = rw c.requires.empty c.bad_turn.ensures.lines

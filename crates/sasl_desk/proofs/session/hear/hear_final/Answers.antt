@@ -1,6 +1,6 @@
 use Rattle.std.proofs.Common.{refl}
-use Rattle.sasl_desk.proofs.lemmas.turns.NotDue.{all_but_resp}
-use Rattle.sasl_desk.proofs.lemmas.turns.Writable.{heard_can_be}
+use Rattle.sasl_desk.proofs.lemmas.turns.NotDue.{only_resp_is_due}
+use Rattle.sasl_desk.proofs.lemmas.turns.Writable.{heard_line_is_writable}
 use Rattle.sasl_desk.proofs.session.hear.hear_final.Goals as goal
 
 pub returns-in-Ok-clause-turn : goal.returns-in-Ok-clause-turn
@@ -17,7 +17,7 @@ returns-in-Abort-clause-turn g c = λ accounts server_nonce at is.
     rw (c.in-Abort.is, c.requires.empty) (c.abort_turn.ensures.line accounts server_nonce at (rw place refl))
 
 pub returns-in-Ok-clause-lines : goal.returns-in-Ok-clause-lines
-returns-in-Ok-clause-lines g c = (heard_can_be _ (rw c.in-Resp.is at c.requires.line), c.in-Ok.ensures.lines)
+returns-in-Ok-clause-lines g c = (heard_line_is_writable _ (rw c.in-Resp.is at c.requires.line), c.in-Ok.ensures.lines)
 
 pub returns-in-Abort-clause-lines : goal.returns-in-Abort-clause-lines
 returns-in-Abort-clause-lines g c = rw c.requires.empty c.abort_turn.ensures.lines
@@ -26,7 +26,7 @@ pub returns-in_default-clause-turn : goal.returns-in_default-clause-turn
 returns-in_default-clause-turn g c = λ accounts server_nonce at is.
     let (client_first, server_first, place, stands) = is in
     rw c.requires.empty (c.bad_turn.ensures.line accounts server_nonce at _
-    (all_but_resp at c.args.line (rw place refl) (rw place refl) c.in_default.not-Resp c.in_default.not-Abort))
+    (only_resp_is_due at c.args.line (rw place refl) (rw place refl) c.in_default.not-Resp c.in_default.not-Abort))
 
 pub returns-in_default-clause-lines : goal.returns-in_default-clause-lines
 returns-in_default-clause-lines g c = rw c.requires.empty c.bad_turn.ensures.lines

@@ -6,8 +6,8 @@ use Rattle.scram_text.specs.Messages.{client_first_text, IsClientFirst}
 use Rattle.scram_text.specs.Written.{client_first_of}
 use Rattle.scram_text.specs.declared.client_first.Flag.TheVariants.{NoBinding}
 use Rattle.scram_text.specs.declared.fault.WriteFault.{WriteFault}
-use Rattle.scram_ends.proofs.lemmas.Clients.{first_fails, honest_first, bare_length, header_fits}
-use Rattle.scram_ends.proofs.lemmas.Written.{after_front}
+use Rattle.scram_ends.proofs.lemmas.Clients.{client_first_fault_is_memory, written_first_is_honest, bare_is_short, header_fits_channel}
+use Rattle.scram_ends.proofs.lemmas.Written.{slice_after_front_is_text}
 use Rattle.scram_ends.proofs.client.Client.start.Goals as goal
 
 pub returns-in_err-write_client_first-clause-no_memory : goal.returns-in_err-write_client_first-clause-no_memory
@@ -15,7 +15,8 @@ returns-in_err-write_client_first-clause-no_memory g c =
     let e = err_from_is_err_and c.from_residual.result c.from_residual.ensures.1 in
     let authzid = option_copied c.args.authzid in
     let first = client_first_of NoBinding authzid c.args.name.now c.args.nonce.now [] in
-    let full = first_fails c.write_client_first.result _ authzid c.args.name.now c.args.nonce.now c.in_err-write_client_first.was
+    let full = client_first_fault_is_memory c.write_client_first.result _ authzid c.args.name.now c.args.nonce.now
+        c.in_err-write_client_first.was
     c.are_in_class.ensures.authzid c.are_in_class.ensures.name c.are_in_class.ensures.nonce
     c.write_client_first.ensures.unwritable c.write_client_first.ensures.over_limit in
     let room = c.write_client_first.ensures.no_memory (c.in_err-write_client_first.was ∙ ap (λ (x : WriteFault). Err x) full) in
@@ -24,7 +25,7 @@ returns-in_err-write_client_first-clause-no_memory g c =
       (
         client_first_text first,
         first,
-        honest_first authzid c.args.name.now c.args.nonce.now
+        written_first_is_honest authzid c.args.name.now c.args.nonce.now
             (client_first_text first) c.are_in_class.ensures.authzid c.are_in_class.ensures.name room.0,
         room.1,
       ),
@@ -33,20 +34,20 @@ returns-in_err-write_client_first-clause-no_memory g c =
 pub copy_of-requires : goal.copy_of-requires
 copy_of-requires g c =
     let found = c.in-Ok.ensures.found in
-    (omega arith, bare_length _ c.in-Ok.message.bare.now found.0 found.1 found.2.bare)
+    (omega arith, bare_is_short _ c.in-Ok.message.bare.now found.0 found.1 found.2.bare)
 
 pub copy_of-requires-2 : goal.copy_of-requires-2
 copy_of-requires-2 g c =
     let authzid = option_copied c.args.authzid in
     let first = client_first_of NoBinding authzid c.args.name.now c.args.nonce.now [] in
     let start : c.len-start.result ≡ length c.args.out.now.items = search rules in
-    let written = after_front c.deref.result.now c.args.out.now.items (client_first_text first) c.len-start.result
+    let written = slice_after_front_is_text c.deref.result.now c.args.out.now.items (client_first_text first) c.len-start.result
     (c.deref.ensures.value ∙ c.in_ok-write_client_first.ensures.appended.0) start in
     let shows = c.in-Ok.ensures.only first
     (subst (λ (client_first : List ℕ). IsClientFirst client_first first) (sym written) c.in_ok-write_client_first.ensures.is_message) in (
       omega arith,
-      header_fits c.args.name.now authzid c.args.nonce.now (client_first_text first) c.in-Ok.message.header.now first
-          (honest_first authzid c.args.name.now c.args.nonce.now
+      header_fits_channel c.args.name.now authzid c.args.nonce.now (client_first_text first) c.in-Ok.message.header.now first
+          (written_first_is_honest authzid c.args.name.now c.args.nonce.now
           (client_first_text first) c.are_in_class.ensures.authzid c.are_in_class.ensures.name
           c.in_ok-write_client_first.ensures.is_message)
           shows.header,

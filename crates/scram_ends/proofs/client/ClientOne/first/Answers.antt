@@ -1,4 +1,4 @@
-use Rattle.scram_ends.proofs.lemmas.Challenges.{not_refused, fault_of_started}
+use Rattle.scram_ends.proofs.lemmas.Challenges.{refused_is_not_answerable, login_has_challenge_fault}
 use Rattle.scram_ends.proofs.client.ClientOne.first.Goals as goal
 
 pub returns-in-Ok-answer-clause-ok : goal.returns-in-Ok-answer-clause-ok
@@ -13,5 +13,5 @@ returns-in-Err-answer-clause-no_memory g c = λ l started.
 
 pub returns-in-Err-clause-only : goal.returns-in-Err-clause-only
 returns-in-Err-clause-only g c = λ l challenge started answerable.
-    absurd (not_refused l.limits l.nonce c.args.server_first.now c.in-Err.fault challenge
-    (fault_of_started c.args.self l c.args.server_first.now c.in-Err.fault started c.in-Err.ensures.err) answerable)
+    absurd (refused_is_not_answerable l.limits l.nonce c.args.server_first.now c.in-Err.fault challenge
+    (login_has_challenge_fault c.args.self l c.args.server_first.now c.in-Err.fault started c.in-Err.ensures.err) answerable)

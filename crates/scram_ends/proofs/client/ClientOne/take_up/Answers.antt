@@ -2,8 +2,8 @@ use Rattle.std.proofs.Common.{sym, ◌∙◌, inl, inr, refl, arith}
 use Rattle.std.specs.declared.option.Option.TheVariants.{None, Some}
 use Rattle.std.proofs.lemmas.Slice.Eq.{strip_prefix_is}
 use Rattle.std.proofs.lemmas.Bool.Decides.{Decides-eqb}
-use Rattle.scram_text.proofs.lemmas.FirstUnmet.{first_found}
-use Rattle.scram_ends.proofs.lemmas.Challenges.{not_mine, begins, not_longer, longer}
+use Rattle.scram_text.proofs.lemmas.FirstUnmet.{found_is_first}
+use Rattle.scram_ends.proofs.lemmas.Challenges.{nonce_begins_otherwise, nonce_begins_with_clients, nonce_is_not_longer, nonce_is_longer}
 use Rattle.scram_ends.specs.Client.{challenge_faults_in_order, AsksOfChallenge}
 use Rattle.scram_ends.specs.declared.client.ClientFault.TheVariants.{NonceNotMine, NonceNotLonger, CountOutside}
 use Rattle.scram_ends.proofs.client.ClientOne.take_up.Goals as goal
@@ -16,11 +16,11 @@ returns-in_default-clause-err c =
     let found = c.in_ok-challenge.ensures.found in (
       found.0,
       found.1,
-      first_found (λ row. AsksOfChallenge row self.limits self.nonce.items found.0) challenge_faults_in_order NonceNotMine (inr (
+      found_is_first (λ row. AsksOfChallenge row self.limits self.nonce.items found.0) challenge_faults_in_order NonceNotMine (inr (
         sym found.2.mandatory ∙ c.if-challenge.false,
         inl (
           refl,
-          λ mine. not_mine self.nonce.items found.0.nonce _ _ found.2.nonce c.as_slice.ensures.value
+          λ mine. nonce_begins_otherwise self.nonce.items found.0.nonce _ _ found.2.nonce c.as_slice.ensures.value
               (strip_prefix_is Decides-eqb c.in_ok-challenge.challenge.nonce.now c.as_slice.result.now None c.in_default.ensures.cases)
               mine.0 mine.1,
         ),
@@ -31,16 +31,17 @@ pub returns-then-is_empty-clause-err : goal.returns-then-is_empty-clause-err
 returns-then-is_empty-clause-err c =
     let self = c.args.self.now in
     let found = c.in_ok-challenge.ensures.found in
-    let mine = begins self.nonce.items found.0.nonce _ _ c.in-Some.more.now found.2.nonce c.as_slice.ensures.value
+    let mine = nonce_begins_with_clients self.nonce.items found.0.nonce _ _ c.in-Some.more.now found.2.nonce c.as_slice.ensures.value
     (strip_prefix_is Decides-eqb c.in_ok-challenge.challenge.nonce.now c.as_slice.result.now
     (Some c.in-Some.more) c.in-Some.ensures.cases) in (
       found.0,
       found.1,
-      first_found (λ row. AsksOfChallenge row self.limits self.nonce.items found.0) challenge_faults_in_order NonceNotLonger (inr (
+      found_is_first (λ row. AsksOfChallenge row self.limits self.nonce.items found.0) challenge_faults_in_order NonceNotLonger (inr (
         sym found.2.mandatory ∙ c.if-challenge.false,
         inr (
           (c.in-Some.more.now, mine),
-          inl (refl, not_longer self.nonce.items found.0.nonce c.in-Some.more.now mine (sym c.is_empty.ensures ∙ c.if-is_empty.true)),
+          inl (refl, nonce_is_not_longer self.nonce.items found.0.nonce c.in-Some.more.now mine
+              (sym c.is_empty.ensures ∙ c.if-is_empty.true)),
         ),
       )),
     )
@@ -49,17 +50,17 @@ pub returns-then-challenge-self-clause-err : goal.returns-then-challenge-self-cl
 returns-then-challenge-self-clause-err c =
     let self = c.args.self.now in
     let found = c.in_ok-challenge.ensures.found in
-    let mine = begins self.nonce.items found.0.nonce _ _ c.in-Some.more.now found.2.nonce c.as_slice.ensures.value
+    let mine = nonce_begins_with_clients self.nonce.items found.0.nonce _ _ c.in-Some.more.now found.2.nonce c.as_slice.ensures.value
     (strip_prefix_is Decides-eqb c.in_ok-challenge.challenge.nonce.now c.as_slice.result.now
     (Some c.in-Some.more) c.in-Some.ensures.cases) in (
       found.0,
       found.1,
-      first_found (λ row. AsksOfChallenge row self.limits self.nonce.items found.0) challenge_faults_in_order CountOutside (inr (
+      found_is_first (λ row. AsksOfChallenge row self.limits self.nonce.items found.0) challenge_faults_in_order CountOutside (inr (
         sym found.2.mandatory ∙ c.if-challenge.false,
         inr (
           (c.in-Some.more.now, mine),
           inr (
-            longer self.nonce.items found.0.nonce c.in-Some.more.now mine (sym c.is_empty.ensures ∙ c.if-is_empty.false),
+            nonce_is_longer self.nonce.items found.0.nonce c.in-Some.more.now mine (sym c.is_empty.ensures ∙ c.if-is_empty.false),
             inl (
               refl,
               λ within. elim c.then-challenge-self.branch [
@@ -77,7 +78,7 @@ pub returns-clause-ok : goal.returns-clause-ok
 returns-clause-ok c =
     let self = c.args.self.now in
     let found = c.in_ok-challenge.ensures.found in
-    let mine = begins self.nonce.items found.0.nonce _ _ c.in-Some.more.now found.2.nonce c.as_slice.ensures.value
+    let mine = nonce_begins_with_clients self.nonce.items found.0.nonce _ _ c.in-Some.more.now found.2.nonce c.as_slice.ensures.value
     (strip_prefix_is Decides-eqb c.in_ok-challenge.challenge.nonce.now c.as_slice.result.now
     (Some c.in-Some.more) c.in-Some.ensures.cases) in (
       found.0,
@@ -89,7 +90,7 @@ returns-clause-ok c =
           (
             (c.in-Some.more.now, mine),
             (
-              longer self.nonce.items found.0.nonce c.in-Some.more.now mine (sym c.is_empty.ensures ∙ c.if-is_empty.false),
+              nonce_is_longer self.nonce.items found.0.nonce c.in-Some.more.now mine (sym c.is_empty.ensures ∙ c.if-is_empty.false),
               (
                 (omega (arith, c.if-challenge-self.false, found.2.count), omega (arith, c.if-self-challenge.false, found.2.count)),
                 tt,

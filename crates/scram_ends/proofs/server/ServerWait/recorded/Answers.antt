@@ -1,6 +1,6 @@
 use Rattle.std.proofs.Common.{◌≡◌, ap, ◌∙◌, refl}
 use Rattle.scram_text.specs.Messages.{ClientFirstParts}
-use Rattle.scram_text.proofs.lemmas.ClientFirst.{client_first_once}
+use Rattle.scram_text.proofs.lemmas.ClientFirst.{has_one_client_first}
 use Rattle.scram_ends.specs.Opening.{Opening}
 use Rattle.scram_ends.proofs.server.ServerWait.recorded.Goals as goal
 
@@ -10,7 +10,7 @@ returns-then-not-is_challenge_to-clause-err c =
     let client_first = c.args.client_first.now in (
       (taken.0, c.in_ok-taken.taken.name, c.in_ok-taken.taken.authzid, taken.1, taken.2.taken_up),
       λ o is. let nonce : c.in_ok-taken.taken.nonce.now ≡ o.first.nonce =
-          taken.2.nonce ∙ ap (λ (p : ClientFirstParts). p.nonce) (client_first_once client_first taken.0 o.first taken.1 is.is_first) in
+          taken.2.nonce ∙ ap (λ (p : ClientFirstParts). p.nonce) (has_one_client_first client_first taken.0 o.first taken.1 is.is_first) in
           c.if-not-is_challenge_to.ensures.not client_first c.args.server_first.now o nonce
           (c.in-Ok.ensures.only o.challenge is.is_challenge) is,
     )

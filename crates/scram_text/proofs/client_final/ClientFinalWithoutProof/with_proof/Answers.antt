@@ -1,7 +1,7 @@
 use Rattle.std.proofs.Common.{ℕ, List, subst, arith}
 use Rattle.base64.specs.GeneralPurpose.{IsBytes}
 use Rattle.scram_text.specs.Draft.{IsDraftOf}
-use Rattle.scram_text.proofs.lemmas.Composed.{with_proof_composed, with_proof_related}
+use Rattle.scram_text.proofs.lemmas.Composed.{with_proof_composed, with_proof_is_client_final}
 use Rattle.scram_text.proofs.client_final.ClientFinalWithoutProof.with_proof.Goals as goal
 
 pub returns-clause-draft : goal.returns-clause-draft
@@ -13,4 +13,4 @@ returns-clause-draft c = λ p is same.
 pub returns-clause-is_message : goal.returns-clause-is_message
 returns-clause-is_message c = λ p is same short.
     let bytes : IsBytes c.args.proof.now = λ i. omega (arith, c.type_inv.proof i) in
-    with_proof_related c.args.self p c.args.proof.now is same bytes c.requires short
+    with_proof_is_client_final c.args.self p c.args.proof.now is same bytes c.requires short

@@ -5,17 +5,17 @@ use Rattle.std.specs.declared.option.Option.{Option}
 use Rattle.std.specs.declared.option.Option.TheVariants.{None, Some}
 use Rattle.scram_text.specs.Class.{IsPlainName}
 use Rattle.scram_text.specs.Name.{SpellsName}
-use Rattle.scram_text.proofs.lemmas.Names.{name_once}
+use Rattle.scram_text.proofs.lemmas.Names.{one_name_per_spelling}
 use Rattle.scram_text.proofs.name.SaslText.plain.Goals as goal
 
 -- where the one name that is spelled is not plain, no plain name is spelled
-none_plain : (o : Option (List ℕ)) (found spelled : List ℕ) → SpellsName found spelled → SomeIff o (IsPlainName found) found
+no_plain_name_spelled : (o : Option (List ℕ)) (found spelled : List ℕ) → SpellsName found spelled → SomeIff o (IsPlainName found) found
     → IfNone o ((name : List ℕ) → IsPlainName name → SpellsName name spelled → ⊥)
-none_plain None found spelled spells not_plain = λ name plain also. not_plain
-    (subst IsPlainName (name_once name found (sym also ∙ spells)) plain)
-none_plain (Some name) found spelled spells plain = tt
+no_plain_name_spelled None found spelled spells not_plain = λ name plain also. not_plain
+    (subst IsPlainName (one_name_per_spelling name found (sym also ∙ spells)) plain)
+no_plain_name_spelled (Some name) found spelled spells plain = tt
 
 pub returns-clause-none : goal.returns-clause-none
 returns-clause-none c =
-    none_plain c.new.result c.as_slice.result.now c.args.self.now
+    no_plain_name_spelled c.new.result c.as_slice.result.now c.args.self.now
     (cc (c.in_ok-unescaped.ensures.some, c.as_slice.ensures.value, c.self.view_is)) c.new.ensures

@@ -1,7 +1,7 @@
 use Rattle.std.proofs.Common.{◌≡◌, ◌++◌, ◌∙◌, sym, rules}
 use Rattle.std.specs.Prelude.{codes}
 use Rattle.mac_core.specs.Mechanism.{name_of}
-use Rattle.commands.proofs.lemmas.ClientLines.{chosen, none_chosen}
+use Rattle.commands.proofs.lemmas.ClientLines.{asked_or_best_is_chosen, no_mechanism_is_chosen}
 use Rattle.commands.proofs.login.client_end.ClientEnd.send_first.Goals as goal
 
 pub returns-clause-says : goal.returns-clause-says
@@ -11,7 +11,7 @@ returns-clause-says c =
     let word : c.as_bytes.result.now ≡ codes "AUTH " ++ (name_of c.in-Some.mechanism ++ codes " :") = search rules in
     record {
       login = _;
-      is_mechanism = chosen c.args.self.now.user.mechanism c.choose.result c.args.names.now c.in-Some.mechanism
+      is_mechanism = asked_or_best_is_chosen c.args.self.now.user.mechanism c.choose.result c.args.names.now c.in-Some.mechanism
           (sym c.or.ensures ∙ c.in-Some.is)
           c.choose.ensures.some c.choose.ensures.best;
       are_limits = c.usual-limits.ensures;
@@ -24,5 +24,5 @@ returns-clause-says c =
 
 pub returns-in_default-clause-leaves : goal.returns-in_default-clause-leaves
 returns-in_default-clause-leaves c = λ is mechanism.
-    none_chosen c.args.self.now.user.mechanism c.choose.result c.args.names.now mechanism
+    no_mechanism_is_chosen c.args.self.now.user.mechanism c.choose.result c.args.names.now mechanism
     (sym c.or.ensures ∙ c.in_default.is) c.choose.ensures.none

@@ -3,7 +3,7 @@ use Rattle.std.specs.declared.option.Option.TheVariants.{Some}
 use Rattle.std.proofs.lemmas.List.Quantifiers.{position-Some}
 use Rattle.std.proofs.lemmas.Option.{slice_get-get_or}
 use Rattle.sasl_desk.specs.Guests.{is_of}
-use Rattle.sasl_desk.proofs.lemmas.halls.Guests.{found_at, found_nowhere}
+use Rattle.sasl_desk.proofs.lemmas.halls.Guests.{found_is_at_position, no_position_finds_none}
 use Rattle.sasl_desk.proofs.hall.seats.Seats.session.Goals as goal
 
 pub returns-in-Some-clause-some : goal.returns-in-Some-clause-some
@@ -11,7 +11,7 @@ returns-in-Some-clause-some c =
     let here = sym c.index_of.ensures ∙ c.in-Some.is in
     let inside = position-Some (is_of c.args.number) c.args.self.now c.in-Some.index c.index.result.now here in (
       c.index.result.now,
-      found_at (is_of c.args.number) c.args.self.now c.in-Some.index here
+      found_is_at_position (is_of c.args.number) c.args.self.now c.in-Some.index here
           ∙ rw (← c.self.view_is) (slice_get-get_or c.self.inside.guests.items c.in-Some.index c.index.result.now
           (rw (← c.self.view_is) at inside.0)
           ∙ ap Some (sym c.index.ensures)),
@@ -19,4 +19,4 @@ returns-in-Some-clause-some c =
     )
 
 pub returns-in-None-clause-none : goal.returns-in-None-clause-none
-returns-in-None-clause-none c = found_nowhere (is_of c.args.number) c.args.self.now (sym c.index_of.ensures ∙ c.in-None.is)
+returns-in-None-clause-none c = no_position_finds_none (is_of c.args.number) c.args.self.now (sym c.index_of.ensures ∙ c.in-None.is)

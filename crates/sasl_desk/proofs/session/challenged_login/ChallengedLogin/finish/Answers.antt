@@ -4,7 +4,7 @@ use Rattle.scram_ends.specs.Verdict.{due_text, final_due}
 use Rattle.scram_ends.specs.declared.server.ServerWait.{ServerWait}
 use Rattle.sasl_desk.specs.ChallengedLogin.{challenged_login_of, IsChallenging}
 use Rattle.sasl_desk.proofs.lemmas.turns.DueAnswers.{verdict_due}
-use Rattle.sasl_desk.proofs.lemmas.turns.Writable.{final_written}
+use Rattle.sasl_desk.proofs.lemmas.turns.Writable.{server_final_is_writable}
 use Rattle.sasl_desk.proofs.session.challenged_login.ChallengedLogin.finish.Goals as goal
 
 pub returns-in-Ok-clause-due : goal.returns-in-Ok-clause-due
@@ -24,7 +24,7 @@ returns-in-Ok-clause-lines g c =
     (challenged_login entry c.self.inside.mechanism client_first server_first) stands in
     let message = written ∙ ap (λ (t : List ℕ). t ++ due_text d) c.requires in
     rw c.verdict_answer.ensures
-    (final_written c.in-Ok.verdict c.self.inside.name c.finish.new.out.items (due_text d) (final_due d) message is)
+    (server_final_is_writable c.in-Ok.verdict c.self.inside.name c.finish.new.out.items (due_text d) (final_due d) message is)
 
 pub invariant_of-result : goal.invariant_of-result
 invariant_of-result g c =
