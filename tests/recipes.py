@@ -28,7 +28,7 @@ import suite
 from book_cases import cases
 from checks import equal, holds
 from expected import AUDITS, VECTORS, keys_of
-from suite import BOOK_OF_USER, CODES, LIMIT, NOBODY, ROOT, code, hotp, is_locked, is_root, program_on_path, read_book, seen, until
+from suite import BOOK_OF_USER, CODES, LIMIT, NOBODY, ROOT, code, hotp, is_locked, is_root, program_on_path, read_book, seen, totp, until
 from tool_runs import TOOLS, book_of, does, ran, start, with_tools
 
 DOCUMENT = Path(sys.argv[2]) if len(sys.argv) > 2 else Path(__file__).resolve().parent.parent / "docs" / "OPERATING.md"
@@ -37,6 +37,7 @@ INSTALLED = "/usr/local/share/scramotp"
 PLACE = "/var/lib/scramotp"
 NAME = "user@example.org"
 FOB = "fob@example.org"
+RENAMED = "button@example.org"
 
 # Prints nothing where the block before it has let go of the password.
 FORGOTTEN = 'printf %s "$password"\n'
@@ -406,6 +407,54 @@ def a_removed_account(folder):
     equal(book_of(folder), before)
 
 
+def a_renamed_account(folder):
+    """A name becomes another, with its keys and its token, and no other account changes. A name that is taken leaves the book as it is, and
+    one without an account too."""
+    enrolled(folder)
+    does(folder, blocks("Give a user one-time codes")[-1])
+    [rename] = blocks("Rename an account")
+    does(folder, verify(FOB, CODES[0]), printed="PASS 5 0\n")
+    before = book_of(folder)
+    does(folder, rename)
+    accounts = before["accounts"]
+    accounts[RENAMED] = accounts.pop(FOB)
+    equal(book_of(folder), before)
+    equal(ran(folder, verify(RENAMED, CODES[0], CODES[1]))[:2], (1, "FAIL 5\nPASS 5 1\n"))
+    equal(ran(folder, verify(FOB, CODES[2]))[2], "scramotp: no such account\n")
+    before = book_of(folder)
+    does(folder, rename)
+    equal(book_of(folder), before, "no account has the old name")
+    taken = rename.replace("fob@example\\.org", "user@example\\.org")
+    holds(taken != rename, rename)
+    status, _, faults = ran(folder, taken.replace(RENAMED, "other@example.org"))
+    equal((status, faults), (0, ""))
+    does(folder, f"scramotp enrol --book book.toml --name {NAME}", "pencil\n", f"enrolled {NAME}\n")
+    before = book_of(folder)
+    status, _, faults = ran(folder, taken.replace(RENAMED, "other@example.org"))
+    holds(status == 1 and "is as it was" in faults, status, faults)
+    equal(book_of(folder), before, "the new name is taken")
+
+
+def what_accounts_have(folder):
+    """The keys of each account are told, and where its token stands: one that has passed codes, and one that is locked."""
+    enrolled(folder)
+    [tell] = blocks("See what accounts have")
+    tokens = hotp(look_ahead=0, limit=2, name="counts") + totp(limit=3).replace("accounts.user", "accounts.timed") + "\n[accounts.bare]\n"
+    Path(folder, "tokens.toml").write_text(tokens)
+    does(folder, "tools/edit-book book.toml cat - tokens.toml")
+    started = {f"{NAME}: sha1 keys, sha256 keys", "other: sha1 keys, sha256 keys", "bare: nothing"}
+    told = {"counts: hotp token (next 0, 0 failures)", "timed: totp token (last none, 0 failures)"}
+    status, output, faults = ran(folder, tell)
+    equal((status, set(output.splitlines()), faults), (0, started | told, ""))
+    does(folder, verify("counts", CODES[0]), printed="PASS 5 0\n")
+    equal(ran(folder, verify("counts", "000000", "000000"))[:2], (1, "FAIL 5\nFAIL 5\n"))
+    does(folder, verify("timed", "94287082", moment=59), printed="PASS 59 1\n")
+    equal(ran(folder, verify("timed", "00000000", moment=59))[:2], (1, "FAIL 59\n"))
+    told = {"counts: hotp token (next 1, locked)", "timed: totp token (last 1, 1 failures)"}
+    status, output, faults = ran(folder, tell)
+    equal((status, set(output.splitlines()), faults), (0, started | told, ""))
+
+
 def decoys(folder):
     """Accounts that are as decoys are not told, others are."""
     enrolled(folder)
@@ -595,12 +644,14 @@ def all_in_order(folder):
         status, output, faults = ran(folder, LEAVES_NOTHING.format(block.replace(INSTALLED, str(TOOLS))), inputs.get(title, ""))
         equal((status, faults), (0, ""), title, output)
         printed += output.splitlines()
-    added, secret, ahead, changed, first, *verifiers = printed
-    equal((added, changed, first, verifiers), (f"enrolled {NAME}", f"enrolled {NAME}", f"enrolled {FOB}", list(both)), printed)
+    added, secret, ahead, *told, changed, first, of_postgresql, of_dovecot = printed
+    equal((added, changed, first), (f"enrolled {NAME}", f"enrolled {NAME}", f"enrolled {FOB}"), printed)
+    equal(set(told), {f"{NAME}: sha1 keys, sha256 keys", f"{FOB}: hotp token (next 10, 0 failures)"}, printed)
+    equal((of_postgresql, of_dovecot), both, printed)
     equal(len(base64.b32decode(secret)), 20, printed)
     holds(re.fullmatch(r"PASS \d+ 9", ahead), printed)
     accounts = book_of(folder)["accounts"]
-    equal(set(accounts), {NAME, FOB}, accounts)
+    equal(set(accounts), {NAME, RENAMED}, accounts)
     equal(set(accounts[NAME]), {"sha256"}, accounts)
 
 
@@ -649,6 +700,8 @@ TESTS = [
     a_first_password,
     a_password_that_is_refused,
     a_removed_account,
+    a_renamed_account,
+    what_accounts_have,
     decoys,
     keys_of_dovecot,
     a_verifier_there_and_back,
