@@ -408,10 +408,12 @@ def a_removed_account(folder):
 
 
 def a_renamed_account(folder):
-    """A name becomes another, with its keys and its token, and no other account changes. A name that is taken leaves the book as it is, and
-    one without an account too."""
+    """A name becomes another, with its keys and its token, and no other account changes, also none whose name goes on from there. A name
+    that is taken leaves the book as it is, and one without an account too."""
     enrolled(folder)
     does(folder, blocks("Give a user one-time codes")[-1])
+    Path(folder, "longer.toml").write_text(f'\n[accounts."{FOB}.uk"]\n')
+    does(folder, "tools/edit-book book.toml cat - longer.toml")
     [rename] = blocks("Rename an account")
     does(folder, verify(FOB, CODES[0]), printed="PASS 5 0\n")
     before = book_of(folder)
