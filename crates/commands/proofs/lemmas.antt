@@ -1,5 +1,4 @@
 -- Lemmas: what the proofs of this crate cite.
-pub mod Base64Texts
 pub mod Cases
 pub mod ClientLines
 pub mod EventWords

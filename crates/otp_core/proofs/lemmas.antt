@@ -1,6 +1,9 @@
 -- Lemmas: what the proofs of this crate and of those above it cite.
+pub mod AfterReply
+pub mod AlikePasts
 pub mod Digits
 pub mod Joins
+pub mod LeastNumbers
 pub mod OneReply
 pub mod Pairs
 pub mod SomeReply

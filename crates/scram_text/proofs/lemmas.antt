@@ -1,9 +1,9 @@
 -- Lemmas: what the proofs of this crate and of those above it cite.
 pub mod AttrVals
 pub mod Base64
+pub mod Base64Texts
 pub mod ClientFinal
 pub mod ClientFirst
-pub mod Composed
 pub mod Counts
 pub mod Decided
 pub mod Extensions
@@ -15,8 +15,10 @@ pub mod NamesDecided
 pub mod Parts
 pub mod PartsUtf8
 pub mod Places
+pub mod ReadMessages
 pub mod ServerFinal
 pub mod ServerFirst
 pub mod Texts
 pub mod WithoutByte
+pub mod messages_composed
 pub mod messages_decided

@@ -255,7 +255,7 @@ fn draft_of(channel: &[u8], nonce: &[u8], extensions: &[u8]) -> MessageDraft
 /// between them or empty, and the proof of 1 to 64 bytes. Answers 16 Unwritable where an argument is
 /// outside its class, else 17 OverLimit where the message would have more than 2048 bytes, else 99
 /// NoMemory, only where `out` had no room reserved for the message. After each of these faults `out` is unchanged.
-#[tactic(auto, using(crate::proofs::lemmas::Composed::with_proof_no_shorter))]
+#[tactic(auto, using(crate::proofs::lemmas::messages_composed::ClientFinal::with_proof_no_shorter))]
 pub fn write_client_final<A: Allocator>(
     channel: &[u8],
     nonce: &[u8],

@@ -4,7 +4,7 @@ use Rattle.base64.specs.GeneralPurpose.{IsBytes}
 use Rattle.scram_text.specs.Class.{is_printable, IsNoncePart}
 use Rattle.scram_text.specs.Base64Field.{base64}
 use Rattle.scram_text.proofs.lemmas.Base64.{length-base64}
-use Rattle.commands.proofs.lemmas.Base64Texts.{base64_passes_test}
+use Rattle.scram_text.proofs.lemmas.Base64Texts.{base64_passes_test}
 
 -- the base64 of 18 random bytes can be a part of a nonce
 pub random_base64_is_nonce_part : (bytes : List ℕ) → IsBytes bytes → length bytes ≡ 18 → IsNoncePart (base64 bytes)

@@ -3,7 +3,8 @@ use Rattle.std.proofs.Common.{◌≡◌, ◌⊎◌, inl, inr, ℕ, zero, suc, �
 use Rattle.std.proofs.Common.{length-append, append_assoc}
 use Rattle.std.specs.List.{AllByRecursion, AllZip}
 use Rattle.std.proofs.Math.Seq.{take-append-add}
-use Rattle.scram_text.proofs.lemmas.ListEnds.{same_front_and_last, nonempty_has_last}
+use Rattle.std.proofs.lemmas.List.{same_from_push}
+use Rattle.scram_text.proofs.lemmas.ListEnds.{nonempty_has_last}
 
 -- an empty list has no element
 pub empty_has_no_element : {A : Type 0} (before : List A) (x : A) (rest : List A) → [] ≡ before ++ x ∷ rest → ⊥
@@ -13,11 +14,11 @@ empty_has_no_element (y ∷ before) x rest e = cc e
 -- an element of a list with a last element is that one, or stands before it
 pub last_or_earlier : {A : Type 0} (log : List A) (x : A) (before : List A) (y : A) (rest : List A) → log ++ x ∷ [] ≡ before ++ y ∷ rest
     → ((log ≡ before) × (x ≡ y)) ⊎ ((less : List A) × (log ≡ before ++ y ∷ less))
-last_or_earlier log x before y [] e = inl (same_front_and_last log before x y e)
+last_or_earlier log x before y [] e = inl (same_from_push log before x y e)
 last_or_earlier log x before y (z ∷ rest) e =
     let last = nonempty_has_last z rest in
     let moved = ap (λ l. before ++ y ∷ l) last.2 ∙ sym (append_assoc before (y ∷ last.0) (last.1 ∷ [])) in
-    inr (last.0, (same_front_and_last log (before ++ y ∷ last.0) x last.1 (e ∙ moved)).0)
+    inr (last.0, (same_from_push log (before ++ y ∷ last.0) x last.1 (e ∙ moved)).0)
 
 -- what stands before a list's end stands in a longer list
 pub element_stays_in_place : {A : Type 0} (log more before : List A) (y : A) (rest : List A) → log ≡ before ++ y ∷ rest

@@ -1,7 +1,6 @@
 -- Some reply is due to every attempt: whether a counter fits is decided, and those that fit are below a
 -- bound, so there is a least one or none.
-use Rattle.std.proofs.Common.{◌≡◌, ◌+◌, ◌<◌, ◌≤◌, ◌^◌, ◌⊎◌, ℕ, zero, suc, List, [], ◌∷◌, Option, None, Some, ℤ, arith, inl, inr, refl}
-use Rattle.std.proofs.Common.{subst}
+use Rattle.std.proofs.Common.{◌≡◌, ◌+◌, ◌<◌, ◌≤◌, ◌^◌, ℕ, zero, suc, List, [], ◌∷◌, Option, None, Some, ℤ, arith, inl, inr, refl, subst}
 use Rattle.std.proofs.lemmas.Bool.{cases_Bool, cases_lt}
 use Rattle.std.specs.Prelude.{◌≤ℤ◌, ◌+ℤ◌, ◌-ℤ◌, pos}
 use Rattle.std.specs.Option.{ForSome}
@@ -16,6 +15,7 @@ use Rattle.otp_core.specs.declared.token.reply.Reply.{Reply}
 use Rattle.otp_core.specs.declared.token.reply.Reply.TheVariants.{Pass, Fail, Locked}
 use Rattle.otp_core.specs.declared.token.kinds.TokenFields.{TokenFields}
 use Rattle.otp_core.specs.declared.token.kinds.TokenFields.TheVariants.{Hotp, Totp}
+use Rattle.otp_core.proofs.lemmas.LeastNumbers.{least_or_none}
 use lib.Signed.{le_z}
 
 -- whether a whole number is at most another is decided
@@ -93,21 +93,6 @@ decided_fitting s h m (CodeTexts.TwoTexts first second) (suc w) =
         → IsPairCandidate s h w × ((code_text s w ≡ first) × (code_text s (w + 1) ≡ second))
     by_first v same is = subst (λ (n : ℕ). IsPairCandidate s h n × ((code_text s n ≡ first) × (code_text s (n + 1) ≡ second))) same is
 
--- below a number there is a least one for which a decided fact holds, or it holds for none
-least_or_none : (P : ℕ → Type 0) → ((k : ℕ) → Decided (P k)) → (n : ℕ)
-    → ((c : ℕ) × P c × ((k : ℕ) → P k → c ≤ k)) ⊎ ((k : ℕ) → k < n → P k → ⊥)
-least_or_none P decided zero = inr (λ k low p. absurd (omega arith))
-least_or_none P decided (suc n) = elim (least_or_none P decided n) [
-  | inl found ↦ inl found
-  | inr none ↦ elim (decided n) [
-    | inl here ↦ inl (n, here, λ k p. elim (cases_lt k n) [ inl low ↦ absurd (none k low p) | inr h ↦ h ])
-    | inr other ↦ inr (λ k low p. elim (cases_lt k n) [
-      | inl lower ↦ none k lower p
-      | inr high ↦ let same : k ≡ n = omega arith in other (subst P same p)
-    ])
-  ]
-]
-
 -- some reply is due, where the counters that fit are below a bound
 some_reply_under_bound : (s : TokenFields) (h : List Attempt) (m : ℕ) (sent : CodeTexts) (n : ℕ)
     → ((k : ℕ) → IsFitting s h m sent k → k < n) → (reply : Reply) × IsDueReply s h m sent reply
@@ -129,4 +114,4 @@ some_reply_is_due (Totp t) h m (CodeTexts.TwoTexts first second) =
     some_reply_under_bound (Totp t) h m (CodeTexts.TwoTexts first second) 0 (λ k fits. absurd fits.2)
 some_reply_is_due (Totp t) h m (CodeTexts.OneText text) =
     some_reply_under_bound (Totp t) h m (CodeTexts.OneText text) (step_at t m + t.max_drift + 1)
-        (λ w fits. omega (arith, fits.0.1.not_late))
+    (λ w fits. omega (arith, fits.0.1.not_late))

@@ -11,7 +11,7 @@ use Rattle.otp_core.specs.declared.token.reply.Reply.{Reply}
 use Rattle.otp_core.specs.declared.token.reply.Reply.TheVariants.{Pass, Fail, Locked}
 use Rattle.otp_core.specs.declared.token.kinds.HotpFields.{HotpFields}
 use Rattle.otp_core.specs.declared.token.kinds.TokenFields.TheVariants.{Hotp, Totp}
-use Rattle.otp_core.proofs.lemmas.Steps.{pass_moves_first}
+use Rattle.otp_core.proofs.lemmas.AfterReply.{pass_moves_first}
 
 -- a number above the greater of an optional number and another is above both
 above_max_above_both : (o : Option ℕ) (x c : ℕ) → option_map_or (λ most. max x most) o x < c

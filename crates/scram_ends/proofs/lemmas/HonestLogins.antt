@@ -8,7 +8,7 @@ use Rattle.mac_core.specs.declared.mechanism.Mechanism.TheVariants.{ScramSha1, S
 use Rattle.scram_text.specs.Parts.{have_mandatory}
 use Rattle.scram_text.specs.Messages.{ClientFirstParts, ServerFirstParts, server_first_mandatory, verifier}
 use Rattle.scram_text.proofs.lemmas.Base64.{bytes_are_field}
-use Rattle.scram_text.proofs.lemmas.Composed.{signature_is_text, written_is_server_final}
+use Rattle.scram_text.proofs.lemmas.messages_composed.ServerFinal.{signature_is_text, written_is_server_final}
 use Rattle.scram_text.proofs.lemmas.ClientFirst.{has_one_client_first}
 use Rattle.scram_text.proofs.lemmas.ServerFirst.{has_one_server_first}
 use Rattle.scram_ends.specs.Entry.{Entry, password_keys}

@@ -11,7 +11,8 @@ use Rattle.scram_text.specs.Written.{server_first_of, server_final_of, IsExtensi
 use Rattle.scram_text.specs.Written.{CanBeServerFinal}
 use Rattle.scram_text.proofs.lemmas.Base64.{length-base64}
 use Rattle.scram_text.proofs.lemmas.Texts.{empty_is_text, plain_is_text}
-use Rattle.scram_text.proofs.lemmas.Composed.{server_first_composed, server_final_composed}
+use Rattle.scram_text.proofs.lemmas.messages_composed.ServerFirst.{server_first_composed}
+use Rattle.scram_text.proofs.lemmas.messages_composed.ServerFinal.{server_final_composed}
 use Rattle.scram_ends.specs.Verdict.{error_value}
 use Rattle.scram_ends.specs.declared.verdict.Refusal.{Refusal}
 use Rattle.scram_ends.specs.declared.verdict.Refusal.TheVariants.{InvalidEncoding, ExtensionsNotSupported, OtherNonce, Channel}

@@ -1,26 +1,26 @@
 -- The parts of client-final: they are read in one way, and a text that has them has no fault.
-use Rattle.std.proofs.Common.{◌≡◌, inr, ℕ, ◌+◌, List, [], ◌∷◌, ◌++◌, length, replicate, refl, sym, ◌∙◌, ap, arith, length-append, subst}
+use Rattle.std.proofs.Common.{◌≡◌, inr, ℕ, ◌+◌, ◌≤◌, List, [], ◌∷◌, ◌++◌, length, replicate, refl, sym, ◌∙◌, ap, arith, length-append}
 use Rattle.std.specs.Prelude.{codes, IfOk, IfErr, IsOkAnd}
 use Rattle.std.specs.declared.result.Result.{Result}
-use Rattle.std.specs.declared.result.Result.TheVariants.{Ok, Err}
 use Rattle.std.proofs.lemmas.List.Splits.{join_with_byte-slice_split}
-use Rattle.scram_text.specs.Limits.{longest_channel, longest_nonce}
-use Rattle.scram_text.specs.Class.{IsNonce}
+use Rattle.std.proofs.lemmas.List.{same_from_push}
+use Rattle.scram_text.specs.Limits.{longest_channel, longest_message, longest_nonce}
+use Rattle.scram_text.specs.Class.{IsNonce, IsUtf8Text}
 use Rattle.scram_text.specs.Base64Field.{base64, IsField}
 use Rattle.scram_text.specs.Parts.{parts, joined, AreExtensions}
 use Rattle.scram_text.specs.Messages.{ClientFinalParts, client_final_without_proof, client_final_text, IsClientFinal}
 use Rattle.scram_text.specs.Laws.{HasOneClientFinal}
-use Rattle.scram_text.specs.Faults.{Fits, fault, places, IsPartFault, IsClientFinalFault}
+use Rattle.scram_text.specs.Faults.{Fits, fault, places, IsFirstMisfit, IsClientFinalFault}
 use Rattle.scram_text.specs.Pieces.{IsExtensionMisfit}
 use Rattle.scram_text.specs.Shown.{ShowsClientFinal}
 use Rattle.scram_text.specs.declared.client_final.ClientFinal.{ClientFinal}
 use Rattle.scram_text.specs.declared.fault.TextFault.{TextFault}
 use Rattle.scram_text.specs.declared.fault.TextWhy.TheVariants.{Channel, Nonce, Extension, Proof}
-use Rattle.scram_text.proofs.lemmas.ListEnds.{same_front_and_last}
 use Rattle.scram_text.proofs.lemmas.Base64.{base64_lacks_comma}
 use Rattle.scram_text.proofs.lemmas.Parts.{parts-append, no_comma_one_part, misfit_here, misfit_later}
-use Rattle.scram_text.proofs.lemmas.Places.{AllFit, AllFit-cons, AllFit-nil, places_unfold, misfit-append, extensions_keep_misfit, extensions_keep_fit, no_fault}
+use Rattle.scram_text.proofs.lemmas.Places.{part_fault_is_fault, AllFit, AllFit-cons, AllFit-nil, places_unfold, misfit-append, extensions_keep_misfit, extensions_keep_fit, no_fault}
 use Rattle.scram_text.proofs.lemmas.Places.{nonce_lacks_comma, extensions_lack_comma, parts-joined, field_fits, one_field_per_base64}
+use Rattle.scram_text.proofs.lemmas.ReadMessages.{message_is_read}
 
 -- the parts, with their letters, of the client-final message that has these values
 abbrev pub client_final_parts : ClientFinalParts → List (List ℕ)
@@ -28,12 +28,15 @@ client_final_parts p =
     (codes "c=" ++ base64 p.channel) ∷ (codes "r=" ++ p.nonce) ∷ (p.extensions ++ (codes "p=" ++ base64 p.proof) ∷ [])
 
 -- client-final before its proof is cut into its channel field, its nonce and its extensions
-parts_without_proof : (p : ClientFinalParts) → IsNonce longest_nonce p.nonce → AreExtensions p.extensions
+parts_without_proof : (p : ClientFinalParts) → IsField longest_channel p.channel → IsNonce longest_nonce p.nonce
+    → AreExtensions p.extensions
     → parts (client_final_without_proof p) ≡ (codes "c=" ++ base64 p.channel) ∷ (codes "r=" ++ p.nonce) ∷ p.extensions
 unfolding client_final_without_proof
-parts_without_proof p nonce extensions =
-    parts-joined (codes "c=" ++ base64 p.channel) ((codes "r=" ++ p.nonce) ∷ p.extensions)
-    (base64_lacks_comma p.channel, (nonce_lacks_comma longest_nonce p.nonce nonce, extensions_lack_comma p.extensions extensions))
+parts_without_proof p channel nonce extensions =
+    parts-joined (codes "c=" ++ base64 p.channel) ((codes "r=" ++ p.nonce) ∷ p.extensions) (
+      base64_lacks_comma p.channel channel.each,
+      (nonce_lacks_comma longest_nonce p.nonce nonce, extensions_lack_comma p.extensions extensions),
+    )
 
 -- a client-final message is cut into its parts
 pub parts_client_final : (text : List ℕ) (p : ClientFinalParts) → IsClientFinal text p → parts text ≡ client_final_parts p
@@ -41,8 +44,8 @@ unfolding client_final_text
 parts_client_final text p is =
     rw (is.spelled) (rw (
       parts-append (client_final_without_proof p) (codes "p=" ++ base64 p.proof),
-      parts_without_proof p is.nonce is.extensions,
-      no_comma_one_part (codes "p=" ++ base64 p.proof) (base64_lacks_comma p.proof),
+      parts_without_proof p is.channel is.nonce is.extensions,
+      no_comma_one_part (codes "p=" ++ base64 p.proof) (base64_lacks_comma p.proof is.proof.each),
     ) refl)
 
 -- client-final messages with the same parts are the same
@@ -58,7 +61,7 @@ has_one_client_final text p q is also =
     let channels : base64 p.channel ≡ base64 q.channel = cc same in
     let nonces : p.nonce ≡ q.nonce = cc same in
     let rest : p.extensions ++ (codes "p=" ++ base64 p.proof) ∷ [] ≡ q.extensions ++ (codes "p=" ++ base64 q.proof) ∷ [] = cc same in
-    let ends = same_front_and_last p.extensions q.extensions _ _ rest in
+    let ends = same_from_push p.extensions q.extensions _ _ rest in
     let proofs : base64 p.proof ≡ base64 q.proof = cc (ends.1) in
     let channel = one_field_per_base64 longest_channel p.channel q.channel is.channel also.channel channels in
     let proof = one_field_per_base64 64 p.proof q.proof is.proof also.proof proofs in
@@ -91,10 +94,10 @@ client_final_fit p channel nonce extensions proof =
     (field_fits 112 64 _ p.proof refl proof)
 
 -- a client-final message has no fault
-pub client_final_no_fault : (text : List ℕ) (p : ClientFinalParts) (f : TextFault) → IsClientFinal text p → IsClientFinalFault text f → ⊥
+client_final_no_fault : (text : List ℕ) (p : ClientFinalParts) (f : TextFault) → IsClientFinal text p → IsClientFinalFault text f → ⊥
 client_final_no_fault text p f is =
-    no_fault longest_nonce (Channel ∷ Nonce ∷ []) (Proof ∷ []) text (client_final_parts p) f is.short is.utf8_text
-        (parts_client_final text p is)
+    no_fault longest_nonce (λ _. Channel ∷ Nonce ∷ []) (Proof ∷ []) text (client_final_parts p) f is.short is.utf8_text
+    (parts_client_final text p is)
     (omega (arith, length-append p.extensions ((codes "p=" ++ base64 p.proof) ∷ [])))
     (client_final_fit p is.channel is.nonce is.extensions is.proof)
 
@@ -114,51 +117,49 @@ client_final_spelled text front last channel_part nonce_part p whole cut is_chan
 pub client_final_is_read : (text : List ℕ) (r : Result ClientFinal TextFault)
     → IfOk r (λ m. (p : ClientFinalParts) × IsClientFinal text p × ShowsClientFinal m p) → IfErr r (λ f. IsClientFinalFault text f)
     → (p : ClientFinalParts) → IsClientFinal text p → IsOkAnd r (λ m. ShowsClientFinal m p)
-client_final_is_read text (Ok m) found fault p is =
-    subst (λ (q : ClientFinalParts). ShowsClientFinal m q) (has_one_client_final text found.0 p found.1 is) found.2
-client_final_is_read text (Err f) found fault p is = client_final_no_fault text p f is fault
+client_final_is_read text r =
+    message_is_read (IsClientFinal text) ShowsClientFinal (IsClientFinalFault text) r
+    (has_one_client_final text) (client_final_no_fault text)
 
--- the first part of client-final that does not fit is a fault of the parts: Channel, Nonce, an extension or Proof:
-pub channel_fault : (channel nonce proof : List ℕ) (extensions : List (List ℕ)) → (Fits longest_nonce Channel channel → ⊥)
-    → IsPartFault longest_nonce (Channel ∷ Nonce ∷ []) (Proof ∷ []) (channel ∷ nonce ∷ (extensions ++ proof ∷ [])) (fault 0 Channel)
-channel_fault channel nonce proof extensions no_channel =
-    inr (
-      omega (arith, length-append extensions (proof ∷ [])),
-      rw (client_final_places_unfold channel nonce proof extensions)
-          (misfit_here longest_nonce 0 Channel _ channel _ no_channel),
-    )
+-- the first part of client-final that does not fit is a fault of the text
+module _ (text channel nonce proof : List ℕ) (extensions : List (List ℕ)) (short : length text ≤ longest_message)
+    (utf8_text : IsUtf8Text text) (cut : parts text ≡ channel ∷ nonce ∷ (extensions ++ proof ∷ [])) where
+  -- the first misfit of the parts is a fault of the text
+  client_final_misfit_is_fault : (f : TextFault)
+      → IsFirstMisfit longest_nonce (Channel ∷ Nonce ∷ (replicate (length extensions) Extension ++ Proof ∷ [])) 0
+      (channel ∷ nonce ∷ (extensions ++ proof ∷ [])) f
+      → IsClientFinalFault text f
+  client_final_misfit_is_fault f misfit =
+      part_fault_is_fault longest_nonce (λ _. Channel ∷ Nonce ∷ []) (Proof ∷ []) text (channel ∷ nonce ∷ (extensions ++ proof ∷ [])) f
+      short utf8_text cut
+      (inr (
+        omega (arith, length-append extensions (proof ∷ [])),
+        rw (client_final_places_unfold channel nonce proof extensions) misfit,
+      ))
 
-pub nonce_fault : (channel nonce proof : List ℕ) (extensions : List (List ℕ)) → Fits longest_nonce Channel channel
-    → (Fits longest_nonce Nonce nonce → ⊥)
-    → IsPartFault longest_nonce (Channel ∷ Nonce ∷ []) (Proof ∷ []) (channel ∷ nonce ∷ (extensions ++ proof ∷ [])) (fault 1 Nonce)
-nonce_fault channel nonce proof extensions is_channel no_nonce =
-    inr (
-      omega (arith, length-append extensions (proof ∷ [])),
-      rw (client_final_places_unfold channel nonce proof extensions)
-          (misfit_later longest_nonce 0 Channel _ channel _ _ is_channel (misfit_here longest_nonce 1 Nonce _ nonce _ no_nonce)),
-    )
+  -- that part is the channel field, the nonce, an extension or the proof:
+  pub channel_fault : (Fits longest_nonce Channel channel → ⊥) → IsClientFinalFault text (fault 0 Channel)
+  channel_fault no_channel =
+      client_final_misfit_is_fault _
+      (misfit_here longest_nonce 0 Channel _ channel _ no_channel)
 
-pub extension_fault : (channel nonce proof : List ℕ) (extensions : List (List ℕ)) (f : TextFault)
-    → Fits longest_nonce Channel channel → Fits longest_nonce Nonce nonce → IsExtensionMisfit 2 extensions f
-    → IsPartFault longest_nonce (Channel ∷ Nonce ∷ []) (Proof ∷ []) (channel ∷ nonce ∷ (extensions ++ proof ∷ [])) f
-extension_fault channel nonce proof extensions f is_channel is_nonce misfit =
-    inr (
-      omega (arith, length-append extensions (proof ∷ [])),
-      rw (client_final_places_unfold channel nonce proof extensions)
-          (misfit_later longest_nonce 0 Channel _ channel _ f is_channel (misfit_later longest_nonce 1 Nonce _ nonce _ f is_nonce
-          (misfit-append longest_nonce (replicate (length extensions) Extension) (Proof ∷ []) 2 extensions (proof ∷ []) f
-          (misfit longest_nonce)))),
-    )
+  pub nonce_fault : Fits longest_nonce Channel channel → (Fits longest_nonce Nonce nonce → ⊥) → IsClientFinalFault text (fault 1 Nonce)
+  nonce_fault is_channel no_nonce =
+      client_final_misfit_is_fault _
+      (misfit_later longest_nonce 0 Channel _ channel _ _ is_channel (misfit_here longest_nonce 1 Nonce _ nonce _ no_nonce))
 
-pub proof_fault : (channel nonce proof : List ℕ) (extensions : List (List ℕ)) (k : ℕ)
-    → Fits longest_nonce Channel channel → Fits longest_nonce Nonce nonce → AreExtensions extensions → (Fits longest_nonce Proof proof → ⊥)
-    → k ≡ 2 + length extensions
-    → IsPartFault longest_nonce (Channel ∷ Nonce ∷ []) (Proof ∷ []) (channel ∷ nonce ∷ (extensions ++ proof ∷ [])) (fault k Proof)
-proof_fault channel nonce proof extensions k is_channel is_nonce are no_proof at =
-    inr (
-      omega (arith, length-append extensions (proof ∷ [])),
-      rw (client_final_places_unfold channel nonce proof extensions)
-          (misfit_later longest_nonce 0 Channel _ channel _ _ is_channel (misfit_later longest_nonce 1 Nonce _ nonce _ _ is_nonce
-          (extensions_keep_misfit longest_nonce (Proof ∷ []) 2 k extensions (proof ∷ []) _ at are
-          (misfit_here longest_nonce k Proof [] proof [] no_proof)))),
-    )
+  pub extension_fault : (f : TextFault) → Fits longest_nonce Channel channel → Fits longest_nonce Nonce nonce
+      → IsExtensionMisfit 2 extensions f → IsClientFinalFault text f
+  extension_fault f is_channel is_nonce misfit =
+      client_final_misfit_is_fault f
+      (misfit_later longest_nonce 0 Channel _ channel _ f is_channel (misfit_later longest_nonce 1 Nonce _ nonce _ f is_nonce
+      (misfit-append longest_nonce (replicate (length extensions) Extension) (Proof ∷ []) 2 extensions (proof ∷ []) f
+      (misfit longest_nonce))))
+
+  pub proof_fault : (k : ℕ) → Fits longest_nonce Channel channel → Fits longest_nonce Nonce nonce → AreExtensions extensions
+      → (Fits longest_nonce Proof proof → ⊥) → k ≡ 2 + length extensions → IsClientFinalFault text (fault k Proof)
+  proof_fault k is_channel is_nonce are no_proof at =
+      client_final_misfit_is_fault _
+      (misfit_later longest_nonce 0 Channel _ channel _ _ is_channel (misfit_later longest_nonce 1 Nonce _ nonce _ _ is_nonce
+      (extensions_keep_misfit longest_nonce (Proof ∷ []) 2 k extensions (proof ∷ []) _ at are
+      (misfit_here longest_nonce k Proof [] proof [] no_proof))))

@@ -1,12 +1,11 @@
 -- The parts of client-first: they are read in one way, and a text that has them has no fault.
 use Rattle.std.proofs.Common.{◌≡◌, inl, inr, ℕ, suc, ◌+◌, ◌≤◌, true, false, ◌&&◌, ◌||◌, List, [], ◌∷◌, ◌++◌, length, replicate, refl, sym}
-use Rattle.std.proofs.Common.{◌∙◌, ap, arith, subst, append-nil, append_assoc}
+use Rattle.std.proofs.Common.{◌∙◌, ap, arith, subst, append_assoc}
 use Rattle.std.specs.Prelude.{codes, IfOk, IfErr, IfSome, IsOkAnd, ◌==◌, nat_le}
 use Rattle.std.specs.List.{list_all}
 use Rattle.std.specs.declared.option.Option.{Option}
 use Rattle.std.specs.declared.option.Option.TheVariants.{None, Some}
 use Rattle.std.specs.declared.result.Result.{Result}
-use Rattle.std.specs.declared.result.Result.TheVariants.{Ok, Err}
 use Rattle.std.proofs.lemmas.Bool.{cases_Bool, eqb-true, both_ways, and_parts}
 use Rattle.std.proofs.lemmas.List.Splits.{join_with_byte-slice_split}
 use Rattle.scram_text.specs.Limits.{longest_message, longest_nonce_part}
@@ -24,22 +23,23 @@ use Rattle.scram_text.specs.declared.client_first.ClientFirst.{ClientFirst}
 use Rattle.scram_text.specs.declared.fault.TextFault.{TextFault}
 use Rattle.scram_text.specs.declared.fault.TextWhy.{TextWhy}
 use Rattle.scram_text.specs.declared.fault.TextWhy.TheVariants.{Flag, Authzid, Name, Nonce, Extension}
-use Rattle.scram_text.proofs.lemmas.Parts.{first_part_precedes_comma, misfit_here, misfit_later}
-use Rattle.scram_text.proofs.lemmas.Places.{AllFit, AllFit-cons, AllFit-nil, extensions_keep_fit, placed_fault_is_fault, no_placed_fault, nonce_lacks_comma}
-use Rattle.scram_text.proofs.lemmas.Places.{extensions_lack_comma, parts-joined_list, same_index_same_misfit}
+use Rattle.scram_text.proofs.lemmas.Parts.{first_part_precedes_comma, misfit_here, misfit_later, same_index_same_misfit}
+use Rattle.scram_text.proofs.lemmas.Places.{AllFit, AllFit-cons, extensions_fit, part_fault_is_fault, no_fault, nonce_lacks_comma}
+use Rattle.scram_text.proofs.lemmas.Places.{extensions_lack_comma, parts-joined_list}
 use Rattle.scram_text.proofs.lemmas.MextAndRest.{places-cons, front_places_unfold, mext_and_rest_joined, mext_and_rest_lack_comma, mext_and_rest_nonempty, one_mext_and_rest, mext_and_rest_fit}
 use Rattle.scram_text.proofs.lemmas.MextAndRest.{rest_misfit, mext_and_rest_lengths}
 use Rattle.scram_text.proofs.lemmas.WithoutByte.{class_lacks_byte}
+use Rattle.scram_text.proofs.lemmas.ReadMessages.{message_is_read}
 
 -- the parts after the mandatory extension, if there is one
-abbrev pub client_first_rest : ClientFirstParts → List (List ℕ)
+abbrev client_first_rest : ClientFirstParts → List (List ℕ)
 client_first_rest p = (codes "n=" ++ p.name) ∷ (codes "r=" ++ p.nonce) ∷ p.extensions
 
 -- the name of a channel binding, the flag and the part of the name to act as have no comma:
 cb_name_lacks_comma : (name : List ℕ) → is_cb_name name ≡ true → LacksComma name
 cb_name_lacks_comma name is = class_lacks_byte 44 is_cb_char name refl (and_parts (nat_le 1 (length name)) (list_all is_cb_char name) is).1
 
-pub flag_lacks_comma : (flag : List ℕ) → is_flag flag ≡ true → LacksComma flag
+flag_lacks_comma : (flag : List ℕ) → is_flag flag ≡ true → LacksComma flag
 flag_lacks_comma [] is = refl
 flag_lacks_comma (c ∷ []) is = class_lacks_byte 44 (λ b. (b == 110) || (b == 121)) (c ∷ []) refl (rw is refl)
 flag_lacks_comma (a ∷ b ∷ name) is =
@@ -47,12 +47,12 @@ flag_lacks_comma (a ∷ b ∷ name) is =
     let letters = and_parts (a == 112) (b == 61) front.0 in
     rw (eqb-true a 112 letters.0, eqb-true b 61 letters.1) (cb_name_lacks_comma name front.1)
 
-pub authzid_lacks_comma : (authzid : Option (List ℕ)) → IfSome authzid IsSaslName → LacksComma (authzid_text authzid)
+authzid_lacks_comma : (authzid : Option (List ℕ)) → IfSome authzid IsSaslName → LacksComma (authzid_text authzid)
 authzid_lacks_comma None is = refl
 authzid_lacks_comma (Some spelled) is = is.no_comma
 
 -- the bare message is cut into its parts
-pub parts_bare : (p : ClientFirstParts) → IfSome p.mext IsValue → IsSaslName p.name → IsNonce longest_nonce_part p.nonce
+parts_bare : (p : ClientFirstParts) → IfSome p.mext IsValue → IsSaslName p.name → IsNonce longest_nonce_part p.nonce
     → AreExtensions p.extensions
     → parts (bare_text p) ≡ bare_parts p
 unfolding bare_text
@@ -73,11 +73,11 @@ pub parts_client_first : (text : List ℕ) (p : ClientFirstParts) → IsClientFi
 unfolding client_first_text header_text
 parts_client_first text p is =
     let whole : text ≡ p.flag ++ 44 ∷ (authzid_text p.authzid ++ 44 ∷ bare_text p) = is.spelled
-        ∙ header_pieces_regroup p.flag (authzid_text p.authzid)
+    ∙ header_pieces_regroup p.flag (authzid_text p.authzid)
     (bare_text p) in
     ap parts whole ∙ first_part_precedes_comma p.flag (authzid_text p.authzid ++ 44 ∷ bare_text p) (flag_lacks_comma p.flag is.flag)
     ∙ ap (λ (ps : List (List ℕ)). p.flag ∷ ps) (first_part_precedes_comma (authzid_text p.authzid) (bare_text p)
-        (authzid_lacks_comma p.authzid is.authzid))
+    (authzid_lacks_comma p.authzid is.authzid))
     ∙ ap (λ (ps : List (List ℕ)). p.flag ∷ authzid_text p.authzid ∷ ps) (parts_bare p is.mext is.name is.nonce is.extensions)
 
 -- the name to act as is read from its part in one way
@@ -116,15 +116,14 @@ client_first_rest_places_unfold name nonce extensions =
     front_places_unfold (Name ∷ Nonce ∷ []) (length (name ∷ nonce ∷ extensions)) (length extensions) (omega arith)
 
 -- where the name and the nonce of client-first fit, and the parts after them are extensions, all fit their places
-pub name_and_nonce_fit : (name nonce : List ℕ) (extensions : List (List ℕ)) → Fits longest_nonce_part Name name
+name_and_nonce_fit : (name nonce : List ℕ) (extensions : List (List ℕ)) → Fits longest_nonce_part Name name
     → Fits longest_nonce_part Nonce nonce
     → AreExtensions extensions
     → AllFit longest_nonce_part (places (Name ∷ Nonce ∷ []) [] (length (name ∷ nonce ∷ extensions))) (name ∷ nonce ∷ extensions)
 name_and_nonce_fit name nonce extensions is_name is_nonce are =
-    let after = extensions_keep_fit longest_nonce_part [] extensions [] are (AllFit-nil longest_nonce_part []) in
     rw (client_first_rest_places_unfold name nonce extensions)
     (AllFit-cons longest_nonce_part Name _ name _ is_name (AllFit-cons longest_nonce_part Nonce _ nonce _ is_nonce
-    (rw (append-nil (replicate (length extensions) Extension), append-nil extensions) at after)))
+    (extensions_fit longest_nonce_part extensions are)))
 
 -- the places of the header's parts and of those after it are Flag, Authzid and the places of those after it
 pub header_places_unfold : (later : List TextWhy) (n : ℕ)
@@ -133,7 +132,7 @@ header_places_unfold later n =
     places-cons Flag (Authzid ∷ later) [] (suc n) ∙ ap (λ (ps : List TextWhy). Flag ∷ ps) (places-cons Authzid later [] n)
 
 -- there are as many fixed places as the later ones, and one for a mandatory extension where the parts begin with one
-pub later_places_add_up : (pieces : List (List ℕ)) (later : List TextWhy)
+later_places_add_up : (pieces : List (List ℕ)) (later : List TextWhy)
     → length (places_with_mext pieces later) ≡ length (places_with_mext pieces []) + length later
 later_places_add_up pieces later = elim (cases_Bool (is_named 109 (first_of pieces))) [
   | inl hit ↦ rw hit (omega arith)
@@ -164,10 +163,10 @@ bare_fit p mext name nonce extensions =
     (name_and_nonce_fit (codes "n=" ++ p.name) (codes "r=" ++ p.nonce) p.extensions (p.name, refl, name) (p.nonce, refl, nonce) extensions)
 
 -- a client-first message has no fault
-pub client_first_no_fault : (text : List ℕ) (p : ClientFirstParts) (f : TextFault) → IsClientFirst text p → IsClientFirstFault text f → ⊥
+client_first_no_fault : (text : List ℕ) (p : ClientFirstParts) (f : TextFault) → IsClientFirst text p → IsClientFirstFault text f → ⊥
 client_first_no_fault text p f is =
     let lengths = mext_and_rest_lengths (Name ∷ Nonce ∷ []) (bare_parts p) (client_first_rest p) p.mext (bare_mext_and_rest p is.mext) in
-    no_placed_fault longest_nonce_part client_first_places text (p.flag ∷ authzid_text p.authzid ∷ bare_parts p) f is.short is.utf8_text
+    no_fault longest_nonce_part client_first_places [] text (p.flag ∷ authzid_text p.authzid ∷ bare_parts p) f is.short is.utf8_text
     (parts_client_first text p is)
     (omega (arith, lengths.0, lengths.1))
     (header_fit p.flag (authzid_text p.authzid) (bare_parts p) is.flag (p.authzid, refl, is.authzid)
@@ -177,85 +176,69 @@ client_first_no_fault text p f is =
 pub client_first_is_read : (text : List ℕ) (r : Result ClientFirst TextFault)
     → IfOk r (λ m. (p : ClientFirstParts) × IsClientFirst text p × ShowsClientFirst m p) → IfErr r (λ f. IsClientFirstFault text f)
     → (p : ClientFirstParts) → IsClientFirst text p → IsOkAnd r (λ m. ShowsClientFirst m p)
-client_first_is_read text (Ok m) found fault p is =
-    subst (λ (q : ClientFirstParts). ShowsClientFirst m q) (has_one_client_first text found.0 p found.1 is) found.2
-client_first_is_read text (Err f) found fault p is = client_first_no_fault text p f is fault
+client_first_is_read text r =
+    message_is_read (IsClientFirst text) ShowsClientFirst (IsClientFirstFault text) r
+    (has_one_client_first text) (client_first_no_fault text)
 
--- the first misfit of all parts is a fault of the text
-header_fault : (text flag authzid : List ℕ) (bare : List (List ℕ)) (f : TextFault) → length text ≤ longest_message → IsUtf8Text text
-    → parts text ≡ flag ∷ authzid ∷ bare
-    → length (places_with_mext bare []) + 2 ≤ length bare
-    → IsFirstMisfit longest_nonce_part (Flag ∷ Authzid ∷ places (places_with_mext bare (Name ∷ Nonce ∷ [])) [] (length bare)) 0
-    (flag ∷ authzid ∷ bare) f
-    → IsClientFirstFault text f
-header_fault text flag authzid bare f short utf8_text cut enough misfit =
-    placed_fault_is_fault longest_nonce_part client_first_places text (flag ∷ authzid ∷ bare) f short utf8_text cut
-    (inr (
-      omega (arith, enough, later_places_add_up bare (Name ∷ Nonce ∷ [])),
-      subst (λ (ps : List TextWhy). IsFirstMisfit longest_nonce_part ps 0 (flag ∷ authzid ∷ bare) f)
-          (sym (header_places_unfold (places_with_mext bare (Name ∷ Nonce ∷ [])) (length bare))) misfit,
-    ))
+-- the first part of client-first that does not fit is a fault of the text
+module _ (text flag authzid : List ℕ) (bare : List (List ℕ)) (short : length text ≤ longest_message) (utf8_text : IsUtf8Text text)
+    (cut : parts text ≡ flag ∷ authzid ∷ bare) (enough : length (places_with_mext bare []) + 2 ≤ length bare) where
+  -- the first misfit of all parts is a fault of the text
+  header_fault : (f : TextFault)
+      → IsFirstMisfit longest_nonce_part (Flag ∷ Authzid ∷ places (places_with_mext bare (Name ∷ Nonce ∷ [])) [] (length bare)) 0
+      (flag ∷ authzid ∷ bare) f
+      → IsClientFirstFault text f
+  header_fault f misfit =
+      part_fault_is_fault longest_nonce_part client_first_places [] text (flag ∷ authzid ∷ bare) f short utf8_text cut
+      (inr (
+        omega (arith, enough, later_places_add_up bare (Name ∷ Nonce ∷ [])),
+        subst (λ (ps : List TextWhy). IsFirstMisfit longest_nonce_part ps 0 (flag ∷ authzid ∷ bare) f)
+            (sym (header_places_unfold (places_with_mext bare (Name ∷ Nonce ∷ [])) (length bare))) misfit,
+      ))
 
--- the first part of client-first that does not fit is a fault of the text: the flag, the name to act as, or one of the bare message:
-pub flag_fault : (text flag authzid : List ℕ) (bare : List (List ℕ)) → length text ≤ longest_message → IsUtf8Text text
-    → parts text ≡ flag ∷ authzid ∷ bare
-    → length (places_with_mext bare []) + 2 ≤ length bare → is_flag flag ≡ false → IsClientFirstFault text (fault 0 Flag)
-flag_fault text flag authzid bare short utf8_text cut enough no_flag =
-    header_fault text flag authzid bare _ short utf8_text cut enough
-    (misfit_here longest_nonce_part 0 Flag _ flag _ (λ is. both_ways (is_flag flag) no_flag is))
+  -- that part is the flag, the name to act as, or one of the bare message:
+  pub flag_fault : is_flag flag ≡ false → IsClientFirstFault text (fault 0 Flag)
+  flag_fault no_flag = header_fault _ (misfit_here longest_nonce_part 0 Flag _ flag _ (λ is. both_ways (is_flag flag) no_flag is))
 
-pub authzid_fault : (text flag authzid : List ℕ) (bare : List (List ℕ)) (f : TextFault) → length text ≤ longest_message → IsUtf8Text text
-    → parts text ≡ flag ∷ authzid ∷ bare
-    → length (places_with_mext bare []) + 2 ≤ length bare → is_flag flag ≡ true → (IsAuthzid authzid → ⊥) × (f ≡ fault 1 Authzid)
-    → IsClientFirstFault text f
-authzid_fault text flag authzid bare f short utf8_text cut enough is_a_flag (no_authzid, is) =
-    subst (λ (g : TextFault). IsClientFirstFault text g) (sym is)
-    (header_fault text flag authzid bare (fault 1 Authzid) short utf8_text cut enough
-    (misfit_later longest_nonce_part 0 Flag _ flag _ _ is_a_flag (misfit_here longest_nonce_part 1 Authzid _ authzid _ no_authzid)))
+  pub authzid_fault : (f : TextFault) → is_flag flag ≡ true → (IsAuthzid authzid → ⊥) × (f ≡ fault 1 Authzid) → IsClientFirstFault text f
+  authzid_fault f is_a_flag (no_authzid, is) =
+      subst (λ (g : TextFault). IsClientFirstFault text g) (sym is)
+      (header_fault (fault 1 Authzid)
+      (misfit_later longest_nonce_part 0 Flag _ flag _ _ is_a_flag (misfit_here longest_nonce_part 1 Authzid _ authzid _ no_authzid)))
 
-pub bare_fault : (text flag authzid : List ℕ) (bare : List (List ℕ)) (f : TextFault) → length text ≤ longest_message → IsUtf8Text text
-    → parts text ≡ flag ∷ authzid ∷ bare
-    → length (places_with_mext bare []) + 2 ≤ length bare → is_flag flag ≡ true → IsAuthzid authzid → IsBareMisfit bare f
-    → IsClientFirstFault text f
-bare_fault text flag authzid bare f short utf8_text cut enough is_a_flag is_authzid misfit =
-    header_fault text flag authzid bare f short utf8_text cut enough
-    (misfit_later longest_nonce_part 0 Flag _ flag _ f is_a_flag
-    (misfit_later longest_nonce_part 1 Authzid _ authzid _ f is_authzid misfit))
+  pub bare_fault : (f : TextFault) → is_flag flag ≡ true → IsAuthzid authzid → IsBareMisfit bare f → IsClientFirstFault text f
+  bare_fault f is_a_flag is_authzid misfit =
+      header_fault f
+      (misfit_later longest_nonce_part 0 Flag _ flag _ f is_a_flag
+      (misfit_later longest_nonce_part 1 Authzid _ authzid _ f is_authzid misfit))
 
--- a misfit after the mandatory extension is one of the bare message; k is the index of the name
-client_first_rest_misfit : (pieces : List (List ℕ)) (name nonce : List ℕ) (extensions : List (List ℕ)) (mext : Option (List ℕ)) (k : ℕ)
-    (f : TextFault)
-    → IsMextAndRest pieces (name ∷ nonce ∷ extensions) mext → k ≡ 2 + length (mext_parts mext)
-    → IsFirstMisfit longest_nonce_part (Name ∷ Nonce ∷ replicate (length extensions) Extension) k (name ∷ nonce ∷ extensions) f
-    → IsBareMisfit pieces f
-client_first_rest_misfit pieces name nonce extensions mext k f marked at misfit =
-    rest_misfit longest_nonce_part 2 k (Name ∷ Nonce ∷ []) pieces (name ∷ nonce ∷ extensions) mext f marked at
-    (rw (client_first_rest_places_unfold name nonce extensions) misfit)
+-- the first part of a bare message that does not fit, after its mandatory extension; k is the index of the name
+module _ (pieces : List (List ℕ)) (name nonce : List ℕ) (extensions : List (List ℕ)) (mext : Option (List ℕ)) (k : ℕ)
+    (marked : IsMextAndRest pieces (name ∷ nonce ∷ extensions) mext) (at : k ≡ 2 + length (mext_parts mext)) where
+  -- a misfit after the mandatory extension is one of the bare message
+  client_first_rest_misfit : (f : TextFault)
+      → IsFirstMisfit longest_nonce_part (Name ∷ Nonce ∷ replicate (length extensions) Extension) k (name ∷ nonce ∷ extensions) f
+      → IsBareMisfit pieces f
+  client_first_rest_misfit f misfit =
+      rest_misfit longest_nonce_part 2 k (Name ∷ Nonce ∷ []) pieces (name ∷ nonce ∷ extensions) mext f marked at
+      (rw (client_first_rest_places_unfold name nonce extensions) misfit)
 
--- the first part of a bare message that does not fit, after its mandatory extension, is the name, the nonce or an extension:
-pub name_misfit : (pieces : List (List ℕ)) (name nonce : List ℕ) (extensions : List (List ℕ)) (mext : Option (List ℕ)) (k : ℕ)
-    → IsMextAndRest pieces (name ∷ nonce ∷ extensions) mext → k ≡ 2 + length (mext_parts mext) → (Fits longest_nonce_part Name name → ⊥)
-    → IsBareMisfit pieces (fault k Name)
-name_misfit pieces name nonce extensions mext k marked at no_name =
-    client_first_rest_misfit pieces name nonce extensions mext k _ marked at (misfit_here longest_nonce_part k Name _ name _ no_name)
+  -- that part is the name, the nonce or an extension:
+  pub name_misfit : (Fits longest_nonce_part Name name → ⊥) → IsBareMisfit pieces (fault k Name)
+  name_misfit no_name = client_first_rest_misfit _ (misfit_here longest_nonce_part k Name _ name _ no_name)
 
-pub nonce_misfit : (pieces : List (List ℕ)) (name nonce : List ℕ) (extensions : List (List ℕ)) (mext : Option (List ℕ)) (k : ℕ)
-    → IsMextAndRest pieces (name ∷ nonce ∷ extensions) mext → k ≡ 2 + length (mext_parts mext) → Fits longest_nonce_part Name name
-    → (Fits longest_nonce_part Nonce nonce → ⊥)
-    → IsBareMisfit pieces (fault (k + 1) Nonce)
-nonce_misfit pieces name nonce extensions mext k marked at is_name no_nonce =
-    client_first_rest_misfit pieces name nonce extensions mext k _ marked at
-    (misfit_later longest_nonce_part k Name _ name _ _ is_name (misfit_here longest_nonce_part (k + 1) Nonce _ nonce _ no_nonce))
+  pub nonce_misfit : Fits longest_nonce_part Name name → (Fits longest_nonce_part Nonce nonce → ⊥)
+      → IsBareMisfit pieces (fault (k + 1) Nonce)
+  nonce_misfit is_name no_nonce =
+      client_first_rest_misfit _
+      (misfit_later longest_nonce_part k Name _ name _ _ is_name (misfit_here longest_nonce_part (k + 1) Nonce _ nonce _ no_nonce))
 
-pub extension_misfit : (pieces : List (List ℕ)) (name nonce : List ℕ) (extensions : List (List ℕ)) (mext : Option (List ℕ)) (k : ℕ)
-    (f : TextFault)
-    → IsMextAndRest pieces (name ∷ nonce ∷ extensions) mext → k ≡ 2 + length (mext_parts mext) → Fits longest_nonce_part Name name
-    → Fits longest_nonce_part Nonce nonce
-    → IsExtensionMisfit (k + 2) extensions f → IsBareMisfit pieces f
-extension_misfit pieces name nonce extensions mext k f marked at is_name is_nonce misfit =
-    client_first_rest_misfit pieces name nonce extensions mext k f marked at
-    (misfit_later longest_nonce_part k Name _ name _ f is_name (misfit_later longest_nonce_part (k + 1) Nonce _ nonce _ f is_nonce
-    (same_index_same_misfit longest_nonce_part (k + 2) (k + 1 + 1) _ _ f (omega arith) (misfit longest_nonce_part))))
+  pub extension_misfit : (f : TextFault) → Fits longest_nonce_part Name name → Fits longest_nonce_part Nonce nonce
+      → IsExtensionMisfit (k + 2) extensions f → IsBareMisfit pieces f
+  extension_misfit f is_name is_nonce misfit =
+      client_first_rest_misfit f
+      (misfit_later longest_nonce_part k Name _ name _ f is_name (misfit_later longest_nonce_part (k + 1) Nonce _ nonce _ f is_nonce
+      (same_index_same_misfit longest_nonce_part (k + 2) (k + 1 + 1) _ _ f (omega arith) (misfit longest_nonce_part))))
 
 -- the pieces of a bare message, with their letters, are its parts
 pub bare_pieces_are_parts : (pieces : List (List ℕ)) (name nonce : List ℕ) (p : ClientFirstParts)

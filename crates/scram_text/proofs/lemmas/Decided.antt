@@ -22,7 +22,7 @@ use Rattle.scram_text.specs.Faults.{Fits, IsAuthzid}
 use Rattle.scram_text.specs.declared.fault.TextWhy.{TextWhy}
 use Rattle.scram_text.specs.declared.fault.TextWhy.TheVariants.{TooLong, NotText, Missing, Flag, Authzid, Mandatory, Name, Nonce, Salt}
 use Rattle.scram_text.specs.declared.fault.TextWhy.TheVariants.{Count, Channel, Extension, Proof, Verifier, ErrorValue}
-use Rattle.scram_text.proofs.lemmas.Base64.{base64_decodes_back}
+use Rattle.scram_text.proofs.lemmas.Base64.{spelled_field_is_decoded, undecoded_spells_no_field}
 use Rattle.scram_text.proofs.lemmas.AttrVals.{attribute_iff_extension, extension_lacks_comma}
 use Rattle.scram_text.proofs.lemmas.Counts.{count_below_2_64}
 use Rattle.scram_text.proofs.lemmas.ListEnds.{same_head_and_tail, same_cons}
@@ -91,21 +91,22 @@ decided_bytes (c ∷ bytes) =
     (λ fits. (omega (arith, fits 0), λ i. fits (suc i)))
     (decided_both _ _ (decided_le (suc c) 256) (decided_bytes bytes))
 
+-- whether bytes are a field is decided
+decided_field : (most : ℕ) (bytes : List ℕ) → Decided (IsField most bytes)
+decided_field most bytes =
+    decided_equivalent ((1 ≤ length bytes) × ((length bytes ≤ most) × IsBytes bytes)) (IsField most bytes)
+    (λ h. record { at_least = h.0; at_most = h.1.0; each = h.1.1 }) (λ is. (is.at_least, (is.at_most, is.each)))
+    (decided_both _ _ (decided_le 1 (length bytes)) (decided_both _ _ (decided_le (length bytes) most) (decided_bytes bytes)))
+
 -- whether a value spells a field is decided: it can only be the base64 of what it is decoded to:
 decided_field_by_decoding : (most : ℕ) (value : List ℕ) (r : Result (List ℕ) DecodeError) → base64_decoded value ≡ r
     → Decided (SpellsField most value)
-decided_field_by_decoding most value (Err e) read = inr (λ (bytes, spelled, field).
-    let also = subst (λ (t : List ℕ). base64_decoded t ≡ Ok bytes) (sym spelled) (base64_decodes_back bytes field.each) in cc (also, read))
+unfolding base64_decoded
+decided_field_by_decoding most value (Err e) read = inr (undecoded_spells_no_field most value e read)
 decided_field_by_decoding most value (Ok bytes) read =
-    decided_equivalent ((value ≡ base64 bytes) × (IsBytes bytes × ((1 ≤ length bytes) × (length bytes ≤ most)))) (SpellsField most value)
-    (λ h. (bytes, h.0, record { at_least = h.1.1.0; at_most = h.1.1.1; each = h.1.0 }))
-    (λ (spelt, spelled, field).
-    let also = subst (λ (t : List ℕ). base64_decoded t ≡ Ok spelt) (sym spelled) (base64_decodes_back spelt field.each) in
-    let same : spelt ≡ bytes = cc (also, read) in
-    let here = subst (IsField most) same field in
-    (subst (λ (b : List ℕ). value ≡ base64 b) same spelled, (here.each, (here.at_least, here.at_most))))
-    (decided_both _ _ (decided_same_text value (base64 bytes)) (decided_both _ _ (decided_bytes bytes)
-    (decided_both _ _ (decided_le 1 (length bytes)) (decided_le (length bytes) most))))
+    decided_equivalent ((value ≡ base64 bytes) × IsField most bytes) (SpellsField most value) (λ h. (bytes, h.0, h.1))
+    (spelled_field_is_decoded most value bytes read)
+    (decided_both _ _ (decided_same_text value (base64 bytes)) (decided_field most bytes))
 
 decided_spells_field : (most : ℕ) (value : List ℕ) → Decided (SpellsField most value)
 decided_spells_field most value = decided_field_by_decoding most value (base64_decoded value) refl
@@ -138,7 +139,7 @@ decided_authzid (a ∷ part) =
     (decided_attr_val 97 IsSaslName (a ∷ part) decided_saslname)
 
 -- whether a part fits its place is decided
-pub decided_fits : (most : ℕ) (place : TextWhy) (part : List ℕ) → Decided (Fits most place part)
+decided_fits : (most : ℕ) (place : TextWhy) (part : List ℕ) → Decided (Fits most place part)
 decided_fits most TooLong part = inl tt
 decided_fits most NotText part = inl tt
 decided_fits most Missing part = inl tt

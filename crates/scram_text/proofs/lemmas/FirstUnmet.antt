@@ -42,7 +42,7 @@ unmet_after_met_is_found Asked (row ∷ before) after r met unmet = inr (met.0, 
 first_is_found : {R : Type 0} (Asked : R → Type 0) (rows : List R) (r : R) → IsFirstUnmet Asked rows r → IsFound Asked rows r
 first_is_found Asked rows r first =
     subst (λ these. IsFound Asked these r) (sym first.split) (unmet_after_met_is_found Asked first.before first.after r first.met
-        first.unmet)
+    first.unmet)
 
 -- one row at most is found from the top
 one_found : {R : Type 0} (Asked : R → Type 0) (rows : List R) (r q : R) → IsFound Asked rows r → IsFound Asked rows q → r ≡ q

@@ -1,5 +1,5 @@
 -- Lists by their first elements, and by their last.
-use Rattle.std.proofs.Common.{◌≡◌, List, [], ◌∷◌, ◌++◌, refl, sym, ap}
+use Rattle.std.proofs.Common.{◌≡◌, List, [], ◌∷◌, ◌++◌, refl, ap}
 
 -- lists that are the same have the same first element, and the same elements after it
 pub same_head_and_tail : {A : Type 0} (a b : A) (x y : List A) → a ∷ x ≡ b ∷ y → (a ≡ b) × (x ≡ y)
@@ -13,16 +13,6 @@ same_cons a b x y head tail = cc
 pub empty_has_no_last : {A : Type 0} (xs : List A) (x : A) → xs ++ x ∷ [] ≡ [] → ⊥
 empty_has_no_last [] x e = cc e
 empty_has_no_last (y ∷ xs) x e = cc e
-
--- lists with a last element that are the same have the same last element, and the same before it
-pub same_front_and_last : {A : Type 0} (xs ys : List A) (x y : A) → xs ++ x ∷ [] ≡ ys ++ y ∷ [] → (xs ≡ ys) × (x ≡ y)
-same_front_and_last [] [] x y e = (refl, (same_head_and_tail x y [] [] e).0)
-same_front_and_last [] (b ∷ ys) x y e = absurd (empty_has_no_last ys y (sym (same_head_and_tail x b [] (ys ++ y ∷ []) e).1))
-same_front_and_last (a ∷ xs) [] x y e = absurd (empty_has_no_last xs x (same_head_and_tail a y (xs ++ x ∷ []) [] e).1)
-same_front_and_last (a ∷ xs) (b ∷ ys) x y e =
-    let h = same_head_and_tail a b (xs ++ x ∷ []) (ys ++ y ∷ []) e in
-    let more = same_front_and_last xs ys x y h.1 in
-    (same_cons a b xs ys h.0 more.0, more.1)
 
 -- a list that is not empty has a last element
 pub nonempty_has_last : {A : Type 0} (a : A) (xs : List A) → (front : List A) × (x : A) × (a ∷ xs ≡ front ++ x ∷ [])

@@ -13,7 +13,7 @@ use Rattle.scram_text.specs.Pieces.{IsMextAndRest, IsMextMisfit}
 use Rattle.scram_text.specs.declared.fault.TextFault.{TextFault}
 use Rattle.scram_text.specs.declared.fault.TextWhy.{TextWhy}
 use Rattle.scram_text.specs.declared.fault.TextWhy.TheVariants.{Mandatory, Extension}
-use Rattle.scram_text.proofs.lemmas.Parts.{misfit_here, misfit_later}
+use Rattle.scram_text.proofs.lemmas.Parts.{misfit_here, misfit_later, same_index_same_misfit}
 use Rattle.scram_text.proofs.lemmas.Places.{AllFit, AllFit-cons, first_part_fits, places_unfold}
 
 -- the places of one more part, with one more fixed place before them, are this place and the others
@@ -38,16 +38,14 @@ pub rest_misfit : (most k j : ℕ) (later : List TextWhy) (pieces rest : List (L
     → IsMextAndRest pieces rest mext → j ≡ k + length (mext_parts mext) → IsFirstMisfit most (places later [] (length rest)) j rest f
     → IsFirstMisfit most (places (places_with_mext pieces later) [] (length pieces)) k pieces f
 rest_misfit most k j later pieces rest None f marked at misfit =
-    let same : j ≡ k = omega (arith, at) in
     let headed : is_named 109 (first_of rest) ≡ false = rw marked.cut at marked.headed in
     subst (λ (ps : List (List ℕ)). IsFirstMisfit most (places (places_with_mext ps later) [] (length ps)) k ps f) (sym marked.cut)
-    (rw headed (subst (λ (i : ℕ). IsFirstMisfit most (places later [] (length rest)) i rest f) same misfit))
+    (rw headed (same_index_same_misfit most j k _ rest f (omega (arith, at)) misfit))
 rest_misfit most k j later pieces rest (Some value) f marked at misfit =
-    let same : j ≡ k + 1 = omega (arith, at) in
     subst (λ (ps : List (List ℕ)). IsFirstMisfit most (places (places_with_mext ps later) [] (length ps)) k ps f) (sym marked.cut)
     (rw (places-cons Mandatory later [] (length rest))
     (misfit_later most k Mandatory _ (codes "m=" ++ value) rest f (value, refl, marked.value)
-    (subst (λ (i : ℕ). IsFirstMisfit most (places later [] (length rest)) i rest f) same misfit)))
+    (same_index_same_misfit most j (k + 1) _ rest f (omega (arith, at)) misfit)))
 
 -- the parts after the mandatory extension, if there is one, that fit their places make all parts fit theirs
 pub mext_and_rest_fit : (most : ℕ) (later : List TextWhy) (pieces rest : List (List ℕ)) (mext : Option (List ℕ))

@@ -1,6 +1,6 @@
 -- Texts that are cut at their commas.
 use Rattle.std.proofs.Common.{◌≡◌, inl, inr, ℕ, suc, ◌+◌, ◌-◌, ◌≤◌, not, List, [], ◌∷◌, ◌++◌, length, take, drop}
-use Rattle.std.proofs.Common.{get_or, refl, ◌∙◌, ap, arith}
+use Rattle.std.proofs.Common.{get_or, refl, ◌∙◌, ap, arith, subst}
 use Rattle.std.specs.Prelude.{position, count_by, MatchOption}
 use Rattle.std.specs.List.{position_or_len, onto_first, list_all, zip}
 use Rattle.std.proofs.lemmas.Bool.{cases_Bool, cases_lt, eqb-true, lt-ltb, le-ltb, not-true, and_parts}
@@ -59,7 +59,7 @@ front_lacks_comma (c ∷ text) = elim (cases_Bool (is_comma c)) [
 ]
 
 -- where a text has a comma, it is cut at the first: none comes before it; else it has none
-pub position_is_first_comma : (text : List ℕ) → MatchOption (position is_comma text) (LacksComma text)
+position_is_first_comma : (text : List ℕ) → MatchOption (position is_comma text) (LacksComma text)
     (λ at. (text ≡ take at text ++ 44 ∷ drop (at + 1) text) × LacksComma (take at text))
 position_is_first_comma text = let at = position_or_len is_comma text in elim (cases_lt at (length text)) [
   | inl some ↦
@@ -101,6 +101,11 @@ misfit_later most k place places part pieces f fits later = record {
   first = met_row_keeps_first (λ row. Fits most row.0 row.1) (place, part) (zip places pieces) (f.why, later.part) fits later.first;
   number = omega (arith, later.number);
 }
+
+-- the first part that does not fit is the same where its index is written in another way
+pub same_index_same_misfit : (most j k : ℕ) (later : List TextWhy) (pieces : List (List ℕ)) (f : TextFault) → j ≡ k
+    → IsFirstMisfit most later j pieces f → IsFirstMisfit most later k pieces f
+same_index_same_misfit most j k later pieces f same misfit = subst (λ (i : ℕ). IsFirstMisfit most later i pieces f) same misfit
 
 -- the last part of a text follows its last comma
 pub last_part_follows_comma : (text front back : List ℕ) → text ≡ front ++ 44 ∷ back → LacksComma back

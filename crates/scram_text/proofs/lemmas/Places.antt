@@ -1,6 +1,5 @@
 -- Parts and their places, in each of the messages.
-use Rattle.std.proofs.Common.{◌≡◌, inl, inr, ℕ, ◌+◌, ◌-◌, ◌≤◌, List, [], ◌∷◌, ◌++◌, length, replicate, refl, sym, ◌∙◌}
-use Rattle.std.proofs.Common.{ap, arith, subst}
+use Rattle.std.proofs.Common.{◌≡◌, inl, inr, ℕ, ◌+◌, ◌-◌, ◌≤◌, List, [], ◌∷◌, ◌++◌, length, replicate, refl, sym, ◌∙◌, ap, arith, subst}
 use Rattle.std.specs.List.{AllByRecursion, zip}
 use Rattle.std.proofs.lemmas.List.{append_assoc}
 use Rattle.scram_text.specs.Limits.{longest_message}
@@ -13,7 +12,7 @@ use Rattle.scram_text.specs.declared.fault.TextFault.{TextFault}
 use Rattle.scram_text.specs.declared.fault.TextWhy.{TextWhy}
 use Rattle.scram_text.specs.declared.fault.TextWhy.TheVariants.{Extension}
 use Rattle.scram_text.proofs.lemmas.Base64.{base64_decodes_back}
-use Rattle.scram_text.proofs.lemmas.Parts.{no_comma_one_part, first_part_precedes_comma, misfit_later}
+use Rattle.scram_text.proofs.lemmas.Parts.{no_comma_one_part, first_part_precedes_comma, misfit_later, same_index_same_misfit}
 use Rattle.scram_text.proofs.lemmas.AttrVals.{extension_lacks_comma}
 use Rattle.scram_text.proofs.lemmas.FirstUnmet.{no_first_unmet}
 use Rattle.scram_text.proofs.lemmas.WithoutByte.{class_lacks_byte}
@@ -47,15 +46,21 @@ extensions_and_rest_fit most later [] pieces fit = (tt, fit)
 extensions_and_rest_fit most later (part ∷ extensions) pieces fit =
     let after = extensions_and_rest_fit most later extensions pieces fit.1 in ((fit.0, after.0), after.1)
 
--- parts that fit the places of extensions are extensions
+-- parts that fit the places of extensions are extensions, and extensions fit them:
 pub fitting_are_extensions : (most : ℕ) (extensions : List (List ℕ)) → AllFit most (replicate (length extensions) Extension) extensions
     → AreExtensions extensions
 unfolding AllFit
 fitting_are_extensions most [] fit = tt
 fitting_are_extensions most (part ∷ extensions) fit = (fit.0, fitting_are_extensions most extensions fit.1)
 
+pub extensions_fit : (most : ℕ) (extensions : List (List ℕ)) → AreExtensions extensions
+    → AllFit most (replicate (length extensions) Extension) extensions
+unfolding AllFit
+extensions_fit most [] are = tt
+extensions_fit most (part ∷ extensions) are = (are.0, extensions_fit most extensions are.1)
+
 -- where each part fits, none is the first that does not
-pub no_misfit : (most : ℕ) (later : List TextWhy) (k : ℕ) (pieces : List (List ℕ)) (f : TextFault)
+no_misfit : (most : ℕ) (later : List TextWhy) (k : ℕ) (pieces : List (List ℕ)) (f : TextFault)
     → AllFit most later pieces → IsFirstMisfit most later k pieces f → ⊥
 unfolding AllFit
 no_misfit most later k pieces f fit misfit =
@@ -90,10 +95,10 @@ pub extensions_keep_misfit : (most : ℕ) (later : List TextWhy) (k j : ℕ) (ex
     → j ≡ k + length extensions → AreExtensions extensions → IsFirstMisfit most later j pieces f
     → IsFirstMisfit most (replicate (length extensions) Extension ++ later) k (extensions ++ pieces) f
 extensions_keep_misfit most later k j [] pieces f at are misfit =
-    let same : j ≡ k = omega (arith, at) in subst (λ (i : ℕ). IsFirstMisfit most later i pieces f) same misfit
+    same_index_same_misfit most j k later pieces f (omega (arith, at)) misfit
 extensions_keep_misfit most later k j (part ∷ extensions) pieces f at are misfit =
     misfit_later most k Extension _ part _ f are.0 (extensions_keep_misfit most later (k + 1) j extensions pieces f (omega (arith, at))
-        are.1 misfit)
+    are.1 misfit)
 
 -- parts that fit, with extensions before them, fit
 pub extensions_keep_fit : (most : ℕ) (later : List TextWhy) (extensions pieces : List (List ℕ))
@@ -109,43 +114,29 @@ pub places_unfold : (front back : List TextWhy) (n middle : ℕ) → n ≡ lengt
 places_unfold front back n middle count =
     let same : n - (length front + length back) ≡ middle = omega (arith, count) in rw same refl
 
--- a fault of the parts is one of the text
-pub part_fault_is_fault : (most : ℕ) (front back : List TextWhy) (text : List ℕ) (pieces : List (List ℕ)) (f : TextFault)
-    → length text ≤ longest_message → IsUtf8Text text → parts text ≡ pieces → IsPartFault most front back pieces f
-    → IsFault most front back text f
+-- a fault of the parts is one of the text; the places before the extensions may follow from the parts
+pub part_fault_is_fault : (most : ℕ) (front : List (List ℕ) → List TextWhy) (back : List TextWhy) (text : List ℕ) (pieces : List (List ℕ))
+    (f : TextFault) → length text ≤ longest_message → IsUtf8Text text → parts text ≡ pieces → IsPartFault most (front pieces) back pieces f
+    → IsFault most (front (parts text)) back text f
 part_fault_is_fault most front back text pieces f short utf8_text cut misfit =
-    inr (short, utf8_text, subst (λ (ps : List (List ℕ)). IsPartFault most front back ps f) (sym cut) misfit)
-
--- a fault of the parts is one of the text, where the places follow from the parts
-pub placed_fault_is_fault : (most : ℕ) (front : List (List ℕ) → List TextWhy) (text : List ℕ) (pieces : List (List ℕ)) (f : TextFault)
-    → length text ≤ longest_message → IsUtf8Text text → parts text ≡ pieces → IsPartFault most (front pieces) [] pieces f
-    → IsFault most (front (parts text)) [] text f
-placed_fault_is_fault most front text pieces f short utf8_text cut misfit =
-    inr (short, utf8_text, subst (λ (ps : List (List ℕ)). IsPartFault most (front ps) [] ps f) (sym cut) misfit)
+    inr (short, utf8_text, subst (λ (ps : List (List ℕ)). IsPartFault most (front ps) back ps f) (sym cut) misfit)
 
 -- a text whose parts fit has no fault
-pub no_fault : (most : ℕ) (front back : List TextWhy) (text : List ℕ) (pieces : List (List ℕ)) (f : TextFault)
-    → length text ≤ longest_message → IsUtf8Text text → parts text ≡ pieces → length front + length back ≤ length pieces
-    → AllFit most (places front back (length pieces)) pieces → IsFault most front back text f → ⊥
+pub no_fault : (most : ℕ) (front : List (List ℕ) → List TextWhy) (back : List TextWhy) (text : List ℕ) (pieces : List (List ℕ))
+    (f : TextFault) → length text ≤ longest_message → IsUtf8Text text → parts text ≡ pieces
+    → length (front pieces) + length back ≤ length pieces → AllFit most (places (front pieces) back (length pieces)) pieces
+    → IsFault most (front (parts text)) back text f → ⊥
 no_fault most front back text pieces f short utf8_text cut enough fit faulty = elim faulty [
   | inl whole ↦ elim whole [
     | inl long ↦ omega (arith, short, long.0)
     | inr no_text ↦ no_text.1 utf8_text
   ]
   | inr in_parts ↦
-      let misfit = rw cut at in_parts.2 in elim misfit [
+      let misfit = subst (λ (ps : List (List ℕ)). IsPartFault most (front ps) back ps f) cut in_parts.2 in elim misfit [
         | inl missing ↦ omega (arith, enough, missing.0)
-        | inr first ↦ no_misfit most (places front back (length pieces)) 0 pieces f fit first.1
+        | inr first ↦ no_misfit most (places (front pieces) back (length pieces)) 0 pieces f fit first.1
       ]
 ]
-
--- a text whose parts fit has no fault, where the places follow from the parts
-pub no_placed_fault : (most : ℕ) (front : List (List ℕ) → List TextWhy) (text : List ℕ) (pieces : List (List ℕ)) (f : TextFault)
-    → length text ≤ longest_message → IsUtf8Text text → parts text ≡ pieces → length (front pieces) ≤ length pieces
-    → AllFit most (places (front pieces) [] (length pieces)) pieces → IsFault most (front (parts text)) [] text f → ⊥
-no_placed_fault most front text pieces f short utf8_text cut enough fit faulty =
-    no_fault most (front pieces) [] text pieces f short utf8_text cut (omega (arith, enough)) fit
-    (subst (λ (ps : List (List ℕ)). IsFault most (front ps) [] text f) cut faulty)
 
 -- a nonce has no comma, and no extension does:
 pub nonce_lacks_comma : (most : ℕ) (nonce : List ℕ) → IsNonce most nonce → LacksComma nonce
@@ -161,16 +152,11 @@ pub parts-joined : (piece : List ℕ) (pieces : List (List ℕ)) → AllByRecurs
 parts-joined piece [] lack = no_comma_one_part piece lack.0
 parts-joined piece (next ∷ pieces) lack =
     first_part_precedes_comma piece (joined (next ∷ pieces)) lack.0 ∙ ap (λ (ps : List (List ℕ)). piece ∷ ps)
-        (parts-joined next pieces lack.1)
+    (parts-joined next pieces lack.1)
 
 pub parts-joined_list : (pieces : List (List ℕ)) → 1 ≤ length pieces → AllByRecursion LacksComma pieces → parts (joined pieces) ≡ pieces
 parts-joined_list [] some lack = absurd (omega (arith, some))
 parts-joined_list (piece ∷ pieces) some lack = parts-joined piece pieces lack
-
--- the first part that does not fit is the same where its index is written in another way
-pub same_index_same_misfit : (most j k : ℕ) (later : List TextWhy) (pieces : List (List ℕ)) (f : TextFault) → j ≡ k
-    → IsFirstMisfit most later j pieces f → IsFirstMisfit most later k pieces f
-same_index_same_misfit most j k later pieces f same misfit = subst (λ (i : ℕ). IsFirstMisfit most later i pieces f) same misfit
 
 -- a letter, `=` and the base64 of a field are a part that spells the field
 pub field_fits : (letter most : ℕ) (part bytes : List ℕ) → part ≡ letter ∷ 61 ∷ base64 bytes → IsField most bytes
@@ -181,7 +167,3 @@ field_fits letter most part bytes spelled field = (base64 bytes, spelled, (bytes
 pub one_field_per_base64 : (most : ℕ) (one other : List ℕ) → IsField most one → IsField most other → base64 one ≡ base64 other → one ≡ other
 one_field_per_base64 most one other is also same =
     let read = rw same at (base64_decodes_back one is.each) in let read_also = base64_decodes_back other also.each in cc (read, read_also)
-
--- lists with different first elements are different
-pub heads_differ : (a b : ℕ) (x y : List ℕ) → a ∷ x ≡ b ∷ y → (a ≡ b → ⊥) → ⊥
-heads_differ a b x y same differ = differ (cc same)

@@ -1,8 +1,7 @@
 -- The parts of server-final: they are read in one way, and a text that has them has no fault.
-use Rattle.std.proofs.Common.{◌≡◌, inr, ℕ, ◌≤◌, List, [], ◌∷◌, length, replicate, refl, sym, ◌∙◌, ap, arith, subst, append-nil}
+use Rattle.std.proofs.Common.{◌≡◌, inr, ℕ, ◌≤◌, List, [], ◌∷◌, length, replicate, refl, sym, ◌∙◌, ap, arith, subst}
 use Rattle.std.specs.Prelude.{IfOk, IfErr, IsOkAnd}
 use Rattle.std.specs.declared.result.Result.{Result}
-use Rattle.std.specs.declared.result.Result.TheVariants.{Ok, Err}
 use Rattle.std.proofs.lemmas.List.Splits.{join_with_byte-slice_split}
 use Rattle.scram_text.specs.Limits.{longest_message, longest_nonce}
 use Rattle.scram_text.specs.Class.{IsUtf8Text}
@@ -12,21 +11,23 @@ use Rattle.scram_text.specs.Parts.{parts, joined, AreExtensions}
 use Rattle.scram_text.specs.Messages.{VerifierOrError, verifier, server_error, ServerFinalParts, verifier_or_error_text, IsVerifierOrError}
 use Rattle.scram_text.specs.Messages.{server_final_text, IsServerFinal}
 use Rattle.scram_text.specs.Laws.{HasOneServerFinal}
-use Rattle.scram_text.specs.Faults.{Fits, fault, places, outcome_place, server_final_places, IsServerFinalFault}
+use Rattle.scram_text.specs.Faults.{Fits, fault, places, IsFirstMisfit, outcome_place, server_final_places, IsServerFinalFault}
 use Rattle.scram_text.specs.Pieces.{IsExtensionMisfit}
 use Rattle.scram_text.specs.Shown.{ShowsServerFinal}
 use Rattle.scram_text.specs.declared.server_final.ServerFinal.{ServerFinal}
 use Rattle.scram_text.specs.declared.fault.TextFault.{TextFault}
 use Rattle.scram_text.specs.declared.fault.TextWhy.TheVariants.{Extension}
+use Rattle.scram_text.proofs.lemmas.ListEnds.{same_head_and_tail}
 use Rattle.scram_text.proofs.lemmas.Base64.{base64_lacks_comma}
 use Rattle.scram_text.proofs.lemmas.Parts.{misfit_here, misfit_later}
-use Rattle.scram_text.proofs.lemmas.Places.{AllFit, AllFit-cons, AllFit-nil, extensions_keep_fit, placed_fault_is_fault, no_placed_fault, extensions_lack_comma, parts-joined}
-use Rattle.scram_text.proofs.lemmas.Places.{field_fits, one_field_per_base64, heads_differ}
+use Rattle.scram_text.proofs.lemmas.Places.{AllFit, AllFit-cons, extensions_fit, part_fault_is_fault, no_fault, extensions_lack_comma, parts-joined}
+use Rattle.scram_text.proofs.lemmas.Places.{field_fits, one_field_per_base64}
 use Rattle.scram_text.proofs.lemmas.MextAndRest.{front_places_unfold}
+use Rattle.scram_text.proofs.lemmas.ReadMessages.{message_is_read}
 
 -- a verifier or an error has no comma
 outcome_lacks_comma : (outcome : VerifierOrError) → IsVerifierOrError outcome → LacksComma (verifier_or_error_text outcome)
-outcome_lacks_comma (verifier signature) is = base64_lacks_comma signature
+outcome_lacks_comma (verifier signature) is = base64_lacks_comma signature is.each
 outcome_lacks_comma (server_error value) is = is.no_comma
 
 -- a server-final message is cut into its parts
@@ -42,8 +43,8 @@ one_outcome_per_text : (one other : VerifierOrError) → IsVerifierOrError one �
     → verifier_or_error_text one ≡ verifier_or_error_text other → one ≡ other
 one_outcome_per_text (verifier one) (verifier other) is also same =
     let texts : base64 one ≡ base64 other = cc same in ap verifier (one_field_per_base64 64 one other is also texts)
-one_outcome_per_text (verifier one) (server_error other) is also same = absurd (heads_differ 118 101 _ _ same (λ e. omega (arith, e)))
-one_outcome_per_text (server_error one) (verifier other) is also same = absurd (heads_differ 101 118 _ _ same (λ e. omega (arith, e)))
+one_outcome_per_text (verifier one) (server_error other) is also same = absurd (omega (arith, (same_head_and_tail 118 101 _ _ same).0))
+one_outcome_per_text (server_error one) (verifier other) is also same = absurd (omega (arith, (same_head_and_tail 101 118 _ _ same).0))
 one_outcome_per_text (server_error one) (server_error other) is also same = let values : one ≡ other = cc same in ap server_error values
 
 -- the law: a text is server-final with one list of parts
@@ -73,15 +74,14 @@ pub server_final_fit : (first : List ℕ) (extensions : List (List ℕ)) → Fit
     → AreExtensions extensions
     → AllFit longest_nonce (places (outcome_place first ∷ []) [] (length (first ∷ extensions))) (first ∷ extensions)
 server_final_fit first extensions fits are =
-    let after = extensions_keep_fit longest_nonce [] extensions [] are (AllFit-nil longest_nonce []) in
     rw (server_final_places_unfold first extensions)
     (AllFit-cons longest_nonce (outcome_place first) _ first extensions fits
-    (rw (append-nil (replicate (length extensions) Extension), append-nil extensions) at after))
+    (extensions_fit longest_nonce extensions are))
 
 -- a server-final message has no fault
-pub server_final_no_fault : (text : List ℕ) (p : ServerFinalParts) (f : TextFault) → IsServerFinal text p → IsServerFinalFault text f → ⊥
+server_final_no_fault : (text : List ℕ) (p : ServerFinalParts) (f : TextFault) → IsServerFinal text p → IsServerFinalFault text f → ⊥
 server_final_no_fault text p f is =
-    no_placed_fault longest_nonce server_final_places text (verifier_or_error_text p.outcome ∷ p.extensions) f is.short is.utf8_text
+    no_fault longest_nonce server_final_places [] text (verifier_or_error_text p.outcome ∷ p.extensions) f is.short is.utf8_text
     (parts_server_final text p is)
     (omega arith) (server_final_fit (verifier_or_error_text p.outcome) p.extensions (outcome_fits p.outcome is.outcome) is.extensions)
 
@@ -89,30 +89,33 @@ server_final_no_fault text p f is =
 pub server_final_is_read : (text : List ℕ) (r : Result ServerFinal TextFault)
     → IfOk r (λ m. (p : ServerFinalParts) × IsServerFinal text p × ShowsServerFinal m p) → IfErr r (λ f. IsServerFinalFault text f)
     → (p : ServerFinalParts) → IsServerFinal text p → IsOkAnd r (λ m. ShowsServerFinal m p)
-server_final_is_read text (Ok m) found fault p is =
-    subst (λ (q : ServerFinalParts). ShowsServerFinal m q) (has_one_server_final text found.0 p found.1 is) found.2
-server_final_is_read text (Err f) found fault p is = server_final_no_fault text p f is fault
+server_final_is_read text r =
+    message_is_read (IsServerFinal text) ShowsServerFinal (IsServerFinalFault text) r
+    (has_one_server_final text) (server_final_no_fault text)
 
--- the first part of server-final that does not fit is a fault of the text: the outcome's, or an extension:
-pub outcome_fault : (text first : List ℕ) (extensions : List (List ℕ)) (f : TextFault) → length text ≤ longest_message → IsUtf8Text text
-    → parts text ≡ first ∷ extensions
-    → (Fits longest_nonce (outcome_place first) first → ⊥) × (f ≡ fault 0 (outcome_place first)) → IsServerFinalFault text f
-outcome_fault text first extensions f short utf8_text cut (no_fit, is) =
-    subst (λ (g : TextFault). IsServerFinalFault text g) (sym is)
-    (placed_fault_is_fault longest_nonce server_final_places text (first ∷ extensions) (fault 0 (outcome_place first)) short utf8_text cut
-    (inr (omega arith, rw (server_final_places_unfold first extensions) (misfit_here longest_nonce 0 (outcome_place first) _ first
-      extensions no_fit))))
+-- the first part of server-final that does not fit is a fault of the text
+module _ (text first : List ℕ) (extensions : List (List ℕ)) (short : length text ≤ longest_message) (utf8_text : IsUtf8Text text)
+    (cut : parts text ≡ first ∷ extensions) where
+  -- the first misfit of the parts is a fault of the text
+  server_final_misfit_is_fault : (f : TextFault)
+      → IsFirstMisfit longest_nonce (outcome_place first ∷ replicate (length extensions) Extension) 0 (first ∷ extensions) f
+      → IsServerFinalFault text f
+  server_final_misfit_is_fault f misfit =
+      part_fault_is_fault longest_nonce server_final_places [] text (first ∷ extensions) f short utf8_text cut
+      (inr (omega arith, rw (server_final_places_unfold first extensions) misfit))
 
-pub extension_fault : (text first : List ℕ) (extensions : List (List ℕ)) (f : TextFault) → length text ≤ longest_message → IsUtf8Text text
-    → parts text ≡ first ∷ extensions
-    → Fits longest_nonce (outcome_place first) first → IsExtensionMisfit 1 extensions f → IsServerFinalFault text f
-extension_fault text first extensions f short utf8_text cut fits misfit =
-    placed_fault_is_fault longest_nonce server_final_places text (first ∷ extensions) f short utf8_text cut
-    (inr (
-      omega arith,
-      rw (server_final_places_unfold first extensions)
-          (misfit_later longest_nonce 0 (outcome_place first) _ first extensions f fits (misfit longest_nonce)),
-    ))
+  -- that part is the outcome, or an extension:
+  pub outcome_fault : (f : TextFault) → (Fits longest_nonce (outcome_place first) first → ⊥) × (f ≡ fault 0 (outcome_place first))
+      → IsServerFinalFault text f
+  outcome_fault f (no_fit, is) =
+      subst (λ (g : TextFault). IsServerFinalFault text g) (sym is)
+      (server_final_misfit_is_fault (fault 0 (outcome_place first))
+      (misfit_here longest_nonce 0 (outcome_place first) _ first extensions no_fit))
+
+  pub extension_fault : (f : TextFault) → Fits longest_nonce (outcome_place first) first → IsExtensionMisfit 1 extensions f
+      → IsServerFinalFault text f
+  extension_fault f fits misfit =
+      server_final_misfit_is_fault f (misfit_later longest_nonce 0 (outcome_place first) _ first extensions f fits (misfit longest_nonce))
 
 -- a part that is the text of an outcome fits the outcome's place
 pub outcome_part_fits : (part : List ℕ) (outcome : VerifierOrError) → part ≡ verifier_or_error_text outcome → IsVerifierOrError outcome

@@ -1,9 +1,8 @@
 -- The parts of server-first: they are read in one way, and a text that has them has no fault.
-use Rattle.std.proofs.Common.{◌≡◌, inr, ℕ, ◌+◌, ◌≤◌, List, [], ◌∷◌, ◌++◌, length, replicate, refl, sym, ◌∙◌, ap, arith, subst, append-nil}
+use Rattle.std.proofs.Common.{◌≡◌, inr, ℕ, ◌+◌, ◌≤◌, List, [], ◌∷◌, ◌++◌, length, replicate, refl, sym, ◌∙◌, ap, arith, subst}
 use Rattle.std.specs.Prelude.{codes, decimal, IfOk, IfErr, IsOkAnd}
 use Rattle.std.specs.declared.option.Option.{Option}
 use Rattle.std.specs.declared.result.Result.{Result}
-use Rattle.std.specs.declared.result.Result.TheVariants.{Ok, Err}
 use Rattle.std.proofs.lemmas.Fmt.{decimal_injective}
 use Rattle.std.proofs.lemmas.List.Splits.{join_with_byte-slice_split}
 use Rattle.scram_text.specs.Limits.{longest_message, longest_nonce}
@@ -20,19 +19,20 @@ use Rattle.scram_text.specs.declared.server_first.ServerFirst.{ServerFirst}
 use Rattle.scram_text.specs.declared.fault.TextFault.{TextFault}
 use Rattle.scram_text.specs.declared.fault.TextWhy.TheVariants.{Nonce, Salt, Count, Extension}
 use Rattle.scram_text.proofs.lemmas.Base64.{base64_lacks_comma}
-use Rattle.scram_text.proofs.lemmas.Parts.{misfit_here, misfit_later}
-use Rattle.scram_text.proofs.lemmas.Places.{AllFit, AllFit-cons, AllFit-nil, extensions_keep_fit, no_placed_fault, nonce_lacks_comma, extensions_lack_comma}
-use Rattle.scram_text.proofs.lemmas.Places.{parts-joined_list, field_fits, one_field_per_base64, same_index_same_misfit}
+use Rattle.scram_text.proofs.lemmas.Parts.{misfit_here, misfit_later, same_index_same_misfit}
+use Rattle.scram_text.proofs.lemmas.Places.{AllFit, AllFit-cons, extensions_fit, no_fault, nonce_lacks_comma, extensions_lack_comma}
+use Rattle.scram_text.proofs.lemmas.Places.{parts-joined_list, field_fits, one_field_per_base64}
 use Rattle.scram_text.proofs.lemmas.MextAndRest.{front_places_unfold, mext_and_rest_joined, mext_and_rest_lack_comma, mext_and_rest_nonempty, one_mext_and_rest, mext_and_rest_fit, rest_fault}
 use Rattle.scram_text.proofs.lemmas.MextAndRest.{mext_and_rest_lengths}
 use Rattle.scram_text.proofs.lemmas.Counts.{decimal_lacks_comma, count_below_2_64}
+use Rattle.scram_text.proofs.lemmas.ReadMessages.{message_is_read}
 
 -- the parts after the mandatory extension, if there is one
-abbrev pub server_first_rest : ServerFirstParts → List (List ℕ)
+abbrev server_first_rest : ServerFirstParts → List (List ℕ)
 server_first_rest p = (codes "r=" ++ p.nonce) ∷ (codes "s=" ++ base64 p.salt) ∷ (codes "i=" ++ decimal p.count) ∷ p.extensions
 
 -- a server-first message is cut into its parts
-pub parts_server_first : (text : List ℕ) (p : ServerFirstParts) → IsServerFirst text p
+parts_server_first : (text : List ℕ) (p : ServerFirstParts) → IsServerFirst text p
     → parts text ≡ mext_parts p.mext ++ server_first_rest p
 unfolding server_first_text
 parts_server_first text p is =
@@ -40,7 +40,7 @@ parts_server_first text p is =
     (mext_and_rest_lack_comma p.mext (server_first_rest p) is.mext (
       nonce_lacks_comma longest_nonce p.nonce is.nonce,
       (
-        base64_lacks_comma p.salt,
+        base64_lacks_comma p.salt is.salt.each,
         (decimal_lacks_comma p.count is.count, extensions_lack_comma p.extensions is.extensions),
       ),
     )))
@@ -79,95 +79,82 @@ server_first_rest_places_unfold nonce salt count extensions =
     front_places_unfold (Nonce ∷ Salt ∷ Count ∷ []) (length (nonce ∷ salt ∷ count ∷ extensions)) (length extensions) (omega arith)
 
 -- where the nonce, the salt and the count of server-first fit, and the other parts are extensions, all fit their places
-pub nonce_salt_count_fit : (nonce salt count : List ℕ) (extensions : List (List ℕ))
+nonce_salt_count_fit : (nonce salt count : List ℕ) (extensions : List (List ℕ))
     → Fits longest_nonce Nonce nonce → Fits longest_nonce Salt salt → Fits longest_nonce Count count → AreExtensions extensions
     → AllFit longest_nonce (places (Nonce ∷ Salt ∷ Count ∷ []) [] (length (nonce ∷ salt ∷ count ∷ extensions)))
     (nonce ∷ salt ∷ count ∷ extensions)
 nonce_salt_count_fit nonce salt count extensions is_nonce is_salt is_count are =
-    let after = extensions_keep_fit longest_nonce [] extensions [] are (AllFit-nil longest_nonce []) in
     rw (server_first_rest_places_unfold nonce salt count extensions)
     (AllFit-cons longest_nonce Nonce _ nonce _ is_nonce
     (AllFit-cons longest_nonce Salt _ salt _ is_salt (AllFit-cons longest_nonce Count _ count _ is_count
-    (rw (append-nil (replicate (length extensions) Extension), append-nil extensions) at after))))
+    (extensions_fit longest_nonce extensions are))))
 
 -- the parts of a server-first message fit their places
 pub server_first_fit : (text : List ℕ) (p : ServerFirstParts) → IsServerFirst text p
     → AllFit longest_nonce (places (server_first_places (parts text)) [] (length (parts text))) (parts text)
 server_first_fit text p is =
     mext_and_rest_fit longest_nonce (Nonce ∷ Salt ∷ Count ∷ []) (parts text) (server_first_rest p) p.mext
-        (server_first_mext_and_rest text p is)
+    (server_first_mext_and_rest text p is)
     (nonce_salt_count_fit _ _ _ p.extensions (p.nonce, refl, is.nonce) (field_fits 115 64 _ p.salt refl is.salt)
     (decimal p.count, refl, (p.count, refl, is.count)) is.extensions)
 
 -- a server-first message has no fault
-pub server_first_no_fault : (text : List ℕ) (p : ServerFirstParts) (f : TextFault) → IsServerFirst text p → IsServerFirstFault text f → ⊥
+server_first_no_fault : (text : List ℕ) (p : ServerFirstParts) (f : TextFault) → IsServerFirst text p → IsServerFirstFault text f → ⊥
 server_first_no_fault text p f is =
     let lengths = mext_and_rest_lengths (Nonce ∷ Salt ∷ Count ∷ []) (parts text) (server_first_rest p) p.mext
-        (server_first_mext_and_rest text p is) in
-    no_placed_fault longest_nonce server_first_places text (parts text) f is.short is.utf8_text refl (omega (arith, lengths.0, lengths.1))
+    (server_first_mext_and_rest text p is) in
+    no_fault longest_nonce server_first_places [] text (parts text) f is.short is.utf8_text refl (omega (arith, lengths.0, lengths.1))
     (server_first_fit text p is)
 
 -- a text that is server-first is read, and what is read shows its parts
 pub server_first_is_read : (text : List ℕ) (r : Result ServerFirst TextFault)
     → IfOk r (λ m. (p : ServerFirstParts) × IsServerFirst text p × ShowsServerFirst m p) → IfErr r (λ f. IsServerFirstFault text f)
     → (p : ServerFirstParts) → IsServerFirst text p → IsOkAnd r (λ m. ShowsServerFirst m p)
-server_first_is_read text (Ok m) found fault p is =
-    subst (λ (q : ServerFirstParts). ShowsServerFirst m q) (has_one_server_first text found.0 p found.1 is) found.2
-server_first_is_read text (Err f) found fault p is = server_first_no_fault text p f is fault
+server_first_is_read text r =
+    message_is_read (IsServerFirst text) ShowsServerFirst (IsServerFirstFault text) r
+    (has_one_server_first text) (server_first_no_fault text)
 
--- a misfit after the mandatory extension is a fault of the text; k is the index of the nonce
-server_first_rest_fault : (text nonce salt count : List ℕ) (extensions : List (List ℕ)) (mext : Option (List ℕ)) (k : ℕ) (f : TextFault)
-    → length text ≤ longest_message → IsUtf8Text text → IsMextAndRest (parts text) (nonce ∷ salt ∷ count ∷ extensions) mext
-    → k ≡ length (mext_parts mext)
-    → IsFirstMisfit longest_nonce (Nonce ∷ Salt ∷ Count ∷ replicate (length extensions) Extension) k (nonce ∷ salt ∷ count ∷ extensions) f
-    → IsServerFirstFault text f
-server_first_rest_fault text nonce salt count extensions mext k f short utf8_text marked at misfit =
-    inr (
-      short,
-      utf8_text,
-      rest_fault longest_nonce (Nonce ∷ Salt ∷ Count ∷ []) (parts text) (nonce ∷ salt ∷ count ∷ extensions) mext f marked (omega arith)
-          (rw (server_first_rest_places_unfold nonce salt count extensions) (same_index_same_misfit longest_nonce k
+-- the first part of server-first that does not fit is a fault of the text; k is the index of the nonce
+module _ (text nonce salt count : List ℕ) (extensions : List (List ℕ)) (mext : Option (List ℕ)) (k : ℕ)
+    (short : length text ≤ longest_message) (utf8_text : IsUtf8Text text)
+    (marked : IsMextAndRest (parts text) (nonce ∷ salt ∷ count ∷ extensions) mext) (at : k ≡ length (mext_parts mext)) where
+  -- a misfit after the mandatory extension is a fault of the text
+  server_first_rest_fault : (f : TextFault)
+      → IsFirstMisfit longest_nonce (Nonce ∷ Salt ∷ Count ∷ replicate (length extensions) Extension) k (nonce ∷ salt ∷ count ∷ extensions) f
+      → IsServerFirstFault text f
+  server_first_rest_fault f misfit =
+      inr (
+        short,
+        utf8_text,
+        rest_fault longest_nonce (Nonce ∷ Salt ∷ Count ∷ []) (parts text) (nonce ∷ salt ∷ count ∷ extensions) mext f marked (omega arith)
+            (rw (server_first_rest_places_unfold nonce salt count extensions) (same_index_same_misfit longest_nonce k
             (length (mext_parts mext)) _ _ f at misfit)),
-    )
+      )
 
--- the first part of server-first that does not fit is a fault of the text: the nonce, the salt, the count or an extension:
-pub nonce_fault : (text nonce salt count : List ℕ) (extensions : List (List ℕ)) (mext : Option (List ℕ)) (k : ℕ)
-    → length text ≤ longest_message → IsUtf8Text text → IsMextAndRest (parts text) (nonce ∷ salt ∷ count ∷ extensions) mext
-    → k ≡ length (mext_parts mext)
-    → (Fits longest_nonce Nonce nonce → ⊥) → IsServerFirstFault text (fault k Nonce)
-nonce_fault text nonce salt count extensions mext k short utf8_text marked at no_nonce =
-    server_first_rest_fault text nonce salt count extensions mext k _ short utf8_text marked at
-        (misfit_here longest_nonce k Nonce _ nonce _ no_nonce)
+  -- that part is the nonce, the salt, the count or an extension:
+  pub nonce_fault : (Fits longest_nonce Nonce nonce → ⊥) → IsServerFirstFault text (fault k Nonce)
+  nonce_fault no_nonce = server_first_rest_fault _ (misfit_here longest_nonce k Nonce _ nonce _ no_nonce)
 
-pub salt_fault : (text nonce salt count : List ℕ) (extensions : List (List ℕ)) (mext : Option (List ℕ)) (k : ℕ)
-    → length text ≤ longest_message → IsUtf8Text text → IsMextAndRest (parts text) (nonce ∷ salt ∷ count ∷ extensions) mext
-    → k ≡ length (mext_parts mext)
-    → Fits longest_nonce Nonce nonce → (Fits longest_nonce Salt salt → ⊥) → IsServerFirstFault text (fault (k + 1) Salt)
-salt_fault text nonce salt count extensions mext k short utf8_text marked at is_nonce no_salt =
-    server_first_rest_fault text nonce salt count extensions mext k _ short utf8_text marked at
-    (misfit_later longest_nonce k Nonce _ nonce _ _ is_nonce (misfit_here longest_nonce (k + 1) Salt _ salt _ no_salt))
+  pub salt_fault : Fits longest_nonce Nonce nonce → (Fits longest_nonce Salt salt → ⊥) → IsServerFirstFault text (fault (k + 1) Salt)
+  salt_fault is_nonce no_salt =
+      server_first_rest_fault _
+      (misfit_later longest_nonce k Nonce _ nonce _ _ is_nonce (misfit_here longest_nonce (k + 1) Salt _ salt _ no_salt))
 
-pub count_fault : (text nonce salt count : List ℕ) (extensions : List (List ℕ)) (mext : Option (List ℕ)) (k : ℕ)
-    → length text ≤ longest_message → IsUtf8Text text → IsMextAndRest (parts text) (nonce ∷ salt ∷ count ∷ extensions) mext
-    → k ≡ length (mext_parts mext)
-    → Fits longest_nonce Nonce nonce → Fits longest_nonce Salt salt → (Fits longest_nonce Count count → ⊥)
-    → IsServerFirstFault text (fault (k + 2) Count)
-count_fault text nonce salt count extensions mext k short utf8_text marked at is_nonce is_salt no_count =
-    server_first_rest_fault text nonce salt count extensions mext k _ short utf8_text marked at
-    (misfit_later longest_nonce k Nonce _ nonce _ _ is_nonce (misfit_later longest_nonce (k + 1) Salt _ salt _ _ is_salt
-    (same_index_same_misfit longest_nonce (k + 2) (k + 1 + 1) _ _ _ (omega arith)
+  pub count_fault : Fits longest_nonce Nonce nonce → Fits longest_nonce Salt salt → (Fits longest_nonce Count count → ⊥)
+      → IsServerFirstFault text (fault (k + 2) Count)
+  count_fault is_nonce is_salt no_count =
+      server_first_rest_fault _
+      (misfit_later longest_nonce k Nonce _ nonce _ _ is_nonce (misfit_later longest_nonce (k + 1) Salt _ salt _ _ is_salt
+      (same_index_same_misfit longest_nonce (k + 2) (k + 1 + 1) _ _ _ (omega arith)
       (misfit_here longest_nonce (k + 2) Count _ count _ no_count))))
 
-pub extension_fault : (text nonce salt count : List ℕ) (extensions : List (List ℕ)) (mext : Option (List ℕ)) (k : ℕ) (f : TextFault)
-    → length text ≤ longest_message → IsUtf8Text text → IsMextAndRest (parts text) (nonce ∷ salt ∷ count ∷ extensions) mext
-    → k ≡ length (mext_parts mext)
-    → Fits longest_nonce Nonce nonce → Fits longest_nonce Salt salt → Fits longest_nonce Count count
-    → IsExtensionMisfit (k + 3) extensions f → IsServerFirstFault text f
-extension_fault text nonce salt count extensions mext k f short utf8_text marked at is_nonce is_salt is_count misfit =
-    server_first_rest_fault text nonce salt count extensions mext k f short utf8_text marked at
-    (misfit_later longest_nonce k Nonce _ nonce _ f is_nonce
-    (misfit_later longest_nonce (k + 1) Salt _ salt _ f is_salt (misfit_later longest_nonce (k + 1 + 1) Count _ count _ f is_count
-    (same_index_same_misfit longest_nonce (k + 3) (k + 1 + 1 + 1) _ _ f (omega arith) (misfit longest_nonce)))))
+  pub extension_fault : (f : TextFault) → Fits longest_nonce Nonce nonce → Fits longest_nonce Salt salt → Fits longest_nonce Count count
+      → IsExtensionMisfit (k + 3) extensions f → IsServerFirstFault text f
+  extension_fault f is_nonce is_salt is_count misfit =
+      server_first_rest_fault f
+      (misfit_later longest_nonce k Nonce _ nonce _ f is_nonce
+      (misfit_later longest_nonce (k + 1) Salt _ salt _ f is_salt (misfit_later longest_nonce (k + 1 + 1) Count _ count _ f is_count
+      (same_index_same_misfit longest_nonce (k + 3) (k + 1 + 1 + 1) _ _ f (omega arith) (misfit longest_nonce)))))
 
 -- the pieces of server-first make its text
 pub server_first_spelled : (text nonce salt count : List ℕ) (p : ServerFirstParts)

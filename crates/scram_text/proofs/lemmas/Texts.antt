@@ -1,7 +1,6 @@
 -- Texts of which messages are made: each is UTF-8 without a NUL.
-use Rattle.std.proofs.Common.{◌≡◌, inl, inr, ℕ, zero, suc, ◌+◌, ◌*◌, ◌/◌, ◌%◌, ◌<◌, Bool, true, false, not, ◌&&◌, List, [], ◌∷◌, ◌++◌}
-use Rattle.std.proofs.Common.{length, replicate, refl, arith}
-use Rattle.std.specs.Prelude.{slice_index, decimal, nat_le, ◌==◌}
+use Rattle.std.proofs.Common.{◌≡◌, inl, inr, ℕ, zero, suc, ◌+◌, ◌<◌, Bool, true, false, not, ◌&&◌, List, [], ◌∷◌, ◌++◌, length, refl, arith}
+use Rattle.std.specs.Prelude.{decimal, nat_le, ◌==◌}
 use Rattle.std.specs.List.{list_all}
 use Rattle.std.specs.Str.{IsAscii}
 use Rattle.std.proofs.lemmas.Bool.{cases_lt, leb-true, le-leb, lt-leb, both_ways, ne_eqb, and_parts}
@@ -10,14 +9,14 @@ use Rattle.std.proofs.lemmas.List.Folds.{list_all-append}
 use Rattle.std.proofs.lemmas.Str.{IsUtf8-nil, IsUtf8-from_ascii, IsUtf8-append}
 use Rattle.base64.specs.Engines.{standard}
 use Rattle.base64.specs.GeneralPurpose.{IsBytes}
-use Rattle.base64.specs.Rfc4648.{encode_symbols, padding_len}
 use Rattle.base64.proofs.EngineFacts.{IsAscii-encode_of}
 use Rattle.scram_text.specs.Class.{is_comma, is_cb_char, is_printable, is_plain, IsNonce, IsUtf8Text}
 use Rattle.scram_text.specs.Name.{escape, name_spelling}
 use Rattle.scram_text.specs.Base64Field.{base64}
 use Rattle.scram_text.specs.Parts.{IsCount, is_cb_name}
+use Rattle.scram_text.proofs.lemmas.Base64Texts.{base64_passes_test}
 use Rattle.scram_text.proofs.lemmas.Counts.{count_below_2_64}
-use Rattle.scram_text.proofs.lemmas.Names.{escape_cases}
+use Rattle.scram_text.proofs.lemmas.Names.{escape_by_cases}
 use Rattle.scram_text.proofs.lemmas.WithoutByte.{class_lacks_byte, digits_lack_byte}
 
 -- a byte is no NUL
@@ -59,7 +58,7 @@ plain_byte_is_ascii c is = up_to_tilde_is_ascii c (and_parts (nat_le 0x20 c) (na
 printable_byte_is_ascii : (c : ℕ) → is_printable c ≡ true → c < 128
 printable_byte_is_ascii c is =
     up_to_tilde_is_ascii c (and_parts (nat_le 0x21 c) (nat_le c 0x7E) (and_parts (nat_le 0x21 c && nat_le c 0x7E) (not (is_comma c))
-        is).0).1
+    is).0).1
 
 -- plain bytes are a text
 pub plain_is_text : (bytes : List ℕ) → list_all is_plain bytes ≡ true → IsUtf8Text bytes
@@ -71,13 +70,7 @@ nonce_is_text most nonce is = class_is_text is_printable nonce printable_byte_is
 
 -- a plain byte, and a plain name, is spelled by plain bytes:
 escape_is_plain : (c : ℕ) → is_plain c ≡ true → list_all is_plain (escape c) ≡ true
-escape_is_plain c is = elim (escape_cases c) [
-  | inl p ↦ rw p.1 refl
-  | inr s ↦ elim s [
-    | inl p ↦ rw p.1 refl
-    | inr p ↦ rw (p.2, is) refl
-  ]
-]
+escape_is_plain c is = escape_by_cases (λ s. list_all is_plain s ≡ true) c (λ _. refl) (λ _. refl) (λ _ _. rw is refl)
 
 spelling_is_plain : (name : List ℕ) → list_all is_plain name ≡ true → list_all is_plain (name_spelling name) ≡ true
 spelling_is_plain [] all = refl
@@ -96,57 +89,12 @@ count_is_text count is = record {
   no_nul = digits_lack_byte 0 (decimal count) (omega arith) (decimal_is_IsNumeral count (count_below_2_64 count is)).0.1;
 }
 
--- where no symbol is NUL, the one at each index is not
-element_is_no_nul : (symbols : List ℕ) (k : ℕ) → k < length symbols → list_all is_no_nul symbols ≡ true
-    → is_no_nul (slice_index symbols k) ≡ true
-element_is_no_nul [] k within all = absurd (omega (arith, within))
-element_is_no_nul (c ∷ symbols) zero within all = (and_parts (is_no_nul c) (list_all is_no_nul symbols) all).0
-element_is_no_nul (c ∷ symbols) (suc k) within all =
-    element_is_no_nul symbols k (omega (arith, within)) (and_parts (is_no_nul c) (list_all is_no_nul symbols) all).1
-
--- the 64 symbols
-abbrev table : List ℕ
-table = standard.encode_table
-
--- no symbol of base64, no text of bytes in it and no padding has a NUL:
-symbol_is_no_nul : (k : ℕ) → k < 64 → is_no_nul (slice_index table k) ≡ true
-symbol_is_no_nul k within = element_is_no_nul table k within refl
-
-symbols_lack_nul : (bytes : List ℕ) → IsBytes bytes → list_all is_no_nul (encode_symbols table bytes) ≡ true
-unfolding encode_symbols
-symbols_lack_nul [] fits = refl
-symbols_lack_nul (a ∷ []) fits =
-    rw (symbol_is_no_nul (a / 4) (omega (arith, fits 0)), symbol_is_no_nul (a % 4 * 16) (omega arith)) refl
-symbols_lack_nul (a ∷ b ∷ []) fits =
-    rw (
-      symbol_is_no_nul (a / 4) (omega (arith, fits 0)),
-      symbol_is_no_nul (a % 4 * 16 + b / 16) (omega (arith, fits 1)),
-      symbol_is_no_nul
-          (b % 16 * 4) (omega arith),
-    ) refl
-symbols_lack_nul (a ∷ b ∷ c ∷ rest) fits =
-    rw (
-      symbol_is_no_nul (a / 4) (omega (arith, fits 0)),
-      symbol_is_no_nul (a % 4 * 16 + b / 16) (omega (arith, fits 1)),
-      symbol_is_no_nul (b % 16 * 4 + c / 64) (omega (arith, fits 2)),
-      symbol_is_no_nul (c % 64) (omega arith),
-    )
-    (symbols_lack_nul rest (λ i. fits (suc (suc (suc i)))))
-
-padding_lacks_nul : (n : ℕ) → list_all is_no_nul (replicate n 61) ≡ true
-padding_lacks_nul zero = refl
-padding_lacks_nul (suc n) = padding_lacks_nul n
-
 -- the base64 of bytes is a text
 pub base64_is_text : (bytes : List ℕ) → IsBytes bytes → IsUtf8Text (base64 bytes)
 unfolding base64
 base64_is_text bytes fits = record {
   utf8 = IsUtf8-from_ascii _ (IsAscii-encode_of standard bytes);
-  no_nul = rw (
-    list_all-append is_no_nul (encode_symbols table bytes) (replicate (padding_len (length bytes)) 61),
-    symbols_lack_nul bytes fits,
-    padding_lacks_nul (padding_len (length bytes)),
-  ) refl;
+  no_nul = base64_passes_test is_no_nul refl refl bytes fits;
 }
 
 -- a character of a channel binding's name is ASCII

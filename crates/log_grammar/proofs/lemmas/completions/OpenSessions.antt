@@ -4,6 +4,7 @@ use Rattle.std.proofs.Common.{subst, arith, append_assoc, append-nil}
 use Rattle.std.specs.List.{AllByRecursion, AllZip}
 use Rattle.std.proofs.lemmas.Bool.{cases_Bool}
 use Rattle.std.proofs.lemmas.Bool.Decides.{eqb_tells}
+use Rattle.std.proofs.lemmas.List.{same_from_push}
 use Rattle.log_grammar.specs.Lines.{LogLine, said, halt, IsWritable}
 use Rattle.log_grammar.specs.Bytes.{LacksLf}
 use Rattle.log_grammar.specs.LoggedReply.{LoggedReply}
@@ -21,7 +22,7 @@ use Rattle.log_grammar.proofs.lemmas.lines.NumberedReadBack.{numbered_line_lacks
 use Rattle.log_grammar.proofs.lemmas.many_sessions.LogSteps.{numbered_log_goes_on, visit_line_between_takes_number}
 use Rattle.log_grammar.proofs.lemmas.many_sessions.OneReading.{empty_log_tells_nothing, number_challenge_meets_demand}
 use Rattle.log_grammar.proofs.lemmas.many_sessions.LinesOfNumber.{one_and_others_cover_each, put_sets_own, put_keeps_others}
-use Rattle.scram_text.proofs.lemmas.ListEnds.{same_front_and_last, nonempty_has_last}
+use Rattle.scram_text.proofs.lemmas.ListEnds.{nonempty_has_last}
 use Rattle.log_grammar.proofs.lemmas.ListEnds.{length-last}
 use Rattle.log_grammar.proofs.lemmas.state_machine.StepKinds.{visit_transition_has_kind}
 
@@ -81,7 +82,7 @@ Free log = (before : List (Numbered LogLine)) (x : Numbered LogLine) → log ≡
 pub log_is_free_after : (log : List (Numbered LogLine)) (n : ℕ) (line : LogLine) → ((m : ℕ) (next : LogLine) → MayFollow n line m next)
     → Free (log ++ numbered n line ∷ [])
 log_is_free_after log n line follow before x e m next =
-    subst (λ (z : Numbered LogLine). MayFollow z.number z.value m next) (same_front_and_last log before (numbered n line) x e).1
+    subst (λ (z : Numbered LogLine). MayFollow z.number z.value m next) (same_from_push log before (numbered n line) x e).1
         (follow m next)
 
 -- a log can be completed where lines close one number and the log after them can be completed

@@ -6,7 +6,7 @@ use Rattle.mac_core.specs.declared.mechanism.Mechanism.{Mechanism}
 use Rattle.scram_text.specs.Laws.{HasOneClientFirst, ClientFirstIsDecided, NameIsDecided}
 use Rattle.scram_text.specs.Messages.{verifier, server_error, IsServerFinal}
 use Rattle.scram_text.proofs.lemmas.Base64.{bytes_are_field}
-use Rattle.scram_text.proofs.lemmas.Composed.{signature_is_text, error_is_text, written_is_server_final}
+use Rattle.scram_text.proofs.lemmas.messages_composed.ServerFinal.{signature_is_text, error_is_text, written_is_server_final}
 use Rattle.scram_ends.specs.Stages.{challenged_login}
 use Rattle.scram_ends.specs.Verdict.{Due, accept, refuse, due_text, final_due, error_value}
 use Rattle.scram_ends.specs.Login.{IsAuthentic}

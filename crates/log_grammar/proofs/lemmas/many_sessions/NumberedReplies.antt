@@ -2,7 +2,7 @@
 use Rattle.std.proofs.Common.{◌≡◌, ◌⊎◌, inl, inr, ℕ, true, false, List, [], ◌∷◌, ◌++◌, refl, sym, ◌∙◌, ap, subst, append-nil}
 use Rattle.std.specs.Prelude.{map}
 use Rattle.std.proofs.lemmas.Bool.{eq-eqb}
-use Rattle.std.proofs.lemmas.List.{map-append}
+use Rattle.std.proofs.lemmas.List.{map-append, same_from_push}
 use Rattle.log_grammar.specs.Lines.{LogLine, said, replies}
 use Rattle.log_grammar.specs.LoggedReply.{LoggedReply, logged_reply_of}
 use Rattle.log_grammar.specs.Places.{Place, got_code}
@@ -11,7 +11,7 @@ use Rattle.log_grammar.specs.state_machine.Steps.{IsTransition, told_at}
 use Rattle.log_grammar.specs.Numbered.{Numbered, numbered, of_number, is_reply, reply_numbers}
 use Rattle.log_grammar.specs.state_machine.NumberedSteps.{IsVisitTransition}
 use Rattle.log_grammar.proofs.lemmas.many_sessions.LinesOfNumber.{of_number_append, same_numbered}
-use Rattle.scram_text.proofs.lemmas.ListEnds.{empty_has_no_last, same_front_and_last, nonempty_has_last}
+use Rattle.scram_text.proofs.lemmas.ListEnds.{empty_has_no_last, nonempty_has_last}
 
 -- a line tells of a code exactly where it is a reply
 abbrev pub TellsOfReply : Place → LogLine → Type 0
@@ -90,11 +90,11 @@ last_reply_splits_told : (n : ℕ) (t : LoggedReply) (front : List (Numbered Log
     → numbers_of (front ++ last ∷ []) ≡ numbers ++ n ∷ [] → of_number n (front ++ last ∷ []) ≡ before ++ t ∷ []
     → ToldBefore n (front ++ last ∷ []) numbers before (t ∷ [])
 last_reply_splits_told n t front last numbers before order mine =
-    let ends = same_front_and_last (numbers_of front) numbers last.number n
+    let ends = same_from_push (numbers_of front) numbers last.number n
     (sym (map-append (λ (m : Numbered LoggedReply). m.number) front (last ∷ [])) ∙ order) in
     let told = sym (of_number_append n front (last ∷ []) ∙ ap (λ (l : List LoggedReply). of_number n front ++ l)
     (of_number_one n last ends.1)) ∙ mine in
-    let also = same_front_and_last (of_number n front) before last.value t told in
+    let also = same_from_push (of_number n front) before last.value t told in
     record {
       earlier = front;
       same = ap (λ (m : Numbered LoggedReply). front ++ m ∷ []) (same_numbered last.number n last.value t ends.1 also.1);

@@ -1,6 +1,7 @@
 -- The place of a number follows from the lines of this number alone, whatever else its log has.
 use Rattle.std.proofs.Common.{◌≡◌, inl, inr, ℕ, zero, suc, ◌+◌, ◌≤◌, List, length, sym, ◌∙◌, ap, subst, arith}
 use Rattle.std.specs.declared.option.Option.{Option}
+use Rattle.std.proofs.lemmas.List.{same_from_push}
 use Rattle.log_grammar.specs.Lines.{LogLine}
 use Rattle.log_grammar.specs.LoggedReply.{LoggedReply}
 use Rattle.log_grammar.specs.Places.{Place}
@@ -9,7 +10,6 @@ use Rattle.log_grammar.specs.Numbered.{Numbered, Visit, of_number, visit_lines, 
 use Rattle.log_grammar.specs.state_machine.NumberedSteps.{IsVisitTransition}
 use Rattle.log_grammar.proofs.lemmas.many_sessions.OneReading.{one_next_visit_place}
 use Rattle.log_grammar.proofs.lemmas.state_machine.OneReading.{OneAccount}
-use Rattle.scram_text.proofs.lemmas.ListEnds.{same_front_and_last}
 use Rattle.log_grammar.proofs.lemmas.ListEnds.{length-last}
 use Rattle.log_grammar.proofs.lemmas.many_sessions.Visits.{ShorterVisit, visit_shortens, empty_visit_is_between}
 
@@ -18,7 +18,7 @@ longer_visits_share_place : (d : Demands) → OneAccount d → (p q : Option Vis
     → (a : ShorterVisit d p) (b : ShorterVisit d q)
     → (visit_lines a.tree ≡ visit_lines b.tree → visit_place a.tree ≡ visit_place b.tree) → visit_place p ≡ visit_place q
 longer_visits_share_place d one p q same a b earlier =
-    let ends = same_front_and_last (visit_lines a.tree) (visit_lines b.tree) a.line b.line (sym a.lines ∙ same ∙ b.lines) in
+    let ends = same_from_push (visit_lines a.tree) (visit_lines b.tree) a.line b.line (sym a.lines ∙ same ∙ b.lines) in
     let moved = subst (λ (l : LogLine). IsVisitTransition d (visit_place a.tree) l (visit_place q)) (sym ends.1)
     (subst (λ (r : Place). IsVisitTransition d r b.line (visit_place q)) (sym (earlier ends.0)) b.goes) in
     one_next_visit_place d one (visit_place a.tree) a.line (visit_place p) (visit_place q) a.goes moved

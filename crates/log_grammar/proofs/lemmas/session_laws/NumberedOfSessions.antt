@@ -4,6 +4,7 @@ use Rattle.std.specs.List.{AllByRecursion, AllZip}
 use Rattle.std.specs.declared.option.Option.{Option}
 use Rattle.std.specs.declared.option.Option.TheVariants.{None, Some}
 use Rattle.std.proofs.lemmas.Bool.Decides.{eqb_tells}
+use Rattle.std.proofs.lemmas.List.{same_from_push}
 use Rattle.otp_core.specs.Ranges.{IsMoment}
 use Rattle.log_grammar.specs.Lines.{LogLine, header_two, said, ended, busy, halt, log_line_text, EndsWith}
 use Rattle.log_grammar.specs.Bytes.{LacksLf, ended_by_lf, IsSplit}
@@ -22,7 +23,6 @@ use Rattle.log_grammar.proofs.lemmas.demands.EachAccount.{each_account_has_its_h
 use Rattle.log_grammar.proofs.lemmas.session_laws.OfSessions.{closed_session_is_between, session_between_is_closed, halted_session_is_at_halt, session_at_halt_is_halted}
 use Rattle.log_grammar.proofs.lemmas.session_laws.MomentRanges.{Ranged, Timed, session_tells_in_time, closing_tells_in_time}
 use Rattle.log_grammar.proofs.lemmas.lines.NumberedReadBack.{numbered_line_lacks_lf}
-use Rattle.scram_text.proofs.lemmas.ListEnds.{same_front_and_last}
 
 -- texts that are numbered lines are the texts that these lines are written as
 texts_spell_numbered_lines : (texts : List (List ℕ)) (log : List (Numbered LogLine)) → AllZip IsNumberedLine texts log
@@ -110,11 +110,11 @@ numbered_log_tells_in_time log visit numbered_told written lines told_of_each =
 
 -- a number that was turned away and whose `E` is not written does not end with `E`, and never with a halt:
 no_end_after_busy : EndsWith (said busy ∷ []) (ended ∷ []) → ⊥
-no_end_after_busy (before, same) = let wrong = (same_front_and_last [] before (said busy) ended same).1 in cc wrong
+no_end_after_busy (before, same) = let wrong = (same_from_push [] before (said busy) ended same).1 in cc wrong
 
 no_halt_after_busy : (closed : Bool) → EndsWith (said busy ∷ (closing closed).lines) (said halt ∷ []) → ⊥
-no_halt_after_busy true (before, same) = let wrong = (same_front_and_last (said busy ∷ []) before ended (said halt) same).1 in cc wrong
-no_halt_after_busy false (before, same) = let wrong = (same_front_and_last [] before (said busy) (said halt) same).1 in cc wrong
+no_halt_after_busy true (before, same) = let wrong = (same_from_push (said busy ∷ []) before ended (said halt) same).1 in cc wrong
+no_halt_after_busy false (before, same) = let wrong = (same_from_push [] before (said busy) (said halt) same).1 in cc wrong
 
 -- a number is between sessions exactly where its visit is closed, and halted exactly where it ends with `S HALT`:
 closed_visit_is_between : (o : Option Visit) → IsClosedVisit o → visit_place o ≡ between

@@ -1,6 +1,7 @@
 -- Logs that end with a halt, bytes without an LF, and lines that are too long.
 use Rattle.std.proofs.Common.{◌≤◌, ◌+◌, inl, inr, ℕ, List, [], ◌∷◌, ◌++◌, length, refl, sym, subst}
 use Rattle.std.specs.List.{AllByRecursion, AllZip}
+use Rattle.std.proofs.lemmas.List.{same_from_push}
 use Rattle.scram_text.specs.Laws.{SpellsOneName, HasOneClientFirst}
 use Rattle.log_grammar.specs.Lines.{LogLine, IsLogLine, longest_log_line}
 use Rattle.log_grammar.specs.Bytes.{LacksLf, ended_by_lf, IsSplit}
@@ -15,7 +16,6 @@ use Rattle.log_grammar.proofs.lemmas.lines.Cuts.{one_split, whole_lines_are_spli
 use Rattle.log_grammar.proofs.lemmas.kinds.ShownByLines.{LinesWereRead, no_lines_were_read, read_lines_are_clean, end_is_cut, rest_is_cut, long_rest_is_no_line, long_text_at_fault}
 use Rattle.log_grammar.proofs.lemmas.kinds.ShownByLines.{last_line_at_fault}
 use Rattle.log_grammar.specs.Versions.{any_version, IsClean, IsWhy}
-use Rattle.scram_text.proofs.lemmas.ListEnds.{same_front_and_last}
 use Rattle.log_grammar.proofs.lemmas.ListEnds.{related_list_has_last, all_append, all_front, all_at}
 use Rattle.log_grammar.proofs.lemmas.kinds.AllVersions.{any_version_empty_is_unclean}
 
@@ -45,7 +45,7 @@ line_after_halt_is_at_fault once names classes accounts texts [] told text line 
     absurd (empty_log_is_not_halted accounts told begins)
 line_after_halt_is_at_fault once names classes accounts texts (first ∷ log) told text line whole begins =
     let (front, last, same, those, this) = related_list_has_last IsLogLine texts text ((first ∷ log) ++ line ∷ []) whole.0 in
-    let own = same_front_and_last (first ∷ log) front line last same in
+    let own = same_from_push (first ∷ log) front line last same in
     let are = subst (λ (ls : List LogLine). AllZip IsLogLine texts ls) (sym own.0) those in
     let is = subst (λ (l : LogLine). IsLogLine text l) (sym own.1) this in
     last_line_at_fault once names accounts texts first log halted told text line out_of_order

@@ -1,6 +1,7 @@
 -- A log is read in one way: its place and what was told in it follow from its lines. Its first lines are
 -- again lines that a log may begin with.
 use Rattle.std.proofs.Common.{◌≡◌, inl, inr, ℕ, zero, suc, ◌≤◌, List, [], ◌∷◌, ◌++◌, length, sym, ◌∙◌, ap, subst, arith}
+use Rattle.std.proofs.lemmas.List.{same_from_push}
 use Rattle.log_grammar.specs.Lines.{LogLine, header, said, heard, bad, gone, ended, mechs, cont, accepts, refuses, replies, halt, auth}
 use Rattle.log_grammar.specs.Lines.{auth_with, resp, abort, code, sync}
 use Rattle.log_grammar.specs.LoggedReply.{LoggedReply}
@@ -12,7 +13,7 @@ use Rattle.log_grammar.specs.state_machine.Steps.{FromWaitsCode, FromGotCode, Fr
 use Rattle.log_grammar.specs.state_machine.Steps.{IsTransition, told_at}
 use Rattle.log_grammar.specs.Begins.{Begins}
 use Rattle.log_grammar.proofs.lemmas.state_machine.LogSteps.{log_has_last_line}
-use Rattle.scram_text.proofs.lemmas.ListEnds.{empty_has_no_last, same_front_and_last}
+use Rattle.scram_text.proofs.lemmas.ListEnds.{empty_has_no_last}
 use Rattle.log_grammar.proofs.lemmas.ListEnds.{empty_has_no_element, length-last}
 
 -- a challenge is that of one account
@@ -131,7 +132,7 @@ lines_have_one_reading d one zero log p q told other short (inr s) (inr r) =
 lines_have_one_reading d one (suc n) log p q told other short (inr s) (inr r) =
     let a = log_has_last_line d log p told s in
     let b = log_has_last_line d log q other r in
-    let same = same_front_and_last a.lines b.lines a.line b.line (sym a.same ∙ b.same) in
+    let same = same_from_push a.lines b.lines a.line b.line (sym a.same ∙ b.same) in
     let shorter : length a.lines ≤ n = omega (arith, short, ap length a.same, length-last a.lines a.line) in
     let earlier = lines_have_one_reading d one n a.lines a.at b.at a.tells b.tells shorter a.begins
     (subst (λ (l : List LogLine). Begins d l b.at b.tells) (sym same.0) b.begins) in
@@ -149,5 +150,5 @@ pub shorter_log_begins : (d : Demands) (log : List LogLine) (line : LogLine) (p 
 shorter_log_begins d log line p told (inl none) = absurd (empty_has_no_last log line none.0)
 shorter_log_begins d log line p told (inr s) =
     let b = log_has_last_line d (log ++ line ∷ []) p told s in
-    let same = same_front_and_last log b.lines line b.line b.same in
+    let same = same_from_push log b.lines line b.line b.same in
     (b.at, b.tells, subst (λ (l : List LogLine). Begins d l b.at b.tells) (sym same.0) b.begins)

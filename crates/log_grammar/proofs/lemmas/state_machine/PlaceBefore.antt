@@ -1,5 +1,6 @@
 -- A log is read in one way, and had a place before its last line.
 use Rattle.std.proofs.Common.{◌≡◌, inl, inr, List, [], ◌∷◌, ◌++◌, length, reverse, sym, subst, arith}
+use Rattle.std.proofs.lemmas.List.{same_from_push}
 use Rattle.scram_text.specs.Laws.{SpellsOneName, HasOneClientFirst}
 use Rattle.log_grammar.specs.Lines.{LogLine}
 use Rattle.log_grammar.specs.LoggedReply.{LoggedReply}
@@ -8,7 +9,7 @@ use Rattle.log_grammar.specs.Demands.{Accounts, demands, AreReplies}
 use Rattle.log_grammar.specs.Begins.{Begins}
 use Rattle.log_grammar.specs.state_machine.Steps.{IsTransition, told_at}
 use Rattle.log_grammar.specs.laws.LogLaws.{HasLastTransition}
-use Rattle.scram_text.proofs.lemmas.ListEnds.{empty_has_no_last, same_front_and_last}
+use Rattle.scram_text.proofs.lemmas.ListEnds.{empty_has_no_last}
 use Rattle.log_grammar.proofs.lemmas.state_machine.LogSteps.{log_has_last_line}
 use Rattle.log_grammar.proofs.lemmas.state_machine.OneReading.{OneAccount, lines_have_one_reading}
 use Rattle.log_grammar.proofs.lemmas.demands.Challenges.{one_name, challenged_first_is_of_name}
@@ -35,7 +36,7 @@ log_has_last_transition accounts log line next all (inl none) = absurd (empty_ha
 log_has_last_transition accounts log line next all (inr s) =
     let d = demands accounts in
     let b = log_has_last_line d (log ++ line ∷ []) next all s in
-    let same = same_front_and_last log b.lines line b.line b.same in
+    let same = same_from_push log b.lines line b.line b.same in
     let this = sym same.1 in
     record {
       place = b.at;

@@ -1,7 +1,7 @@
 use Rattle.std.proofs.Common.{ℕ, List, subst, arith}
 use Rattle.base64.specs.GeneralPurpose.{IsBytes}
 use Rattle.scram_text.specs.Draft.{IsDraftOf}
-use Rattle.scram_text.proofs.lemmas.Composed.{without_proof_composed, without_proof_is_text}
+use Rattle.scram_text.proofs.lemmas.messages_composed.ClientFinal.{without_proof_composed, without_proof_is_text}
 use Rattle.scram_text.proofs.client_final.draft_of.Goals as goal
 
 pub returns-clause-draft : goal.returns-clause-draft

@@ -1,47 +1,43 @@
 use Rattle.std.proofs.Common.{ℕ, List, [], ◌∷◌, refl, arith, length-append}
 use Rattle.std.specs.Option.{option_copied}
 use Rattle.std.proofs.lemmas.Result.{err_from_is_err_and}
-use Rattle.scram_text.specs.Limits.{longest_channel, longest_nonce}
+use Rattle.scram_text.specs.Limits.{longest_channel}
 use Rattle.scram_text.specs.Parts.{parts_of_some}
 use Rattle.scram_text.specs.Messages.{ClientFinalParts}
-use Rattle.scram_text.specs.declared.fault.TextWhy.TheVariants.{Channel, Nonce, Proof}
-use Rattle.scram_text.proofs.lemmas.Places.{part_fault_is_fault, field_fits}
+use Rattle.scram_text.proofs.lemmas.Places.{field_fits}
 use Rattle.scram_text.proofs.lemmas.ClientFinal.{channel_fault, nonce_fault, extension_fault, proof_fault, client_final_spelled}
 use Rattle.scram_text.proofs.client_final.read_parts.Goals as goal
 
 pub returns-in_default-clause-fault : goal.returns-in_default-clause-fault
 returns-in_default-clause-fault c =
     let cut = c.in_ok-pieces.ensures.cut in
-    part_fault_is_fault longest_nonce (Channel ∷ Nonce ∷ []) (Proof ∷ []) c.args.message.now _ _ cut.short cut.utf8_text cut.cut_whole
-    (channel_fault _ _ _ _ c.in_default.ensures.none)
+    channel_fault c.args.message.now _ _ _ _ cut.short cut.utf8_text cut.cut_whole c.in_default.ensures.none
 
 pub returns-in_default-nonce_of-clause-fault : goal.returns-in_default-nonce_of-clause-fault
 returns-in_default-nonce_of-clause-fault c =
     let cut = c.in_ok-pieces.ensures.cut in
-    part_fault_is_fault longest_nonce (Channel ∷ Nonce ∷ []) (Proof ∷ []) c.args.message.now _ _ cut.short cut.utf8_text cut.cut_whole
-    (nonce_fault _ _ _ _ (field_fits 99 longest_channel _ _ c.in-Some.ensures.spelled c.in-Some.ensures.class)
-    c.in_default-nonce_of.ensures.none)
+    nonce_fault c.args.message.now _ _ _ _ cut.short cut.utf8_text cut.cut_whole
+    (field_fits 99 longest_channel _ _ c.in-Some.ensures.spelled c.in-Some.ensures.class) c.in_default-nonce_of.ensures.none
 
 pub returns-in_err-extensions-clause-fault : goal.returns-in_err-extensions-clause-fault
 returns-in_err-extensions-clause-fault c =
     let cut = c.in_ok-pieces.ensures.cut in
     let p = err_from_is_err_and c.from_residual-in_err-extensions.result c.from_residual-in_err-extensions.ensures.1 in
-    rw (p.1, p.2) (part_fault_is_fault longest_nonce (Channel ∷ Nonce ∷ []) (Proof ∷ []) c.args.message.now _ _ cut.short cut.utf8_text
-        cut.cut_whole
-    (extension_fault _ _ _ _ _ (field_fits 99 longest_channel _ _ c.in-Some.ensures.spelled c.in-Some.ensures.class)
+    rw (p.1, p.2) (extension_fault c.args.message.now _ _ _ _ cut.short cut.utf8_text cut.cut_whole _
+    (field_fits 99 longest_channel _ _ c.in-Some.ensures.spelled c.in-Some.ensures.class)
     (c.in-Some-nonce_of.nonce.now, c.in-Some-nonce_of.ensures.spelled, c.in-Some-nonce_of.ensures.class)
-    c.in_err-extensions.ensures.fault))
+    c.in_err-extensions.ensures.fault)
 
 pub returns-in_default-short_bytes_of-clause-fault : goal.returns-in_default-short_bytes_of-clause-fault
 returns-in_default-short_bytes_of-clause-fault c =
     let cut = c.in_ok-pieces.ensures.cut in
     let rest : List (List ℕ) = parts_of_some (option_copied c.in_ok-pieces.pieces.rest) in
     let count = rw cut.cut_whole at cut.count in
-    part_fault_is_fault longest_nonce (Channel ∷ Nonce ∷ []) (Proof ∷ []) c.args.message.now _ _ cut.short cut.utf8_text cut.cut_whole
-    (proof_fault _ _ _ rest _ (field_fits 99 longest_channel _ _ c.in-Some.ensures.spelled c.in-Some.ensures.class)
+    proof_fault c.args.message.now _ _ _ rest cut.short cut.utf8_text cut.cut_whole _
+    (field_fits 99 longest_channel _ _ c.in-Some.ensures.spelled c.in-Some.ensures.class)
     (c.in-Some-nonce_of.nonce.now, c.in-Some-nonce_of.ensures.spelled, c.in-Some-nonce_of.ensures.class)
     c.in_ok-extensions.ensures.found c.in_default-short_bytes_of.ensures.none
-    (omega (arith, count, length-append rest (c.in_ok-pieces.pieces.proof.now ∷ []))))
+    (omega (arith, count, length-append rest (c.in_ok-pieces.pieces.proof.now ∷ [])))
 
 pub returns-clause-found : goal.returns-clause-found
 returns-clause-found c =

@@ -1,7 +1,7 @@
 use Rattle.std.proofs.Common.{ℕ, List, subst}
 use Rattle.std.specs.Option.{option_copied}
 use Rattle.scram_text.specs.Draft.{IsDraftOf}
-use Rattle.scram_text.proofs.lemmas.Composed.{client_first_composed, written_is_client_first}
+use Rattle.scram_text.proofs.lemmas.messages_composed.ClientFirst.{client_first_composed, written_is_client_first}
 use Rattle.scram_text.proofs.client_first.draft_of.Goals as goal
 
 pub returns-clause-draft : goal.returns-clause-draft

@@ -22,7 +22,7 @@ pub returns-in_err-extensions-clause-fault : goal.returns-in_err-extensions-clau
 returns-in_err-extensions-clause-fault c =
     let cut = c.in_ok-pieces.ensures.cut in
     let p = err_from_is_err_and c.from_residual-in_err-extensions.result c.from_residual-in_err-extensions.ensures.1 in
-    rw (p.1, p.2) (extension_misfit (parts c.args.bare.now) _ _ _ cut.mext _ _ cut.mext_and_rest cut.index
+    rw (p.1, p.2) (extension_misfit (parts c.args.bare.now) _ _ _ cut.mext _ cut.mext_and_rest cut.index _
     (c.in-Some.name, c.in-Some.ensures.spelled, c.in-Some.ensures.class)
     (c.in-Some-nonce_of.nonce.now, c.in-Some-nonce_of.ensures.spelled, c.in-Some-nonce_of.ensures.class)
     c.in_err-extensions.ensures.fault)

@@ -13,14 +13,14 @@ pub returns-in_err-authzid-clause-fault : goal.returns-in_err-authzid-clause-fau
 returns-in_err-authzid-clause-fault c =
     let cut = c.in_ok-pieces.ensures.cut in
     let p = err_from_is_err_and c.from_residual-in_err-authzid.result c.from_residual-in_err-authzid.ensures.1 in
-    rw (p.1, p.2) (authzid_fault c.args.message.now _ _ _ _ cut.short cut.utf8_text cut.cut cut.enough c.in-Some.ensures.class
+    rw (p.1, p.2) (authzid_fault c.args.message.now _ _ _ cut.short cut.utf8_text cut.cut cut.enough _ c.in-Some.ensures.class
     c.in_err-authzid.ensures.fault)
 
 pub returns-in_err-bare-clause-fault : goal.returns-in_err-bare-clause-fault
 returns-in_err-bare-clause-fault c =
     let cut = c.in_ok-pieces.ensures.cut in
     let p = err_from_is_err_and c.from_residual-in_err-bare.result c.from_residual-in_err-bare.ensures.1 in
-    rw (p.1, p.2) (bare_fault c.args.message.now _ _ _ _ cut.short cut.utf8_text cut.cut cut.enough c.in-Some.ensures.class
+    rw (p.1, p.2) (bare_fault c.args.message.now _ _ _ cut.short cut.utf8_text cut.cut cut.enough _ c.in-Some.ensures.class
     (c.in_ok-authzid.authzid, c.in_ok-authzid.ensures.spelled, c.in_ok-authzid.ensures.class) c.in_err-bare.ensures.fault)
 
 pub returns-clause-found : goal.returns-clause-found

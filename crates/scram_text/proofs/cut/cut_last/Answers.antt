@@ -10,4 +10,4 @@ whole_lacks_comma text at none lacks = rw none at lacks
 pub returns-clause-whole : goal.returns-clause-whole
 returns-clause-whole c =
     ap length (no_comma_one_part c.args.text.now (whole_lacks_comma c.args.text.now c.loop-at.at (omega arith)
-        c.loop-at.invariant.no_comma))
+    c.loop-at.invariant.no_comma))

@@ -6,4 +6,4 @@ pub returns-in_default-clause-none : goal.returns-in_default-clause-none
 returns-in_default-clause-none c = λ spells.
     let long : 64 < length (take c.in_ok-size.size c.decode.new.buffer) = search rules in
     long_base64_spells_no_field 64 66 c.args.text.now (take c.in_ok-size.size c.decode.new.buffer) c.in_ok-size.ensures.field
-        c.in_ok-size.ensures.text long spells
+    c.in_ok-size.ensures.text long spells

@@ -16,7 +16,7 @@ use Rattle.scram_text.proofs.lemmas.ListEnds.{nonempty_has_last}
 use Rattle.scram_text.proofs.lemmas.Places.{AllFit, first_part_fits, extensions_and_rest_fit}
 use Rattle.scram_text.proofs.lemmas.Decided.{some_or_none}
 use Rattle.scram_text.proofs.lemmas.ClientFinal.{client_final_parts, parts_client_final, client_final_fit, client_final_places_unfold}
-use Rattle.scram_text.proofs.lemmas.Composed.{joined_last}
+use Rattle.scram_text.proofs.lemmas.messages_composed.Joined.{joined_last}
 use Rattle.scram_text.proofs.lemmas.messages_decided.Fitting.{IsFittingText, decided_fitting_text}
 
 -- the parts of client-final, joined by commas, are its text
@@ -90,7 +90,7 @@ decided_client_final text =
     decided_equivalent (IsFittingText longest_nonce 3 (places (Channel ∷ Nonce ∷ []) (Proof ∷ []) (length (parts text))) text)
     ((p : ClientFinalParts) × IsClientFinal text p)
     (λ r. fitting_text_is_client_final text (parts text) refl r.enough r.short r.utf8_text r.fit)
-      (λ (p, is). client_final_is_fitting text p is)
+    (λ (p, is). client_final_is_fitting text p is)
     (decided_fitting_text longest_nonce 3 (places (Channel ∷ Nonce ∷ []) (Proof ∷ []) (length (parts text))) text)
 
 -- the law: whether a text is client-final is decided

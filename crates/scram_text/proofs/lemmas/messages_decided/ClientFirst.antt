@@ -16,7 +16,7 @@ use Rattle.scram_text.specs.declared.fault.TextWhy.{TextWhy}
 use Rattle.scram_text.specs.declared.fault.TextWhy.TheVariants.{Flag, Authzid, Name, Nonce}
 use Rattle.scram_text.proofs.lemmas.Places.{AllFit, first_part_fits, fitting_are_extensions}
 use Rattle.scram_text.proofs.lemmas.MextAndRest.{mext_and_rest_lengths, mext_and_rest_nonempty, some_mext_and_rest}
-use Rattle.scram_text.proofs.lemmas.Composed.{joined_cons}
+use Rattle.scram_text.proofs.lemmas.messages_composed.Joined.{joined_cons}
 use Rattle.scram_text.proofs.lemmas.Decided.{some_or_none}
 use Rattle.scram_text.proofs.lemmas.ClientFirst.{client_first_rest_places_unfold as first_later_places, parts_client_first, header_fit, header_places_unfold}
 use Rattle.scram_text.proofs.lemmas.ClientFirst.{bare_mext_and_rest, bare_fit, header_pieces_regroup}

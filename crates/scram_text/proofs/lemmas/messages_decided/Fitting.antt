@@ -19,7 +19,7 @@ pub record IsFittingText (most : ℕ) (least : ℕ) (later : List TextWhy) (text
 pub decided_fitting_text : (most least : ℕ) (later : List TextWhy) (text : List ℕ) → Decided (IsFittingText most least later text)
 decided_fitting_text most least later text =
     decided_equivalent ((length text ≤ longest_message) × (IsUtf8Text text × ((least ≤ length (parts text))
-        × AllFit most later (parts text))))
+    × AllFit most later (parts text))))
     (IsFittingText most least later text)
     (λ h. record { short = h.0; utf8_text = h.1.0; enough = h.1.1.0; fit = h.1.1.1 }) (λ r. (r.short, (r.utf8_text, (r.enough, r.fit))))
     (decided_both _ _ (decided_le (length text) longest_message) (decided_both _ _ (decided_text text)

@@ -1,7 +1,7 @@
 use Rattle.std.proofs.Common.{ℕ, List, subst}
 use Rattle.scram_text.specs.Shown.{verifier_or_error_of}
 use Rattle.scram_text.specs.Draft.{IsDraftOf}
-use Rattle.scram_text.proofs.lemmas.Composed.{server_final_composed, written_is_server_final}
+use Rattle.scram_text.proofs.lemmas.messages_composed.ServerFinal.{server_final_composed, written_is_server_final}
 use Rattle.scram_text.proofs.server_final.draft_of.Goals as goal
 
 pub returns-clause-draft : goal.returns-clause-draft
@@ -13,5 +13,5 @@ returns-clause-draft c =
 pub returns-clause-is_message : goal.returns-clause-is_message
 returns-clause-is_message c = λ short.
     written_is_server_final (verifier_or_error_of c.args.outcome.now) c.args.extensions.now c.outcome_draft-draft.ensures.utf8_text
-        c.requires
+    c.requires
     short

@@ -1,4 +1,4 @@
-use Rattle.scram_text.proofs.lemmas.Composed.{error_is_text}
+use Rattle.scram_text.proofs.lemmas.messages_composed.ServerFinal.{error_is_text}
 use Rattle.scram_text.proofs.server_final.error.Goals as goal
 
 pub returns-clause-utf8_text : goal.returns-clause-utf8_text

@@ -10,17 +10,16 @@ use Rattle.scram_text.proofs.server_final.read_parts.Goals as goal
 pub returns-in_err-result-clause-fault : goal.returns-in_err-result-clause-fault
 returns-in_err-result-clause-fault c =
     let p = err_from_is_err_and c.from_residual-in_err-result.result c.from_residual-in_err-result.ensures.1 in
-    rw (p.1, p.2) (outcome_fault c.args.message.now c.cut.result.0.now _ _ c.in_ok-checked_part_count.ensures.short
-    c.in_ok-checked_part_count.ensures.utf8_text
-    c.cut.ensures.parts c.in_err-result.ensures.fault)
+    rw (p.1, p.2) (outcome_fault c.args.message.now c.cut.result.0.now _ c.in_ok-checked_part_count.ensures.short
+    c.in_ok-checked_part_count.ensures.utf8_text c.cut.ensures.parts _ c.in_err-result.ensures.fault)
 
 pub returns-in_err-extensions-clause-fault : goal.returns-in_err-extensions-clause-fault
 returns-in_err-extensions-clause-fault c =
     let p = err_from_is_err_and c.from_residual-in_err-extensions.result c.from_residual-in_err-extensions.ensures.1 in
-    rw (p.1, p.2) (extension_fault c.args.message.now c.cut.result.0.now _ _ c.in_ok-checked_part_count.ensures.short
-    c.in_ok-checked_part_count.ensures.utf8_text
-    c.cut.ensures.parts (outcome_part_fits c.cut.result.0.now
-    (verifier_or_error_of c.in_ok-result.result) c.in_ok-result.ensures.spelled c.in_ok-result.ensures.class)
+    rw (p.1, p.2) (extension_fault c.args.message.now c.cut.result.0.now _ c.in_ok-checked_part_count.ensures.short
+    c.in_ok-checked_part_count.ensures.utf8_text c.cut.ensures.parts _
+    (outcome_part_fits c.cut.result.0.now (verifier_or_error_of c.in_ok-result.result) c.in_ok-result.ensures.spelled
+    c.in_ok-result.ensures.class)
     c.in_err-extensions.ensures.fault)
 
 pub returns-clause-found : goal.returns-clause-found

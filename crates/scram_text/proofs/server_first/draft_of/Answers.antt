@@ -1,7 +1,7 @@
 use Rattle.std.proofs.Common.{ℕ, List, subst, arith}
 use Rattle.base64.specs.GeneralPurpose.{IsBytes}
 use Rattle.scram_text.specs.Draft.{IsDraftOf}
-use Rattle.scram_text.proofs.lemmas.Composed.{server_first_composed, written_is_server_first}
+use Rattle.scram_text.proofs.lemmas.messages_composed.ServerFirst.{server_first_composed, written_is_server_first}
 use Rattle.scram_text.proofs.server_first.draft_of.Goals as goal
 
 pub returns-clause-draft : goal.returns-clause-draft

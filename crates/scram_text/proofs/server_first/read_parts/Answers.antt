@@ -29,7 +29,7 @@ pub returns-in_err-extensions-clause-fault : goal.returns-in_err-extensions-clau
 returns-in_err-extensions-clause-fault c =
     let cut = c.in_ok-pieces.ensures.cut in
     let p = err_from_is_err_and c.from_residual-in_err-extensions.result c.from_residual-in_err-extensions.ensures.1 in
-    rw (p.1, p.2) (extension_fault c.args.message.now _ _ _ _ cut.mext _ _ cut.short cut.utf8_text cut.mext_and_rest cut.index
+    rw (p.1, p.2) (extension_fault c.args.message.now _ _ _ _ cut.mext _ cut.short cut.utf8_text cut.mext_and_rest cut.index _
     (c.in-Some.nonce.now, c.in-Some.ensures.spelled, c.in-Some.ensures.class)
     (field_fits 115 64 _ _ c.in-Some-salt_of.ensures.spelled c.in-Some-salt_of.ensures.class)
     (_, c.in-Some-count_of.ensures.spelled, (c.in-Some-count_of.count, refl, c.in-Some-count_of.ensures.class))

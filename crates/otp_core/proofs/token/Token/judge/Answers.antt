@@ -7,7 +7,7 @@ returns-in-One c =
     let sent = OneText c.in-One.text.now in
     rw (← c.self.view_is, c.in-One.is)
     (due_reply_is_attempt _ c.args.moment sent c.judge_one.result _ c.seconds.ensures.range c.judge_one.ensures.due
-      c.judge_one.ensures.state
+    c.judge_one.ensures.state
     c.judge_one.ensures.range)
 
 pub returns-in-Two : goal.returns-in-Two
@@ -15,5 +15,5 @@ returns-in-Two c =
     let sent = TwoTexts c.in-Two.first.now c.in-Two.second.now in
     rw (← c.self.view_is, c.in-Two.is)
     (due_reply_is_attempt _ c.args.moment sent c.judge_pair.result _ c.seconds.ensures.range c.judge_pair.ensures.due
-      c.judge_pair.ensures.state
+    c.judge_pair.ensures.state
     c.judge_pair.ensures.range)

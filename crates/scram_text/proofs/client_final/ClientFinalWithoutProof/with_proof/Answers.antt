@@ -1,7 +1,7 @@
 use Rattle.std.proofs.Common.{ℕ, List, subst, arith}
 use Rattle.base64.specs.GeneralPurpose.{IsBytes}
 use Rattle.scram_text.specs.Draft.{IsDraftOf}
-use Rattle.scram_text.proofs.lemmas.Composed.{with_proof_composed, with_proof_is_client_final}
+use Rattle.scram_text.proofs.lemmas.messages_composed.ClientFinal.{with_proof_composed, with_proof_is_client_final}
 use Rattle.scram_text.proofs.client_final.ClientFinalWithoutProof.with_proof.Goals as goal
 
 pub returns-clause-draft : goal.returns-clause-draft

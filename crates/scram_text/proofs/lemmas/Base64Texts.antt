@@ -2,12 +2,12 @@
 use Rattle.std.proofs.Common.{◌≡◌, ℕ, zero, suc, ◌+◌, ◌*◌, ◌/◌, ◌%◌, ◌<◌, Bool, true, List, [], ◌∷◌, length, replicate, refl, arith}
 use Rattle.std.specs.Prelude.{slice_index}
 use Rattle.std.specs.List.{list_all}
+use Rattle.std.proofs.lemmas.Bool.{and_parts}
 use Rattle.std.proofs.lemmas.List.Folds.{list_all-append}
 use Rattle.base64.specs.Engines.{standard}
 use Rattle.base64.specs.GeneralPurpose.{IsBytes}
 use Rattle.base64.specs.Rfc4648.{encode_symbols, padding_len}
 use Rattle.scram_text.specs.Base64Field.{base64}
-use Rattle.std.proofs.lemmas.Bool.{and_parts}
 
 -- where all symbols of a list pass a test, the one at each index does
 symbol_at_index_passes_test : (test : ℕ → Bool) (symbols : List ℕ) (k : ℕ) → k < length symbols → list_all test symbols ≡ true
@@ -31,25 +31,22 @@ symbols_pass_test : (test : ℕ → Bool) → list_all test table ≡ true → (
 unfolding encode_symbols
 symbols_pass_test test all [] fits = refl
 symbols_pass_test test all (a ∷ []) fits =
-    let a_fits : a < 256 = fits 0 in
-    rw (standard_symbol_passes_test test all (a / 4) (omega (arith, a_fits)), standard_symbol_passes_test test all (a % 4 * 16)
-        (omega arith)) refl
-symbols_pass_test test all (a ∷ b ∷ []) fits =
-    let a_fits : a < 256 = fits 0 in
-    let b_fits : b < 256 = fits 1 in
     rw (
-      standard_symbol_passes_test test all (a / 4) (omega (arith, a_fits)),
-      standard_symbol_passes_test test all (a % 4 * 16 + b / 16) (omega (arith, b_fits)),
+      standard_symbol_passes_test test all (a / 4) (omega (arith, fits 0)),
+      standard_symbol_passes_test test all (a % 4 * 16)
+          (omega arith),
+    ) refl
+symbols_pass_test test all (a ∷ b ∷ []) fits =
+    rw (
+      standard_symbol_passes_test test all (a / 4) (omega (arith, fits 0)),
+      standard_symbol_passes_test test all (a % 4 * 16 + b / 16) (omega (arith, fits 1)),
       standard_symbol_passes_test test all (b % 16 * 4) (omega arith),
     ) refl
 symbols_pass_test test all (a ∷ b ∷ c ∷ rest) fits =
-    let a_fits : a < 256 = fits 0 in
-    let b_fits : b < 256 = fits 1 in
-    let c_fits : c < 256 = fits 2 in
     rw (
-      standard_symbol_passes_test test all (a / 4) (omega (arith, a_fits)),
-      standard_symbol_passes_test test all (a % 4 * 16 + b / 16) (omega (arith, b_fits)),
-      standard_symbol_passes_test test all (b % 16 * 4 + c / 64) (omega (arith, c_fits)),
+      standard_symbol_passes_test test all (a / 4) (omega (arith, fits 0)),
+      standard_symbol_passes_test test all (a % 4 * 16 + b / 16) (omega (arith, fits 1)),
+      standard_symbol_passes_test test all (b % 16 * 4 + c / 64) (omega (arith, fits 2)),
       standard_symbol_passes_test test all (c % 64) (omega arith),
     ) (symbols_pass_test test all rest (λ i. fits (suc (suc (suc i)))))
 
