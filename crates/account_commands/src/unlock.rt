@@ -14,7 +14,7 @@ use std::io::Write;
 use std::time::Clock;
 
 /// Judges the options in their order, holds and reads the book, sets the failures of the account's token
-/// to 0, and saves the book, also where they were 0. Faults: BadValue, CannotRead or CannotWrite where the
+/// to 0, and saves the book, even where they were 0 before. Faults: BadValue, CannotRead or CannotWrite where the
 /// book can't be held, BadBook, NoSuchAccount, NoToken and CannotWrite, in this order, CannotWriteOutput
 /// and NoMemory.
 pub fn unlock<R, O, E>(

@@ -251,7 +251,7 @@ pub fn read_without_lock<R: Files + AllocGlobal>(rt: &R, path: &str) -> io::Resu
     read_all(rt, &mut file)
 }
 
-// Reads the rest of a file. FileTooLarge where that is more than a book may have.
+// Reads the rest of a file. FileTooLarge where that is more bytes than a book may have.
 fn read_all<R: AllocGlobal, F: Read>(rt: &R, file: &mut F) -> io::Result<Vec<u8>>
     ensures most { IfOk result (λ bytes. vec_len bytes ≤ MOST_BOOK) }
     ensures all { IfOk result (λ bytes. IfSome (F.remaining file.old) (λ all. bytes.items ≡ all)) }

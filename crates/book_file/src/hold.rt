@@ -23,7 +23,7 @@ const OWNER_ONLY: u32 = 0o600;
 /// The file of a book, open and locked.
 #[derive(Drop)]
 pub struct LockedBook<F> {
-    /// The file.
+    /// The open file, which this run has locked.
     pub file: F,
 
     /// Its metadata when this run took hold of it, or put it in place.
@@ -217,7 +217,7 @@ where
     Ok(claimed?.then_some(file))
 }
 
-// Locks a file. Returns true where this run now holds it and it still has its name.
+// Locks a file that was opened at `path`. Returns whether this run now holds it, and the path still names it.
 fn claim<R>(rt: &R, file: &R::File, path: &str) -> io::Result<bool>
 where
     R: Files,

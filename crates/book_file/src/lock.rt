@@ -6,7 +6,7 @@ use std::os::unix::fs::fchown;
 /// An open file that can be locked, by one run at a time, and given to an owner.
 pub trait BookFileExt {
     /// Takes the exclusive advisory lock. Returns whether it did; false where another opening of the
-    /// file holds it. The system frees the lock when the file is closed, also where a run is killed.
+    /// file holds it. The system frees the lock when the file is closed, even where a run is killed.
     /// An error where the system can't lock the file.
     fn try_lock_now(&self) -> io::Result<bool>;
 

@@ -6,7 +6,7 @@ use std::io::ErrorKind;
 use std::path::Path;
 use std::{fs, io};
 
-/// The paths of a book, with symbolic links followed: they are the same for a book and for the links to it.
+/// The paths of a book, with symbolic links followed, so that a book and each link to it have the same paths.
 #[derive(Drop)]
 pub struct BookPaths {
     /// The book's file.

@@ -183,7 +183,7 @@ fn the_place_of_a_new_book_is_held(rt: HostRuntime) -> Result<(), Fail> {
     Ok(fs::remove_dir_all(&rt, folder.as_str())?)
 }
 
-// While one run holds a book, no other does, also after a save; and then another may.
+// While one run holds a book, no other can, even after a save. Once it lets go, another can.
 #[test]
 fn a_book_is_held(rt: HostRuntime) -> Result<(), Fail> {
     let folder = folder::make(&rt, "lock")?;
@@ -231,7 +231,7 @@ fn the_next_text_of_a_killed_run(rt: HostRuntime) -> Result<(), Fail> {
     Ok(fs::remove_dir_all(&rt, folder.as_str())?)
 }
 
-// No save is made where the book was moved away, also where a link there leads to it.
+// No save is made where the book was moved away, even where a link in its place leads to it.
 #[test]
 fn a_book_that_was_moved(rt: HostRuntime) -> Result<(), Fail> {
     let folder = folder::make(&rt, "moved")?;

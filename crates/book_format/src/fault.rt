@@ -12,7 +12,7 @@ pub enum BookWhy {
     #[error("not a TOML document")]
     Toml = 60,
 
-    /// `format` is missing, or is not 1.
+    /// `format` is missing, or is anything but the number 1.
     #[error("`format` is not 1")]
     Format = 61,
 

@@ -118,7 +118,7 @@ fn top_of(table: &Table) -> Result<Top<'_>, BookWhy>
     let decoy_count = number_at(table, "decoy_count", 1, most, BookWhy::Count)?;
     let accounts = table_if_any(table, "accounts")?;
     Ok(Top {
-        decoy_key: key_of(&decoy_key),
+        decoy_key: decoy_key_of(&decoy_key),
         decoy_count: decoy_count as u32,
         accounts,
     })
@@ -135,7 +135,7 @@ fn is_format(table: &Table) -> bool
 }
 
 // The decoy key, of its 32 bytes.
-fn key_of(bytes: &Tag) -> [u8; 32]
+fn decoy_key_of(bytes: &Tag) -> [u8; 32]
     requires { length bytes.now.items ≡ 32 }
     ensures { result ≡ bytes.now.items }
 {

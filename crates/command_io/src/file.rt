@@ -17,7 +17,8 @@ pub fn open_file<R: Files + AllocGlobal>(rt: &R, path: &str) -> Result<R::File, 
     }
 }
 
-/// The fault of a file at `path` that can't be read: CannotRead, or NoMemory, also where there is none for the path.
+/// The fault of a file at `path` that can't be read: NoMemory where memory ran out, in the read or for a copy of the path, else
+/// CannotRead.
 #[tactic(auto, using(crate::proofs::lemmas::HeldFaults::failed_read_leaves_file_unread))]
 pub fn read_fault(alloc: Global, path: &str, error: &io::Error) -> Fault
     ensures { IsFileUnread path.now result }

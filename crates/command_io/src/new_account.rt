@@ -10,13 +10,13 @@ use std::alloc::Global;
 /// The name of a new account, and what its keys are made of, but for the salts.
 #[derive(Drop)]
 pub struct NewAccount {
-    /// The name.
+    /// The name of the account.
     pub name: PlainName,
 
-    /// The password.
+    /// The password that its keys are made of.
     pub password: Password,
 
-    /// The iteration count.
+    /// The iteration count of its keys, at least 1.
     pub count: u32,
 
     ghost at_least: { 1 ≤ count },

@@ -20,10 +20,10 @@ use std::time::Clock;
 /// A book as it was when its file was read; others may have changed the file since.
 #[derive(Drop)]
 pub struct ReadBook {
-    /// What the text says.
+    /// The book that the text is of.
     pub book: Book,
 
-    /// All of the file.
+    /// The whole text of the file.
     pub text: String,
 }
 

@@ -1,5 +1,5 @@
-//! What a command on the command line needs: the values of options, judged, and the faults that end a command
-//! without its answer, with their texts and exit statuses, and how a text from outside is shown.
+//! What every command needs: `value` judges the values of options, `Fault` is what ends a command without its answer, with its
+//! text and exit status, and `TerminalText` shows a text that came from outside.
 //!
 //! ```rust
 //! use command_line::{Fault, OptionName, value};

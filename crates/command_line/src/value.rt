@@ -75,7 +75,7 @@ pub fn name(text: &str) -> Result<PlainName, Fault>
     plain_name(OptionName::Name, text)
 }
 
-/// The name to act as, of this text: 1 to 255 bytes from space to tilde. Answers BadValue for any other text.
+/// The name to act as, as this text gives it: 1 to 255 bytes from space to tilde. Answers BadValue for any other text.
 pub fn authzid(text: &str) -> Result<PlainName, Fault>
     ensures ok { IfOk result (λ name. name ≡ text.now) }
     ensures err { IfErr result (λ fault. (fault ≡ Fault.BadValue OptionName.As)
@@ -93,7 +93,7 @@ fn plain_name(option: OptionName, text: &str) -> Result<PlainName, Fault>
     PlainName::new(text.as_bytes()).ok_or(Fault::BadValue(option))
 }
 
-/// What one end adds to the nonce, of this text: 1 to 256 bytes from `!` to tilde, without a comma. Answers BadValue of
+/// What one end adds to the nonce, as this text gives it: 1 to 256 bytes from `!` to tilde, without a comma. Answers BadValue of
 /// the option for any other text.
 pub fn nonce(option: OptionName, text: &str) -> Result<NoncePart, Fault>
     ensures ok { IfOk result (λ nonce. nonce ≡ text.now) }

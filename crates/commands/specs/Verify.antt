@@ -89,7 +89,7 @@ module _ (IsStored : List ℕ → Type 0) where
       → (new : VerifyRun) → Type 0
   AnswersFirstLines path name moment input old fault new =
       ((last : List (List ℕ)) × (all_passed : Bool) × LinesInTurn (AnswersLine name moment) input last old all_passed new
-        × IsInputUnread fault)
+      × IsInputUnread fault)
       ⊎ ((line : List ℕ) × (last : List (List ℕ)) × (all_passed : Bool) × (middle : VerifyRun)
       × LinesInTurn (AnswersLine name moment) input (line ∷ last) old all_passed middle
       × FailsAtLine path name moment line middle fault new)

@@ -45,7 +45,7 @@ pub(crate) fn audit_line(
     }
 }
 
-/// The line that is printed for a fault of a log. Running out of memory is a fault of the command, and has no line.
+/// The line that is printed for a fault of a log. That memory ran out is a fault of the command, and has no line: NoMemory.
 pub(crate) fn fault_line(alloc: Global, fault: &AuditFault) -> Result<Vec<u8>, Fault>
     ensures ok { IfOk result (λ line. (line.items ≡ printed_fault fault.now) × (fault.now ≢ AuditFault.NoMemory)) }
     ensures err { IfErr result (λ fault. fault ≡ Fault.NoMemory) }

@@ -7,7 +7,8 @@ use command_line::Fault;
 use sasl_desk::{DeskFault, ServeFault};
 use std::alloc::Global;
 
-/// The fault of a book that can't be saved to the file of this path: CannotWrite, or NoMemory where there is none for the path.
+/// The fault of a book that can't be saved to the file of this path: CannotWrite, or NoMemory where memory runs out for a copy of
+/// the path.
 pub fn save_fault(alloc: Global, path: &str) -> Fault
     ensures { IsFileUnwritten path.now result }
 {
@@ -20,7 +21,7 @@ pub fn save_fault(alloc: Global, path: &str) -> Fault
 /// The fault of a command whose desk or hall refuses a call. Halted is CannotWrite of the book: a command asks
 /// nothing more of a desk or a hall that has halted, so Halted comes from `begin` alone, where the save failed.
 /// NoNumber can't come here, since an input has fewer lines than there are numbers; it is CannotWrite too.
-pub fn fault_of_desk(alloc: Global, path: &str, fault: DeskFault) -> Fault
+pub fn desk_fault(alloc: Global, path: &str, fault: DeskFault) -> Fault
     requires { fault ≢ DeskFault.Unwritable }
     ensures unwritten { IsFileUnwritten path.now result }
     ensures memory { fault ≡ DeskFault.NoMemory → result ≡ Fault.NoMemory }
@@ -34,7 +35,7 @@ pub fn fault_of_desk(alloc: Global, path: &str, fault: DeskFault) -> Fault
 
 /// The fault of a command whose desk does not serve a turn. WriteFault is NoMemory: the desk writes to an `OverWrite<Vec<u8>>`, which
 /// fails only where memory runs out.
-pub fn fault_of_serving(alloc: Global, path: &str, fault: ServeFault) -> Fault
+pub fn serve_fault(alloc: Global, path: &str, fault: ServeFault) -> Fault
     requires { fault ≢ ServeFault.Unwritable }
     ensures { IsFaultOfServing path.now fault result }
 {

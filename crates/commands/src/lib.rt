@@ -4,7 +4,7 @@
 //! runtime that are handed to it. So tests can hand in files and streams that fail.
 //!
 //! The order in which a command tells its faults, and what it asks at a terminal, are tested: no clause says them. A call of a law
-//! does nothing at run time: it hands the proof what the law says.
+//! does nothing at run time: it tells the proof what the law says.
 #![tactic(auto)]
 
 mod audit;

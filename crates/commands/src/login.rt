@@ -277,7 +277,7 @@ where
     Ok(())
 }
 
-// Reads the first line, which is the password. BadPassword also where there is no line.
+// Reads the first line, which is the password. BadPassword where it is none, and where there is no line.
 fn read_password<I: BufRead>(alloc: Global, lines: &mut Lines<'_, I>) -> Result<Password, Fault>
     ensures ok { IfOk result (λ password. (has_lf : Bool)
         × TakesLine (I.remaining lines.old.input.now) password has_lf (I.remaining lines.new.input.now)) }

@@ -9,7 +9,7 @@ use std::time::{Clock, Instant};
 /// The seconds in which nothing is shown.
 const QUIET_SECONDS: u64 = 2;
 
-/// Shows someone who waits at a terminal how many lines and bytes were read: on one line, after two seconds, anew each second.
+/// Shows someone who waits at a terminal how many lines and bytes were read: on one line, after two seconds and then once a second.
 #[derive(Drop)]
 pub struct Progress<'a, R, E> {
     clock: &'a R,

@@ -35,13 +35,13 @@ impl Clock for Ticking {
     }
 }
 
-/// How much a writer takes: so many writes whole, and of the next so many bytes.
+/// How much a writer takes before it fails.
 #[derive(Clone, Copy)]
 pub struct Room {
-    /// The writes.
+    /// How many writes it takes whole.
     pub writes: u64,
 
-    /// The bytes of the next.
+    /// How many bytes it takes after them.
     pub bytes: usize,
 }
 
@@ -51,7 +51,7 @@ pub const AMPLE: Room = Room {
     bytes: 0,
 };
 
-// A writer with so much room left.
+// A writer that has this much room left, and then fails.
 #[derive(Drop)]
 struct Device<'a> {
     taken: &'a mut Vec<u8>,
@@ -78,7 +78,7 @@ impl Write for Device<'_> {
 }
 
 impl Service {
-    /// Serves this client, at a clock whose first moment is 1, where the wire to it and the log have so much room; an error
+    /// Serves this client, at a clock whose first moment is 1, where the wire to it and the log have this much room; an error
     /// where a session is open.
     pub fn serve<C: Source>(
         &mut self,

@@ -21,7 +21,7 @@ pub struct Service {
     pub log: Vec<u8>,
 }
 
-/// The text of a book whose user has a token with the secret of RFC 4226, appendix D, after so many failures and with this counter
+/// The text of a book whose user has a token with the secret of RFC 4226, appendix D, after this many failures and with this counter
 /// next: three failures lock it; it looks three counters ahead, and eight for two codes in a row. An error where memory runs out.
 pub fn book_at(alloc: Global, failures: u64, next: u64) -> Result<String, Fail> {
     Ok(format!(in alloc;
@@ -105,7 +105,7 @@ impl Service {
     }
 
     /// An error unless, after the published login, its client was told this and the log has that; an audit finds the log clean,
-    /// and that so many codes passed.
+    /// and that `codes_passed` codes passed.
     pub fn check_after_login(
         &self,
         alloc: Global,

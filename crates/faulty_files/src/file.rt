@@ -5,7 +5,7 @@ use std::fs::{File, Metadata, OpenFile, Permissions};
 use std::io;
 use std::io::{Read, Seek, SeekFrom, Write};
 
-/// An open file of such a runtime.
+/// An open file of a `Faulty` runtime.
 #[derive(Drop)]
 pub struct FaultyFile<'a> {
     pub(crate) file: File,

@@ -1,4 +1,4 @@
-//! The runtime.
+//! A runtime that notes its calls, and fails at one of them.
 use crate::calls::Calls;
 use crate::file::FaultyFile;
 use std::alloc::{Alloc, Allocator, Global};

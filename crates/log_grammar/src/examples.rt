@@ -123,7 +123,7 @@ pub fn lines_end_with_lf()
 {}
 
 /// After whole lines that a log of version 1 may begin with, bytes without an LF are a log that is cut, up to 6202 bytes, and
-/// then no line; and a whole line of more bytes is none. A part of a line after a halt is such a cut too.
+/// then no line; and a whole line of more bytes is none. A part of a line after a halt is cut in the same way.
 pub fn lines_have_6202_bytes_at_most()
     ensures part { (accounts : Accounts) (texts : List (List ℕ)) (log : List LogLine) (place : Place) (told : List LoggedReply)
         (rest : List ℕ)

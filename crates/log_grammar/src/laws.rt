@@ -1,4 +1,4 @@
-//! Laws of lines and logs, for proofs that rest on this crate: each is the promise of a function that does nothing.
+//! Laws of lines and logs, for proofs that rest on this crate. Each is the promise of a function that does nothing.
 ghost use Rattle.log_grammar.specs.laws.LineLaws.{EscapesOneMessage, EachTextIsAtMostOneLine, EachTextIsAtMostOneLogLine, LineIsDecided};
 ghost use Rattle.log_grammar.specs.laws.LineLaws.{LogLineIsDecided, WrittenLinesAreRead, LinesLackLf, BytesAreSplit, BytesAreSplitOneWay};
 ghost use Rattle.log_grammar.specs.laws.LogLaws.{GoesOnByALine, GoesOnByNoOther, LogsHaveOneReading, FrontsBeginWithFronts};

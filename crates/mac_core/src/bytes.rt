@@ -3,7 +3,7 @@ ghost use Rattle.std.specs.Prelude.{◌≡◌, ◌≤◌, length};
 
 use arrayvec::ArrayVec;
 
-/// A copy of all of `bytes`, of which there are at most `N`.
+/// A copy of `bytes`, of which there are at most `N`.
 pub fn copy_of<const N: usize>(bytes: &[u8]) -> ArrayVec<u8, N>
     requires { length bytes.now ≤ N }
     ensures { result.items ≡ bytes.now }

@@ -16,7 +16,7 @@ const MOST_BLOCK: usize = 128;
 // A padded key: K0 of FIPS 198-1, section 4.
 type Block = ArrayVec<u8, MOST_BLOCK>;
 
-// The key with zeros after it up to a block, where it is no longer than one.
+// The key, filled up with zeros to the length of a block. It is no longer than that.
 fn zero_filled(key: &[u8], block: usize) -> Block
     requires fits { length key.now ≤ block }
     requires most { block ≤ MOST_BLOCK }
@@ -29,7 +29,7 @@ fn zero_filled(key: &[u8], block: usize) -> Block
     filled
 }
 
-// K0; a key longer than a block is hashed first.
+// K0 of FIPS 198-1, section 4: the key, filled up with zeros to a block. A key longer than a block is hashed first.
 fn padded_key<H: HashFn>(key: &[u8]) -> Block
     ensures { result.items ≡ padded_key H.digest_of H.BLOCK key.now }
 {

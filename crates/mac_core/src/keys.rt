@@ -23,7 +23,7 @@ pub fn xor(a: &Tag, b: &Tag) -> Tag
     bytes
 }
 
-// U(1) of Hi: the MAC of the salt and INT(1).
+// U1 of Hi (RFC 5802, section 2.2): the MAC of the salt followed by INT(1).
 fn first_round<H: HashFn>(key: &PreparedKey<H>, salt: &[u8]) -> Tag
     ensures value { (str : List ℕ) → IsPreparedFor H.holds H.digest_of H.BLOCK key.now str
         → result.items ≡ hmac H.digest_of H.BLOCK str (salt.now ++ int_one) }

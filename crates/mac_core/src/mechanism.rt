@@ -114,8 +114,8 @@ impl Mechanism {
         }
     }
 
-    /// The keys of `password` under `salt` and `count`, with the mechanism's hash function. `count`
-    /// is at least 1.
+    /// The keys of `password` under `salt` and `count`, with the mechanism's hash function (RFC 5802, section 3): 20 bytes each in
+    /// SCRAM-SHA-1, 32 in SCRAM-SHA-256. It takes time in proportion to `count`, which is at least 1.
     pub fn scram_keys(self, password: &[u8], salt: &[u8], count: u32) -> ScramKeys
         requires { 1 ≤ count }
         ensures stored { result.stored.items ≡ password_stored_key_by self password.now salt.now count }

@@ -38,8 +38,8 @@ impl Code {
     }
 }
 
-// The truncation of a tag: the four bytes from its offset on as a number, without the top bit.
-fn number_of(tag: &[u8]) -> u32
+// The dynamic truncation of a tag (RFC 4226, section 5.3): the four bytes from its offset on, as a number without the top bit.
+fn truncated_number(tag: &[u8]) -> u32
     requires { 20 ≤ length tag.now }
     ensures { result ≡ truncated tag.now }
 {
@@ -47,7 +47,7 @@ fn number_of(tag: &[u8]) -> u32
     u32::from_be_bytes([tag[at], tag[at + 1], tag[at + 2], tag[at + 3]]) & 0x7fff_ffff
 }
 
-// The last `count` decimal digits of a number.
+// The last `count` decimal digits of a number in ASCII, with leading zeros.
 fn digits_of(mut number: u32, count: usize) -> ArrayVec<u8, 8>
     requires { count ≤ most_digits }
     ensures { result.items ≡ last_digits count number }
@@ -67,7 +67,7 @@ pub fn truncate(tag: &Tag, digits: Digits) -> Code
     ensures { result ≡ code_of digits tag.now.items }
 {
     let count = digits.count();
-    let number = number_of(tag.as_slice()) % 10u32.pow(u32::from(count));
+    let number = truncated_number(tag.as_slice()) % 10u32.pow(u32::from(count));
     Code {
         digits: digits_of(number, usize::from(count)),
     }

@@ -107,7 +107,7 @@ impl<S: BookStore> Keeper<S> {
     }
 }
 
-/// A moment is in its range by its type; the proof alone needs this.
+/// A law: a moment is in its range by its type. Only a proof needs it.
 pub(crate) fn moment_is_in_range(moment: Moment)
     ensures { IsMoment moment }
 {

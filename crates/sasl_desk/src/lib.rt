@@ -5,7 +5,7 @@
 //! lines of one client, hands them to a desk, and writes its answers. `Hall` is a keeper and up to 64 sessions at a time, with
 //! one log for all.
 //!
-//! A call of a law does nothing at run time: it hands the proof what the law says.
+//! A call of a law does nothing at run time: it tells the proof what the law says.
 #![tactic(auto)]
 
 mod clock;

@@ -24,7 +24,7 @@ const USUAL_LEAST: u32 = 4096;
 /// The greatest iteration count that a client usually accepts: a proof then takes it a second or two.
 const USUAL_MOST: u32 = 1_000_000;
 
-/// The client's end of a login, which `Client::start` begins. No value of it is needed.
+/// The client's end of a login. It is only a name for `Client::start`, which begins one: nothing needs a value of it.
 #[derive(Clone, Copy, Debug, PartialEq, Eq)]
 pub struct Client;
 

@@ -11,7 +11,7 @@ ghost use Rattle.scram_text.specs.Messages.{ClientFirstParts, IsClientFirst};
 ghost use Rattle.scram_text.specs.Shown.{flag_text};
 ghost use Rattle.scram_ends.specs.Opening.{IsNameOf, IsAuthzidOf, IsUnbound, IsTakenUp};
 ghost use Rattle.scram_ends.specs.First.{IsRefusedWith};
-ghost use Rattle.scram_ends.specs.TakenFirst.{ShowsAcceptedFirst};
+ghost use Rattle.scram_ends.specs.TakenFirst.{ShowsTakenFirst};
 ghost use Rattle.scram_ends.specs.Faults.{first_fault_number};
 ghost use Rattle.scram_ends.specs.declared.first.FirstFault.TheVariants.{Text};
 
@@ -73,7 +73,7 @@ pub fn first_name(client_first: &[u8]) -> Result<PlainName, FirstFault>
 
 /// What a server takes from a client-first message. Slices are slices of the message.
 #[derive(Drop)]
-pub(crate) struct AcceptedFirst<'a> {
+pub(crate) struct TakenFirst<'a> {
     pub(crate) header: &'a [u8],
     pub(crate) bare: &'a [u8],
     pub(crate) nonce: &'a [u8],
@@ -83,9 +83,9 @@ pub(crate) struct AcceptedFirst<'a> {
 
 /// Reads the message, and refuses it as `first_name` does.
 #[tactic(auto, using(scram_text::proofs::lemmas::FirstUnmet::found_is_first))]
-pub(crate) fn take_up(client_first: &[u8]) -> Result<AcceptedFirst<'_>, FirstFault>
+pub(crate) fn take_up(client_first: &[u8]) -> Result<TakenFirst<'_>, FirstFault>
     ensures ok { IfOk result (λ taken. (first : ClientFirstParts) × IsClientFirst client_first.now first
-        × ShowsAcceptedFirst taken first) }
+        × ShowsTakenFirst taken first) }
     ensures nonce { IfOk result (λ taken. length taken.nonce.now ≤ longest_nonce_part) }
     ensures header { IfOk result (λ taken. length taken.header.now ≤ longest_message) }
     ensures err { IfErr result (λ fault. IsRefusedWith client_first.now fault) }
@@ -100,7 +100,7 @@ pub(crate) fn take_up(client_first: &[u8]) -> Result<AcceptedFirst<'_>, FirstFau
     let Some((name, authzid)) = names_of(&message.name, &message.authzid) else {
         return Err(FirstFault::OutsideProfile);
     };
-    Ok(AcceptedFirst {
+    Ok(TakenFirst {
         header: message.header,
         bare: message.bare,
         nonce: message.nonce,

@@ -2,8 +2,7 @@
 use mac_core::ScramKeys;
 use scram_text::{PlainName, Salt};
 
-/// What a server keeps of a name for one mechanism: an account's keys, or a decoy. It is an "entry", in the words of the
-/// definitions.
+/// What a server keeps of a name for one mechanism: an account's keys, or a decoy. The definitions in `specs/` call it an entry.
 #[derive(Drop)]
 pub struct KeysView<'a> {
     /// The salt that the server sends.

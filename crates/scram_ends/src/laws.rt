@@ -1,5 +1,4 @@
-//! Laws of logins, for proofs that rest on this crate: the promises of functions that do
-//! nothing.
+//! Laws of logins, for proofs that rest on this crate. Each is the promise of a function that does nothing.
 ghost use Rattle.scram_ends.specs.Laws.{AtMostOneVerdictIsDue, SomeVerdictIsDue, AcceptsExactlyValid, RefusedIsNotTakenUp};
 
 /// At most one verdict is due to a text that comes as client-final.

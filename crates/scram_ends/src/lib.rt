@@ -17,9 +17,9 @@
 //! ```
 #![tactic(auto)]
 
+mod bytes;
 mod client;
 mod first;
-mod fixed;
 mod honest;
 mod keys_view;
 pub mod laws;
@@ -27,7 +27,7 @@ mod recorded;
 mod server;
 mod signing;
 mod verdict;
-mod written;
+mod write;
 
 pub use client::{Authenticated, Client, ClientFault, ClientOne, ClientTwo, Limits, OneRefused};
 pub use first::{FirstFault, first_name};

@@ -12,8 +12,8 @@ ghost use Rattle.scram_ends.specs.Standing.{StandsFor};
 ghost use Rattle.scram_ends.specs.Faults.{recorded_fault_number};
 ghost use Rattle.scram_ends.specs.declared.recorded.RecordedFault.TheVariants.{First};
 
+use crate::bytes::are_same;
 use crate::first::{FirstFault, take_up};
-use crate::fixed::are_same;
 use crate::keys_view::KeysView;
 use crate::server::{ServerWait, wait_for};
 use mac_core::Mechanism;

@@ -27,12 +27,12 @@ ghost use Rattle.scram_ends.specs.First.{IsRefusedWith, IsChallengeTo};
 ghost use Rattle.scram_ends.specs.TakenFirst.{ShowsOpening};
 ghost use Rattle.scram_ends.specs.Faults.{first_refused_number};
 
-use crate::first::{AcceptedFirst, FirstFault, take_up};
-use crate::fixed::{are_same, concatenated};
+use crate::bytes::{are_same, concatenated};
+use crate::first::{FirstFault, TakenFirst, take_up};
 use crate::keys_view::KeysView;
 use crate::signing::Signing;
 use crate::verdict::{Judged, Refusal, Verdict};
-use crate::written::{write_challenge, write_judgement};
+use crate::write::{write_challenge, write_judgement};
 use arrayvec::ArrayVec;
 use mac_core::{Mechanism, copy_of};
 use scram_text::{
@@ -124,7 +124,7 @@ pub fn server_first<A: Allocator>(
 pub(crate) fn wait_for(
     mechanism: Mechanism,
     view: &KeysView<'_>,
-    taken: &AcceptedFirst<'_>,
+    taken: &TakenFirst<'_>,
     nonce: &[u8],
     challenge: &[u8],
 ) -> ServerWait
@@ -180,7 +180,7 @@ impl ServerWait {
     /// that holds decides: the text is no client-final message (InvalidEncoding), an extension is named `m`
     /// (ExtensionsNotSupported), the nonce is not exactly the one that was sent (OtherNonce), the channel field is
     /// not exactly the gs2-header of client-first (Channel), the account has no keys or the proof is not by them
-    /// (InvalidProof), the name to act as is not allowed to the account (NotAuthorised). Else the login is
+    /// (InvalidProof), the name to act as is not allowed to the account (NotAuthorised). Otherwise the login is
     /// accepted, with the server's signature. A spent value refuses as InvalidProof. It takes no memory.
     pub fn judge(self, client_final: &[u8]) -> Judged
         ensures due { (l : Challenged) → StandsFor self l → IsDue l client_final.now (due_of result) }

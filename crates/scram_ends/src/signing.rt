@@ -8,7 +8,7 @@ ghost use Rattle.scram_ends.specs.Entry.{Keys, keys_of};
 ghost use Rattle.scram_ends.specs.Auth.{auth_to_challenge, server_signature, IsProof};
 ghost use Rattle.scram_ends.specs.Standing.{IsSigning};
 
-use crate::fixed::are_same;
+use crate::bytes::are_same;
 use mac_core::{Mechanism, ScramKeys, ScramMac, Tag, copy_of, xor};
 
 /// StoredKey, and the two MACs of AuthMessage as far as it is known.
@@ -34,8 +34,8 @@ impl Signing {
         Signing {
             mechanism,
             stored: copy_of(keys.stored.as_slice()),
-            client: running(mechanism, &keys.stored, bare, challenge),
-            server: running(mechanism, &keys.server, bare, challenge),
+            client: running_mac(mechanism, &keys.stored, bare, challenge),
+            server: running_mac(mechanism, &keys.server, bare, challenge),
         }
     }
 
@@ -64,7 +64,12 @@ impl Signing {
 }
 
 /// A MAC that has taken in AuthMessage as far as client-final-message-without-proof.
-pub(crate) fn running(mechanism: Mechanism, key: &Tag, bare: &[u8], challenge: &[u8]) -> ScramMac
+pub(crate) fn running_mac(
+    mechanism: Mechanism,
+    key: &Tag,
+    bare: &[u8],
+    challenge: &[u8],
+) -> ScramMac
     ensures { IsScramMac mechanism result key.now.items
         (bare.now ++ byte "," ∷ [] ++ challenge.now ++ byte "," ∷ []) }
 {

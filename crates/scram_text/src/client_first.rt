@@ -25,7 +25,7 @@ ghost use Rattle.scram_text.specs.Appended.{IsAppended, LacksRoom};
 use crate::draft::MessageDraft;
 use crate::fault::{TextFault, TextWhy, WriteFault};
 use crate::name::{PlainName, SaslText};
-use crate::secret::NoncePart;
+use crate::values::NoncePart;
 use crate::{LONGEST_NONCE_PART, class, cut, field};
 use std::alloc::Allocator;
 
@@ -52,7 +52,7 @@ pub struct ClientFirst<'a> {
     /// The text after the header: client-first-message-bare.
     pub bare: &'a [u8],
 
-    /// The flag.
+    /// The gs2-cbind-flag: whether the client binds a channel.
     pub flag: Flag<'a>,
 
     /// The name to act as, of `a=`, where there is one.
@@ -134,9 +134,9 @@ fn pieces_of(message: &[u8]) -> Result<Pieces<'_>, TextFault>
             why: TextWhy::Missing,
         });
     }
-    let (flag, authzid, rest) = cut::two_of(message);
+    let (flag, authzid, rest) = cut::cut_two(message);
     let Some(bare) = rest else { unreachable!() };
-    if parts < cut::least_of(bare, 4) {
+    if parts < cut::least_part_count(bare, 4) {
         return Err(TextFault {
             part: parts,
             why: TextWhy::Missing,
@@ -235,7 +235,7 @@ fn bare_pieces_of(bare: &[u8]) -> Result<BarePieces<'_>, TextFault>
     ensures fault { IfErr result (λ f. IsBareMisfit (parts bare.now) f) }
 {
     let after = cut::mext_of(bare, 2)?;
-    let (name, nonce, rest) = cut::two_of(after.rest);
+    let (name, nonce, rest) = cut::cut_two(after.rest);
     Ok(BarePieces {
         has_mext: after.has_mext,
         index: after.index,

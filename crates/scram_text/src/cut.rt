@@ -16,7 +16,8 @@ ghost use Rattle.scram_text.specs.Pieces.{most_parts, is_attribute, IsExtensionM
 use crate::fault::{TextFault, TextWhy};
 use crate::{LONGEST_MESSAGE, class, field};
 
-/// The number of parts of a message. TooLong where it has over 2048 bytes, NotText where it is no text.
+/// The number of parts of a message. Answers 1 TooLong where it has more than 2048 bytes, else 2 NotText where it has a NUL or is
+/// not UTF-8.
 pub(crate) fn checked_part_count(message: &[u8]) -> Result<usize, TextFault>
     ensures short { IfOk result (λ _. length message.now ≤ longest_message) }
     ensures utf8_text { IfOk result (λ _. IsUtf8Text message.now) }
@@ -63,13 +64,13 @@ pub(crate) fn cut(text: &[u8]) -> (&[u8], Option<&[u8]>)
     ensures rest_len { IfSome result.1 (λ rest. length rest.now ≤ length text.now) }
     ensures whole { IfSome result.1 (λ rest. text.now ≡ result.0.now ++ byte "," ∷ rest.now) }
 {
-    match comma(text) {
+    match comma_index(text) {
         None => (text, None),
         Some(at) => (&text[..at], Some(&text[at + 1..])),
     }
 }
 
-fn comma(text: &[u8]) -> Option<usize>
+fn comma_index(text: &[u8]) -> Option<usize>
     ensures { result ≡ position is_comma text.now }
 {
     text.iter().position(|byte| *byte == b',')
@@ -135,7 +136,8 @@ pub(crate) struct Extensions<'a> {
     pub(crate) mandatory: bool,
 }
 
-/// The extensions of a text, where there is one. Its first part has this index in the message.
+/// Reads the extensions at the end of a message: `text` is what follows its fixed parts, where anything does. Its first part has
+/// the index `first` in the message. Answers 12 Extension for the first part that is no attr-val.
 pub(crate) fn extensions_of(text: Option<&[u8]>, first: usize) -> Result<Extensions<'_>, TextFault>
     requires few { first + length (parts_of_some (option_copied text)) < 10000 }
     ensures found { OnOk result (AreExtensions (parts_of_some (option_copied text.entry))) }
@@ -151,12 +153,12 @@ pub(crate) fn extensions_of(text: Option<&[u8]>, first: usize) -> Result<Extensi
             mandatory: false,
         });
     };
-    let mandatory = attributes(text, first)?;
+    let mandatory = check_extensions(text, first)?;
     Ok(Extensions { text, mandatory })
 }
 
 // Checks that each part is an attr-val, and returns whether one is named `m`.
-fn attributes(text: &[u8], first: usize) -> Result<bool, TextFault>
+fn check_extensions(text: &[u8], first: usize) -> Result<bool, TextFault>
     requires few { first + length (parts text.now) < 10000 }
     ensures found { OnOk result (AreExtensions (parts text.now)) }
     ensures mandatory { IfOk result (λ mandatory. mandatory ≡ have_mandatory (parts text.now)) }
@@ -181,7 +183,7 @@ fn attributes(text: &[u8], first: usize) -> Result<bool, TextFault>
 }
 
 /// The first two parts, and the text after them where there is one.
-pub(crate) fn two_of(text: &[u8]) -> (&[u8], &[u8], Option<&[u8]>)
+pub(crate) fn cut_two(text: &[u8]) -> (&[u8], &[u8], Option<&[u8]>)
     requires { 2 ≤ length (parts text.now) }
     ensures parts { parts text.now ≡ result.0.now ∷ result.1.now ∷ parts_of_some (option_copied result.2) }
     ensures first_len { length result.0.now ≤ length text.now }
@@ -204,7 +206,7 @@ pub(crate) fn begins_with_mext(text: &[u8]) -> bool
 
 /// The least number of parts of a message that needs `fixed` parts besides reserved-mext: one more where it has a reserved-mext. `text`
 /// is the message from the place of reserved-mext on.
-pub(crate) fn least_of(text: &[u8], fixed: usize) -> usize
+pub(crate) fn least_part_count(text: &[u8], fixed: usize) -> usize
     requires { fixed < 10 }
     ensures { result ≡ length (places_with_mext (parts text.now) []) + fixed }
 {
@@ -228,7 +230,8 @@ pub(crate) struct AfterMext<'a> {
     pub(crate) index: usize,
 }
 
-/// Reads reserved-mext, "m=" and a value, where there is one. The text's first part has this index.
+/// Reads reserved-mext, `m=` and a value, where there is one. The text's first part has this index in the message. Answers
+/// 6 Mandatory where the value is empty.
 pub(crate) fn mext_of(text: &[u8], index: usize) -> Result<AfterMext<'_>, TextFault>
     requires few { index < 10 }
     requires enough { is_named (byte "m") (first_of (parts text.now)) ≡ true

@@ -99,7 +99,7 @@ impl TextFault {
     }
 }
 
-/// Why a message is not written. The vector that it was to be appended to is unchanged.
+/// Why a message is not written. The vector to which it would have been appended is unchanged.
 #[derive(Clone, Copy, Debug, PartialEq, Eq, Error)]
 pub enum WriteFault {
     /// An argument is outside its class.

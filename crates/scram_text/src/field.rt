@@ -10,7 +10,7 @@ ghost use Rattle.scram_text.specs.Parts.{IsAttrVal, IsValue, IsCount, SpellsCoun
 
 use crate::name::SaslText;
 use crate::number::decimal;
-use crate::secret::Salt;
+use crate::values::Salt;
 use crate::{LONGEST_CHANNEL, MOST_COUNT, class, cut};
 use arrayvec::ArrayVec;
 use base64::engine::general_purpose::STANDARD;
@@ -51,7 +51,7 @@ pub(crate) fn value_of(part: &[u8], letter: u8) -> Option<&[u8]>
     if value.is_empty() { None } else { Some(value) }
 }
 
-/// Whether this is one or more value-chars, in a text.
+/// Whether this is one or more value-chars, where it is already known to be UTF-8 without a NUL.
 pub(crate) fn is_value(value: &[u8]) -> bool
     ensures { IsTrue result ↔ IsValue value.now }
 {
@@ -97,7 +97,7 @@ pub(crate) fn channel_of(part: &[u8]) -> Option<ArrayVec<u8, LONGEST_CHANNEL>>
     ensures class { IfSome result (λ channel. IsField longest_channel channel.items) }
 {
     let text = cut::headed(part, b'c')?;
-    long_field(text)
+    channel_bytes(text)
 }
 
 /// The bytes of a part that is a letter, `=` and the base64 of 1 to 64 bytes.
@@ -120,7 +120,7 @@ pub(crate) fn salt_of(part: &[u8]) -> Option<Salt>
     Salt::new(bytes.as_slice())
 }
 
-fn long_field(text: &[u8]) -> Option<ArrayVec<u8, LONGEST_CHANNEL>>
+fn channel_bytes(text: &[u8]) -> Option<ArrayVec<u8, LONGEST_CHANNEL>>
     requires { length text.now ≤ longest_message }
     ensures none { IfNone result (SpellsField longest_channel text.now → ⊥) }
     ensures spelled { IfSome result (λ field. text.now ≡ base64 field.items) }

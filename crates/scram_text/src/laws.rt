@@ -1,5 +1,4 @@
-//! Laws of the grammar, for proofs that rest on this crate: each is the promise of a function that
-//! does nothing.
+//! Laws of the grammar, for proofs that rest on this crate. Each is the promise of a function that does nothing.
 ghost use Rattle.scram_text.specs.Laws.{HasUsualBase64};
 ghost use Rattle.scram_text.specs.Laws.{PartsAreUtf8, SpellsOneName, NameIsDecided, HasOneClientFirst};
 ghost use Rattle.scram_text.specs.Laws.{ClientFirstIsDecided, HasOneServerFirst, ServerFirstIsDecided, HasOneClientFinal};

@@ -31,9 +31,9 @@ mod field;
 pub mod laws;
 mod name;
 mod number;
-mod secret;
 mod server_final;
 mod server_first;
+mod values;
 
 pub use client_final::{
     ClientFinal, ClientFinalWithoutProof, read_client_final, write_client_final,
@@ -43,9 +43,9 @@ pub use draft::Draft;
 pub use fault::{TextFault, TextWhy, WriteFault};
 pub use name::{PlainName, SaslText, write_name};
 pub use number::decimal;
-pub use secret::{NoncePart, Password, Salt};
 pub use server_final::{FinalResult, ServerFinal, read_server_final, write_server_final};
 pub use server_first::{ServerFirst, read_server_first, write_server_first};
+pub use values::{NoncePart, Password, Salt};
 
 /// The most bytes of a message.
 pub const LONGEST_MESSAGE: usize = 2048;

@@ -154,7 +154,7 @@ fn unescape(text: &[u8]) -> Option<(u8, &[u8])>
     }
 }
 
-// Whether this is 1*(value-safe-char / "=2C" / "=3D"), in a text.
+// Whether this is 1*(value-safe-char / "=2C" / "=3D"), where it is already known to be UTF-8 without a NUL.
 fn is_saslname(spelled: &[u8]) -> bool
     ensures { IsTrue result ↔ IsSaslName spelled.now }
 {

@@ -137,13 +137,13 @@ pub fn write_server_final<A: Allocator>(
         IsErrOf result WriteFault.NoMemory → IsServerFinal (server_final_text p) p
         × LacksRoom out.old (server_final_text p) }
 {
-    if !is_tellable(&outcome) || !cut::are_extensions(extensions) {
+    if !is_writable(&outcome) || !cut::are_extensions(extensions) {
         return Err(WriteFault::Unwritable);
     }
     draft_of(&outcome, extensions).append_to(out)
 }
 
-fn is_tellable(outcome: &FinalResult<'_>) -> bool
+fn is_writable(outcome: &FinalResult<'_>) -> bool
     ensures { IsTrue result ↔ CanBeVerifierOrError (verifier_or_error_of outcome.now) }
 {
     match outcome {

@@ -17,7 +17,7 @@ ghost use Rattle.scram_text.specs.Appended.{IsAppended, LacksRoom};
 
 use crate::draft::MessageDraft;
 use crate::fault::{TextFault, TextWhy, WriteFault};
-use crate::secret::Salt;
+use crate::values::Salt;
 use crate::{LONGEST_NONCE, LONGEST_SALT, class, cut, field};
 use std::alloc::Allocator;
 
@@ -30,7 +30,7 @@ pub struct ServerFirst<'a> {
     /// The nonce, 1 to 512 printable characters.
     pub nonce: &'a [u8],
 
-    /// The salt.
+    /// The salt that the client makes its keys with, 1 to 64 bytes.
     pub salt: Salt,
 
     /// The iteration count, 1 to 4294967295.
@@ -107,14 +107,14 @@ fn pieces_of(message: &[u8]) -> Result<Pieces<'_>, TextFault>
     ensures fault { IfErr result (λ f. IsServerFirstFault message.now f) }
 {
     let parts = cut::checked_part_count(message)?;
-    if parts < cut::least_of(message, 3) {
+    if parts < cut::least_part_count(message, 3) {
         return Err(TextFault {
             part: parts,
             why: TextWhy::Missing,
         });
     }
     let after = cut::mext_of(message, 0)?;
-    let (nonce, salt, rest) = cut::two_of(after.rest);
+    let (nonce, salt, rest) = cut::cut_two(after.rest);
     let Some(rest) = rest else { unreachable!() };
     let (count, rest) = cut::cut(rest);
     Ok(Pieces {

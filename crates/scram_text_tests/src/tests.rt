@@ -432,7 +432,7 @@ fn classes(rt: HostRuntime) {
     );
 }
 
-// `front`, so many letters, and `back`.
+// `front`, then `letters` letters, then `back`.
 fn long(alloc: Global, front: &[u8], letters: usize, back: &[u8]) -> Result<Vec<u8>, Fail> {
     let mut message = Vec::from_slice(alloc, front)?;
     message.extend_from_slice(vec![in alloc; b'A'; letters]?.as_slice())?;
@@ -447,7 +447,7 @@ enum Kind {
     ClientFinal,
 }
 
-// The fault of a message with `front`, so many letters, and `back`.
+// The fault of a message of `front`, then `letters` letters, then `back`.
 fn fault_of_long(
     alloc: Global,
     kind: Kind,

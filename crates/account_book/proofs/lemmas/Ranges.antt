@@ -57,7 +57,7 @@ pub set_value_keeps_ranges : (test : List ℕ → Bool) (es : List (List ℕ × 
 set_value_keeps_ranges test [] account h k = tt
 set_value_keeps_ranges test (e ∷ es) account h k =
     either_list_is_in_range (test e.0) ((e.0, account) ∷ es) (e ∷ set_value test es account) (k, h.1)
-        (h.0, set_value_keeps_ranges test es account h.1 k)
+    (h.0, set_value_keeps_ranges test es account h.1 k)
 
 -- accounts remain in their ranges with one more that is in its ranges
 pub insert_entry_keeps_ranges : (cmp : List ℕ → List ℕ → Ordering) (es : List (List ℕ × AccountFields)) (name : List ℕ)

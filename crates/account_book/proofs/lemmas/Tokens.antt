@@ -168,4 +168,4 @@ tokens_go_back old name token next has =
     (with_changed_is_set_value old name (with_token next) account owned.1)
     ∙ ap (λ (es : List (List ℕ × AccountFields)). record old { accounts = es })
     (set_value-set_value (is_at (name_cmp name)) old.accounts x (with_token token x)
-      ∙ own_token_keeps_accounts old.accounts name account token owned.1 own)
+    ∙ own_token_keeps_accounts old.accounts name account token owned.1 own)

@@ -85,7 +85,7 @@ fn made_keys(mechanism: Mechanism, password: &Password, salt: &Salt, count: u32)
     }
 }
 
-// The elements of a slice are bytes by their type; the proof alone needs this.
+// A law: the elements of a slice are bytes by their type. Only the proof needs it.
 fn are_bytes(bytes: &[u8])
     ensures { IsBytes bytes.now }
 {

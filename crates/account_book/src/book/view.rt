@@ -12,7 +12,8 @@ use mac_core::{HSha256, Mechanism};
 use scram_ends::KeysView;
 use scram_text::{PlainName, Salt};
 
-/// The bytes of a decoy's salt, and so of each salt that is made for an account: by another length clients could tell the two apart.
+/// The length in bytes of a decoy's salt, and so of each salt that is made for an account: by another length a client could tell
+/// the two apart.
 pub const SALT_LEN: usize = 16;
 
 impl Book {

@@ -23,7 +23,7 @@ fn moment(rt: &impl Abort) -> Moment {
     Moment::new(5).expect(rt, "a moment")
 }
 
-// A book whose accounts have such a token each.
+// A book of two accounts, each with this token.
 fn two_tokens(rt: &(impl Abort + AllocGlobal)) -> Result<Book, Fail> {
     let mut book = two_accounts(rt)?;
     assert!(rt; book.put_token(&name(rt, b"user"), token()?));

@@ -37,7 +37,7 @@ pub failed_saving_has_reason : {File : Type 0} (bytes_of : File → Option (List
     → IsNameTakenIn bytes_of this name fault ⊎ CannotBeChanged bytes_of path fault
 failed_saving_has_reason bytes_of path name text this book fault read other =
     name_taken_or_book_unchangeable bytes_of path name this book (account_at book name) fault refl (inr (text, read))
-        (λ unwritten. unwritten) other
+    (λ unwritten. unwritten) other
 
 -- a name that is taken in a book which is new or was read is taken in one that was read: a new book has no accounts
 book_with_name_was_read : {File : Type 0} (bytes_of : File → Option (List ℕ)) (old new : Option (List ℕ)) (name : List ℕ)

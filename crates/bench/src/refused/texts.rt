@@ -132,7 +132,7 @@ fn appended(alloc: Global, kind: &str, text: &[u8], out: &mut Vec<u8>) -> Option
     }
 }
 
-// Appends as `appended` does, and once more where it answered 99 and appended nothing. How often it did that; None where it has
+// Appends as `appended` does, and again where it answered 99 and appended nothing. How often it did that; None where it has
 // another answer.
 fn written(alloc: Global, kind: &str, text: &[u8], out: &mut Vec<u8>) -> Option<u32> {
     for refused in [0, 1] {

@@ -112,4 +112,4 @@ first_fault_is_read demands fault (Ok x) follows first =
 first_fault_is_read demands fault (Err own) follows first =
     ap (λ demand. Err demand.fault)
     (one_first_unmet (λ demand. IsTrue demand.met) demands (must false own) (must false fault) (judged_fault_is_first demands own follows)
-      first)
+    first)

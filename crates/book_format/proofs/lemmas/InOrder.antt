@@ -41,7 +41,7 @@ inserted_account_goes_last (a ∷ accounts) [] e more account h same = absurd sa
 inserted_account_goes_last (a ∷ accounts) (d ∷ done) e more account h same =
     let above : slice_cmp nat_cmp (string_bytes e.0) (string_bytes d.0) ≡ Greater =
     nat_list_cmp_total.antisymm (string_bytes e.0) (string_bytes d.0) ∙ ap ordering_reverse
-        (key_is_below_middle string_cmp d.0 done e more h.0) in
+    (key_is_below_middle string_cmp d.0 done e more h.0) in
     rw (same.0, above) (ap (λ rest. (string_bytes d.0, a.1) ∷ rest) (inserted_account_goes_last accounts done e more account h.1 same.1))
-        ∙ ap
+    ∙ ap
     (λ key. (key, a.1) ∷ (accounts ++ (string_bytes e.0, account) ∷ [])) (sym same.0)

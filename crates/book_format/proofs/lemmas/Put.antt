@@ -49,7 +49,7 @@ put_account_goes_last [] e more h = refl
 put_account_goes_last (first ∷ done) e more h =
     let above : slice_cmp nat_cmp e.0 first.0
     ≡ Greater =
-        nat_list_cmp_total.antisymm e.0 first.0 ∙ ap ordering_reverse (key_is_below_middle (slice_cmp nat_cmp) first.0 done e more h.0) in
+    nat_list_cmp_total.antisymm e.0 first.0 ∙ ap ordering_reverse (key_is_below_middle (slice_cmp nat_cmp) first.0 done e more h.0) in
     rw above (ap (member first.0 (table (written account first.1))) (put_account_goes_last done e more h.1))
 
 -- Look-ups.

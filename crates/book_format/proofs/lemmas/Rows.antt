@@ -84,7 +84,7 @@ pub read_table_stands : {T : Type 0} (t : Table T) → IsExactTable t → (ms : 
 unfolding read_table
 read_table_stands t sound ms x marks h =
     let (u, known, rest) = each_step_gives_value (pass_or (has_only (is_among (table_keys t)) ms) Key) (λ u. read_rows t.rows t.make ms) x
-        h in
+    h in
     let (vs, has, same) = read_rows_stand t.rows t.make ms x sound.rows rest in
     let fields = sym (sound.gives vs) ∙ ap (fields_of t.rows) same in
     record {
@@ -98,7 +98,7 @@ pub table_is_read : {T : Type 0} (t : Table T) → IsExactTable t → (ms : Memb
 unfolding read_table
 table_is_read t sound ms x h =
     rw h.known (rows_are_read t.rows t.make ms (fields_of t.rows x) sound.rows (rows_hold_fields t.rows ms x h.rows)
-        ∙ ap Ok (sound.keeps x))
+    ∙ ap Ok (sound.keeps x))
 
 -- rows are read as their demands are met
 rows_follow : {T : Type 0} (X : Type 0) (rows : List (Row T)) (make : Maker rows X) (ms : Members) → AreExactRows rows

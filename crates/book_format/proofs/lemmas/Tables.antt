@@ -165,7 +165,7 @@ entry_follows : (key : List ℕ) (d : Data) → Follows (account_demands key d) 
 unfolding named_account_of account_demands
 entry_follows key d =
     named (is_plain_name key) key (table_in account d) (λ name fields. (name, fields)) ((in_table account).demands d)
-        (account_in_table_is_exact.follows d)
+    (account_in_table_is_exact.follows d)
   where
     named : {A B : Type 0} (plain : Bool) (name : List ℕ) (rest : Result A BookWhy) (make : List ℕ → A → B)
         (demands : List (Demand BookWhy)) → Follows demands rest
@@ -287,7 +287,7 @@ read_top_stands : (ms : Members) (top : TopFields) → top_of ms ≡ Ok top → 
 unfolding top_of
 read_top_stands ms top h =
     let (u, format, read) = each_step_gives_value (pass_or (is_one (option_and_then as_integer (get_member (codes "format") ms))) Format) _
-        top h in
+    top h in
     let is_format = value_is_one (get_member (codes "format") ms) (test_was_passed _ Format u format) in
     read_table_stands document document_is_exact ms top (is_format, tt) read
 
@@ -308,7 +308,7 @@ pub book_tree_is_read : (ms : Members) (book : BookFields) → IsBookTree ms boo
 unfolding book_of top_of
 book_tree_is_read ms book h =
     rw (h.top.marks.0, table_is_read document document_is_exact ms _ h.top, optional_accounts_are_read h.named book.accounts h.accounts)
-        refl
+    refl
 
 -- the document's own keys are read as the demands on them are met
 top_follows : (ms : Members) → Follows (top_demands ms) (top_of ms)
@@ -329,7 +329,7 @@ book_follows ms = both_follow (placed None (top_demands ms)) _ (at_top (top_of m
     (at_top_follows (top_demands ms) (top_of ms) (top_follows ms))
     (λ top is.
     let named = optional_table_is_there (codes "accounts") ms top.accounts (read_top_stands ms top
-        (at_top_keeps_value (top_of ms) top is)).rows.1.1.0 in
+    (at_top_keeps_value (top_of ms) top is)).rows.1.1.0 in
     rw named (optional_accounts_follow top.accounts ∙ making_keeps_faults (accounts_of_table top.accounts) _))
 
 -- Ranges.

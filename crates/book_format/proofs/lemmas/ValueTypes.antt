@@ -270,8 +270,14 @@ read_name_list_stands d names h = absurd (cc h)
 name_list_is_read : (d : Data) (names : List (List ℕ)) → IsNameList d names → name_list_in d ≡ Ok names
 unfolding name_list_in names_of
 name_list_is_read d names h =
-    rw (h.there, written_names_are_texts names, written_names_keep_count names, le-leb (length names) most_names h.few, names_are_read names
-        h.plain) refl
+    rw (
+      h.there,
+      written_names_are_texts names,
+      written_names_keep_count names,
+      le-leb (length names) most_names h.few,
+      names_are_read names
+          h.plain,
+    ) refl
 
 -- the names of texts are read where each is plain:
 name_follows : (plain others : Bool) (text : List ℕ) (rest : Result (List (List ℕ)) BookWhy) → Follows (must others Name ∷ []) rest

@@ -88,8 +88,8 @@ fn account_of(alloc: Global, value: &Value) -> Result<Account, BookWhy>
 {
     let table = table_of(value)?;
     check_keys(table, &["sha1", "sha256", "act_as", "token"])?;
-    let sha1 = mech_if_any(SHA1_KEY_LEN, table, "sha1")?;
-    let sha256 = mech_if_any(SHA256_KEY_LEN, table, "sha256")?;
+    let sha1 = keys_if_any(SHA1_KEY_LEN, table, "sha1")?;
+    let sha256 = keys_if_any(SHA256_KEY_LEN, table, "sha256")?;
     let act_as = act_as_if_any(alloc, table)?;
     let token = token_if_any(table)?;
     Ok(Account {
@@ -101,7 +101,7 @@ fn account_of(alloc: Global, value: &Value) -> Result<Account, BookWhy>
 }
 
 // What is kept for a mechanism, or None where its key is missing. The faults are those of `mech_of`.
-fn mech_if_any(len: usize, table: &Table, key: &str) -> Result<Option<MechKeys>, BookWhy>
+fn keys_if_any(len: usize, table: &Table, key: &str) -> Result<Option<MechKeys>, BookWhy>
     requires { len ≤ 64 }
     ensures { result ≡ read_some key.now (in_table (mech len)) (table_view table.now) }
 {

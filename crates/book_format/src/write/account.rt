@@ -17,7 +17,7 @@ use scram_text::PlainName;
 use std::alloc::{AllocError, Global};
 use toml::{Table, Value};
 
-/// The value of an account.
+/// The TOML value that an account is written as. `AllocError` where memory runs out.
 #[tactic(auto, unfolding(crate::specs::Rows::written))]
 pub(super) fn account_value(alloc: Global, account: &Account) -> Result<Value, AllocError>
     ensures tree { IfOk result (λ v. view v ≡ (in_table tables.account).write account.now) }

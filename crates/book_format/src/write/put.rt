@@ -8,7 +8,7 @@ ghost use Rattle.book_format.specs.Put.{put_member};
 use std::alloc::{AllocError, Global};
 use toml::{Table, Value};
 
-/// Puts a value at a key.
+/// Puts a value at a key, in place of any that stood there. `AllocError` where memory runs out, here and below.
 pub(super) fn put(
     alloc: Global,
     table: &mut Table,

@@ -16,7 +16,7 @@ use otp_core::{HotpFields, Token, TokenFields, TotpFields};
 use std::alloc::{AllocError, Global};
 use toml::{Table, Value};
 
-/// The value of a token.
+/// The TOML value that a token is written as. `AllocError` where memory runs out.
 pub(super) fn token_value(alloc: Global, token: &Token) -> Result<Value, AllocError>
     ensures tree { IfOk result (λ v. view v ≡ tables.token.write token.now) }
     ensures itself { OnOk result (WritesItself tables.token token.now) }

@@ -71,7 +71,7 @@ fn faults_of_the_document(rt: HostRuntime) -> Result<(), Fail> {
     Ok(())
 }
 
-// A fault of the document is no account's, also where there is one.
+// A fault of the document belongs to no account, even where the document has one.
 #[test]
 fn faults_before_those_of_an_account(rt: HostRuntime) -> Result<(), Fail> {
     for (old, new, number) in [

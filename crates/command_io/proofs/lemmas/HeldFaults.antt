@@ -60,9 +60,9 @@ pub bad_text_prevents_opening : {File : Type 0} (bytes_of : File → Option (Lis
     → fault ≡ fault_of_book found → (found.why ≡ why.NoMemory) ⊎ IsFirstFault text found → CannotOpenBook bytes_of path fault
 bad_text_prevents_opening bytes_of path text found fault read is reason =
     elim (bad_text_leaves_book_unread bytes_of path text found fault read is reason) [
-  | inl file ↦ inl (unread_file_prevents_holding path fault file)
-  | inr of_text ↦ inr of_text
-]
+      | inl file ↦ inl (unread_file_prevents_holding path fault file)
+      | inr of_text ↦ inr of_text
+    ]
 
 -- the first fault of bytes that are not UTF-8 is that they are no TOML
 non_utf8_is_no_toml : (bytes : List ℕ) → (IsUtf8 bytes → ⊥) → IsFirstFault bytes (record { why = why.Toml; account = None })

@@ -28,7 +28,7 @@ run_comes_past_line Step first start so_far left now line has_lf rest passed nex
       in_turn = (passed, next, others, step, walk.in_turn, refl);
     } in
     subst (λ (b : Bool). LinesInTurn Step first last start b new) (sym (and_assoc so_far passed others))
-        (come last (passed && others) new more)
+    (come last (passed && others) new more)
 
 -- a run that stops leaves the lines after the place to which it has come
 stopped_run_leaves_rest : {State : Type 0} (Step : List ℕ → State → Bool → State → Type 0) (first : Option (List ℕ)) (start : State)
@@ -65,6 +65,8 @@ pub run_at_line_worked_first : {State : Type 0} (Step : List ℕ → State → B
     → TakesLine left line has_lf rest → 1 ≤ length (line_bytes line has_lf)
     → (last : List (List ℕ)) × LinesInTurn Step first (line ∷ last) start so_far now
 run_at_line_worked_first Step first start so_far left now line has_lf rest come takes some =
-    let more = some_lines rest in
-    (more.0, stopped_run_leaves_rest Step first start so_far left now come (line ∷ more.0)
-      (taken_line_begins_lines left line has_lf rest takes some more.0 more.1))
+    let more = some_lines rest in (
+      more.0,
+      stopped_run_leaves_rest Step first start so_far left now come (line ∷ more.0)
+          (taken_line_begins_lines left line has_lf rest takes some more.0 more.1),
+    )

@@ -65,7 +65,7 @@ entered_name_has_property : (P : Text → Type 0) (app : App) (stop : Option (Te
 entered_name_has_property P app None each there = absurd (cc there)
 entered_name_has_property P app (Some (word, rest)) each there =
     by (find (λ s. answers_to word (label_of s)) app.subs) (found_shape_has_property P (λ s. answers_to word (label_of s)) app.subs each)
-        there
+    there
   where
     by : (found : Option Shape) → IfSome found (λ s. P s.name) → is_some (option_map (λ s. rows_at s rest) found) ≡ true
         → (name : Text) × (rows : List Row) × P name × (option_map (λ s. rows_at s rest) found ≡ Some (name, rows))

@@ -1,5 +1,5 @@
-//! What stands at the end of the help: of the program, the exit statuses; of each command, notes and an example, which runs as it stands
-//! once the examples that it names have run. All files of the examples are in a folder that nobody else can enter.
+//! What stands at the end of the help: the exit statuses for the program, and notes and an example for each command. An example
+//! runs as it stands, once the examples that it names have run. All its files are in a folder that nobody else can enter.
 
 /// The exit statuses, at the end of the program's help.
 pub(crate) const STATUSES: &str =

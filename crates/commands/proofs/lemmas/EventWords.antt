@@ -21,7 +21,7 @@ pub text_before_space_is_moment : (text front back : List ℕ) → LacksSpace fr
     → text ≡ decimal n ++ byte " " ∷ rest → front ≡ decimal n
 text_before_space_is_moment text front back (lacks, whole) n is rest same =
     (one_cut_at_space front (decimal n) back rest (text_is_spaceless front lacks) (number_is_spaceless n (moment_fits_64_bits n is))
-      (sym whole ∙ same)).0
+    (sym whole ∙ same)).0
 
 -- at most one text follows the first word of a line
 one_text_follows_word : (word line text rest : List ℕ) → line ≡ word ++ text → line ≡ word ++ rest → text ≡ rest

@@ -114,7 +114,7 @@ pub hall_at_line_heard_first : {S : Type 0} (facts : S → StoreFacts) (IsStored
 hall_at_line_heard_first facts IsStored first start a left now b line has_lf rest new c fault come takes some (inl failed) = inl failed
 hall_at_line_heard_first facts IsStored first start a left now b line has_lf rest new c fault come takes some (inr (inl none)) =
     let found = unheard_line_is_left facts IsStored first start a left now b line has_lf rest new c come takes some none in inr
-        (line ∷ found.0, found.1)
+    (line ∷ found.0, found.1)
 hall_at_line_heard_first facts IsStored first start a left now b line has_lf rest new c fault come takes some (inr (inr heard)) =
     hall_before_line_heard_first facts IsStored first start a rest new c fault
     (hall_comes_past_line facts IsStored first start a left now b line has_lf rest new c come takes some heard)

@@ -118,16 +118,16 @@ unserved_turn_leaves_log facts IsStored IsNow moment old new path Halted fault n
     unchanged_service_leaves_log facts IsStored IsNow old new fault same
 unserved_turn_leaves_log facts IsStored IsNow moment old new path NoMemory fault now (read, reads, undone) is =
     undone_turn_leaves_log facts IsStored IsNow (event_read read) moment old.desk new.desk old.wire new.wire old.log new.log path NoMemory
-        fault now
+    fault now
     is undone
 unserved_turn_leaves_log facts IsStored IsNow moment old new path Unwritable fault now served never = absurd never
 unserved_turn_leaves_log facts IsStored IsNow moment old new path WriteFault fault now (read, reads, undone) is =
     undone_turn_leaves_log facts IsStored IsNow (event_read read) moment old.desk new.desk old.wire new.wire old.log new.log path WriteFault
-        fault now
+    fault now
     is undone
 unserved_turn_leaves_log facts IsStored IsNow moment old new path LogFault fault now (read, reads, undone) is =
     undone_turn_leaves_log facts IsStored IsNow (event_read read) moment old.desk new.desk old.wire new.wire old.log new.log path LogFault
-        fault now
+    fault now
     is undone
 
 -- what stays a desk's log in two steps, one after the other, stays its log

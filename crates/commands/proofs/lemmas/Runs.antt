@@ -133,7 +133,7 @@ pub parsed_line_names_command : (app : App) (line : List Text) (matches : ArgMat
     → (is_simple_and_free app ≡ true → fault_of app line ≡ []) → NamesCommand (subcommand_rows_of matches)
 parsed_line_names_command app line matches is has fails =
     subst NamesCommand (sym (parse_agrees_with_line app line matches is has)) (faultless_line_names_command line
-        (parsed_line_has_no_fault app line is fails))
+    (parsed_line_has_no_fault app line is fails))
 
 -- an error of the parser is an error in the words of the line
 pub parse_error_is_words_error : (app : App) (line : List Text) (error : Error) → app ≡ program

@@ -23,7 +23,7 @@ pub struct User {
     /// The mechanism, or None for the best of those that are offered.
     pub mechanism: Option<Mechanism>,
 
-    /// The name.
+    /// The name of the account that the user logs in to.
     pub name: PlainName,
 
     /// The name to act as, where it is another.

@@ -11,8 +11,8 @@ pub trait GivenMoment {
     ghost moment: { Option ℕ };
 }
 
-// `Brand` is written for the type where a caller picks the moment in its proof. This None only lets it be written there: no clock
-// has it.
+// A caller writes `Brand` as the type where its proof picks the moment. This None is only there so that it can be written: no
+// clock has it.
 impl GivenMoment for Brand {
     ghost moment = { None };
 }

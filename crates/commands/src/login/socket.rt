@@ -1,4 +1,4 @@
-//! The socket of a login: both its ends, held by one run.
+//! The socket of a login. One run holds both its ends.
 //!
 //! No read and no write on it waits. What one end says is written before the other end reads, so a read that would have
 //! to wait means that the other end is a stranger, who came to the socket in between.

@@ -94,7 +94,7 @@ fn play(
     Ok(())
 }
 
-// A hall in which so many clients were greeted, with the numbers from 1.
+// A hall that has greeted `many` clients, with the numbers from 1 on.
 fn greeted(rt: &(impl Abort + AllocGlobal), store: Memory, many: u64) -> Result<Party, Fail> {
     let mut party = begun(rt.alloc(), store)?;
     for before in 0..many {

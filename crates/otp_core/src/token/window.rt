@@ -1,4 +1,4 @@
-//! The counters that can pass now, as one range.
+//! The counters that can pass at a moment, as one range.
 ghost use Rattle.std.specs.Prelude.{◌≡◌, ◌≤◌, ◌<◌, ◌↔◌, ◌+◌, ◌^◌, ℕ, pos, ◌-ℤ◌, [], nat_abs};
 ghost use Rattle.std.specs.Option.{ForSome};
 ghost use Rattle.otp_core.specs.TokenRanges.{IsHotpInRange, IsTotpInRange, IsInRange};
@@ -17,7 +17,7 @@ pub(crate) struct Counters {
 }
 
 /// The counters that can pass at a moment.
-pub(crate) fn window(token: &TokenFields, moment: Moment) -> Counters
+pub(crate) fn candidates(token: &TokenFields, moment: Moment) -> Counters
     requires range { IsInRange token.now }
     requires moment { IsMoment moment }
     ensures { (c : ℕ) → IsCandidate token.now [] moment c ↔ ((result.first ≤ c) × (c < result.end)) }
@@ -68,7 +68,7 @@ fn fast_and_slow(drift: i64) -> (u64, u64)
     }
 }
 
-fn steps_near(now: u64, drift: i64, back: u64, ahead: u64, max_drift: u64) -> Counters
+fn totp_window(now: u64, drift: i64, back: u64, ahead: u64, max_drift: u64) -> Counters
     requires now { now ≤ last_moment }
     requires drift { nat_abs drift ≤ most_drift }
     requires back { back ≤ most_steps_aside }
@@ -92,7 +92,7 @@ fn totp_candidates(token: &TotpFields, now: u64) -> Counters
     ensures { (w : ℕ) → (IsInTotpWindow now token.now.drift token.now.back token.now.ahead token.now.max_drift w
         × ForSome token.now.last (λ l. l < w)) ↔ ((result.first ≤ w) × (w < result.end)) }
 {
-    let near = steps_near(now, token.drift, token.back, token.ahead, token.max_drift);
+    let near = totp_window(now, token.drift, token.back, token.ahead, token.max_drift);
     let first = match token.last {
         Some(last) => near.first.max(last + 1),
         None => near.first,

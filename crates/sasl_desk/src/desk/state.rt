@@ -31,7 +31,7 @@ impl State {
         }
     }
 
-    /// The phase.
+    /// The phase of a desk in this state.
     pub(crate) fn phase(&self) -> Phase
         ensures { result ≡ phase_of self.now }
     {

@@ -8,7 +8,7 @@ pub(crate) struct Guest {
     /// The number of the session.
     pub(crate) number: u64,
 
-    /// The session.
+    /// Where the session stands, and what it keeps of its login.
     pub(crate) session: Session,
 
     /// The server's part of its nonce.

@@ -63,7 +63,7 @@ fn abort_turn<'a>() -> Turn<'a>
     }
 }
 
-/// After the offer of the mechanisms: AUTH and ABORT are due. On an error memory ran out.
+/// After the offer of the mechanisms: AUTH or ABORT is due. An error is that memory ran out; the session is handed back.
 pub(crate) fn hear_auth<'a, A: Allocator>(
     alloc: Global,
     line: ClientLine<'a>,
@@ -109,7 +109,7 @@ pub(crate) fn hear_auth<'a, A: Allocator>(
     }
 }
 
-/// After the empty challenge: RESP, with the client-first message, and ABORT are due. On an error memory ran out.
+/// After the empty challenge: RESP with the client-first message, or ABORT, is due. Errors as for `hear_auth`.
 pub(crate) fn hear_first<'a, A: Allocator>(
     alloc: Global,
     mechanism: Mechanism,
@@ -142,7 +142,7 @@ pub(crate) fn hear_first<'a, A: Allocator>(
     }
 }
 
-/// After the challenge: RESP, with the client-final message, and ABORT are due. On an error memory ran out.
+/// After the challenge: RESP with the client-final message, or ABORT, is due. Errors as for `hear_auth`.
 pub(crate) fn hear_final<'a, A: Allocator>(
     alloc: Global,
     waiting: ChallengedLogin,

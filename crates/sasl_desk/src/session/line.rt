@@ -1,4 +1,4 @@
-//! The lines that a client sends.
+//! Reads the line of a client.
 ghost use Rattle.std.specs.Prelude.{IfNone, IfSome};
 ghost use Rattle.log_grammar.specs.Lines as grammar;
 ghost use Rattle.log_grammar.specs.Lines.{from_client, IsLine};

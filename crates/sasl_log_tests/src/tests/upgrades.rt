@@ -214,7 +214,7 @@ fn nothing_is_taken_after_the_line_at_fault(rt: HostRuntime) -> Result<(), Fail>
     Ok(())
 }
 
-// An upgrade of the login with so many bytes of memory: whether it was enough. Where it was not, `out` is as before.
+// Whether this many bytes of memory are enough to upgrade the login; None where the answer is wrong, or `out` has changed.
 fn had_memory(alloc: Global, bytes: usize) -> Result<Option<bool>, Fail> {
     let heap = LocalHeap::new(alloc, bytes)?;
     let mut out = Vec::new(&heap);

@@ -227,7 +227,7 @@ pub without_proof_never_fails : {T : Type 0} (r : Result T WriteFault) (f : Writ
     → (r ≡ Err NoMemory → ⊥) → ⊥
 without_proof_never_fails r f header nonce failed bytes some short is_nonce unwritable over no_memory =
     let full : f ≡ NoMemory = write_fault_is_memory r f failed (λ e. unwritable e
-        (without_proof_can_be_written header nonce bytes some short is_nonce))
+    (without_proof_can_be_written header nonce bytes some short is_nonce))
     (λ e. let long = over e in omega (arith, long.1, without_proof_is_short header nonce short is_nonce.at_most)) in
     no_memory (failed ∙ ap (λ (x : WriteFault). Err x) full)
 

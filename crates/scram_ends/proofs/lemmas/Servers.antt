@@ -12,13 +12,13 @@ use Rattle.scram_ends.specs.Entry.{Entry}
 use Rattle.scram_ends.specs.Stages.{Challenged}
 use Rattle.scram_ends.specs.Verdict.{Due, accept, IsDue}
 use Rattle.scram_ends.specs.Opening.{Opening, IsOpening}
-use Rattle.scram_ends.specs.TakenFirst.{ShowsAcceptedFirst, ShowsOpening}
-use Rattle.scram_ends.specs.declared.first.AcceptedFirst.{AcceptedFirst}
+use Rattle.scram_ends.specs.TakenFirst.{ShowsTakenFirst, ShowsOpening}
+use Rattle.scram_ends.specs.declared.first.TakenFirst.{TakenFirst}
 use Rattle.scram_ends.proofs.lemmas.Verdicts.{due_signature_is_servers}
 
 -- a client-first message that is taken up and a challenge to it are an opening, of the parts that were taken
-pub challenge_opens : (e : Entry) (client_first server_nonce server_first sent : List ℕ) (first : ClientFirstParts) (taken : AcceptedFirst)
-    → IsClientFirst client_first first → ShowsAcceptedFirst taken first → sent ≡ taken.nonce.now ++ server_nonce → 1 ≤ length server_nonce
+pub challenge_opens : (e : Entry) (client_first server_nonce server_first sent : List ℕ) (first : ClientFirstParts) (taken : TakenFirst)
+    → IsClientFirst client_first first → ShowsTakenFirst taken first → sent ≡ taken.nonce.now ++ server_nonce → 1 ≤ length server_nonce
     → IsServerFirst server_first (server_first_of sent e.salt e.count [])
     → (o : Opening) × IsOpening e client_first server_first o × ShowsOpening taken sent o
 challenge_opens e client_first server_nonce server_first sent first taken is_first shows same some is_challenge =

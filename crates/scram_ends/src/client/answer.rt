@@ -10,9 +10,9 @@ ghost use Rattle.scram_ends.specs.Auth.{auth_to_challenge, proof_of, expected_si
 ghost use Rattle.scram_ends.specs.Honest.{IsHonest};
 ghost use Rattle.scram_ends.specs.Client.{IsStarted, IsAnswerable, IsExpecting, IsChallengeFault, IsUnspent, IfSpent, IfBack};
 
+use crate::bytes::are_bytes;
 use crate::client::{ClientFault, ClientOne, ClientTwo, OneRefused};
-use crate::fixed::are_bytes;
-use crate::signing::running;
+use crate::signing::running_mac;
 use mac_core::{Tag, xor};
 use scram_text::{ClientFinalWithoutProof, Password, ServerFirst, WriteFault, read_server_first};
 use std::alloc::Allocator;
@@ -51,7 +51,7 @@ impl ClientOne {
             × IsHonest (answered_login l password.now server_first.now client_final)
             × LacksRoom out.old client_final)) }
     {
-        let challenge = match self.take_up(server_first) {
+        let challenge = match self.read_challenge(server_first) {
             Ok(challenge) => challenge,
             Err(fault) => return Err(OneRefused::Spent(fault)),
         };
@@ -63,7 +63,7 @@ impl ClientOne {
 
     // Reads the challenge, or says what is wrong with it.
     #[tactic(auto, using(scram_text::proofs::lemmas::FirstUnmet::found_is_first))]
-    fn take_up<'a>(&self, server_first: &'a [u8]) -> Result<ServerFirst<'a>, ClientFault>
+    fn read_challenge<'a>(&self, server_first: &'a [u8]) -> Result<ServerFirst<'a>, ClientFault>
         ensures ok { IfOk result (λ challenge. (p : ServerFirstParts) × ShowsServerFirst challenge p
             × IsAnswerable self.now.limits self.now.nonce.items server_first.now p) }
         ensures err { IfErr result (λ fault. IsChallengeFault self.now.limits self.now.nonce.items
@@ -155,7 +155,7 @@ impl ClientOne {
             (auth_to_challenge first server_first.now ++ client_final_without_proof.now) }
         ensures len { length result.items ≡ length_by self.now.mechanism }
     {
-        let mut mac = running(self.mechanism, key, self.bare.as_slice(), server_first);
+        let mut mac = running_mac(self.mechanism, key, self.bare.as_slice(), server_first);
         mac.add(client_final_without_proof);
         mac.done()
     }

@@ -11,7 +11,7 @@ use scram_text::{FinalResult, read_server_final};
 impl ClientTwo {
     /// Checks that `server_final` shows that the server has the keys of the client's password (RFC 5802,
     /// section 5): it is a server-final message, which may have extensions, and its verifier is the
-    /// server signature of the three messages before it. Else the fault is the first of these: 24 for a
+    /// server signature of the three messages before it. Otherwise the fault is the first of these: 24 for a
     /// text that is no server-final message, 25 for one that asks for a mandatory extension, 29 for an
     /// error and 30 for another verifier.
     #[tactic(auto, using(scram_text::proofs::lemmas::FirstUnmet::found_is_first))]

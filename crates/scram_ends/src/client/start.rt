@@ -54,7 +54,7 @@ impl Client {
     }
 }
 
-// Names and nonces are in their classes by their types; the proof alone needs this.
+// A law: names and nonces are in their classes by their types. Only the proof needs it.
 fn are_in_class(name: &PlainName, authzid: Option<&PlainName>, nonce: &NoncePart)
     ensures name { IsPlainName name.now }
     ensures authzid { IfSome (option_copied authzid.entry) IsPlainName }

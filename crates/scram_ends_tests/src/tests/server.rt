@@ -153,7 +153,7 @@ fn each_refusal(rt: HostRuntime) -> Result<(), Fail> {
     Ok(())
 }
 
-// A decoy answers every proof, also the right one of another account, as a wrong one is answered.
+// A decoy answers every proof as a wrong one, even the right proof of another account.
 #[test]
 fn decoy(rt: HostRuntime) -> Result<(), Fail> {
     let alloc = rt.alloc();

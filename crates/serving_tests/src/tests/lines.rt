@@ -14,7 +14,7 @@ const GONE: &str = "C GONE\nE\n";
 
 const ABORTED: &str = "C ABORT\nS NO :\nE\n";
 
-// A line of 18 bytes and so many letters.
+// A line of 18 bytes and then `letters` letters.
 fn long_line(alloc: Global, letters: u64) -> Result<String, Fail> {
     let mut line = format!(in alloc; "AUTH SCRAM-SHA-1 :")?;
     for _ in 0..letters {

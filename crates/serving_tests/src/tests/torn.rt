@@ -150,7 +150,7 @@ fn the_wire_fails_at_each_write(rt: HostRuntime) -> Result<(), Fail> {
 }
 
 // The log fails here, after these bytes: the client is told nothing of the turn, and the desk has halted. Whoever comes next
-// is told nothing, and nothing is logged of it, also where both can be written again.
+// is told nothing, and nothing is logged of it, even where both can be written again.
 fn check_unlogged(
     rt: &(impl Abort + AllocGlobal),
     here: Written<'_>,

@@ -23,7 +23,7 @@ invariant_of-result c =
       accounts = option_map (λ m. table_view m.now) top.accounts;
     } in
     read_book_is_in_range c.args.bytes.now _ (parts_are_read_as_book c.args.bytes.now _ seen c.in-Ok-accounts_of_table.accounts.entries
-        c.in-Ok.ensures
+    c.in-Ok.ensures
     c.in-Ok-top_of.ensures c.in-Ok-accounts_of_table.ensures)
 
 pub returns-in-Ok-accounts_of_table : goal.returns-in-Ok-accounts_of_table

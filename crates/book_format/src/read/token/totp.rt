@@ -66,7 +66,7 @@ pub(super) fn totp_of(table: &Table) -> Result<TotpFields, BookWhy>
     })
 }
 
-// Answers `Key` where the table has a key that a TOTP token has not.
+// Answers `Key` where the table has a key that a TOTP token does not have.
 fn check_totp_keys(table: &Table) -> Result<(), BookWhy>
     ensures { result ≡ pass_or (has_only (is_among (table_keys totp)) (table_view table.now)) why.Key }
 {

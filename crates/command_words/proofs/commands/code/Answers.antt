@@ -18,7 +18,7 @@ returns c =
     (search rules) c.with_default.ensures.local one in
     let three = command_has_added_option _ _ (one_value Counter) _ _ _ c.in_ok-arg-3.ensures (search rules) c.one_value.ensures.local two in
     let four = command_has_added_option _ _ (one_value Moment) _ _ _ c.in_ok-arg-4.ensures (search rules) c.one_value-2.ensures.local
-        three in
+    three in
     let five = command_has_added_option _ _ (with_default Hash (codes "sha1")) _ _ _ c.in_ok-arg-5.ensures
     (search rules) c.with_default-2.ensures.local four in
     let six = command_has_added_option _ _ (with_default T0 (codes "0")) _ _ _ c.in_ok-arg-6.ensures

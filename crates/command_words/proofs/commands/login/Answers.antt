@@ -16,14 +16,14 @@ returns c =
     let one = command_has_added_option _ _ (required Book) _ _ _ c.in_ok-arg.ensures (search rules) c.book.ensures.local none in
     let two = command_has_added_option _ _ (required Name) _ _ _ c.in_ok-arg-2.ensures (search rules) c.name.ensures.local one in
     let three = command_has_added_option _ _ (one_value Mechanism) _ _ _ c.in_ok-arg-3.ensures (search rules) c.one_value.ensures.local
-        two in
+    two in
     let four = command_has_added_option _ _ (one_value As) _ _ _ c.in_ok-arg-4.ensures (search rules) c.one_value-2.ensures.local three in
     let five = command_has_added_option _ _ (required Socket) _ _ _ c.in_ok-arg-5.ensures (search rules) c.required.ensures.local four in
     let six = command_has_added_option _ _ (with_default Random (codes "/dev/urandom")) _ _ _ c.in_ok-arg-6.ensures
     (search rules) c.random.ensures.local five in
     let seven = command_has_added_option _ _ (one_value ClientNonce) _ _ _ c.in_ok-arg-7.ensures (search rules) c.one_value-3.ensures.local
-        six in
+    six in
     let eight = command_has_added_option _ _ (one_value ServerNonce) _ _ _ c.in_ok-arg-8.ensures (search rules) c.one_value-4.ensures.local
-        seven in
+    seven in
     IfOk-weaker c.arg-9.result _ _ (λ command added. command_has_added_option _ _ (one_value Moment) _ _ _ added
     (search rules) c.one_value-5.ensures.local eight) c.arg-9.ensures

@@ -13,7 +13,7 @@ returns-in-Ok-clause-ok g c =
     let after = c.into_output.ensures ∙ ap (λ (l : PrintedLog _). g.O.Write.contents l.output) c.into_log.ensures in
     on_ok_weaker c.hear_lines-heard.result
     (hall_prints_its_log g.S.BookStore.facts g.S.BookStore.IsStored _ _ _ _ _ _ _ _ _ _ c.log_is_a_front.ensures c.log_is_saved.ensures
-      before
+    before
     after c.in-Ok.ensures.log)
     (rw c.new-lines.ensures.input at c.hear_lines-heard.ensures.ok)
 
@@ -29,7 +29,7 @@ returns-in-Ok-clause-err g c =
 pub returns-in-Err-clause-err : goal.returns-in-Err-clause-err
 returns-in-Err-clause-err g c =
     failed_begin_prints_nothing _ _ _ _ _ _ _ (ap (λ (f : SinkFacts). f.given) c.new.ensures) c.into_output-in-Err.ensures
-        c.in-Err.ensures.err
+    c.in-Err.ensures.err
 
 pub returns-in-Ok-clause-bad : goal.returns-in-Ok-clause-bad
 returns-in-Ok-clause-bad g c = λ is.

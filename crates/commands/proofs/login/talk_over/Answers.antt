@@ -33,4 +33,4 @@ returns-in-Ok-clause-passes g c = λ is.
 pub returns-in-Err-clause-err : goal.returns-in-Err-clause-err
 returns-in-Err-clause-err g c =
     failed_begin_prints_nothing _ _ _ _ _ _ _ (ap (λ (f : SinkFacts). f.given) c.new.ensures) c.into_output-in-Err.ensures
-        c.in-Err.ensures.err
+    c.in-Err.ensures.err

@@ -16,7 +16,7 @@ returns-in-Ok-ended-clause-ends g c =
     let line = map g.S.AsStr.text c.args.words.now in
     let parsed = c.in-Ok-try_get_matches_from.ensures in
     ended_command_ends_run _ _ _ line _ _ _ _ _ (parse_agrees_with_line _ line _ c.in-Ok.ensures parsed.matches)
-        (parsed_line_has_no_fault _ line c.in-Ok.ensures parsed.kinds)
+    (parsed_line_has_no_fault _ line c.in-Ok.ensures parsed.kinds)
     (rw c.in-Ok-ended.is refl) c.dispatch-ended.ensures.ends
 
 pub returns-in-Ok-try_get_matches_from-clause-ends : goal.returns-in-Ok-try_get_matches_from-clause-ends
@@ -24,7 +24,7 @@ returns-in-Ok-try_get_matches_from-clause-ends g c =
     let line = map g.S.AsStr.text c.args.words.now in
     let parsed = c.in-Ok-try_get_matches_from.ensures in
     ended_command_ends_run _ _ _ line _ _ _ _ _ (parse_agrees_with_line _ line _ c.in-Ok.ensures parsed.matches)
-        (parsed_line_has_no_fault _ line c.in-Ok.ensures parsed.kinds)
+    (parsed_line_has_no_fault _ line c.in-Ok.ensures parsed.kinds)
     (rw c.in-Err-ended.is c.report-in-Err-ended.ensures) c.dispatch-ended.ensures.ends
 
 pub returns-clause-ends : goal.returns-clause-ends

@@ -12,7 +12,7 @@ returns-in_err-line-clause-err g c =
     (g.I.Read.remaining c.loop-line.lines.input.now)
     (run_of g.S.BookStore.facts c.loop-line.held (g.O.Write.contents c.loop-line.output)) c.loop-line.invariant.0 in
     handed_fault_keeps_fact c.from_residual.result _ _ c.from_residual.ensures.1
-        (inl (stop.0, c.loop-line.all_passed, stop.1, c.in_err-line.ensures.err))
+    (inl (stop.0, c.loop-line.all_passed, stop.1, c.in_err-line.ensures.err))
 
 pub returns-in_err-reply-clause-err : goal.returns-in_err-reply-clause-err
 returns-in_err-reply-clause-err g c =

@@ -6,5 +6,5 @@ use Rattle.log_grammar.proofs.by_sessions.fault_lines_begin_no_clean_log.Goals a
 pub returns : goal.returns
 returns c = λ accounts fit.
     fault_iff_first_outside (any_version accounts) (any_version_has_empty_front accounts) (any_version_can_be_shortened accounts)
-        (any_version_clean_lines_stand accounts)
+    (any_version_clean_lines_stand accounts)
     (c.fronts_begin_clean.ensures accounts fit)

@@ -57,7 +57,7 @@ busy_log_is_completable ground limit accounts fit front last places told s range
     (λ m other open_is. ranged m (sym (ap is_closed (put_keeps_others n between places m other)) ∙ open_is)) in
     shorter_numbered_log_is_completable limit accounts log n ended (ranged n (ap is_closed at)) tt end_is_writable
     (free_log_is_completable ground limit accounts fit (log ++ numbered n ended ∷ []) (put n between places)
-      (told ++ told_at (places n) ended) s'
+    (told ++ told_at (places n) ended) s'
     (log_is_free_after log n ended (λ m next. tt)) ranged_on)
 
 -- a log with a last line can be completed, whatever that line is
@@ -77,7 +77,7 @@ nonempty_log_is_completable ground limit accounts fit front last places told s r
           (visit_busy_leads_to_over (demands accounts) (b.before n) last.value (places n) is b.goes.goes)
       | inr (inr follow) ↦
           free_log_is_completable ground limit accounts fit (front ++ last ∷ []) places told s
-              (log_is_free_after front n last.value (follow n)) ranged
+          (log_is_free_after front n last.value (follow n)) ranged
     ]
 
 -- a log of version 2 can be completed where each number that is open is in its range
@@ -142,7 +142,7 @@ pub version_two_fronts_begin_clean : CompletionLaws → (limit : ℕ) (accounts 
 version_two_fronts_begin_clean ground limit accounts fit bytes ([], cut, stands) = empty_front_begins_clean limit accounts bytes cut
 version_two_fronts_begin_clean ground limit accounts fit bytes (first ∷ texts, cut, (is, lines, places, told, are, s)) =
     let c = numbered_log_is_completable ground limit accounts fit lines places told s
-        (open_numbers_are_in_range limit accounts texts lines places told are s) in (
+    (open_numbers_are_in_range limit accounts texts lines places told are s) in (
       ended_by_lf c.texts,
       (
         first ∷ texts ++ c.texts,

@@ -83,7 +83,7 @@ pub log_is_free_after : (log : List (Numbered LogLine)) (n : ℕ) (line : LogLin
     → Free (log ++ numbered n line ∷ [])
 log_is_free_after log n line follow before x e m next =
     subst (λ (z : Numbered LogLine). MayFollow z.number z.value m next) (same_from_push log before (numbered n line) x e).1
-        (follow m next)
+    (follow m next)
 
 -- a log can be completed where lines close one number and the log after them can be completed
 closing_number_completes_log : (limit : ℕ) (accounts : Accounts) (n : ℕ) → IsSessionNumber n
@@ -106,7 +106,7 @@ closing_number_completes_log limit accounts n number (line ∷ more) log places 
     shorter_numbered_log_is_completable limit accounts log n line number plain.has_number plain.writable
     (closing_number_completes_log limit accounts n number more longer (put n next places) (told ++ told_at (places n) line) s'
     (log_is_free_after log n line (plain.follow n)) (subst (λ (p : Place). Closes accounts p more) (sym (put_sets_own n next places))
-      closes)
+    closes)
     (λ after_log after all r free' at others. on after_log after all r free' at
     (λ m other. others m other ∙ put_keeps_others n next places m other)))
 
@@ -142,7 +142,7 @@ no_number_is_before_all limit d (suc k) (x ∷ log) p told short s =
     let shorter : length last.0 ≤ k = omega (arith, short, ap length last.2, length-last last.0 last.1) in
     let earlier = no_number_is_before_all limit d k last.0 b.before b.told shorter b.spells in
     one_and_others_cover_each (λ (m : ℕ). p m ≡ before_all → ⊥) n (no_line_leads_before_all d (b.before n) last.1.value (p n) b.goes.goes
-        (earlier n))
+    (earlier n))
     (λ m other at. earlier m (sym (b.others m other) ∙ at))
 
 -- the numbers that are open are in their range
@@ -164,7 +164,7 @@ halt_completes_log limit accounts log places told n number s free goes quiet =
     }) in
     shorter_numbered_log_is_completable limit accounts log n (said halt) number tt halt_is_writable
     (ended_numbered_log_is_completable limit accounts (log ++ numbered n (said halt) ∷ []) (put n halted places)
-      (told ++ told_at (places n) (said halt)) s'
+    (told ++ told_at (places n) (said halt)) s'
     (inr (n, put_sets_own n halted places)))
 
 -- where the numbers from one on are closed, the log is completed by closing those below it

@@ -80,7 +80,7 @@ pub due_acceptance_is_writable : (accounts : Accounts) (mechanism account first 
     → IsVerdictDue accounts mechanism account first challenge last (accept signature) → WritableAcceptance signature
 due_acceptance_is_writable accounts mechanism account first challenge last signature is =
     let (keys, auth, signed) = due_signature_is_servers (challenged_login (accounts.entry is.0 account) is.0 first challenge) last signature
-        is.2 in
+    is.2 in
     let bytes = subst AreBytes (sym signed) (mac_is_bytes is.0 keys.server auth) in
     let range = signature_length_is_in_range is.0 (length signature) (ap length signed ∙ length-hmac_by is.0 keys.server auth) in
     let final = acceptance_is_server_final signature bytes range.0 range.1 in

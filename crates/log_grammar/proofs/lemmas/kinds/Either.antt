@@ -115,15 +115,23 @@ either_next_is_judged one two first second a s z (t ∷ before) text (inl stands
     let is = head_is_first_line one first a.one_shorter a.one_headed t before stands in
     elim (s.next_is_judged (t ∷ before) text stands) [
       | inl on ↦ inl (inl on)
-      | inr fault ↦ inr (λ more. fault.0 (first_line_shows_first_kind one two first second a t (before ++ text ∷ []) is more), fault.1, inl
-          (is, fault.2))
+      | inr fault ↦ inr (
+        λ more. fault.0 (first_line_shows_first_kind one two first second a t (before ++ text ∷ []) is more),
+        fault.1,
+        inl
+            (is, fault.2),
+      )
     ]
 either_next_is_judged one two first second a s z (t ∷ before) text (inr stands) =
     let is = head_is_first_line two second a.two_shorter a.two_headed t before stands in
     elim (z.next_is_judged (t ∷ before) text stands) [
       | inl on ↦ inl (inr on)
-      | inr fault ↦ inr (λ more. fault.0 (first_line_shows_second_kind one two first second a t (before ++ text ∷ []) is more), fault.1, inr
-          (is, fault.2))
+      | inr fault ↦ inr (
+        λ more. fault.0 (first_line_shows_second_kind one two first second a t (before ++ text ∷ []) is more),
+        fault.1,
+        inr
+            (is, fault.2),
+      )
     ]
 
 -- two sound kinds whose logs begin with different lines are one sound kind together

@@ -67,7 +67,7 @@ whole_fault_is_first_outside kind shorter stand completes bytes texts rest k cut
     let long : length texts ≡ length before + suc (length more) = ap length same ∙ length-append before (text ∷ more) in
     let those : take (length before) texts ≡ before = ap (take (length before)) same ∙ take-append_seam before (text ∷ more) in
     let these : take k texts ≡ with = ap (λ (n : ℕ). take n texts) at ∙ ap (take (length before + 1)) same
-        ∙ take-append_next before text more in
+    ∙ take-append_next before text more in
     let all = whole_lines_are_split with (lines_up_to_lack_lf before text more (subst (AllByRecursion LacksLf) same cut.lines)) in
     inl (
       before,
@@ -118,7 +118,7 @@ whole_first_outside_is_fault kind shorter stand completes bytes before text more
       below = λ j less. subst (λ (ts : List (List ℕ)). IsFrontOf kind (ended_by_lf ts))
           (sym (take-append-le j before (text ∷ more) (omega (arith, less))))
           (fronts_begin_with_fronts kind shorter (ended_by_lf before) before j (standing_lines_are_front kind before lack stands)
-            (whole_lines_are_split before lack));
+          (whole_lines_are_split before lack));
       within = λ few front. none (taken_front_begins_clean kind completes texts (length before + 1) (before ++ text ∷ [])
           (take-append_next before text more) front);
       at_most = omega (arith, long);
@@ -227,7 +227,7 @@ faults_hold_whatever_follows kind shorter bytes other texts more others rest als
     subst (λ (i : ℕ). IsWhyOf kind other i why) (sym k)
     (fault_holds_elsewhere kind shorter bytes other before text (middle ++ more) (middle ++ others) rest also why
     (longer_split_is_regrouped bytes texts before text middle more rest same cut)
-      (longer_split_is_regrouped other texts before text middle others also same there)
+    (longer_split_is_regrouped other texts before text middle others also same there)
     (subst (λ (i : ℕ). IsWhyOf kind bytes i why) k w))
 
 -- a fault after the last line: all lines stand, and the bytes are not clean

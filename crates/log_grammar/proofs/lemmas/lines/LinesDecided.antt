@@ -80,7 +80,7 @@ decided_this_line text line =
     decided_equivalent ((text ≡ line_text line) × (IsLineInRange line × (length text ≤ longest_line))) (IsLine text line)
     (λ h. record { spelled = h.0; ranges = h.1.0; short = h.1.1 }) (λ r. (r.spelled, (r.ranges, r.short)))
     (decided_both _ _ (decided_same_text text (line_text line)) (decided_both _ _ (decided_line_range line)
-      (decided_le (length text) longest_line)))
+    (decided_le (length text) longest_line)))
 
 -- whether a text is this line of a log is decided
 pub decided_this_log_line : (text : List ℕ) (line : LogLine) → Decided (IsLogLine text line)

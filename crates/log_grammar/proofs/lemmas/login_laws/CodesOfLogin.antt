@@ -147,7 +147,7 @@ after_first_code_has_account accounts m first (refused message true) account sen
 after_first_code_has_account accounts m first (refused message false) account sent meets e = absurd (cc e)
 after_first_code_has_account accounts m first (challenged own challenge p) account sent meets e =
     subst (IsFirstOf m first) (after_challenge_code_has_account m own first challenge p account sent e)
-        (challenged_first_is_of_name accounts m first own challenge meets.0)
+    (challenged_first_is_of_name accounts m first own challenge meets.0)
 
 -- a session whose last line is a code is a login of the account of that code
 session_code_has_login : (accounts : Accounts) (s : Session) (account : List ℕ) (sent : CodeTexts) → SessionMeets (demands accounts) s

@@ -45,8 +45,13 @@ refused_login_is_at_fault known valid accounts m name exchange message l is =
           (λ f.
           let wrong = one_verdict known.verdicts accounts (name_of m) name exchange.client_first exchange.server_first exchange.client_final
           (accept signature) (refuse f.goes.0.0) due f.goes.0.1 in cc wrong)
-          (inr ((due_classes_follow_place accounts _ at [] of_login_answers lead.begins).1 refl, at, [], lead.begins,
-            (accept signature, due, refl))),
+          (inr (
+            (due_classes_follow_place accounts _ at [] of_login_answers lead.begins).1 refl,
+            at,
+            [],
+            lead.begins,
+            (accept signature, due, refl),
+          )),
     )
 
 -- the law: a valid login that a log of version 1 has as refused is at fault at the `S NO`, and the reason names the acceptance due
@@ -70,7 +75,7 @@ other_reply_is_at_fault known valid accounts m name exchange sent moment reply d
     let line = said (replies moment reply) in
     let spelled = reply_is_writable moment reply at range in
     last_line_at_fault known.one_first known.names accounts _ header _ place [] (log_line_text line) line (other_reply moment due) lead
-        spelled
+    spelled
     (lines_lack_lf (log_line_text line) line spelled)
     (λ f. other (one_due_reply known (accounts.token name) [] moment sent reply due f.due.0 by))
     (inr ((due_classes_follow_place accounts _ place [] of_replies lead.begins).1 refl, place, [], lead.begins, (due, by, refl)))

@@ -124,7 +124,7 @@ number_challenge_meets_demand limit d (suc k) (x ∷ log) p told short s =
     let shorter : length last.0 ≤ k = omega (arith, short, ap length last.2, length-last last.0 last.1) in
     let earlier = number_challenge_meets_demand limit d k last.0 b.before b.told shorter b.spells in
     one_and_others_cover_each (λ (m : ℕ). ChallengeMeetsDemand d (p m)) n (visit_challenge_meets_demand d (b.before n) last.1.value (p n)
-        (earlier n) b.goes.goes)
+    (earlier n) b.goes.goes)
     (λ m differ. subst (ChallengeMeetsDemand d) (sym (b.others m differ)) (earlier m))
 
 -- a line that a number may have in a log it may have whatever the places of the others, where its own place and what was told are the same

@@ -107,7 +107,7 @@ due_ok_begins_clean completes accounts fit before text lines place told signatur
     let (next, goes, no_farewell) = due_ok_may_stand accounts o.at signature message o.word bears in
     let due = subst (λ (t : List LoggedReply). AreReplies (demands accounts) (reverse o.tells) t) (sym no_farewell) tt in
     following_line_begins_clean completes accounts fit before lines place told o.at o.tells (said (accepts message)) next lead o.begins
-        writable goes due
+    writable goes due
 
 -- the lines before a text at fault begin a clean log with the only line that says what is due
 only_due_line_begins_clean : FrontsBeginClean → (accounts : Accounts) → AllCanBeChallenged accounts
@@ -116,7 +116,7 @@ only_due_line_begins_clean : FrontsBeginClean → (accounts : Accounts) → AllC
     → SaysWhatIsDue why line → IsWritable line → BeginsClean accounts (ended_by_lf (before ++ log_line_text line ∷ []))
 only_due_line_begins_clean completes accounts fit before text lines place told why line lead wrong single says writable =
     let (at, tells, begins, m) = some_line_mends_text accounts fit before text lines place told why lead
-        (said_due_is_named why line says writable) wrong in
+    (said_due_is_named why line says writable) wrong in
     subst (λ (l : LogLine). BeginsClean accounts (ended_by_lf (before ++ log_line_text l ∷ [])))
     (one_line_says_due why m.line line single m.says says)
     (following_line_begins_clean completes accounts fit before lines place told at tells m.line m.next lead begins m.writable m.goes m.due)
@@ -125,7 +125,7 @@ only_due_line_begins_clean completes accounts fit before text lines place told w
 each_due_line_begins_clean : FrontsBeginClean → (accounts : Accounts) → AllCanBeChallenged accounts
     → (before : List (List ℕ)) (text : List ℕ) (lines : List LogLine) (place : Place) (told : List LoggedReply)
     (why : Why) (line : LogLine) → LinesWereRead accounts before lines place told → IsWrongText accounts lines text why
-        → (why ≡ other_challenge → ⊥)
+    → (why ≡ other_challenge → ⊥)
     → SaysWhatIsDue why line → IsWritable line → BeginsClean accounts (ended_by_lf (before ++ log_line_text line ∷ []))
 each_due_line_begins_clean completes accounts fit before text lines place told is_cut line lead wrong other says writable = absurd says
 each_due_line_begins_clean completes accounts fit before text lines place told no_line line lead wrong other says writable = absurd says
@@ -139,11 +139,11 @@ each_due_line_begins_clean completes accounts fit before text lines place told (
     (message, bears, same) writable =
     subst (λ (l : LogLine). BeginsClean accounts (ended_by_lf (before ++ log_line_text l ∷ []))) (sym same)
     (due_ok_begins_clean completes accounts fit before text lines place told signature message lead wrong bears
-      (subst IsWritable same writable))
+    (subst IsWritable same writable))
 each_due_line_begins_clean completes accounts fit before text lines place told (other_outcome (refused_with message)) line lead wrong other
     says writable =
     only_due_line_begins_clean completes accounts fit before text lines place told (other_outcome (refused_with message)) line lead wrong tt
-        says writable
+    says writable
 each_due_line_begins_clean completes accounts fit before text lines place told (other_reply moment due) line lead wrong other says
     writable =
     only_due_line_begins_clean completes accounts fit before text lines place told (other_reply moment due) line lead wrong tt says writable

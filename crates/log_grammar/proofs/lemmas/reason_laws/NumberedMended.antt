@@ -186,7 +186,7 @@ due_line_may_have_number (other_reply moment due) line says = subst IsNoFirstLin
 due_numbered_begins_clean : NumberedFrontsBeginClean → (limit : ℕ) (accounts : Accounts) → AllCanBeChallenged accounts
     → (before : List (List ℕ)) (x : Numbered LogLine) (why : Why)
     (f : IsNumberedFault limit accounts before x why) (line : LogLine) (next : Place) → AllByRecursion LacksLf before
-        → SaysWhatIsDue why line
+    → SaysWhatIsDue why line
     → IsNumberedWritable (numbered x.number line) → IsTransition (demands accounts) (f.places x.number) line next
     → AreReplies (demands accounts) (reverse f.told) (told_at (f.places x.number) line)
     → BeginsCleanOf (version_two limit accounts) (ended_by_lf (before ++ numbered_text (numbered x.number line) ∷ []))
@@ -289,7 +289,7 @@ each_due_line_follows accounts fit place told x other_challenge line is due wron
 each_due_line_follows accounts fit place told x (other_outcome (accepted signature)) line is due wrong other (message, bears, same)
     writable =
     let (next, goes, no_farewell) = due_ok_may_stand accounts place signature message
-        (due_ok_shows_answer accounts place told x signature wrong) bears in
+    (due_ok_shows_answer accounts place told x signature wrong) bears in
     subst (Follows accounts place told) (sym same)
     (record {
       next = next;

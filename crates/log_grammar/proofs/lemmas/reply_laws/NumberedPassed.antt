@@ -90,7 +90,7 @@ numbered_counters_rise one_first names new limit accounts log more account n mom
     let tells = f.tells ∙ ap (λ (l : List LoggedReply). l ++ f.rest) (same ∙ told_here) in
     let whose : mine ≡ two.account = cc (sym next ∙ at_n ∙ sym at_m ∙ two.is_next) in
     later_pass_is_greater new two.token two.account two.sent two.told at greater two.fits mine moment counter sent one.told f.rest whose
-        tells
+    tells
 
 -- the counters that an account's codes use in a log of version 2 rise, so that none is used twice, where a counter that can pass
 -- is above those that passed

@@ -141,9 +141,9 @@ later_pass_is_greater new token account last told at d fits mine moment counter 
     let split = tells ∙ append_assoc before (t ∷ []) rest in
     let turned = subst (λ (l : List LoggedReply). IsAbove (used_in (attempts_of account (reverse l))) d) split above in
     let here = subst (λ (l : List LoggedReply). IsAbove (used_in (attempts_of account l)) d) (reverse-append_element before rest t)
-        turned in
+    turned in
     number_is_above_pass account t (reverse before) counter d same refl (number_is_above_earlier account (reverse rest) (t ∷ reverse before)
-        d here)
+    d here)
 
 -- of two passes of one account in a log, in whichever sessions, the later has the greater counter, where replies may stand just where
 -- due, a client-first message has one list of parts, a saslname one name, and a counter that can pass is above those that passed
@@ -159,7 +159,7 @@ counters_rise one_first names new replied accounts log more account moment count
     let tells = front.4 ∙ ap (λ (l : List LoggedReply). l ++ front.2) (same ∙ one.tells) in
     let mine : one.account ≡ two.account = cc (sym one.is_next ∙ two.is_next) in
     later_pass_is_greater new two.token two.account two.sent two.told at greater two.fits one.account moment counter one.sent one.told
-        front.2 mine tells
+    front.2 mine tells
 
 -- a digit, and a text of digits, can be sent as a code:
 digit_is_code_char : (c : ℕ) → IsAsciiDigit c → is_code_char c ≡ true

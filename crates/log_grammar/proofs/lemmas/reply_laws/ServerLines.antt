@@ -172,7 +172,7 @@ due_refusal_may_stand accounts log text next told (inr (inl (m, first, begins, n
 due_refusal_may_stand accounts log text next told (inr (inr (inl (m, name, client_first, server_first, client_final, begins, is, invalid))))
     at =
     log_goes_on_quietly accounts log (got_final m name client_first server_first client_final) told (said (refuses text)) next refl begins
-        (is, at)
+    (is, at)
 due_refusal_may_stand accounts log text next told (inr (inr (inr (begins, bare)))) at =
     log_goes_on_quietly accounts log leaving told (said (refuses text)) next refl begins (bare, at)
 
@@ -206,7 +206,7 @@ each_reply_is_due accounts log moment reply next all = (
   λ r.
       subst (λ (t : List LoggedReply). Begins (demands accounts) (log ++ said (replies moment reply) ∷ []) next t) (sym r.tells)
       (log_goes_on (demands accounts) log (got_code r.account r.sent) r.told (said (replies moment reply)) next r.after r.is_next
-        (r.due, tt)),
+      (r.due, tt)),
 )
 
 -- the log ends in a code, or two in a row, that waits for its reply, and the next place is the halt
@@ -227,7 +227,7 @@ pub each_halt_ends_a_code : EachHaltEndsACode
 each_halt_ends_a_code accounts log next told = (
   λ begins.
       let s = log_has_last_transition accounts log (said halt) next told begins in halt_ends_code accounts log next s.place told s.told
-          s.tells s.begins
+      s.tells s.begins
       s.goes,
   λ is. log_goes_on_quietly accounts log (got_code is.0 is.1) told (said halt) next refl is.2 is.3,
 )

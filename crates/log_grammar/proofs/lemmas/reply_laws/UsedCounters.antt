@@ -67,7 +67,7 @@ replies_keep_counters_rising new accounts account before [] are rising = rising
 replies_keep_counters_rising new accounts account before (t ∷ told) are rising =
     subst (λ (l : List LoggedReply). AreRising (used_in (attempts_of account l))) (sym (first_reply_stands_last t told before))
     (replies_keep_counters_rising new accounts account (t ∷ before) told are.1 (told_reply_keeps_counters_rising new accounts account before
-      t are.0 rising))
+    t are.0 rising))
 
 -- the counters that an account's codes use in a log rise, so that none is used twice, where a counter that can pass is above
 -- those that passed

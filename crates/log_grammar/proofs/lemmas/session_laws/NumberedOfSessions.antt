@@ -32,7 +32,7 @@ texts_spell_numbered_lines [] (x ∷ log) are = absurd are
 texts_spell_numbered_lines (text ∷ texts) [] are = absurd are
 texts_spell_numbered_lines (text ∷ texts) (x ∷ log) are =
     ap (λ (t : List ℕ). t ∷ texts) are.0.spelled ∙ ap (λ (ts : List (List ℕ)). numbered_text x ∷ ts)
-        (texts_spell_numbered_lines texts log are.1)
+    (texts_spell_numbered_lines texts log are.1)
 
 -- numbered lines that were read can be written
 read_numbered_lines_are_writable : (texts : List (List ℕ)) (log : List (Numbered LogLine)) → AllZip IsNumberedLine texts log
@@ -155,7 +155,7 @@ clean_numbered_log_has_sessions limit accounts bytes (first ∷ texts) cut (is, 
       | inr halts ↦ inr (halts.0, visit_at_halt_is_halted (s.visit halts.0) (sym (s.after halts.0) ∙ halts.1))
     ] in
     let same = ap (λ (t : List ℕ). t ∷ texts) is ∙ ap (λ (ts : List (List ℕ)). log_line_text header_two ∷ ts)
-        (texts_spell_numbered_lines texts log are) in (
+    (texts_spell_numbered_lines texts log are) in (
       log,
       record {
         spelled = cut.bytes_are ∙ append-nil (ended_by_lf (first ∷ texts)) ∙ ap ended_by_lf same;
@@ -175,8 +175,11 @@ numbered_log_of_sessions_is_clean : (limit : ℕ) (accounts : Accounts) (bytes :
 numbered_log_of_sessions_is_clean limit accounts bytes log l =
     let texts = log_line_text header_two ∷ map numbered_text log in
     let cut : IsSplit bytes texts [] =
-    record { bytes_are = l.spelled ∙ sym (append-nil (ended_by_lf texts)); lines = (refl, writable_numbered_lines_lack_lf log l.written);
-        after = refl } in
+    record {
+      bytes_are = l.spelled ∙ sym (append-nil (ended_by_lf texts));
+      lines = (refl, writable_numbered_lines_lack_lf log l.written);
+      after = refl;
+    } in
     let told = map (λ (t : Numbered LoggedReply). t.value) l.numbered_told in
     let places = λ (n : ℕ). visit_place (l.visit n) in
     let moments = numbered_log_tells_in_time log l.visit l.numbered_told l.written l.sessions.lines l.sessions.told_of_each in
@@ -197,6 +200,8 @@ numbered_log_of_sessions_is_clean limit accounts bytes log l =
 -- a log of version 2 is clean exactly where it is that of some sessions: all closed or one halted, as demanded,
 -- and with legal histories of the tokens
 pub clean_numbered_logs_are_of_sessions : CleanNumberedLogsAreThoseOfSessions
-clean_numbered_logs_are_of_sessions limit accounts bytes =
-    (λ clean. clean_numbered_log_has_sessions limit accounts bytes clean.0 clean.1 clean.2, λ l. numbered_log_of_sessions_is_clean limit
-      accounts bytes l.0 l.1)
+clean_numbered_logs_are_of_sessions limit accounts bytes = (
+  λ clean. clean_numbered_log_has_sessions limit accounts bytes clean.0 clean.1 clean.2,
+  λ l. numbered_log_of_sessions_is_clean limit
+      accounts bytes l.0 l.1,
+)

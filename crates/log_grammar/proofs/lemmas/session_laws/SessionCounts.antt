@@ -74,7 +74,7 @@ after_mechs_begins_none (without_first m i) = after_auth_begins_none m i
 session_begins_one : (s : Session) → count_by is_offer (session_lines s) ≡ 1
 session_begins_one (session names l) =
     sum_by-append (λ x. cond (is_offer x) 1 0) (said (mechs names) ∷ []) (after_mechs l).lines
-        ∙ ap (λ (n : ℕ). 1 + n) (after_mechs_begins_none l)
+    ∙ ap (λ (n : ℕ). 1 + n) (after_mechs_begins_none l)
 
 -- one and a number make the next number
 one_plus_is_suc : (n : ℕ) → 1 + n ≡ suc n

@@ -97,7 +97,7 @@ pub long_part_is_no_line : (accounts : Accounts) (texts : List (List ℕ)) (log 
     → IsWhy accounts (ended_by_lf texts ++ rest) (length texts + 1) no_line
 long_part_is_no_line accounts texts log place told rest are begins lacks long =
     long_rest_is_no_line accounts (ended_by_lf texts ++ rest) texts rest log place told
-        (whole_lines_and_rest_are_split texts rest are.1 lacks)
+    (whole_lines_and_rest_are_split texts rest are.1 lacks)
     (whole_lines_were_read accounts texts log place told are begins) long
 
 -- after lines that a log may begin with, a whole line of 6203 bytes or more is no line, and is at fault

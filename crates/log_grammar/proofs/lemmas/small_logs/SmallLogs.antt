@@ -109,7 +109,7 @@ refusal_was_read accounts texts lines place l goes no_farewell =
     let due = subst (λ (t : List LoggedReply). AreReplies (demands accounts) [] t) (sym no_farewell) tt in
     let refusal = next_line_was_read accounts texts lines place [] (codes "S NO :") (said (refuses [])) over l no_is_line refl goes due in
     subst (λ (t : List LoggedReply). LinesWereRead accounts (texts ++ codes "S NO :" ∷ []) (lines ++ said (refuses []) ∷ []) over t)
-        no_farewell
+    no_farewell
     refusal
 
 -- a log is clean that ends with `S NO` and `E`, where the server may refuse
@@ -131,7 +131,7 @@ aborted_is_clean accounts =
 pub bad_is_clean : (accounts : Accounts) → IsClean accounts (one_session (codes "C BAD" ∷ bare_no))
 bad_is_clean accounts =
     refused_session_is_clean accounts _ _ leaving (next_line_was_read accounts _ _ offered [] (codes "C BAD") bad leaving
-        (offer_was_read accounts) bad_is_line refl refl tt)
+    (offer_was_read accounts) bad_is_line refl refl tt)
     (refl, refl) refl
 
 -- after `C GONE` the session is over
@@ -145,7 +145,7 @@ gone_was_read accounts =
 pub gone_is_clean : (accounts : Accounts) → IsClean accounts (one_session (codes "C GONE" ∷ codes "E" ∷ []))
 gone_is_clean accounts =
     read_texts_are_clean accounts _ _ between [] (next_line_was_read accounts _ _ over [] (codes "E") ended between (gone_was_read accounts)
-        end_is_line refl refl tt) tt
+    end_is_line refl refl tt) tt
 
 -- no mechanism that is offered has the name PLAIN
 plain_not_offered : (m : Mechanism) → NamesMechanism (codes "PLAIN") m → ⊥
@@ -198,7 +198,7 @@ empty_challenge_was_read : (accounts : Accounts)
     (waits_first (codes "SCRAM-SHA-1")) []
 empty_challenge_was_read accounts =
     next_line_was_read accounts _ _ (asks_bare (codes "SCRAM-SHA-1")) [] (codes "S CONT :") (said (cont []))
-        (waits_first (codes "SCRAM-SHA-1"))
+    (waits_first (codes "SCRAM-SHA-1"))
     (auth_was_read accounts) cont_is_line refl (((ScramSha1, refl), refl), refl) tt
 
 -- a log of one session in which the client goes away after the empty challenge is clean
@@ -207,9 +207,9 @@ pub invited_is_clean : (accounts : Accounts)
 invited_is_clean accounts =
     let waits = waits_first (codes "SCRAM-SHA-1") in
     let left = next_line_was_read accounts _ _ waits [] (codes "C GONE") gone over (empty_challenge_was_read accounts) gone_is_line refl
-        refl tt in
+    refl tt in
     read_texts_are_clean accounts _ _ between [] (next_line_was_read accounts _ _ over [] (codes "E") ended between left end_is_line refl
-        refl tt) tt
+    refl tt) tt
 
 -- whole lines that lead to a place where no log may end are cut after the last
 unended_lines_are_cut : HasOneClientFirst → SpellsOneName
@@ -262,7 +262,7 @@ pub aborted_no_is_cut : HasOneClientFirst → SpellsOneName → (accounts : Acco
 aborted_no_is_cut one_first once accounts =
     unended_lines_are_cut one_first once accounts _ _ over []
     (next_line_was_read accounts _ _ leaving [] (codes "S NO :") (said (refuses [])) over (abort_was_read accounts) no_is_line refl
-      (refl, refl) tt)
+    (refl, refl) tt)
     (λ h. h)
 
 -- `C BAD` leads to where a refusal is due
@@ -304,7 +304,7 @@ pub not_offered_no_is_cut : HasOneClientFirst → SpellsOneName → (accounts : 
 not_offered_no_is_cut one_first once accounts =
     unended_lines_are_cut one_first once accounts _ _ over []
     (refusal_was_read accounts _ _ (asks_bare (codes "PLAIN")) (plain_auth_was_read accounts) ((plain_not_offered, refl), refl) refl)
-      (λ h. h)
+    (λ h. h)
 
 -- a log of one session that stops after an empty message in place of client-first is cut: line 4 is at fault
 pub refused_is_cut : HasOneClientFirst → SpellsOneName → (accounts : Accounts)
@@ -327,7 +327,7 @@ pub invited_gone_is_cut : HasOneClientFirst → SpellsOneName → (accounts : Ac
 invited_gone_is_cut one_first once accounts =
     unended_lines_are_cut one_first once accounts _ _ over []
     (next_line_was_read accounts _ _ (waits_first (codes "SCRAM-SHA-1")) [] (codes "C GONE") gone over (empty_challenge_was_read accounts)
-      gone_is_line refl refl tt)
+    gone_is_line refl refl tt)
     (λ h. h)
 
 -- a class that is not due at the place of a log is not due after it
@@ -343,7 +343,7 @@ pub abort_is_early : HasOneClientFirst → SpellsOneName → (accounts : Account
 abort_is_early one_first once accounts =
     let l = header_was_read accounts in
     last_line_at_fault one_first once accounts (header_one_text ∷ []) header [] between [] (codes "C ABORT") (heard abort) out_of_order l
-        abort_is_line
+    abort_is_line
     refl
     (λ f. f.goes)
     (inl (class_is_not_due accounts (header ∷ []) between _ l.begins (λ is. cc is), refl))
@@ -410,7 +410,7 @@ refused_auth_is_at_fault one_first once accounts =
     let l = auth_was_read accounts in
     let at = asks_bare (codes "SCRAM-SHA-1") in
     last_line_at_fault one_first once accounts (header_one_text ∷ offer_text ∷ codes "C AUTH SCRAM-SHA-1" ∷ []) header _ at []
-        (codes "S NO :")
+    (codes "S NO :")
     (said (refuses [])) other_challenge
     l no_is_line refl (λ f. f.goes.0.0 ScramSha1 refl)
     (inr (class_is_due accounts _ at _ l.begins refl, at, [], l.begins, inl ((ScramSha1, refl), refl)))
@@ -423,7 +423,7 @@ end_is_no_header e = let wrong : 69 ≡ 83 = ap (λ (l : List ℕ). get_or l 0 0
 pub end_is_no_line : (accounts : Accounts) → IsWhy accounts (ended_by_lf (codes "E" ∷ [])) 1 no_line
 end_is_no_line accounts =
     first_text_at_fault accounts (ended_by_lf (codes "E" ∷ [])) (codes "E") [] [] (whole_lines_are_split (codes "E" ∷ []) (refl, tt))
-        end_is_no_header
+    end_is_no_header
     (λ e. let wrong : 69 ≡ 83 = ap (λ (l : List ℕ). get_or l 0 0) e in omega (arith, wrong))
 
 -- a log of two sessions, one after the other, is clean
@@ -433,7 +433,7 @@ two_sessions_are_clean accounts =
     let left = next_line_was_read accounts _ _ over [] (codes "E") ended between (gone_was_read accounts) end_is_line refl refl tt in
     let again = next_line_was_read accounts _ _ between [] offer_text _ offered left offer_is_line refl (refl, refl) tt in
     refused_session_is_clean accounts _ _ leaving (next_line_was_read accounts _ _ offered [] (codes "C ABORT") (heard abort) leaving again
-        abort_is_line refl refl tt)
+    abort_is_line refl refl tt)
     (refl, refl) refl
 
 -- the first line again, after itself, is out of order: line 2 is at fault
@@ -442,7 +442,7 @@ pub header_again_is_early : HasOneClientFirst → SpellsOneName → (accounts : 
 header_again_is_early one_first once accounts =
     let l = header_was_read accounts in
     last_line_at_fault one_first once accounts (header_one_text ∷ []) header [] between [] header_one_text header out_of_order l
-        header_is_line refl
+    header_is_line refl
     (λ f. f.goes)
     (inl (class_is_not_due accounts (header ∷ []) between _ l.begins (λ is. cc is), refl))
 
@@ -495,7 +495,7 @@ pub refusal_message_is_at_fault : HasOneClientFirst → SpellsOneName → (accou
 refusal_message_is_at_fault one_first once accounts =
     let l = bad_was_read accounts in
     last_line_at_fault one_first once accounts (header_one_text ∷ offer_text ∷ codes "C BAD" ∷ []) header _ leaving []
-        (codes "S NO :e=other-error")
+    (codes "S NO :e=other-error")
     (said (refuses (codes "e=other-error")))
     (other_outcome (refused_with [])) l error_is_line refl (λ f. error_is_not_empty f.goes.0)
     (inr (class_is_due accounts _ leaving _ l.begins refl, leaving, [], l.begins, refl))
@@ -507,11 +507,20 @@ challenged_empty_is_at_fault one_first once accounts =
     let l = empty_first_was_read accounts in
     let at = got_first (codes "SCRAM-SHA-1") [] in
     last_line_at_fault one_first once accounts (header_one_text ∷ offer_text ∷ codes "C AUTH SCRAM-SHA-1 :" ∷ []) header _ at []
-        (codes "S CONT :")
+    (codes "S CONT :")
     (said (cont [])) (other_outcome (refused_with []))
     l cont_is_line refl (λ f. empty_is_no_client_first f.goes.1.opening.first f.goes.1.opens.is_first.spelled)
-    (inr (class_is_due accounts _ at _ l.begins refl, at, [], l.begins, inr (λ name is. empty_is_no_client_first is.parts
-      is.is_first.spelled, refl)))
+    (inr (
+      class_is_due accounts _ at _ l.begins refl,
+      at,
+      [],
+      l.begins,
+      inr (
+        λ name is. empty_is_no_client_first is.parts
+            is.is_first.spelled,
+        refl,
+      ),
+    ))
 
 -- the first text is a whole log of the first line
 header_is_whole : AreWhole (header_one_text ∷ []) (header ∷ [])
@@ -522,18 +531,18 @@ pub second_is_no_line : (accounts : Accounts) (text : List ℕ) → LacksLf text
     → IsWhy accounts (ended_by_lf (header_one_text ∷ text ∷ [])) 2 no_line
 second_is_no_line accounts text lacks long =
     long_line_is_no_line accounts (header_one_text ∷ []) (header ∷ []) between [] text header_is_whole (header_was_read accounts).begins
-        lacks long
+    lacks long
 
 -- 6203 bytes or more after the first line, without an LF, are no line: line 2 is at fault
 pub second_part_is_no_line : (accounts : Accounts) (rest : List ℕ) → LacksLf rest → 6203 ≤ length rest
     → IsWhy accounts (first_alone ++ rest) 2 no_line
 second_part_is_no_line accounts rest lacks long =
     long_part_is_no_line accounts (header_one_text ∷ []) (header ∷ []) between [] rest header_is_whole (header_was_read accounts).begins
-        lacks long
+    lacks long
 
 -- after the first line, a second without its LF is cut, and at fault, where it has a byte and is not too long
 pub second_is_cut : (accounts : Accounts) (rest : List ℕ) → LacksLf rest → 1 ≤ length rest → length rest ≤ longest_log_line
     → IsWhy accounts (first_alone ++ rest) 2 is_cut
 second_is_cut accounts rest lacks some short =
     part_is_cut accounts (header_one_text ∷ []) (header ∷ []) between [] rest header_is_whole (header_was_read accounts).begins lacks some
-        short
+    short

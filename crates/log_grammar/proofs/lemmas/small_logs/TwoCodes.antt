@@ -32,7 +32,7 @@ first_counter_is_at_fault wrong accounts mechanism name exchange moment t login 
     let by = subst (λ (o : Option TokenFields). IsReplyDueBy o [] moment sent (Some (Pass (t.next + 1)))) (sym has)
     (Pass (t.next + 1), refl, pass_is_due_to_two t moment unlocked counter) in
     wrong accounts mechanism name exchange sent moment (Some (Pass t.next)) (Some (Pass (t.next + 1))) login
-        (next_two_are_code_words t digits) at
+    (next_two_are_code_words t digits) at
     (omega (arith, counter)) by
     (λ same. let next : t.next ≡ t.next + 1 = cc same in omega (arith, next))
 

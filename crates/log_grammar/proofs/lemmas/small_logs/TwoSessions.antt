@@ -51,7 +51,7 @@ far_number_is_between : (lines : List (Numbered Place)) (n : ℕ) → AllByRecur
 far_number_is_between [] n small = refl
 far_number_is_between (x ∷ before) n small =
     put_keeps_others x.number x.value (places_after before) (suc (suc (suc (suc n)))) (λ e. omega (arith, e, small.0))
-        ∙ far_number_is_between before n small.1
+    ∙ far_number_is_between before n small.1
 
 -- the places to which the lines of two sessions, and of a third that is turned away, lead, the latest first
 abbrev places_of_all : List (Numbered Place)
@@ -95,10 +95,10 @@ two_at_once_are_whole accounts =
     (inr (refl, refl, refl)) refl in
     let p5 : ℕ → Place = put 3 between p4 in
     let s5 = quiet_line_goes_on 2 d (offer 1 ∷ offer 2 ∷ numbered 1 gone ∷ []) (turns_away 3) p4 3 ended between s4 tt (refl, refl)
-        (inl refl) refl in
+    (inl refl) refl in
     let p6 : ℕ → Place = put 2 leaving p5 in
     let s6 = quiet_line_goes_on 2 d (offer 1 ∷ offer 2 ∷ numbered 1 gone ∷ turns_away 3 ∷ []) (numbered 3 ended) p5 2 (heard abort) leaving
-        s5 tt tt
+    s5 tt tt
     (inl refl) refl in
     let p7 : ℕ → Place = put 1 between p6 in
     let s7 = quiet_line_goes_on 2 d (offer 1 ∷ offer 2 ∷ numbered 1 gone ∷ turns_away 3 ∷ numbered 3 ended ∷ [])
@@ -108,7 +108,7 @@ two_at_once_are_whole accounts =
     (numbered 1 ended) p7 2 (said (refuses [])) over s7 tt tt (inl (refl, refl)) refl in
     let p9 : ℕ → Place = put 2 between p8 in
     let s9 = quiet_line_goes_on 2 d (offer 1 ∷ offer 2 ∷ numbered 1 gone ∷ turns_away 3 ∷ numbered 3 ended ∷ numbered 2 (heard abort)
-        ∷ numbered 1 ended
+    ∷ numbered 1 ended
     ∷ []) (numbered 2 (said (refuses []))) p8 2 ended between s8 tt tt (inl refl) refl in
     (p9, s9, inl all_numbers_are_between)
 

@@ -72,14 +72,14 @@ digit_log_is_clean : (accounts : Accounts) (lines : List LogLine) → AllByRecur
     → IsClean accounts (digit_log lines)
 digit_log_is_clean accounts lines each few clean =
     subst (IsClean accounts) (upgraded_bytes_are_digit_log lines few) ((upgraded_log_clean_iff_old accounts lines
-        (few_lines_can_be_numbered lines each few)).0 clean)
+    (few_lines_can_be_numbered lines each few)).0 clean)
 
 digit_log_is_at_fault : (accounts : Accounts) (lines : List LogLine) (k : ℕ) (why : Why) → AllByRecursion IsWritable lines
     → AllByRecursion IsNoFirstLine lines → 1 + length lines ≤ 9
     → IsWhy accounts (log_bytes (header ∷ lines)) k why → IsWhy accounts (digit_log lines) k why
 digit_log_is_at_fault accounts lines k why each have few w =
     subst (λ (b : List ℕ). IsWhy accounts b k why) (upgraded_bytes_are_digit_log lines few)
-        (upgraded_log_has_same_fault accounts lines k why (few_lines_can_be_numbered lines each few) have w)
+    (upgraded_log_has_same_fault accounts lines k why (few_lines_can_be_numbered lines each few) have w)
 
 -- each small log that is clean in version 1 is so in version 2, its lines after the first under the numbers of their sessions:
 pub upgraded_first_is_clean : (accounts : Accounts) → IsClean accounts (ended_by_lf (header_two_text ∷ []))
@@ -121,22 +121,30 @@ pub upgraded_two_sessions_are_clean : (accounts : Accounts) → IsClean accounts
     ∷ codes "2 E" ∷ []))
 upgraded_two_sessions_are_clean accounts = digit_log_is_clean accounts
     (said (mechs (codes "SCRAM-SHA-256 SCRAM-SHA-1")) ∷ gone ∷ ended ∷ said (mechs (codes "SCRAM-SHA-256 SCRAM-SHA-1")) ∷ heard abort
-    ∷ said (refuses []) ∷ ended ∷ []) (offer_is_line, (gone_is_line, (end_is_line,
-        (offer_is_line, (abort_is_line, (no_is_line, (end_is_line, tt))))))) (omega arith)
+    ∷ said (refuses []) ∷ ended ∷ []) (
+      offer_is_line,
+      (
+        gone_is_line,
+        (
+          end_is_line,
+          (offer_is_line, (abort_is_line, (no_is_line, (end_is_line, tt)))),
+        ),
+      ),
+    ) (omega arith)
     (two_sessions_are_clean accounts)
 
 -- each small log of one session that is cut in version 1 is cut at the same line in version 2, under the number of the session:
 pub upgraded_offer_is_cut : HasOneClientFirst → SpellsOneName → (accounts : Accounts) → IsWhy accounts (one_numbered []) 3 is_cut
 upgraded_offer_is_cut one_first once accounts =
     digit_log_is_at_fault accounts (said (mechs (codes "SCRAM-SHA-256 SCRAM-SHA-1")) ∷ []) 3 is_cut (offer_is_line, tt) (tt, tt)
-        (omega arith)
+    (omega arith)
     (offer_is_cut one_first once accounts)
 
 pub upgraded_aborted_is_cut : HasOneClientFirst → SpellsOneName → (accounts : Accounts)
     → IsWhy accounts (one_numbered (codes "1 C ABORT" ∷ [])) 4 is_cut
 upgraded_aborted_is_cut one_first once accounts =
     digit_log_is_at_fault accounts (said (mechs (codes "SCRAM-SHA-256 SCRAM-SHA-1")) ∷ heard abort ∷ []) 4 is_cut
-        (offer_is_line, (abort_is_line, tt))
+    (offer_is_line, (abort_is_line, tt))
     (tt, (tt, tt)) (omega arith) (aborted_is_cut one_first once accounts)
 
 pub upgraded_aborted_no_is_cut : HasOneClientFirst → SpellsOneName → (accounts : Accounts)
@@ -149,7 +157,7 @@ pub upgraded_gone_is_cut : HasOneClientFirst → SpellsOneName → (accounts : A
     → IsWhy accounts (one_numbered (codes "1 C GONE" ∷ [])) 4 is_cut
 upgraded_gone_is_cut one_first once accounts =
     digit_log_is_at_fault accounts (said (mechs (codes "SCRAM-SHA-256 SCRAM-SHA-1")) ∷ gone ∷ []) 4 is_cut
-        (offer_is_line, (gone_is_line, tt)) (tt, (tt, tt))
+    (offer_is_line, (gone_is_line, tt)) (tt, (tt, tt))
     (omega arith) (gone_is_cut one_first once accounts)
 
 pub upgraded_auth_is_cut : HasOneClientFirst → SpellsOneName → (accounts : Accounts)
@@ -163,13 +171,13 @@ pub upgraded_invited_is_cut : HasOneClientFirst → SpellsOneName → (accounts 
 upgraded_invited_is_cut one_first once accounts =
     digit_log_is_at_fault accounts (said (mechs (codes "SCRAM-SHA-256 SCRAM-SHA-1")) ∷ heard (auth (codes "SCRAM-SHA-1")) ∷ said (cont [])
     ∷ []) 5 is_cut (offer_is_line, (auth_is_line, (cont_is_line, tt))) (tt, (tt, (tt, tt))) (omega arith)
-        (invited_is_cut one_first once accounts)
+    (invited_is_cut one_first once accounts)
 
 pub upgraded_bad_is_cut : HasOneClientFirst → SpellsOneName → (accounts : Accounts)
     → IsWhy accounts (one_numbered (codes "1 C BAD" ∷ [])) 4 is_cut
 upgraded_bad_is_cut one_first once accounts =
     digit_log_is_at_fault accounts (said (mechs (codes "SCRAM-SHA-256 SCRAM-SHA-1")) ∷ bad ∷ []) 4 is_cut (offer_is_line, (bad_is_line, tt))
-        (tt, (tt, tt))
+    (tt, (tt, tt))
     (omega arith) (bad_is_cut one_first once accounts)
 
 pub upgraded_bad_no_is_cut : HasOneClientFirst → SpellsOneName → (accounts : Accounts)
@@ -189,20 +197,20 @@ pub upgraded_not_offered_no_is_cut : HasOneClientFirst → SpellsOneName → (ac
 upgraded_not_offered_no_is_cut one_first once accounts =
     digit_log_is_at_fault accounts (said (mechs (codes "SCRAM-SHA-256 SCRAM-SHA-1")) ∷ heard (auth (codes "PLAIN")) ∷ said (refuses [])
     ∷ []) 5 is_cut (offer_is_line, (plain_auth_is_line, (no_is_line, tt))) (tt, (tt, (tt, tt))) (omega arith)
-        (not_offered_no_is_cut one_first once accounts)
+    (not_offered_no_is_cut one_first once accounts)
 
 pub upgraded_refused_is_cut : HasOneClientFirst → SpellsOneName → (accounts : Accounts)
     → IsWhy accounts (one_numbered (codes "1 C AUTH SCRAM-SHA-1 :" ∷ [])) 4 is_cut
 upgraded_refused_is_cut one_first once accounts =
     digit_log_is_at_fault accounts (said (mechs (codes "SCRAM-SHA-256 SCRAM-SHA-1")) ∷ heard (auth_with (codes "SCRAM-SHA-1") []) ∷ []) 4
-        is_cut
+    is_cut
     (offer_is_line, (auth_with_is_line, tt)) (tt, (tt, tt)) (omega arith) (refused_is_cut one_first once accounts)
 
 pub upgraded_refused_no_is_cut : HasOneClientFirst → SpellsOneName → (accounts : Accounts)
     → IsWhy accounts (one_numbered (codes "1 C AUTH SCRAM-SHA-1 :" ∷ codes "1 S NO :" ∷ [])) 5 is_cut
 upgraded_refused_no_is_cut one_first once accounts =
     digit_log_is_at_fault accounts (said (mechs (codes "SCRAM-SHA-256 SCRAM-SHA-1")) ∷ heard (auth_with (codes "SCRAM-SHA-1") [])
-        ∷ said (refuses [])
+    ∷ said (refuses [])
     ∷ []) 5 is_cut (offer_is_line, (auth_with_is_line, (no_is_line, tt))) (tt, (tt, (tt, tt))) (omega arith)
     (refused_no_is_cut one_first once accounts)
 
@@ -210,7 +218,7 @@ pub upgraded_invited_gone_is_cut : HasOneClientFirst → SpellsOneName → (acco
     → IsWhy accounts (one_numbered (codes "1 C AUTH SCRAM-SHA-1" ∷ codes "1 S CONT :" ∷ codes "1 C GONE" ∷ [])) 6 is_cut
 upgraded_invited_gone_is_cut one_first once accounts =
     digit_log_is_at_fault accounts (said (mechs (codes "SCRAM-SHA-256 SCRAM-SHA-1")) ∷ heard (auth (codes "SCRAM-SHA-1")) ∷ said (cont [])
-        ∷ gone
+    ∷ gone
     ∷ []) 6 is_cut (offer_is_line, (auth_is_line, (cont_is_line, (gone_is_line, tt)))) (tt, (tt, (tt, (tt, tt)))) (omega arith)
     (invited_gone_is_cut one_first once accounts)
 
@@ -219,13 +227,13 @@ pub upgraded_abort_is_early : HasOneClientFirst → SpellsOneName → (accounts 
     → IsWhy accounts (ended_by_lf (header_two_text ∷ codes "1 C ABORT" ∷ [])) 2 out_of_order
 upgraded_abort_is_early one_first once accounts =
     digit_log_is_at_fault accounts (heard abort ∷ []) 2 out_of_order (abort_is_line, tt) (tt, tt) (omega arith)
-        (abort_is_early one_first once accounts)
+    (abort_is_early one_first once accounts)
 
 pub upgraded_end_is_missing : HasOneClientFirst → SpellsOneName → (accounts : Accounts)
     → IsWhy accounts (one_numbered (codes "1 C GONE" ∷ codes "1 S MECHS SCRAM-SHA-256 SCRAM-SHA-1" ∷ [])) 4 out_of_order
 upgraded_end_is_missing one_first once accounts =
     digit_log_is_at_fault accounts (said (mechs (codes "SCRAM-SHA-256 SCRAM-SHA-1")) ∷ gone
-        ∷ said (mechs (codes "SCRAM-SHA-256 SCRAM-SHA-1"))
+    ∷ said (mechs (codes "SCRAM-SHA-256 SCRAM-SHA-1"))
     ∷ []) 4 out_of_order (offer_is_line, (gone_is_line, (offer_is_line, tt))) (tt, (tt, (tt, tt))) (omega arith)
     (end_is_missing one_first once accounts)
 
@@ -233,7 +241,7 @@ pub upgraded_halt_is_early : HasOneClientFirst → SpellsOneName → (accounts :
     → IsWhy accounts (one_numbered (codes "1 S HALT" ∷ [])) 3 out_of_order
 upgraded_halt_is_early one_first once accounts =
     digit_log_is_at_fault accounts (said (mechs (codes "SCRAM-SHA-256 SCRAM-SHA-1")) ∷ said halt ∷ []) 3 out_of_order
-        (offer_is_line, (halt_is_line, tt))
+    (offer_is_line, (halt_is_line, tt))
     (tt, (tt, tt)) (omega arith) (halt_is_early one_first once accounts)
 
 pub upgraded_other_offer_is_at_fault : HasOneClientFirst → SpellsOneName → (accounts : Accounts)
@@ -253,7 +261,7 @@ pub upgraded_refused_auth_is_at_fault : HasOneClientFirst → SpellsOneName → 
     → IsWhy accounts (one_numbered (codes "1 C AUTH SCRAM-SHA-1" ∷ codes "1 S NO :" ∷ [])) 4 other_challenge
 upgraded_refused_auth_is_at_fault one_first once accounts =
     digit_log_is_at_fault accounts (said (mechs (codes "SCRAM-SHA-256 SCRAM-SHA-1")) ∷ heard (auth (codes "SCRAM-SHA-1"))
-        ∷ said (refuses [])
+    ∷ said (refuses [])
     ∷ []) 4 other_challenge (offer_is_line, (auth_is_line, (no_is_line, tt))) (tt, (tt, (tt, tt))) (omega arith)
     (refused_auth_is_at_fault one_first once accounts)
 
@@ -275,7 +283,7 @@ pub upgraded_challenged_empty_is_at_fault : HasOneClientFirst → SpellsOneName 
     → IsWhy accounts (one_numbered (codes "1 C AUTH SCRAM-SHA-1 :" ∷ codes "1 S CONT :" ∷ [])) 4 (other_outcome (refused_with []))
 upgraded_challenged_empty_is_at_fault one_first once accounts =
     digit_log_is_at_fault accounts (said (mechs (codes "SCRAM-SHA-256 SCRAM-SHA-1")) ∷ heard (auth_with (codes "SCRAM-SHA-1") [])
-        ∷ said (cont [])
+    ∷ said (cont [])
     ∷ []) 4 (other_outcome (refused_with [])) (offer_is_line, (auth_with_is_line, (cont_is_line, tt))) (tt, (tt, (tt, tt))) (omega arith)
     (challenged_empty_is_at_fault one_first once accounts)
 
@@ -285,7 +293,7 @@ text_after_header_is_at_fault : (accounts : Accounts) (text : List ℕ) (why : W
     → IsWhy accounts (ended_by_lf (header_two_text ∷ text ∷ [])) 2 why
 text_after_header_is_at_fault accounts text why lacks none wrong =
     text_at_fault (any_version accounts) (any_version_can_be_shortened accounts) (ended_by_lf (header_two_text ∷ text ∷ []))
-        (header_two_text ∷ [])
+    (header_two_text ∷ [])
     text [] [] why
     (whole_lines_are_split (header_two_text ∷ text ∷ []) (refl, (lacks, tt))) (inr (version_two_is_headed most_open accounts).begins)
     (λ stands. let last = last_is_numbered most_open accounts header_two_text [] text

@@ -116,7 +116,7 @@ after_ok_is_same_aside account (quits_codes q) = quit_is_same_aside q
 after_ok_is_same_aside account (unreplied sent) = record { lines = refl; place = refl; told = refl; meets = tt }
 after_ok_is_same_aside account (replied sent moment reply more) =
     next_line_is_same_aside (heard (code_line sent)) _ _ (telling_line_is_same_aside (logged_reply_of account moment sent reply)
-        (said (replies moment reply)) _ _
+    (said (replies moment reply)) _ _
     (after_ok_is_same_aside account more))
 after_ok_is_same_aside account (halted_at sent) = record { lines = refl; place = refl; told = refl; meets = tt }
 

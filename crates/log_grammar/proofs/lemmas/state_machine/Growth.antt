@@ -109,7 +109,7 @@ after_ok_goes_on d account (unreplied sent) (said halt) next meets h = inr
 after_ok_goes_on d account (unreplied sent) line next meets h = absurd h
 after_ok_goes_on d account (replied sent moment reply more) line next meets h =
     outer_goes_on d (after_ok account) (after_ok account) (replied sent moment reply)
-        (heard (code_line sent) ∷ said (replies moment reply) ∷ [])
+    (heard (code_line sent) ∷ said (replies moment reply) ∷ [])
     (logged_reply_of account moment sent reply ∷ []) (λ t. refl) (λ t. refl) (λ t. refl) (λ t m. m) more line next
     (after_ok_goes_on d account more line next meets h)
 after_ok_goes_on d account (halted_at sent) line next meets h = absurd h
@@ -166,7 +166,7 @@ after_first_goes_on d m first (refused text false) ended next meets h = inr
 after_first_goes_on d m first (refused text false) line next meets h = absurd h
 after_first_goes_on d m first (challenged account text p) line next meets h =
     outer_goes_on d (after_challenge m account first text) (after_first m first) (challenged account text) (said (cont text) ∷ []) []
-        (λ t. refl)
+    (λ t. refl)
     (λ t. refl) (λ t. refl) (λ t more. (meets.0, more)) p line next
     (after_challenge_goes_on d m account first text p line next meets.1 h)
 
@@ -187,7 +187,7 @@ after_empty_goes_on d m (quits_first q) line next meets h =
     (quit_goes_on d q line next meets h)
 after_empty_goes_on d m (sends_first first a) line next meets h =
     outer_goes_on d (after_first m first) (after_empty m) (sends_first first) (heard (resp first) ∷ []) [] (λ t. refl) (λ t. refl)
-        (λ t. refl)
+    (λ t. refl)
     (λ t m. m) a line next
     (after_first_goes_on d m first a line next meets h)
 
@@ -227,7 +227,7 @@ after_mechs_goes_on d (quits_login q) line next meets h =
     (quit_goes_on d q line next meets h)
 after_mechs_goes_on d (with_first m first a) line next meets h =
     outer_goes_on d (after_first m first) after_mechs (with_first m first) (heard (auth_with m first) ∷ []) [] (λ t. refl) (λ t. refl)
-        (λ t. refl)
+    (λ t. refl)
     (λ t m. m) a line next
     (after_first_goes_on d m first a line next meets h)
 after_mechs_goes_on d (without_first m i) line next meets h =

@@ -18,7 +18,7 @@ use Rattle.log_grammar.proofs.lemmas.demands.Challenges.{one_name, challenged_fi
 pub one_account : HasOneClientFirst → SpellsOneName → (accounts : Accounts) → OneAccount (demands accounts)
 one_account one_first names accounts m first account other text a b =
     one_name one_first names m first account other (challenged_first_is_of_name accounts m first account text a)
-        (challenged_first_is_of_name accounts m first other text b)
+    (challenged_first_is_of_name accounts m first other text b)
 
 -- the place after the lines of a log, and what was told in it, follow from the lines, where client-first messages and names
 -- are read in one way
@@ -27,7 +27,7 @@ pub log_has_one_reading : HasOneClientFirst → SpellsOneName
     → Begins (demands accounts) log place told → Begins (demands accounts) log other also → (place ≡ other) × (told ≡ also)
 log_has_one_reading one_first names accounts log place other told also begins begins' =
     lines_have_one_reading (demands accounts) (one_account one_first names accounts) (length log) log place other told also (omega arith)
-        begins begins'
+    begins begins'
 
 -- what ends with a line had a place before it where the line may stand
 pub log_has_last_transition : (accounts : Accounts) (log : List LogLine) (line : LogLine) (next : Place) (all : List LoggedReply)

@@ -89,7 +89,7 @@ between_gives_standing : (accounts : Accounts) (told : List LoggedReply) (line :
 between_gives_standing accounts told (said (mechs names)) =
     demand_gives_standing accounts between told (said (mechs names)) (names ≡ codes "SCRAM-SHA-256 SCRAM-SHA-1") refl (other_mechs, refl)
     (λ is. record { next = offered; goes = (is, refl); due = tt }) (λ f. f.goes.0)
-      (decided_same_text names (codes "SCRAM-SHA-256 SCRAM-SHA-1"))
+    (decided_same_text names (codes "SCRAM-SHA-256 SCRAM-SHA-1"))
 between_gives_standing accounts told (heard abort) = inr (inl (λ is. cc is))
 between_gives_standing accounts told line = inr (inl (λ is. cc is))
 
@@ -151,7 +151,7 @@ got_first_gives_standing s accounts told m first (said (refuses text)) =
     demand_gives_standing accounts (got_first m first) told (said (refuses text)) _ refl (some_why_after_first s accounts m first)
     (λ is. record { next = over; goes = (is, refl); due = tt }) (λ f. f.goes.0)
     (decided_both _ _ (decided_absence (decided_first_message s.ground.once s.ground.firsts s.ground.names m first))
-      (decided_same_text text []))
+    (decided_same_text text []))
 got_first_gives_standing s accounts told m first (said (cont text)) =
     demand_gives_standing accounts (got_first m first) told (said (cont text)) _ refl (some_why_after_first s accounts m first)
     (λ is. record { next = waits_final m is.0 first text; goes = (is.0, is.1, refl); due = tt }) (λ f. (f.goes.0, f.goes.1))
@@ -188,7 +188,7 @@ got_final_gives_standing s accounts told m account first challenge last (due, is
     (decided_granted s accounts m account first challenge last text due is)
 got_final_gives_standing s accounts told m account first challenge last (due, is) (said (cont text)) =
     stuck_line_fails accounts (got_final m account first challenge last) told (said (cont text)) refl
-        (other_outcome (outcome_of due), (due, is, refl))
+    (other_outcome (outcome_of due), (due, is, refl))
     (λ f. f.goes)
 got_final_gives_standing s accounts told m account first challenge last (due, is) (heard abort) = inr (inl (λ e. cc e))
 got_final_gives_standing s accounts told m account first challenge last (due, is) line = inr (inl (λ e. cc e))

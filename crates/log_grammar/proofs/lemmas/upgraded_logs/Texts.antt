@@ -188,7 +188,7 @@ numbered_texts_have_one_reading n (line ∷ lines) [] few each read = absurd rea
 numbered_texts_have_one_reading n (line ∷ lines) (x ∷ log) few each read =
     let next = if is_end line then n + 1 else n in
     same_cons x (numbered n line) log (with_numbers next lines) (upgraded_text_has_one_line n line x
-        (first_number_fits n (line ∷ lines) few) each.0 read.0)
+    (first_number_fits n (line ∷ lines) few) each.0 read.0)
     (numbered_texts_have_one_reading next lines log (rest_fits_numbers n line lines few) each.1 read.1)
 
 -- the texts after the first of an upgraded log are read as no lines but the old ones with their numbers

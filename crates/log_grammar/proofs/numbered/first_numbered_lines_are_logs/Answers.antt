@@ -6,4 +6,4 @@ use Rattle.log_grammar.proofs.numbered.first_numbered_lines_are_logs.Goals as go
 pub returns : goal.returns
 returns c = λ limit accounts log more places told s.
     let f = front_told_comes_first limit (demands accounts) (length more) log more places told (omega arith) s in
-        (f.places, f.earlier, f.spells)
+    (f.places, f.earlier, f.spells)

@@ -184,8 +184,11 @@ halt_is_hall_step itself facts IsStored start calls old new n going server_nonce
     let run = subst (λ (p : Place). IsRun accounts (of_number n calls) p) asks.place
     (open_session_has_run accounts (of_number n calls) (s.places n) is_open (s.session_runs n)) in
     let lines = judged_lines moment sent Lost in
-    let path : IsPath (demands accounts) (waits_code name) lines halted = (got_code name sent, code_may_stand name sent,
-        (halted, refl, refl)) in
+    let path : IsPath (demands accounts) (waits_code name) lines halted = (
+      got_code name sent,
+      code_may_stand name sent,
+      (halted, refl, refl),
+    ) in
     record {
       next = halted;
       told = s.told;
@@ -220,7 +223,7 @@ code_is_hall_step : BeginsWithItself → SpentStaysSpent
 code_is_hall_step itself stays facts IsStored start calls old new n going server_nonce others given event moment name sent
     (Replied reply) s asked judged range =
     reply_is_hall_step itself stays facts IsStored start calls old new n going server_nonce others given event moment name sent reply s
-        asked
+    asked
     judged range
 code_is_hall_step itself stays facts IsStored start calls old new n going server_nonce others given event moment name sent Lost s asked
     judged
@@ -280,7 +283,7 @@ turn_counts_saves facts IsStored old new going server_nonce event moment lines l
     omega (arith, none, unasked)
 turn_counts_saves facts IsStored old new going server_nonce event moment lines left (inr (name, sent, asked, t)) held =
     rw t.lines_are (code_counts_saves IsStored moment sent name t.judged old.book new.book (facts old.store) (facts new.store) held
-        t.is_judged)
+    t.is_judged)
 
 -- a turn whose lines stand for no save changes neither the book nor the store
 turn_is_quiet : {S : Type 0} (facts : S → StoreFacts) (IsStored : List ℕ → Type 0) (old new : Keeper S) (going : Session)
@@ -319,7 +322,7 @@ halting_turn_failed_saving facts IsStored old new going server_nonce event momen
     (left_hall_not_halted t.turn.answer.session (rw t.is_left at is))
 halting_turn_failed_saving facts IsStored old new going server_nonce event moment lines left (inr (name, sent, asked, t)) is =
     halted_hall_failed_saving IsStored moment sent name t.judged old.book new.book (facts old.store) (facts new.store) t.is_judged
-        (rw t.is_left at is)
+    (rw t.is_left at is)
 
 -- a turn with a line for which the store was asked to save is an attempt, and the store was asked to save the book with it
 turn_asks_for_save : BeginsWithItself → {S : Type 0} (facts : S → StoreFacts) (IsStored : List ℕ → Type 0) (start : BookFields)

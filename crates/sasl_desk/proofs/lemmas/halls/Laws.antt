@@ -108,8 +108,13 @@ no_guest_is_between : {S : Type 0} (facts : S → StoreFacts) (IsStored : List �
 no_guest_is_between facts IsStored start calls hall s n none = elim (cases_Bool (is_closed (s.places n))) [
   | inl is ↦ resting_closed_is_between (s.places n) is (session_run_rests (accounts_in start) (of_number n calls) (s.places n)
       (s.session_runs n))
-  | inr is_open ↦ absurd (omega (arith, none_found_none_counted (is_of n) hall.guests none, s.guests n, open_place_counts_one (s.places n)
-      is_open))
+  | inr is_open ↦ absurd (omega (
+    arith,
+    none_found_none_counted (is_of n) hall.guests none,
+    s.guests n,
+    open_place_counts_one (s.places n)
+        is_open,
+  ))
 ]
 
 guest_is_not_between : {S : Type 0} (facts : S → StoreFacts) (IsStored : List ℕ → Type 0) (start : BookFields)
@@ -134,7 +139,7 @@ pub closed_hall_log_is_clean : {S : Type 0} (facts : S → StoreFacts) (IsStored
 closed_hall_log_is_clean facts IsStored start calls hall s none =
     ended_hall_log_is_clean facts IsStored start calls hall s
     (inl (λ n. no_guest_is_between facts IsStored start calls hall s n (no_phase_no_guest hall.is_halted (find (is_of n) hall.guests)
-      (none n))))
+    (none n))))
 
 -- where the store of a hall has failed, its log may end
 failed_hall_may_end : {S : Type 0} (facts : S → StoreFacts) (IsStored : List ℕ → Type 0) (start : BookFields) (calls : List (Numbered Call))
@@ -167,8 +172,11 @@ halted_hall_log_is_clean facts IsStored start calls hall s lines n last =
     let d = demands (accounts_in start) in
     let b = numbered_log_has_last_transition most_open d lines n (said halt) s.places s.told
     (subst (λ (l : List (Numbered LogLine)). SpellsNumbered most_open d l s.places s.told) last s.spelled) in
-    ended_hall_log_is_clean facts IsStored start calls hall s (inr (n, visit_halt_leads_to_halted d (b.before n) (said halt) (s.places n)
-        refl b.goes.goes))
+    ended_hall_log_is_clean facts IsStored start calls hall s (inr (
+      n,
+      visit_halt_leads_to_halted d (b.before n) (said halt) (s.places n)
+          refl b.goes.goes,
+    ))
 
 -- the phase of a number's guest, or none where it has none, is that of its place
 guest_phase_fits_place : {S : Type 0} (facts : S → StoreFacts) (IsStored : List ℕ → Type 0) (start : BookFields)

@@ -140,9 +140,9 @@ pub working_hall_holds_book : {S : Type 0} (facts : S → StoreFacts) (IsStored 
 working_hall_holds_book facts IsStored start [] hall s working = s.is_stored
 working_hall_holds_book facts IsStored start (c ∷ calls) hall s working =
     unhalted_store_holds_book IsStored (accounts_in start) (of_number c.number (c ∷ calls)) (s.places c.number) hall.keeper.book
-        (facts hall.keeper.store)
+    (facts hall.keeper.store)
     (λ is. halted_place_is_neither (s.places c.number) is (closed_or_client_turn facts IsStored start (c ∷ calls) hall s working c.number))
-      s.is_stored
+    s.is_stored
 
 -- a hall stands for the same calls with its guests in another order
 unfoldable pub reordered_hall_stands : {S : Type 0} (facts : S → StoreFacts) (IsStored : List ℕ → Type 0) (start : BookFields)

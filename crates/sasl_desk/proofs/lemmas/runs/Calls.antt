@@ -65,7 +65,7 @@ answer_saves_nothing Refuses going message = end_saves_nothing going
 pub session_turn_saves_nothing : (turn : Turn) (message : List ℕ) → filter is_saving (turn_lines turn message) ≡ []
 session_turn_saves_nothing turn message =
     record_saves_nothing turn.recorded (lines_of_answer turn.answer message)
-        ∙ answer_saves_nothing turn.answer.says turn.answer.session message
+    ∙ answer_saves_nothing turn.answer.says turn.answer.session message
 
 -- for a code, or two in a row, there is one save if the answer is PASS, FAIL or HALT, and none for another answer
 pub code_counts_saves : (IsStored : List ℕ → Type 0) (moment : ℕ) (sent : CodeTexts) (name : List ℕ) (judged : CodeJudged)
@@ -251,11 +251,11 @@ turn_answers_desk_call itself stays law facts IsStored old going server_nonce ev
     (lines, inl t, written)
     is_state =
     session_answers_desk_call itself law facts IsStored old going server_nonce event moment lines left wire wire' log log' new t written
-        is_state
+    is_state
 turn_answers_desk_call itself stays law facts IsStored old going server_nonce event moment left wire wire' log log' new
     (lines, inr (name, sent, asked, t), written) is_state =
     code_answers_desk_call itself stays law facts IsStored old going server_nonce event moment lines left wire wire' log log' new name sent
-        asked
+    asked
     t written is_state
 
 -- a closed desk that has written its offer has answered the greeting

@@ -103,7 +103,7 @@ pub left_place_not_halted : (accounts : Accounts) (at : Place) (going : Option S
 left_place_not_halted accounts at None is same = cc (is, same)
 left_place_not_halted accounts at (Some going) is same =
     let turn : is_client_turn halted ≡ true = subst (λ (p : Place). is_client_turn p ≡ true) same
-        (session_has_client_turn accounts at going is) in
+    (session_has_client_turn accounts at going is) in
     cc turn
 
 -- where a turn leaves a session, its desk is in the state that is due there
@@ -399,8 +399,11 @@ halt_adds_desk_call law facts IsStored start calls old new name server_nonce eve
     let held = client_turn_store_holds_book IsStored accounts calls s.place old.book (facts old.store)
     (session_has_client_turn accounts s.place (WaitCode name) at) s.is_stored in
     let lines = judged_lines moment sent Lost in
-    let path : IsPath (demands accounts) (waits_code name) lines halted = (got_code name sent, code_may_stand name sent,
-        (halted, refl, refl)) in
+    let path : IsPath (demands accounts) (waits_code name) lines halted = (
+      got_code name sent,
+      code_may_stand name sent,
+      (halted, refl, refl),
+    ) in
     record {
       place = halted;
       told = s.told;

@@ -80,7 +80,7 @@ record_awaits_answer : (d : Demands) (event : ClientEvent) (at middle : Place) (
     → ((account : List ℕ) → at ≡ waits_code account → ⊥) → IsAnswerDue middle
 record_awaits_answer d (sends text) at middle (heard line) is goes apart =
     let due = standing_client_line_is_due d line at middle goes in subst IsAnswerDue (sym due.1)
-        (heard_line_awaits_answer at line due.0 apart)
+    (heard_line_awaits_answer at line due.0 apart)
 record_awaits_answer d (sends text) at middle bad is goes apart = subst IsAnswerDue (sym (bad_stands_in_turn d at middle goes).1) tt
 record_awaits_answer d goes_away at middle gone is goes apart = subst IsAnswerDue (sym (gone_stands_in_turn d at middle goes).1) tt
 record_awaits_answer d (sends text) at middle kept is goes apart = absurd is
@@ -415,7 +415,7 @@ one_turn t accounts server_nonce event moment later at lines others next also ap
     let other = answer_has_shape accounts middle b.answered also
     (subst (λ (p : Place). IsPath d p b.answered also) (sym same) other_path) b.answers b.rests in
     let answer = one_due_answer t accounts server_nonce middle a.answered b.answered next also due a.challenge b.challenge a.plain b.plain
-        shape
+    shape
     other in
     let accepts_it = acceptance_or_no_code accounts middle a.answered next due shape in (
       a.lines_are ∙ ap (λ (l : LogLine). l ∷ a.answered) kept ∙ ap (λ (l : List LogLine). b.recorded ∷ l) answer.0 ∙ sym b.lines_are,

@@ -63,7 +63,7 @@ turn_has_one_record : (accounts : Accounts) (server_nonce : List ℕ) (event : C
 turn_has_one_record accounts server_nonce event moment at lines next t =
     ap (filter is_record) t.lines_are
     ∙ rw (record_counts_as_record event at t.recorded t.is_record) (ap (λ (l : List LogLine). t.recorded ∷ l)
-        (answer_records_nothing t.answered t.answers))
+    (answer_records_nothing t.answered t.answers))
 
 turn_has_no_offer : (accounts : Accounts) (server_nonce : List ℕ) (event : ClientEvent) (moment : ℕ) (at : Place) (lines : List LogLine)
     (next : Place)

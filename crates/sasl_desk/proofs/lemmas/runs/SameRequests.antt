@@ -57,7 +57,7 @@ same_or_accepted t accounts (c ∷ calls) (d ∷ others) at also (place, run, an
       )
       | inr (lines, here, apart) ↦
           let once = one_answer_to_call t accounts (server_nonce_of calls) (server_nonce_of others) c.request d.request place c.lines
-              d.lines at also
+          d.lines at also
           apart
           (same_requests_have_same_nonce calls others same.1) same.0
           answered (subst (λ (p : Place). IsAnsweredBy accounts (server_nonce_of others) d.request p d.lines also) (sym here) answers) in
@@ -146,7 +146,7 @@ pub runs_tell_same : UniquenessLaws → (one other : Accounts) (calls others : L
     → IsRun other others also → HaveSameRequests calls others → up_to_acceptance (call_lines calls) ≡ up_to_acceptance (call_lines others)
 runs_tell_same t one other calls others at also entries run runs same =
     elim (same_or_accepted t one calls others at also run (entries_fix_run one other (λ m name. sym (entries m name)) others also runs)
-      same) [
+    same) [
       | inl (accepted, too, told) ↦ told
       | inr (lines, here, apart) ↦ ap up_to_acceptance lines
     ]
@@ -170,7 +170,7 @@ sessions_tell_same t facts IsStored start begun calls others hall other n m s r 
     let one = admitted_session_has_run (accounts_in start) (of_number n calls) (s.places n) (λ is. let_in (of_number_lines n calls ∙ is))
     (s.session_runs n) in
     let two = admitted_session_has_run (accounts_in begun) (of_number m others) (r.places m)
-        (λ is. let_in_too (of_number_lines m others ∙ is))
+    (λ is. let_in_too (of_number_lines m others ∙ is))
     (r.session_runs m) in
     ap up_to_acceptance (of_number_lines n calls)
     ∙ runs_tell_same t (accounts_in start) (accounts_in begun) (of_number n calls) (of_number m others) (s.places n)

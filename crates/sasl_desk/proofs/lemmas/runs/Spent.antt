@@ -57,7 +57,7 @@ above_all_is_above_earlier : (later earlier : List Attempt) (c : ℕ) → IsAbov
 above_all_is_above_earlier [] earlier c above = above
 above_all_is_above_earlier (a ∷ later) earlier c above =
     above_all_is_above_earlier later earlier c (all_back (λ (used : ℕ). used < c) (used_in_reply a.sent a.reply)
-        (used_in (later ++ earlier)) above)
+    (used_in (later ++ earlier)) above)
 
 -- what can pass after an attempt is above each counter that the attempt used
 candidate_is_above_used : LegalHistoriesJoin → CandidatesAreNew → (start : TokenFields) (a : Attempt) (token : TokenFields)
@@ -158,7 +158,7 @@ pair_pass_spends_counters : LegalHistoriesJoin → CandidatesAreNew
 pair_pass_spends_counters join fresh old new name moment first second c start ps has is (w, next, can, one, two) after spent =
     let token = pass_leaves_higher_candidates join fresh old new name moment (TwoTexts first second) c start has after in
     let stays = reply_keeps_spent_counters join old new (logged_reply_of name moment (TwoTexts first second) (Some (Pass c))) ps after
-        spent in
+    spent in
     let greater = each_follows (λ p. IsCounterSpent old p.0 p.1) (λ q. (name, c) ≢ q)
     (candidate_is_not_spent old name start c w moment has is (inr can) (omega (arith, next))) ps spent.spent in
     let lesser = each_follows (λ p. IsCounterSpent old p.0 p.1) (λ q. (name, c - 1) ≢ q)
@@ -206,7 +206,7 @@ due_reply_spends_counters join fresh old new name moment sent (Some (Pass c)) ps
     absurd (no_reply_without_token moment sent (Pass c) due)
 due_reply_spends_counters join fresh old new name moment (OneText text) (Some (Pass c)) ps (Some start) has due is after spent =
     code_pass_spends_counter join fresh old new name moment text c start ps has is
-        (reply_by_token_is_due start moment (OneText text) (Pass c) due).1 after spent
+    (reply_by_token_is_due start moment (OneText text) (Pass c) due).1 after spent
 due_reply_spends_counters join fresh old new name moment (TwoTexts first second) (Some (Pass c)) ps (Some start) has due is after spent =
     pair_pass_spends_counters join fresh old new name moment first second c start ps has is
     (reply_by_token_is_due start moment (TwoTexts first second) (Pass c) due).1 after spent

@@ -68,7 +68,7 @@ below_ever : CandidatesAreNew → (token : TokenFields) (counter : ℕ) → IsBe
 below_ever fresh token counter below [] legal = below
 below_ever fresh token counter below (a ∷ before) legal =
     attempt_keeps_below fresh token counter before a.moment a.sent a.reply legal.0 legal.1
-        (below_ever fresh token counter below before legal.2)
+    (below_ever fresh token counter below before legal.2)
 
 -- what can pass in an unlocked token could pass before: failures have no part in it
 unlocked_admits_no_more : (token : TokenFields) (moment c : ℕ) → CanPass (unlocked token) [] moment c → CanPass token [] moment c
@@ -80,7 +80,7 @@ unlocked_token_keeps_below : CandidatesAreNew → (token : TokenFields) (counter
     → IsBelow (unlocked token) counter
 unlocked_token_keeps_below fresh token counter below history moment c is legal can =
     below_ever fresh (unlocked token) counter (λ m k at now. below [] m k at tt (unlocked_admits_no_more token m k now)) history legal
-        moment c is can
+    moment c is can
 
 -- where the token of one account is unlocked, a counter that is spent stays so
 unlocked_token_keeps_spent_counter : TokensAreApart → CandidatesAreNew → (old : BookFields) (name : List ℕ) (token : TokenFields)

@@ -123,7 +123,7 @@ challenge_due once names accounts server_nonce wait m mechanism name client_firs
     subst (λ (t : List ℕ). IsAnswer accounts server_nonce (got_first mechanism client_first)
     (answer_of Continues (Some (WaitFinal (challenged_login_of wait m name)))) t)
     (sym written) (account_challenge_due once names accounts server_nonce wait m mechanism name client_first server_first named first here
-      stood)
+    stood)
 
 -- an acceptance is due where its verdict is
 pub acceptance_due : (accounts : Accounts) (server_nonce : List ℕ) (m : Mechanism)

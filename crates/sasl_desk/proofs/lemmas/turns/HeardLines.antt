@@ -33,7 +33,7 @@ line_record_is_event_record once (sends text) line at (heard recorded) is kept =
 )
 line_record_is_event_record once (sends text) line at bad is kept = λ other also.
     subst (λ (l : ClientLine). is_due at l ≡ false) (from_client_is_injective line other
-        (once text (from_client line) (from_client other) is also)) kept
+    (once text (from_client line) (from_client other) is also)) kept
 line_record_is_event_record once (sends text) line at recorded is kept = absurd kept
 
 -- what came of a line of the client came of the event that was this line

@@ -77,9 +77,11 @@ answer_has_no_reply Refuses going message = (tt, end_has_no_reply going)
 pub turn_has_no_reply : (accounts : Accounts) (server_nonce : List ℕ) (event : ClientEvent) (at : Place) (turn : Turn) (message : List ℕ)
     → IsTurnOnEvent accounts server_nonce event at turn message
     → AllByRecursion IsNoReply (turn_lines turn message)
-turn_has_no_reply accounts server_nonce event at turn message t =
-    (record_is_no_reply event at (recorded_shown turn.recorded) t.is_record, answer_has_no_reply turn.answer.says turn.answer.session
-      message)
+turn_has_no_reply accounts server_nonce event at turn message t = (
+  record_is_no_reply event at (recorded_shown turn.recorded) t.is_record,
+  answer_has_no_reply turn.answer.says turn.answer.session
+      message,
+)
 
 -- a line that is no reply tells nothing
 pub no_reply_tells_nothing : (at : Place) (line : LogLine) → IsNoReply line → told_at at line ≡ []

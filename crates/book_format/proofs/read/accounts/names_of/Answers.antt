@@ -10,7 +10,7 @@ pub returns-then-list-gt-MOST_NAMES : goal.returns-then-list-gt-MOST_NAMES
 returns-then-list-gt-MOST_NAMES c =
     let count = item_count-view c.args.list.now in
     inr (many_names_are_refused (items_view c.args.list.now) (sym c.if-not-are_texts.ensures)
-        (omega (arith, count, c.if-list-gt-MOST_NAMES.true)))
+    (omega (arith, count, c.if-list-gt-MOST_NAMES.true)))
 
 pub returns : goal.returns
 returns c =

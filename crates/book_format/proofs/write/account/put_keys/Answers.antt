@@ -26,4 +26,4 @@ keys_write_themselves m o is itself len fits k there =
 pub returns-in_ok-mech_value-in-Some-clause-itself : goal.returns-in_ok-mech_value-in-Some-clause-itself
 returns-in_ok-mech_value-in-Some-clause-itself c =
     fact_holds_on_ok _ c.put.result (keys_write_themselves c.in-Some.keys c.args.keys.now c.in-Some.is
-        c.in_ok-mech_value-in-Some.ensures.itself)
+    c.in_ok-mech_value-in-Some.ensures.itself)

@@ -18,5 +18,5 @@ returns-in_err-moment-clause-none c =
     λ n rest is whole.
     c.in_err-moment.ensures.none n is
     (text_before_space_is_moment c.args.text.now c.in_ok-seconds.seconds.now c.in_ok-seconds.rest.now c.in_ok-seconds.ensures n is rest
-      whole) in
+    whole) in
     if_none_holds _ none

@@ -8,7 +8,7 @@ pub returns-then-eq-clause-ok : goal.returns-then-eq-clause-ok
 returns-then-eq-clause-ok g c =
     let locked : c.judge-reply.result ≡ Locked = search rules in
     locked_attempt_is_judged g.S.BookStore.IsStored _ c.args.name.now c.in-Some.token c.judge-reply.new.self c.args.moment _
-        c.judge-reply.result
+    c.judge-reply.result
     c.moment_is_in_range.ensures (sym c.token.ensures ∙ c.in-Some.is)
     c.judge-reply.ensures
     locked _

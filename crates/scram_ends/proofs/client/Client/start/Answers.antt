@@ -16,7 +16,7 @@ returns-in_err-write_client_first-clause-no_memory g c =
     let authzid = option_copied c.args.authzid in
     let first = client_first_of NoBinding authzid c.args.name.now c.args.nonce.now [] in
     let full = client_first_fault_is_memory c.write_client_first.result _ authzid c.args.name.now c.args.nonce.now
-        c.in_err-write_client_first.was
+    c.in_err-write_client_first.was
     c.are_in_class.ensures.authzid c.are_in_class.ensures.name c.are_in_class.ensures.nonce
     c.write_client_first.ensures.unwritable c.write_client_first.ensures.over_limit in
     let room = c.write_client_first.ensures.no_memory (c.in_err-write_client_first.was ∙ ap (λ (x : WriteFault). Err x) full) in

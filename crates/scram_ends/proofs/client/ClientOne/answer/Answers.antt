@@ -37,7 +37,7 @@ returns-in_err-write_with_proof-clause-no_memory g c =
     (omega (arith, c.prove-answer.ensures.len, size.1)) in
     let composed = c.in_ok-without_proof.ensures.ok proof in
     let full = client_final_fault_is_memory c.write_with_proof.result _ c.in_ok-without_proof.without_proof header
-        c.args.challenge.now.nonce.now proof
+    c.args.challenge.now.nonce.now proof
     c.in_err-write_with_proof.was
     range.1 (sent_nonce_is_nonce _ p.nonce shows.nonce is.nonce) field composed
     c.write_with_proof.ensures.unwritable c.write_with_proof.ensures.over_limit in
@@ -47,7 +47,7 @@ returns-in_err-write_with_proof-clause-no_memory g c =
       (
         client_final_text final,
         (client_expects_signature c.args.self.now (record { expected = c.prove-answer.result.expected }) l c.args.server_first.now
-          c.args.password.now
+            c.args.password.now
             header c.args.challenge.now.nonce.now c.args.challenge.now.salt c.as_slice.result.now proof c.args.challenge.now.count p
             started is
             c.as_slice-header.ensures.value shows.nonce shows.salt shows.count (c.as_slice.ensures final composed)

@@ -54,7 +54,7 @@ returns-in-Silent-Mechs-clause-leaves c =
     let line : IsLine c.args.line.now (from_server (mechs c.in-Silent-Mechs.names.now)) =
     rw (c.in-Ok-FromServer.field-0-is, c.in-Silent-Mechs.is-1) at c.in-Ok-FromServer.ensures.ok in
     offer_leaver_has_to_leave c.args.self.now c.args.line.now c.in-Silent-Mechs.names.now c.send_first.result stage line
-        c.send_first.ensures.leaves
+    c.send_first.ensures.leaves
 
 pub returns-in_ok-challenge-in-Begun-Cont-clause-leaves : goal.returns-in_ok-challenge-in-Begun-Cont-clause-leaves
 returns-in_ok-challenge-in-Begun-Cont-clause-leaves c =
@@ -71,5 +71,5 @@ returns-in-Proved-Accepts-clause-leaves c =
     let line : IsLine c.args.line.now (from_server (accepts c.in-Proved-Accepts.message)) =
     rw (c.in-Ok-FromServer.field-0-is, c.in-Proved-Accepts.is-1) at c.in-Ok-FromServer.ensures.ok in
     acceptance_leaver_has_to_leave c.args.self.now c.in-Proved-Accepts.client c.args.line.now c.in-Proved-Accepts.message
-        c.check_signature.result stage
+    c.check_signature.result stage
     line c.check_signature.ensures.leaves

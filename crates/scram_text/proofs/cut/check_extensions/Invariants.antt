@@ -2,7 +2,7 @@ use Rattle.std.proofs.Common.{length}
 use Rattle.std.specs.Option.{option_copied}
 use Rattle.scram_text.specs.Parts.{parts, parts_of_some}
 use Rattle.scram_text.proofs.lemmas.Extensions.{RestShowsAll}
-use Rattle.scram_text.proofs.cut.attributes.Given as goal
+use Rattle.scram_text.proofs.cut.check_extensions.Given as goal
 
 -- what holds of the extensions that are left holds of all
 abbrev pub invariant-loop-left : goal.invariant-loop-left

@@ -1,4 +1,4 @@
-//! Byte strings: two joined in a fixed buffer, two compared, and that a slice is one.
+//! Byte strings: two are joined in a fixed buffer, or compared. And a law: the elements of a slice are bytes.
 ghost use Rattle.std.specs.Prelude.{◌≡◌, ◌≤◌, ◌<◌, ◌+◌, ◌↔◌, ◌++◌, ℕ, length, slice_index, IsTrue};
 
 use arrayvec::ArrayVec;
@@ -23,7 +23,7 @@ pub(crate) fn are_same(one: &[u8], other: &[u8]) -> bool
     one == other
 }
 
-/// Does nothing: the elements of a slice are bytes by their type, which a caller's proof alone needs.
+/// A law, which does nothing at run time: the elements of a slice are bytes by their type. Only a caller's proof needs it.
 pub(crate) fn are_bytes(bytes: &[u8])
     ensures { (i : ℕ) → slice_index bytes.now i < 256 }
 {}

@@ -1,7 +1,7 @@
 use Rattle.std.proofs.Common.{◌≡◌, rules}
 use Rattle.scram_ends.specs.Verdict.{error_value}
 use Rattle.scram_ends.proofs.lemmas.Written.{refusal_fits}
-use Rattle.scram_ends.proofs.written.write_refusal.Goals as goal
+use Rattle.scram_ends.proofs.write.write_refusal.Goals as goal
 
 pub returns-clause-over_limit : goal.returns-clause-over_limit
 returns-clause-over_limit g c = λ over.

@@ -2,14 +2,14 @@ use Rattle.std.proofs.Common.{◌<◌, ◌^◌, arith}
 use Rattle.scram_text.specs.Base64Field.{IsField}
 use Rattle.scram_text.proofs.lemmas.Base64.{bytes_are_field}
 use Rattle.scram_ends.proofs.lemmas.Written.{challenge_can_be_written, challenge_fits}
-use Rattle.scram_ends.proofs.written.write_challenge.Goals as goal
+use Rattle.scram_ends.proofs.write.write_challenge.Goals as goal
 
 pub returns-clause-unwritable : goal.returns-clause-unwritable
 returns-clause-unwritable g c = λ refused.
     let most : c.args.count < 2 ^ 32 = omega arith in
     let salt : IsField 64 c.args.salt.now =
     bytes_are_field 64 c.args.salt.now (rw c.bytes.ensures.value at c.are_bytes.ensures) c.bytes.ensures.fits.at_least
-        c.bytes.ensures.fits.at_most in
+    c.bytes.ensures.fits.at_most in
     c.write_server_first.ensures.unwritable refused
     (challenge_can_be_written c.args.nonce.now c.args.salt.now c.args.count c.requires.nonce salt c.requires.count most)
 
@@ -18,6 +18,6 @@ returns-clause-over_limit g c = λ over.
     let most : c.args.count < 2 ^ 32 = omega arith in
     let salt : IsField 64 c.args.salt.now =
     bytes_are_field 64 c.args.salt.now (rw c.bytes.ensures.value at c.are_bytes.ensures) c.bytes.ensures.fits.at_least
-        c.bytes.ensures.fits.at_most in
+    c.bytes.ensures.fits.at_most in
     challenge_fits c.args.nonce.now c.args.salt.now c.args.count c.requires.nonce salt most
     (c.write_server_first.ensures.over_limit over).1

@@ -8,7 +8,7 @@ ghost use Rattle.scram_text.specs.Written.{server_first_of};
 ghost use Rattle.scram_text.specs.Appended.{IsAppended, LacksRoom};
 ghost use Rattle.scram_ends.specs.Verdict.{accept, refuse, due_of, final_due, due_text};
 
-use crate::fixed::are_bytes;
+use crate::bytes::are_bytes;
 use crate::verdict::{Judged, Refusal};
 use mac_core::copy_of;
 use scram_text::{FinalResult, Salt, WriteFault, write_server_final, write_server_first};
@@ -32,7 +32,7 @@ pub(crate) fn write_challenge<A: Allocator>(
         IsErrOf result WriteFault.NoMemory → IsServerFirst (server_first_text p) p
         × LacksRoom out.old (server_first_text p) }
 {
-    // So a salt fits a field, and the writer has no other fault.
+    // For the proof: so the salt fits its field, and the writer has no other fault.
     are_bytes(salt.bytes());
     write_server_first(nonce, salt, count, b"", out)
 }

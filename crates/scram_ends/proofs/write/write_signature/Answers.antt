@@ -2,7 +2,7 @@ use Rattle.std.proofs.Common.{length, arith, inl, inr}
 use Rattle.std.proofs.lemmas.Bool.{cases_lt}
 use Rattle.scram_text.proofs.lemmas.Base64.{bytes_are_field}
 use Rattle.scram_ends.proofs.lemmas.Written.{signature_can_be_written, signature_fits}
-use Rattle.scram_ends.proofs.written.write_signature.Goals as goal
+use Rattle.scram_ends.proofs.write.write_signature.Goals as goal
 
 pub returns-clause-unwritable : goal.returns-clause-unwritable
 returns-clause-unwritable g c = λ refused.

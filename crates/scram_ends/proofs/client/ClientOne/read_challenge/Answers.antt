@@ -6,9 +6,9 @@ use Rattle.scram_text.proofs.lemmas.FirstUnmet.{found_is_first}
 use Rattle.scram_ends.proofs.lemmas.Challenges.{nonce_begins_otherwise, nonce_begins_with_clients, nonce_is_not_longer, nonce_is_longer}
 use Rattle.scram_ends.specs.Client.{challenge_faults_in_order, AsksOfChallenge}
 use Rattle.scram_ends.specs.declared.client.ClientFault.TheVariants.{NonceNotMine, NonceNotLonger, CountOutside}
-use Rattle.scram_ends.proofs.client.ClientOne.take_up.Goals as goal
-use Rattle.scram_ends.proofs.client.ClientOne.take_up.Goals.{then-challenge-self-via-then-challenge-self}
-use Rattle.scram_ends.proofs.client.ClientOne.take_up.Goals.{then-challenge-self-via-else-challenge-self+then-self-challenge}
+use Rattle.scram_ends.proofs.client.ClientOne.read_challenge.Goals as goal
+use Rattle.scram_ends.proofs.client.ClientOne.read_challenge.Goals.{then-challenge-self-via-then-challenge-self}
+use Rattle.scram_ends.proofs.client.ClientOne.read_challenge.Goals.{then-challenge-self-via-else-challenge-self+then-self-challenge}
 
 pub returns-in_default-clause-err : goal.returns-in_default-clause-err
 returns-in_default-clause-err c =
@@ -40,8 +40,11 @@ returns-then-is_empty-clause-err c =
         sym found.2.mandatory ∙ c.if-challenge.false,
         inr (
           (c.in-Some.more.now, mine),
-          inl (refl, nonce_is_not_longer self.nonce.items found.0.nonce c.in-Some.more.now mine
-              (sym c.is_empty.ensures ∙ c.if-is_empty.true)),
+          inl (
+            refl,
+            nonce_is_not_longer self.nonce.items found.0.nonce c.in-Some.more.now mine
+                (sym c.is_empty.ensures ∙ c.if-is_empty.true),
+          ),
         ),
       )),
     )

@@ -1,6 +1,6 @@
 use Rattle.std.proofs.lemmas.Bool.{both_ways}
 use Rattle.scram_text.proofs.lemmas.Extensions.{RestShowsAll-next, RestShowsAll-misfit}
-use Rattle.scram_text.proofs.cut.attributes.Goals as goal
+use Rattle.scram_text.proofs.cut.check_extensions.Goals as goal
 
 pub returns-then-not-is_extension-clause-fault : goal.returns-then-not-is_extension-clause-fault
 returns-then-not-is_extension-clause-fault c =
