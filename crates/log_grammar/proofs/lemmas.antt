@@ -1,5 +1,6 @@
 -- Lemmas: what the proofs of this crate and of those above it cite.
 pub mod ListEnds
+pub mod DecidedFacts
 pub mod completions
 pub mod demands
 pub mod session_laws
@@ -7,6 +8,7 @@ pub mod kinds
 pub mod lines
 pub mod login_laws
 pub mod many_sessions
+pub mod outcome_laws
 pub mod reason_laws
 pub mod reply_laws
 pub mod small_logs

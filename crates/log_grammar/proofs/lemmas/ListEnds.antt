@@ -1,6 +1,6 @@
 -- Lists by their last elements, and by those within.
 use Rattle.std.proofs.Common.{◌≡◌, ◌⊎◌, inl, inr, ℕ, zero, suc, ◌+◌, ◌<◌, List, [], ◌∷◌, ◌++◌, length, take, refl, sym, ◌∙◌, ap, arith}
-use Rattle.std.proofs.Common.{length-append, append_assoc}
+use Rattle.std.proofs.Common.{length-append, append_assoc, subst, append-nil}
 use Rattle.std.specs.List.{AllByRecursion, AllZip}
 use Rattle.std.proofs.Math.Seq.{take-append-add}
 use Rattle.std.proofs.lemmas.List.{same_from_push}
@@ -35,6 +35,36 @@ related_list_has_last R (a ∷ xs) x [] all = absurd all
 related_list_has_last R (a ∷ xs) x (y ∷ ys) all =
     let (front, z, same, those, this) = related_list_has_last R xs x ys all.1 in
     (y ∷ front, z, ap (λ l. y ∷ l) same, (all.0, those), this)
+
+-- where lists are related, and more are, so are both appended
+pub related_lists-append : {A B : Type 0} (R : A → B → Type 0) (xs more : List A) (ys others : List B) → AllZip R xs ys
+    → AllZip R more others → AllZip R (xs ++ more) (ys ++ others)
+related_lists-append R [] more [] others are also = also
+related_lists-append R [] more (y ∷ ys) others are also = absurd are
+related_lists-append R (x ∷ xs) more [] others are also = absurd are
+related_lists-append R (x ∷ xs) more (y ∷ ys) others are also = (are.0, related_lists-append R xs more ys others are.1 also)
+
+-- where an element is related to one at most, a list is related to one list at most
+pub one_related_list : {A B : Type 0} (R : A → B → Type 0) → ((x : A) (y z : B) → R x y → R x z → y ≡ z)
+    → (xs : List A) (ys zs : List B) → AllZip R xs ys → AllZip R xs zs → ys ≡ zs
+one_related_list R one [] [] [] a b = refl
+one_related_list R one [] [] (z ∷ zs) a b = absurd b
+one_related_list R one [] (y ∷ ys) zs a b = absurd a
+one_related_list R one (x ∷ xs) [] zs a b = absurd a
+one_related_list R one (x ∷ xs) (y ∷ ys) [] a b = absurd b
+one_related_list R one (x ∷ xs) (y ∷ ys) (z ∷ zs) a b =
+    ap (λ l. l ∷ ys) (one x y z a.0 b.0) ∙ ap (λ l. z ∷ l) (one_related_list R one xs ys zs a.1 b.1)
+
+-- what holds of the front of a list, and of each list with one more at its end where it holds of the list, holds of the list
+holds_after_front : {A : Type 0} (P : List A → Type 0) → ((xs : List A) (x : A) → P xs → P (xs ++ x ∷ [])) → (front back : List A)
+    → P front → P (front ++ back)
+holds_after_front P step front [] holds = subst P (sym (append-nil front)) holds
+holds_after_front P step front (x ∷ back) holds =
+    subst P (append_assoc front (x ∷ []) back) (holds_after_front P step (front ++ x ∷ []) back (step front x holds))
+
+-- what holds of no elements, and of each list with one more at its end where it holds of the list, holds of each list
+pub holds_by_last : {A : Type 0} (P : List A → Type 0) → P [] → ((xs : List A) (x : A) → P xs → P (xs ++ x ∷ [])) → (xs : List A) → P xs
+holds_by_last P none step xs = holds_after_front P step [] xs none
 
 -- a list with one more element at its end is longer by one
 pub length-last : {A : Type 0} (xs : List A) (x : A) → length (xs ++ x ∷ []) ≡ length xs + 1

@@ -1,8 +1,8 @@
 -- Whether a challenge, an outcome or a reply is the one demanded is decided, and replies are judged by each account's own alone. For
--- account books: a challenge can be written for each name, and a reply that is due is in its range.
+-- account books: a challenge can be written for each name.
+pub mod RepliesDue
 pub mod EachAccount
 pub mod Challenges
 pub mod StillChallenged
 pub mod DemandsDecided
 pub mod FitBooks
-pub mod CounterRanges

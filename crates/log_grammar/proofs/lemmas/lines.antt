@@ -7,4 +7,5 @@ pub mod Cuts
 pub mod TextBytes
 pub mod LackLf
 pub mod Written
+pub mod ReadAndWritten
 pub mod NumberedReadBack

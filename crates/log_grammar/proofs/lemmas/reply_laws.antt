@@ -1,5 +1,4 @@
--- For src/replies.rt and src/numbered_replies.rt: the counters that passed. For src/outcomes.rt: the server's lines one by one.
+-- For src/replies.rt and src/numbered_replies.rt: the counters that passed.
 pub mod Passed
 pub mod UsedCounters
-pub mod ServerLines
 pub mod NumberedPassed

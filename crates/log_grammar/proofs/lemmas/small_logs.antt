@@ -1,5 +1,8 @@
 -- For src/examples.rt, src/upgraded_examples.rt and src/numbered.rt: logs of a few lines, judged line by line.
-pub mod SmallLogs
+pub mod SmallLines
+pub mod CleanLogs
+pub mod CutLogs
+pub mod FaultyLogs
 pub mod Edges
 pub mod TwoCodes
 pub mod TwoSessions

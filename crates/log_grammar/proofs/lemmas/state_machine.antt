@@ -1,4 +1,5 @@
 -- Version 1: places as states, one line at a time (specs/state_machine).
+pub mod Within
 pub mod Growth
 pub mod Shortening
 pub mod LogSteps
@@ -8,3 +9,4 @@ pub mod DemandsAside
 pub mod DueClasses
 pub mod Standings
 pub mod StepKinds
+pub mod PlacesDecided

@@ -17,7 +17,7 @@ StandsAndTells accounts place told line next all =
 -- the last line of a log stands so at the place that the lines before it lead to
 last_line_stands : (accounts : Accounts) (log : List LogLine) (place : Place) (told : List LoggedReply) (line : LogLine) (next : Place)
     (all : List LoggedReply)
-    → (s : HasLastTransition accounts log line next all) → s.place ≡ place → s.told ≡ told
+    → (s : HasLastTransition (demands accounts) log line next all) → s.place ≡ place → s.told ≡ told
     → StandsAndTells accounts place told line next all
 last_line_stands accounts log place told line next all s at also =
     subst (λ (t : List LoggedReply). StandsAndTells accounts place t line next all) also

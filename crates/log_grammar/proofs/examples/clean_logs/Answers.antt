@@ -1,5 +1,5 @@
-use Rattle.log_grammar.proofs.lemmas.small_logs.SmallLogs.{first_is_clean, aborted_is_clean, bad_is_clean, gone_is_clean}
-use Rattle.log_grammar.proofs.lemmas.small_logs.SmallLogs.{not_offered_is_clean, refused_is_clean, invited_is_clean, two_sessions_are_clean}
+use Rattle.log_grammar.proofs.lemmas.small_logs.CleanLogs.{first_is_clean, aborted_is_clean, bad_is_clean, gone_is_clean}
+use Rattle.log_grammar.proofs.lemmas.small_logs.CleanLogs.{not_offered_is_clean, refused_is_clean, invited_is_clean, two_sessions_are_clean}
 use Rattle.log_grammar.proofs.examples.clean_logs.Goals as goal
 
 pub returns-clause-first : goal.returns-clause-first

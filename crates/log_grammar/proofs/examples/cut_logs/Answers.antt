@@ -1,6 +1,6 @@
-use Rattle.log_grammar.proofs.lemmas.small_logs.SmallLogs.{empty_is_cut, offer_is_cut, aborted_is_cut, aborted_no_is_cut, gone_is_cut, auth_is_cut}
-use Rattle.log_grammar.proofs.lemmas.small_logs.SmallLogs.{invited_is_cut, bad_is_cut, bad_no_is_cut, not_offered_is_cut, not_offered_no_is_cut}
-use Rattle.log_grammar.proofs.lemmas.small_logs.SmallLogs.{refused_is_cut, refused_no_is_cut, invited_gone_is_cut}
+use Rattle.log_grammar.proofs.lemmas.small_logs.CutLogs.{empty_is_cut, offer_is_cut, aborted_is_cut, aborted_no_is_cut, gone_is_cut, auth_is_cut}
+use Rattle.log_grammar.proofs.lemmas.small_logs.CutLogs.{invited_is_cut, bad_is_cut, bad_no_is_cut, not_offered_is_cut, not_offered_no_is_cut}
+use Rattle.log_grammar.proofs.lemmas.small_logs.CutLogs.{refused_is_cut, refused_no_is_cut, invited_gone_is_cut}
 use Rattle.log_grammar.proofs.examples.cut_logs.Goals as goal
 
 pub returns-clause-empty : goal.returns-clause-empty

@@ -1,5 +1,5 @@
 use Rattle.log_grammar.proofs.lemmas.small_logs.Edges.{part_is_cut, long_part_is_no_line, long_line_is_no_line}
-use Rattle.log_grammar.proofs.lemmas.small_logs.SmallLogs.{second_is_no_line, second_part_is_no_line, second_is_cut}
+use Rattle.log_grammar.proofs.lemmas.small_logs.Edges.{second_is_no_line, second_part_is_no_line, second_is_cut}
 use Rattle.log_grammar.proofs.examples.lines_have_6202_bytes_at_most.Goals as goal
 
 pub returns-clause-part : goal.returns-clause-part

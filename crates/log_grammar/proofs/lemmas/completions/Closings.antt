@@ -1,5 +1,5 @@
 -- From each place of a session there are lines that close it and tell nothing, except where a code waits for its reply.
-use Rattle.std.proofs.Common.{◌≡◌, ◌⊎◌, inl, inr, ℕ, List, [], ◌∷◌, refl, arith}
+use Rattle.std.proofs.Common.{◌≡◌, ◌⊎◌, inl, inr, ℕ, List, [], ◌∷◌, refl}
 use Rattle.otp_core.specs.Attempt.{CodeTexts}
 use Rattle.scram_ends.specs.Verdict.{Due, accept, refuse, due_text}
 use Rattle.log_grammar.specs.Lines.{LogLine, said, gone, ended, cont, accepts, refuses, IsWritable}
@@ -10,7 +10,7 @@ use Rattle.log_grammar.specs.state_machine.Steps.{IsTransition, told_at}
 use Rattle.log_grammar.specs.Numbered.{Numbered, MayBeNumbered, MayFollow}
 use Rattle.log_grammar.specs.NumberedLines.{IsNoFirstLine}
 use Rattle.log_grammar.proofs.lemmas.completions.Verdicts.{CompletionLaws, due_refusal_is_writable, due_acceptance_is_writable, some_verdict}
-use Rattle.log_grammar.proofs.lemmas.lines.Written.{gone_is_writable, end_is_writable, cont_is_writable, bare_no_is_writable}
+use Rattle.log_grammar.proofs.lemmas.lines.Written.{gone_is_writable, end_is_writable, cont_is_writable, bare_no_is_writable, bare_cont_is_writable}
 use Rattle.log_grammar.proofs.lemmas.demands.StillChallenged.{ChallengeMeetsDemand}
 use Rattle.log_grammar.proofs.lemmas.demands.Challenges.{decided_offered, decided_first_message, some_challenge}
 use Rattle.log_grammar.proofs.lemmas.lines.TextBytes.{utf8_is_message}
@@ -29,7 +29,7 @@ Closes accounts place (line ∷ more) =
     IsPlain line × (told_at place line ≡ []) × (next : Place) × IsTransition (demands accounts) place line next × Closes accounts next more
 
 -- `E` can be written, has room after any lines, and any line may follow it
-pub end_is_plain : IsPlain ended
+end_is_plain : IsPlain ended
 end_is_plain = record { writable = end_is_writable; room = λ limit before n. tt; follow = λ n m next. tt; has_number = tt }
 
 -- `C GONE`, and `S NO`, `S CONT` and `S OK` with a message that can be written, may be written at any time as well:
@@ -73,7 +73,7 @@ asks_bare_is_closable accounts m = elim (decided_offered m) [
   | inr none ↦ refused_place_is_closable accounts (asks_bare m) [] bare_no_is_writable refl ((none, refl), refl)
   | inl is ↦
       let turn = client_turn_is_closable accounts (waits_first m) refl refl in
-      (said (cont []) ∷ turn.0, (cont_is_plain [] (cont_is_writable [] tt (omega arith)), refl, waits_first m, ((is, refl), refl), turn.1))
+      (said (cont []) ∷ turn.0, (cont_is_plain [] (bare_cont_is_writable), refl, waits_first m, ((is, refl), refl), turn.1))
 ]
 
 -- a session can be closed where a client-first message waits for its answer

@@ -26,7 +26,7 @@ use Rattle.log_grammar.proofs.lemmas.many_sessions.Standings.{line_follows_last}
 use Rattle.log_grammar.proofs.lemmas.many_sessions.OpenCounts.{given_or_not}
 use Rattle.log_grammar.proofs.lemmas.many_sessions.LinesOfNumber.{one_and_others_cover_each, put_sets_own, put_keeps_others, first_of_number_stands}
 use Rattle.scram_text.proofs.lemmas.ListEnds.{nonempty_has_last}
-use Rattle.log_grammar.proofs.lemmas.ListEnds.{empty_has_no_element}
+use Rattle.log_grammar.proofs.lemmas.ListEnds.{empty_has_no_element, related_lists-append}
 
 -- a log whose last line lets any line follow can be completed by closing the open numbers
 free_log_is_completable : CompletionLaws → (limit : ℕ) (accounts : Accounts) → AllCanBeChallenged accounts
@@ -114,15 +114,6 @@ open_numbers_are_in_range limit accounts texts log places told are s n is = elim
       text.1.number
 ]
 
--- texts that are these numbered lines, and more texts that are more such lines, are all these lines in their order
-numbered_lines-append : (texts more : List (List ℕ)) (lines others : List (Numbered LogLine)) → AllZip IsNumberedLine texts lines
-    → AllZip IsNumberedLine more others
-    → AllZip IsNumberedLine (texts ++ more) (lines ++ others)
-numbered_lines-append [] more [] others are also = also
-numbered_lines-append [] more (l ∷ lines) others are also = absurd are
-numbered_lines-append (t ∷ texts) more [] others are also = absurd are
-numbered_lines-append (t ∷ texts) more (l ∷ lines) others are also = (are.0, numbered_lines-append texts more lines others are.1 also)
-
 -- bytes with no whole line begin a clean log of version 2
 empty_front_begins_clean : (limit : ℕ) (accounts : Accounts) (bytes : List ℕ) → IsSplit bytes [] []
     → BeginsCleanOf (version_two limit accounts) bytes
@@ -147,6 +138,6 @@ version_two_fronts_begin_clean ground limit accounts fit bytes (first ∷ texts,
       (
         first ∷ texts ++ c.texts,
         joined_lines_are_split bytes (first ∷ texts) c.texts cut c.lack,
-        (is, lines ++ c.more, c.places, c.told, numbered_lines-append texts c.texts lines c.more are c.are, c.spells, c.ends),
+        (is, lines ++ c.more, c.places, c.told, related_lists-append IsNumberedLine texts c.texts lines c.more are c.are, c.spells, c.ends),
       ),
     )

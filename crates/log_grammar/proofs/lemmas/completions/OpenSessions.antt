@@ -1,5 +1,5 @@
 -- Each front of version 2 begins a clean log: the sessions that are open are closed one by one, or a halt ends all.
-use Rattle.std.proofs.Common.{◌≡◌, inl, inr, ℕ, zero, suc, ◌≤◌, true, false, List, [], ◌∷◌, ◌++◌, length, reverse, refl, sym, ◌∙◌, ap}
+use Rattle.std.proofs.Common.{◌≡◌, inl, inr, ℕ, zero, suc, ◌≤◌, true, false, List, [], ◌∷◌, ◌++◌, reverse, refl, sym, ◌∙◌, ap}
 use Rattle.std.proofs.Common.{subst, arith, append_assoc, append-nil}
 use Rattle.std.specs.List.{AllByRecursion, AllZip}
 use Rattle.std.proofs.lemmas.Bool.{cases_Bool}
@@ -22,8 +22,7 @@ use Rattle.log_grammar.proofs.lemmas.lines.NumberedReadBack.{numbered_line_lacks
 use Rattle.log_grammar.proofs.lemmas.many_sessions.LogSteps.{numbered_log_goes_on, visit_line_between_takes_number}
 use Rattle.log_grammar.proofs.lemmas.many_sessions.OneReading.{empty_log_tells_nothing, number_challenge_meets_demand}
 use Rattle.log_grammar.proofs.lemmas.many_sessions.LinesOfNumber.{one_and_others_cover_each, put_sets_own, put_keeps_others}
-use Rattle.scram_text.proofs.lemmas.ListEnds.{nonempty_has_last}
-use Rattle.log_grammar.proofs.lemmas.ListEnds.{length-last}
+use Rattle.log_grammar.proofs.lemmas.ListEnds.{holds_by_last}
 use Rattle.log_grammar.proofs.lemmas.state_machine.StepKinds.{visit_transition_has_kind}
 
 -- a log of version 2 can be completed: some lines after it, each with its text, let it end
@@ -128,22 +127,18 @@ no_line_leads_before_all d place line next goes never at = elim (visit_transitio
 ]
 
 -- no number of a log stands before all lines
-no_number_is_before_all : (limit : ℕ) (d : Demands) (k : ℕ) (log : List (Numbered LogLine)) (p : ℕ → Place) (told : List LoggedReply)
-    → length log ≤ k
+no_number_is_before_all : (limit : ℕ) (d : Demands) (log : List (Numbered LogLine)) (p : ℕ → Place) (told : List LoggedReply)
     → SpellsNumbered limit d log p told → (n : ℕ) → p n ≡ before_all → ⊥
-no_number_is_before_all limit d k [] p told short s =
-    λ n at. let wrong = sym ((empty_log_tells_nothing limit d p told s).0 n) ∙ at in cc wrong
-no_number_is_before_all limit d zero (x ∷ log) p told short s = absurd (omega (arith, short))
-no_number_is_before_all limit d (suc k) (x ∷ log) p told short s =
-    let last = nonempty_has_last x log in
-    let n = last.1.number in
-    let b = numbered_log_has_last_transition limit d last.0 n last.1.value p told
-    (subst (λ (l : List (Numbered LogLine)). SpellsNumbered limit d l p told) last.2 s) in
-    let shorter : length last.0 ≤ k = omega (arith, short, ap length last.2, length-last last.0 last.1) in
-    let earlier = no_number_is_before_all limit d k last.0 b.before b.told shorter b.spells in
-    one_and_others_cover_each (λ (m : ℕ). p m ≡ before_all → ⊥) n (no_line_leads_before_all d (b.before n) last.1.value (p n) b.goes.goes
-    (earlier n))
-    (λ m other at. earlier m (sym (b.others m other) ∙ at))
+no_number_is_before_all limit d = holds_by_last
+    (λ log. (p : ℕ → Place) (told : List LoggedReply) → SpellsNumbered limit d log p told → (n : ℕ) → p n ≡ before_all → ⊥)
+    (λ p told s n at. let wrong = sym ((empty_log_tells_nothing limit d p told s).0 n) ∙ at in cc wrong)
+    (λ log x earlier p told s.
+    let n = x.number in
+    let b = numbered_log_has_last_transition limit d log n x.value p told s in
+    let never = earlier b.before b.told b.spells in
+    one_and_others_cover_each (λ (m : ℕ). p m ≡ before_all → ⊥) n
+    (no_line_leads_before_all d (b.before n) x.value (p n) b.goes.goes (never n))
+    (λ m other at. never m (sym (b.others m other) ∙ at)))
 
 -- the numbers that are open are in their range
 abbrev pub OpenInRange : (ℕ → Place) → Type 0
@@ -190,17 +185,17 @@ closing_all_completes_log ground limit accounts fit (suc k) log places told s fr
     elim (cases_Bool (is_closed (places k))) [
       | inl is ↦
           let at = closed_is_between (places k) is
-          (no_number_is_before_all limit (demands accounts) (length log) log places told (omega arith) s k) in
+          (no_number_is_before_all limit (demands accounts) log places told s k) in
           closing_all_completes_log ground limit accounts fit k log places told s free ranged (below places at (λ m other. refl))
       | inr opens ↦
           let number = ranged k opens in
-          let opened = number_challenge_meets_demand limit (demands accounts) (length log) log places told (omega arith) s k in
+          let opened = number_challenge_meets_demand limit (demands accounts) log places told s k in
           elim (place_has_exit ground accounts fit (places k) opened) [
             | inl closable ↦
                 closing_number_completes_log limit accounts k number closable.0 log places told s free closable.1
                 (λ longer after all r free' at others. closing_all_completes_log ground limit accounts fit k longer after all r free'
                 (ranged_on after at others) (below after at others))
-            | inr (inl start) ↦ absurd (no_number_is_before_all limit (demands accounts) (length log) log places told (omega arith) s k
+            | inr (inl start) ↦ absurd (no_number_is_before_all limit (demands accounts) log places told s k
                 start)
             | inr (inr (inl waits)) ↦
                 halt_completes_log limit accounts log places told k number s free

@@ -36,7 +36,7 @@ first_line_shows_first_kind one two first second a t texts is (inr stands) =
     absurd (a.differ (sym is ∙ head_is_first_line two second a.two_shorter a.two_headed t texts stands))
 
 -- lines that begin with the first line of the second kind are of that kind
-pub first_line_shows_second_kind : (one two : LogKind) (first second : List ℕ) → AreApart one two first second
+first_line_shows_second_kind : (one two : LogKind) (first second : List ℕ) → AreApart one two first second
     → (t : List ℕ) (texts : List (List ℕ))
     → t ≡ second
     → (either one two first second).MayBegin (t ∷ texts) → two.MayBegin (t ∷ texts)

@@ -1,9 +1,8 @@
 -- Logs of each kind: the fault line is the first that begins no clean log, and the lines up to it decide the reason.
-use Rattle.std.proofs.Common.{◌≡◌, ◌↔◌, inl, inr, ℕ, zero, suc, ◌+◌, ◌<◌, ◌≤◌, List, [], ◌∷◌, ◌++◌, length, take, drop, refl, sym, ◌∙◌, ap}
+use Rattle.std.proofs.Common.{◌≡◌, ◌↔◌, inl, inr, ℕ, zero, suc, ◌+◌, ◌<◌, ◌≤◌, List, [], ◌∷◌, ◌++◌, length, take, refl, sym, ◌∙◌, ap}
 use Rattle.std.proofs.Common.{subst, arith, length-append, append_assoc}
 use Rattle.std.specs.List.{AllByRecursion}
 use Rattle.std.proofs.Math.Seq.{take-length, drop-length, take-append_seam, drop-append_seam}
-use Rattle.std.proofs.lemmas.List.{take-append-le}
 use Rattle.std.proofs.lemmas.Bool.{cases_lt}
 use Rattle.log_grammar.specs.Bytes.{LacksLf, ended_by_lf, IsSplit}
 use Rattle.log_grammar.specs.Why.{Why}
@@ -11,14 +10,14 @@ use Rattle.log_grammar.specs.LogKinds.{LogKind, IsFrontOf, IsCleanOf, IsFaultLin
 use Rattle.log_grammar.specs.LogKinds.{IsFirstOutsideCleanLogsOf}
 use Rattle.log_grammar.proofs.lemmas.lines.Cuts.{one_split, longer_bytes_are_split, lines_up_to_lack_lf, whole_lines_are_split}
 use Rattle.log_grammar.proofs.lemmas.ListEnds.{take-append_next, index_has_element, all_front}
-use Rattle.log_grammar.proofs.lemmas.kinds.Judged.{CanBeShortened, CleanLinesStand, first_lines_stand, front_lines_stand, standing_lines_are_front, fronts_begin_with_fronts, text_at_fault}
+use Rattle.log_grammar.proofs.lemmas.kinds.Judged.{CanBeShortened, CleanLinesStand, first_lines_stand, front_lines_stand, standing_lines_are_front, text_at_fault, end_is_fault_line, text_is_fault_line, reason_is_of_next}
 
 -- each front of the kind begins a clean log
 abbrev pub FrontsBeginCleanOf : LogKind → Type 0
 FrontsBeginCleanOf kind = (bytes : List ℕ) → IsFrontOf kind bytes → BeginsCleanOf kind bytes
 
 -- the lines of what begins a clean log stand
-pub begun_lines_stand : (kind : LogKind) → CanBeShortened kind → CleanLinesStand kind → (bytes : List ℕ) (texts : List (List ℕ))
+begun_lines_stand : (kind : LogKind) → CanBeShortened kind → CleanLinesStand kind → (bytes : List ℕ) (texts : List (List ℕ))
     → IsSplit bytes texts []
     → BeginsCleanOf kind bytes
     → kind.MayBegin texts
@@ -107,23 +106,12 @@ whole_first_outside_is_fault : (kind : LogKind) → CanBeShortened kind → Clea
     → IsSplit bytes (before ++ text ∷ more) rest → BeginsCleanOf kind (ended_by_lf before)
     → (BeginsCleanOf kind (ended_by_lf (before ++ text ∷ [])) → ⊥) → IsFaultLineOf kind bytes (length before + 1)
 whole_first_outside_is_fault kind shorter stand completes bytes before text more rest cut begins none =
-    let texts = before ++ text ∷ more in
-    let long : length texts ≡ length before + suc (length more) = length-append before (text ∷ more) in
     let lack = all_front LacksLf before (text ∷ more) cut.lines in
-    let stands = begun_lines_stand kind shorter stand (ended_by_lf before) before (whole_lines_are_split before lack) begins in
-    record {
-      texts = texts;
-      rest = rest;
-      are_split = cut;
-      below = λ j less. subst (λ (ts : List (List ℕ)). IsFrontOf kind (ended_by_lf ts))
-          (sym (take-append-le j before (text ∷ more) (omega (arith, less))))
-          (fronts_begin_with_fronts kind shorter (ended_by_lf before) before j (standing_lines_are_front kind before lack stands)
-          (whole_lines_are_split before lack));
-      within = λ few front. none (taken_front_begins_clean kind completes texts (length before + 1) (before ++ text ∷ [])
-          (take-append_next before text more) front);
-      at_most = omega (arith, long);
-      unclean = λ last clean. omega (arith, last, long);
-    }
+    let with = before ++ text ∷ [] in
+    text_is_fault_line kind shorter bytes before text more rest cut
+    (begun_lines_stand kind shorter stand (ended_by_lf before) before (whole_lines_are_split before lack) begins)
+    (λ stands. none (completes (ended_by_lf with)
+    (standing_lines_are_front kind with (lines_up_to_lack_lf before text more cut.lines) stands)))
 
 -- where all lines begin a clean log, but the bytes are not a clean log, the line after the last is the fault line
 unclean_end_is_fault : (kind : LogKind) → CanBeShortened kind → CleanLinesStand kind
@@ -131,17 +119,8 @@ unclean_end_is_fault : (kind : LogKind) → CanBeShortened kind → CleanLinesSt
     → IsSplit bytes texts rest
     → BeginsCleanOf kind (ended_by_lf texts) → (IsCleanOf kind bytes → ⊥) → IsFaultLineOf kind bytes (length texts + 1)
 unclean_end_is_fault kind shorter stand bytes texts rest cut begins unclean =
-    let all = whole_lines_are_split texts cut.lines in
-    let stands = begun_lines_stand kind shorter stand (ended_by_lf texts) texts all begins in
-    record {
-      texts = texts;
-      rest = rest;
-      are_split = cut;
-      below = λ j less. fronts_begin_with_fronts kind shorter (ended_by_lf texts) texts j (texts, all, stands) all;
-      within = λ few front. omega (arith, few);
-      at_most = omega arith;
-      unclean = λ last. unclean;
-    }
+    end_is_fault_line kind shorter bytes texts rest cut
+    (begun_lines_stand kind shorter stand (ended_by_lf texts) texts (whole_lines_are_split texts cut.lines) begins) unclean
 
 -- the first line that begins no clean log is the fault line
 first_outside_is_fault : (kind : LogKind) → CanBeShortened kind → CleanLinesStand kind → FrontsBeginCleanOf kind
@@ -183,13 +162,9 @@ reason_shows_fault_text kind bytes before text more rest why cut w =
     let f = fault_is_among_lines kind bytes texts rest (length before + 1) cut w.fault in
     let front = subst (λ (ts : List (List ℕ)). IsFrontOf kind (ended_by_lf ts)) (take-append_seam before (text ∷ more))
     (f.below (length before) (omega arith)) in
-    let same = (one_split bytes w.fault.texts texts w.fault.rest rest w.fault.are_split cut).0 in
-    let at : w.before ≡ length before = omega (arith, w.this) in
-    let wrong = subst (λ (n : ℕ). IsWrongNextOf kind (take n w.fault.texts) (drop n w.fault.texts) w.fault.rest why) at w.wrong in
-    let here = subst (λ (ts : List (List ℕ)). IsWrongNextOf kind (take (length before) ts)
-    (drop (length before) ts) w.fault.rest why) same wrong in
-    let after = subst (λ (ts : List (List ℕ)). IsWrongNextOf kind (take (length before) texts) ts w.fault.rest why)
-    (drop-append_seam before (text ∷ more)) here in
+    let next = reason_is_of_next kind bytes texts rest (length before + 1) (length before) why cut w refl in
+    let after = subst (λ (ts : List (List ℕ)). IsWrongNextOf kind (take (length before) texts) ts rest why)
+    (drop-append_seam before (text ∷ more)) next in
     record {
       stands = front_lines_stand kind (ended_by_lf before) before (whole_lines_are_split before lack) front;
       wrong = subst (λ (ts : List (List ℕ)). kind.Wrong ts text why) (take-append_seam before (text ∷ more)) after;
@@ -244,13 +219,8 @@ reason_shows_fault_end kind bytes texts rest why cut w =
     let f = fault_is_among_lines kind bytes texts rest (length texts + 1) cut w.fault in
     let front = subst (λ (ts : List (List ℕ)). IsFrontOf kind (ended_by_lf ts)) (take-length texts)
     (f.below (length texts) (omega arith)) in
-    let same = one_split bytes w.fault.texts texts w.fault.rest rest w.fault.are_split cut in
-    let at : w.before ≡ length texts = omega (arith, w.this) in
-    let wrong = subst (λ (n : ℕ). IsWrongNextOf kind (take n w.fault.texts) (drop n w.fault.texts) w.fault.rest why) at w.wrong in
-    let here = subst (λ (ts : List (List ℕ)). IsWrongNextOf kind (take (length texts) ts)
-    (drop (length texts) ts) w.fault.rest why) same.0 wrong in
-    let ended = subst (λ (r : List ℕ). IsWrongNextOf kind (take (length texts) texts) (drop (length texts) texts) r why) same.1 here in
-    let none = subst (λ (ts : List (List ℕ)). IsWrongNextOf kind (take (length texts) texts) ts rest why) (drop-length texts) ended in
+    let next = reason_is_of_next kind bytes texts rest (length texts + 1) (length texts) why cut w refl in
+    let none = subst (λ (ts : List (List ℕ)). IsWrongNextOf kind (take (length texts) texts) ts rest why) (drop-length texts) next in
     record {
       stands = front_lines_stand kind (ended_by_lf texts) texts (whole_lines_are_split texts cut.lines) front;
       unclean = f.unclean refl;

@@ -1,6 +1,6 @@
 -- Whether a text is a line is decided: by the only line that it can be.
-use Rattle.std.proofs.Common.{◌≡◌, ◌⊎◌, inl, inr, ℕ, suc, ◌≤◌, ◌<◌, List, [], ◌∷◌, length, sym, ◌∙◌, ap, subst}
-use Rattle.std.specs.List.{AllByRecursion, slice_split}
+use Rattle.std.proofs.Common.{◌≡◌, ◌⊎◌, inl, inr, ℕ, suc, ◌≤◌, ◌<◌, List, length, sym, ◌∙◌, ap, subst}
+use Rattle.std.specs.List.{slice_split}
 use Rattle.std.specs.declared.option.Option.{Option}
 use Rattle.std.specs.declared.option.Option.TheVariants.{None, Some}
 use Rattle.mac_core.proofs.lemmas.Decided.{Decided, decided_equivalent, decided_both, decided_le, decided_same_text}
@@ -15,11 +15,7 @@ use Rattle.log_grammar.specs.Lines.{abort, code, sync, Line, from_server, from_c
 use Rattle.log_grammar.specs.Lines.{gone, ended, line_text, log_line_text, IsReplyInRange, IsServerLineInRange, IsClientLineInRange, IsLineInRange}
 use Rattle.log_grammar.specs.Lines.{IsLogLineInRange, IsLine, IsLogLine, IsNoLogLine, longest_line, longest_log_line}
 use Rattle.log_grammar.proofs.lemmas.lines.ReadBack.{line_in, line_is_read_back, log_line_in, log_line_is_read_back}
-
--- where a fact is decided of each thing, it is decided whether it holds of all in a list
-decided_each : {X : Type 0} (P : X → Type 0) → ((x : X) → Decided (P x)) → (xs : List X) → Decided (AllByRecursion P xs)
-decided_each P each [] = inl tt
-decided_each P each (x ∷ xs) = decided_both (P x) (AllByRecursion P xs) (each x) (decided_each P each xs)
+use Rattle.log_grammar.proofs.lemmas.DecidedFacts.{decided_each}
 
 -- whether a text is a message, and whether it is the name of a mechanism, is decided:
 decided_message : (message : List ℕ) → Decided (IsMessage message)

@@ -1,6 +1,6 @@
 -- A log of version 2 is read in one way, its first lines are again such a log, and the challenge that a number's place has
 -- meets what is demanded of it.
-use Rattle.std.proofs.Common.{◌≡◌, inl, inr, ℕ, zero, suc, ◌≤◌, List, [], ◌∷◌, ◌++◌, length, reverse, refl, sym, ◌∙◌, ap, subst, arith}
+use Rattle.std.proofs.Common.{◌≡◌, inl, inr, ℕ, List, [], ◌∷◌, ◌++◌, reverse, refl, sym, ◌∙◌, ap, subst}
 use Rattle.std.proofs.Common.{append_assoc, append-nil}
 use Rattle.log_grammar.specs.Lines.{LogLine}
 use Rattle.log_grammar.specs.LoggedReply.{LoggedReply}
@@ -15,8 +15,7 @@ use Rattle.log_grammar.proofs.lemmas.many_sessions.NumberedReplies.{values_of, n
 use Rattle.log_grammar.proofs.lemmas.demands.StillChallenged.{ChallengeMeetsDemand, each_line_keeps_demand}
 use Rattle.log_grammar.proofs.lemmas.many_sessions.LinesOfNumber.{one_and_others_cover_each}
 use Rattle.log_grammar.proofs.lemmas.state_machine.OneReading.{OneAccount, one_next_place, same_line_tells_same}
-use Rattle.scram_text.proofs.lemmas.ListEnds.{nonempty_has_last}
-use Rattle.log_grammar.proofs.lemmas.ListEnds.{length-last}
+use Rattle.log_grammar.proofs.lemmas.ListEnds.{holds_by_last}
 use Rattle.log_grammar.proofs.lemmas.many_sessions.Visits.{empty_visit_is_between}
 
 -- a line leads from a number's place to one place
@@ -41,28 +40,26 @@ empty_log_tells_nothing limit d places told s = (
 
 -- the places and what was told follow from the lines
 pub numbered_lines_have_one_reading : (limit : ℕ) (d : Demands) → OneAccount d
-    → (k : ℕ) (log : List (Numbered LogLine)) (p q : ℕ → Place) (told other : List LoggedReply) → length log ≤ k
+    → (log : List (Numbered LogLine)) (p q : ℕ → Place) (told other : List LoggedReply)
     → SpellsNumbered limit d log p told → SpellsNumbered limit d log q other → ((n : ℕ) → p n ≡ q n) × (told ≡ other)
-numbered_lines_have_one_reading limit d one k [] p q told other short s r =
+numbered_lines_have_one_reading limit d one = holds_by_last
+    (λ log. (p q : ℕ → Place) (told other : List LoggedReply) → SpellsNumbered limit d log p told → SpellsNumbered limit d log q other
+    → ((n : ℕ) → p n ≡ q n) × (told ≡ other))
+    (λ p q told other s r.
     let a = empty_log_tells_nothing limit d p told s in
     let b = empty_log_tells_nothing limit d q other r in
-    (λ n. a.0 n ∙ sym (b.0 n), a.1 ∙ sym b.1)
-numbered_lines_have_one_reading limit d one zero (x ∷ log) p q told other short s r = absurd (omega (arith, short))
-numbered_lines_have_one_reading limit d one (suc k) (x ∷ log) p q told other short s r =
-    let last = nonempty_has_last x log in
-    let n = last.1.number in
-    let line = last.1.value in
-    let a = numbered_log_has_last_transition limit d last.0 n line p told
-    (subst (λ (l : List (Numbered LogLine)). SpellsNumbered limit d l p told) last.2 s) in
-    let b = numbered_log_has_last_transition limit d last.0 n line q other
-    (subst (λ (l : List (Numbered LogLine)). SpellsNumbered limit d l q other) last.2 r) in
-    let shorter : length last.0 ≤ k = omega (arith, short, ap length last.2, length-last last.0 last.1) in
-    let earlier = numbered_lines_have_one_reading limit d one k last.0 a.before b.before a.told b.told shorter a.spells b.spells in
-    let moved = subst (λ (r : Place). IsVisitTransition d r line (q n)) (sym (earlier.0 n)) b.goes.goes in (
+    (λ n. a.0 n ∙ sym (b.0 n), a.1 ∙ sym b.1))
+    (λ log x earlier p q told other s r.
+    let n = x.number in
+    let line = x.value in
+    let a = numbered_log_has_last_transition limit d log n line p told s in
+    let b = numbered_log_has_last_transition limit d log n line q other r in
+    let same = earlier a.before b.before a.told b.told a.spells b.spells in
+    let moved = subst (λ (r : Place). IsVisitTransition d r line (q n)) (sym (same.0 n)) b.goes.goes in (
       one_and_others_cover_each (λ (m : ℕ). p m ≡ q m) n (one_next_visit_place d one (a.before n) line (p n) (q n) a.goes.goes moved)
-          (λ m differ. a.others m differ ∙ earlier.0 m ∙ sym (b.others m differ)),
-      a.tells ∙ same_line_tells_same a.told b.told (a.before n) (b.before n) line line earlier.1 (earlier.0 n) refl ∙ sym b.tells,
-    )
+          (λ m differ. a.others m differ ∙ same.0 m ∙ sym (b.others m differ)),
+      a.tells ∙ same_line_tells_same a.told b.told (a.before n) (b.before n) line line same.1 (same.0 n) refl ∙ sym b.tells,
+    ))
 
 -- these lines are a log of version 2, and what was told in them is the first of what was told in all
 pub record Front (limit : ℕ) (d : Demands) (log : List (Numbered LogLine)) (told : List LoggedReply) : Type 0 where
@@ -73,34 +70,29 @@ pub record Front (limit : ℕ) (d : Demands) (log : List (Numbered LogLine)) (to
   pub tells : told ≡ earlier ++ rest
 
 -- the first lines of a log of version 2 are such a log, and what was told in them comes first
-pub front_told_comes_first : (limit : ℕ) (d : Demands) (k : ℕ) (log more : List (Numbered LogLine)) (p : ℕ → Place)
-    (told : List LoggedReply)
-    → length more ≤ k
+pub front_told_comes_first : (limit : ℕ) (d : Demands) (log more : List (Numbered LogLine)) (p : ℕ → Place) (told : List LoggedReply)
     → SpellsNumbered limit d (log ++ more) p told → Front limit d log told
-front_told_comes_first limit d k log [] p told short s = record {
-  places = p;
-  earlier = told;
-  rest = [];
-  spells = subst (λ (l : List (Numbered LogLine)). SpellsNumbered limit d l p told) (append-nil log) s;
-  tells = sym (append-nil told);
-}
-front_told_comes_first limit d zero log (x ∷ more) p told short s = absurd (omega (arith, short))
-front_told_comes_first limit d (suc k) log (x ∷ more) p told short s =
-    let last = nonempty_has_last x more in
-    let n = last.1.number in
-    let shorter : length last.0 ≤ k = omega (arith, short, ap length last.2, length-last last.0 last.1) in
-    let moved = ap (λ (l : List (Numbered LogLine)). log ++ l) last.2 ∙ sym (append_assoc log last.0 (last.1 ∷ [])) in
-    let b = numbered_log_has_last_transition limit d (log ++ last.0) n last.1.value p told
-    (subst (λ (l : List (Numbered LogLine)). SpellsNumbered limit d l p told) moved s) in
-    let f = front_told_comes_first limit d k log last.0 b.before b.told shorter b.spells in
-    let this = told_at (b.before n) last.1.value in
+front_told_comes_first limit d log = holds_by_last
+    (λ more. (p : ℕ → Place) (told : List LoggedReply) → SpellsNumbered limit d (log ++ more) p told → Front limit d log told)
+    (λ p told s. record {
+      places = p;
+      earlier = told;
+      rest = [];
+      spells = subst (λ (l : List (Numbered LogLine)). SpellsNumbered limit d l p told) (append-nil log) s;
+      tells = sym (append-nil told);
+    })
+    (λ more x before p told s.
+    let b = numbered_log_has_last_transition limit d (log ++ more) x.number x.value p told
+    (subst (λ (l : List (Numbered LogLine)). SpellsNumbered limit d l p told) (sym (append_assoc log more (x ∷ []))) s) in
+    let f = before b.before b.told b.spells in
+    let this = told_at (b.before x.number) x.value in
     record {
       places = f.places;
       earlier = f.earlier;
       rest = f.rest ++ this;
       spells = f.spells;
       tells = b.tells ∙ ap (λ (t : List LoggedReply). t ++ this) f.tells ∙ append_assoc f.earlier f.rest this;
-    }
+    })
 
 -- where the place of a number has a challenge that meets its demand, so has the place to which a line leads from there
 visit_challenge_meets_demand : (d : Demands) (at : Place) (line : LogLine) (next : Place) → ChallengeMeetsDemand d at
@@ -109,23 +101,18 @@ visit_challenge_meets_demand d at line next is (inl h) = each_line_keeps_demand 
 visit_challenge_meets_demand d at line next is (inr b) = subst (ChallengeMeetsDemand d) (sym b.2) tt
 
 -- where the place of a number has a challenge, what is demanded of that challenge holds, in a log that meets the demands
-pub number_challenge_meets_demand : (limit : ℕ) (d : Demands) (k : ℕ) (log : List (Numbered LogLine)) (p : ℕ → Place)
-    (told : List LoggedReply)
-    → length log ≤ k
+pub number_challenge_meets_demand : (limit : ℕ) (d : Demands) (log : List (Numbered LogLine)) (p : ℕ → Place) (told : List LoggedReply)
     → SpellsNumbered limit d log p told → (n : ℕ) → ChallengeMeetsDemand d (p n)
-number_challenge_meets_demand limit d k [] p told short s =
-    λ n. subst (ChallengeMeetsDemand d) (sym ((empty_log_tells_nothing limit d p told s).0 n)) tt
-number_challenge_meets_demand limit d zero (x ∷ log) p told short s = absurd (omega (arith, short))
-number_challenge_meets_demand limit d (suc k) (x ∷ log) p told short s =
-    let last = nonempty_has_last x log in
-    let n = last.1.number in
-    let b = numbered_log_has_last_transition limit d last.0 n last.1.value p told
-    (subst (λ (l : List (Numbered LogLine)). SpellsNumbered limit d l p told) last.2 s) in
-    let shorter : length last.0 ≤ k = omega (arith, short, ap length last.2, length-last last.0 last.1) in
-    let earlier = number_challenge_meets_demand limit d k last.0 b.before b.told shorter b.spells in
-    one_and_others_cover_each (λ (m : ℕ). ChallengeMeetsDemand d (p m)) n (visit_challenge_meets_demand d (b.before n) last.1.value (p n)
-    (earlier n) b.goes.goes)
-    (λ m differ. subst (ChallengeMeetsDemand d) (sym (b.others m differ)) (earlier m))
+number_challenge_meets_demand limit d = holds_by_last
+    (λ log. (p : ℕ → Place) (told : List LoggedReply) → SpellsNumbered limit d log p told → (n : ℕ) → ChallengeMeetsDemand d (p n))
+    (λ p told s n. subst (ChallengeMeetsDemand d) (sym ((empty_log_tells_nothing limit d p told s).0 n)) tt)
+    (λ log x earlier p told s.
+    let n = x.number in
+    let b = numbered_log_has_last_transition limit d log n x.value p told s in
+    let was = earlier b.before b.told b.spells in
+    one_and_others_cover_each (λ (m : ℕ). ChallengeMeetsDemand d (p m)) n
+    (visit_challenge_meets_demand d (b.before n) x.value (p n) (was n) b.goes.goes)
+    (λ m differ. subst (ChallengeMeetsDemand d) (sym (b.others m differ)) (was m)))
 
 -- a line that a number may have in a log it may have whatever the places of the others, where its own place and what was told are the same
 pub own_place_decides_transition : (limit : ℕ) (d : Demands) (log : List (Numbered LogLine)) (places other : ℕ → Place)

@@ -1,31 +1,29 @@
 -- Each line that says what a reason names as due may stand in the place of the line at fault.
-use Rattle.std.proofs.Common.{◌≡◌, inl, inr, ℕ, List, [], ◌∷◌, ◌++◌, reverse, refl, sym, ◌∙◌, subst}
+use Rattle.std.proofs.Common.{◌≡◌, inl, inr, ℕ, List, [], reverse, refl, sym, ◌∙◌, subst}
 use Rattle.scram_ends.specs.Verdict.{accept, refuse}
 use Rattle.scram_ends.specs.Login.{IsAuthentic}
-use Rattle.log_grammar.specs.Lines.{LogLine, said, mechs, cont, accepts, refuses, replies, log_line_text, IsLogLineInRange, IsWritable}
-use Rattle.log_grammar.specs.Bytes.{ended_by_lf}
+use Rattle.log_grammar.specs.Lines.{LogLine, said, mechs, cont, accepts, refuses, replies, IsLogLine, IsLogLineInRange, IsWritable}
 use Rattle.log_grammar.specs.LoggedReply.{LoggedReply}
 use Rattle.log_grammar.specs.Places.{Place, asks_bare, got_first, got_final, waits_code, got_code, leaving}
 use Rattle.log_grammar.specs.Demands.{Accounts, AllCanBeChallenged, demands, AreReplies}
 use Rattle.log_grammar.specs.state_machine.Steps.{IsTransition, told_at}
-use Rattle.log_grammar.specs.Begins.{Begins}
+use Rattle.log_grammar.specs.state_machine.DueClasses.{IsDueAt}
 use Rattle.log_grammar.specs.Why.{Why, is_cut, no_line, out_of_order, other_mechs, other_challenge, other_outcome, other_reply, accepted}
-use Rattle.log_grammar.specs.Why.{refused_with, IsWrongAnswer, IsWrongReply, IsWrong}
-use Rattle.log_grammar.specs.VersionOne.{IsWrongText}
+use Rattle.log_grammar.specs.Why.{refused_with, IsWrongAnswer, IsWrongReply, IsWrong, class_of}
 use Rattle.log_grammar.specs.laws.LogLaws.{FrontsBeginClean}
-use Rattle.log_grammar.specs.Versions.{BeginsClean}
 use Rattle.log_grammar.specs.laws.Reasons.{SaysWhatIsDue, NamesWhatIsDue, EachLineThatIsDueMayStand}
-use Rattle.log_grammar.proofs.lemmas.kinds.ShownByLines.{LinesWereRead, fault_follows_read_lines}
-use Rattle.log_grammar.proofs.lemmas.reason_laws.Mended.{some_line_mends_text, following_line_begins_clean}
+use Rattle.log_grammar.proofs.lemmas.kinds.ShownByLines.{fault_follows_read_lines}
+use Rattle.log_grammar.proofs.lemmas.reason_laws.Mended.{some_line_mends_line, named_fault_is_wrong_line, following_line_begins_clean}
+use Rattle.log_grammar.proofs.lemmas.state_machine.Standings.{Follows}
 
 -- the reason is neither a challenge nor an acceptance, so that one line says what is due
-abbrev pub NamesOneLine : Why → Type 0
+abbrev NamesOneLine : Why → Type 0
 NamesOneLine other_challenge = ⊥
 NamesOneLine (other_outcome (accepted signature)) = ⊥
 NamesOneLine why = Unit {0}
 
 -- at most one line says what a reason names as due, where that is neither a challenge nor an acceptance
-pub one_line_says_due : (why : Why) (one other : LogLine) → NamesOneLine why → SaysWhatIsDue why one → SaysWhatIsDue why other → one ≡ other
+one_line_says_due : (why : Why) (one other : LogLine) → NamesOneLine why → SaysWhatIsDue why one → SaysWhatIsDue why other → one ≡ other
 one_line_says_due is_cut one other single says also = absurd says
 one_line_says_due no_line one other single says also = absurd says
 one_line_says_due out_of_order one other single says also = absurd says
@@ -46,7 +44,7 @@ said_due_is_named (other_outcome due) line says writable = tt
 said_due_is_named (other_reply moment due) line says writable = (subst IsLogLineInRange says writable.ranges).1
 
 -- an acceptance with the signature that is due may stand where it is due, and tells nothing
-pub due_ok_may_stand : (accounts : Accounts) (place : Place) (signature text : List ℕ)
+due_ok_may_stand : (accounts : Accounts) (place : Place) (signature text : List ℕ)
     → IsWrongAnswer accounts place (other_outcome (accepted signature))
     → IsAuthentic text signature → (next : Place) × IsTransition (demands accounts) place (said (accepts text)) next
     × (told_at place (said (accepts text)) ≡ [])
@@ -68,7 +66,7 @@ wrong_reply_names_no_outcome accounts (got_code account sent) told moment signat
 wrong_reply_names_no_outcome accounts place told moment signature wrong = wrong
 
 -- where the reason names an acceptance as due, a CONT, OK or NO is due at the place, whatever line is at fault there
-pub due_ok_shows_answer : (accounts : Accounts) (place : Place) (told : List LoggedReply) (line : LogLine) (signature : List ℕ)
+due_ok_shows_answer : (accounts : Accounts) (place : Place) (told : List LoggedReply) (line : LogLine) (signature : List ℕ)
     → IsWrong accounts place told line (other_outcome (accepted signature))
     → IsWrongAnswer accounts place (other_outcome (accepted signature))
 due_ok_shows_answer accounts place told (said (mechs names)) signature wrong = absurd (cc wrong)
@@ -79,78 +77,49 @@ due_ok_shows_answer accounts place told (said (replies moment reply)) signature 
     absurd (wrong_reply_names_no_outcome accounts place told moment signature wrong)
 due_ok_shows_answer accounts place told line signature wrong = absurd wrong
 
--- an acceptance with this signature is due at the place to which the lines lead
-record OkIsDue (accounts : Accounts) (lines : List LogLine) (signature : List ℕ) : Type 0 where
-  at : Place
-  tells : List LoggedReply
-  begins : Begins (demands accounts) lines at tells
-  word : IsWrongAnswer accounts at (other_outcome (accepted signature))
+-- the only line that says what is due may stand at the place
+only_due_line_follows : (accounts : Accounts) → AllCanBeChallenged accounts
+    → (place : Place) (told : List LoggedReply) (text : List ℕ) (x : LogLine) (why : Why) (line : LogLine) → IsLogLine text x
+    → IsDueAt place (class_of x) → IsWrong accounts place told x why → NamesOneLine why → SaysWhatIsDue why line → IsWritable line
+    → Follows accounts place told line
+only_due_line_follows accounts fit place told text x why line is due wrong single says writable =
+    let m = some_line_mends_line accounts fit place told text x why is due (said_due_is_named why line says writable) wrong in
+    subst (Follows accounts place told) (one_line_says_due why m.line line single m.says says)
+    (record { next = m.next; goes = m.goes; due = m.due })
 
--- where a text after lines is wrong for the reason that an acceptance is due, it is due at their place
-ok_is_due : (accounts : Accounts) (lines : List LogLine) (text signature : List ℕ)
-    → IsWrongText accounts lines text (other_outcome (accepted signature))
-    → OkIsDue accounts lines signature
-ok_is_due accounts lines text signature (inl (unfit, same)) = absurd (cc same)
-ok_is_due accounts lines text signature (inr (fits, line, is, inl (none, same))) = absurd (cc same)
-ok_is_due accounts lines text signature (inr (fits, line, is, inr (due, at, tells, begins, wrong))) =
-    record { at = at; tells = tells; begins = begins; word = due_ok_shows_answer accounts at tells line signature wrong }
-
--- the lines before a text at fault begin a clean log with an acceptance that bears the signature due
-due_ok_begins_clean : FrontsBeginClean → (accounts : Accounts) → AllCanBeChallenged accounts
-    → (before : List (List ℕ)) (text : List ℕ) (lines : List LogLine) (place : Place) (told : List LoggedReply)
-    (signature message : List ℕ) → LinesWereRead accounts before lines place told
-    → IsWrongText accounts lines text (other_outcome (accepted signature))
-    → IsAuthentic message signature → IsWritable (said (accepts message))
-    → BeginsClean accounts (ended_by_lf (before ++ log_line_text (said (accepts message)) ∷ []))
-due_ok_begins_clean completes accounts fit before text lines place told signature message lead wrong bears writable =
-    let o = ok_is_due accounts lines text signature wrong in
-    let (next, goes, no_farewell) = due_ok_may_stand accounts o.at signature message o.word bears in
-    let due = subst (λ (t : List LoggedReply). AreReplies (demands accounts) (reverse o.tells) t) (sym no_farewell) tt in
-    following_line_begins_clean completes accounts fit before lines place told o.at o.tells (said (accepts message)) next lead o.begins
-    writable goes due
-
--- the lines before a text at fault begin a clean log with the only line that says what is due
-only_due_line_begins_clean : FrontsBeginClean → (accounts : Accounts) → AllCanBeChallenged accounts
-    → (before : List (List ℕ)) (text : List ℕ) (lines : List LogLine) (place : Place) (told : List LoggedReply)
-    (why : Why) (line : LogLine) → LinesWereRead accounts before lines place told → IsWrongText accounts lines text why → NamesOneLine why
-    → SaysWhatIsDue why line → IsWritable line → BeginsClean accounts (ended_by_lf (before ++ log_line_text line ∷ []))
-only_due_line_begins_clean completes accounts fit before text lines place told why line lead wrong single says writable =
-    let (at, tells, begins, m) = some_line_mends_text accounts fit before text lines place told why lead
-    (said_due_is_named why line says writable) wrong in
-    subst (λ (l : LogLine). BeginsClean accounts (ended_by_lf (before ++ log_line_text l ∷ [])))
-    (one_line_says_due why m.line line single m.says says)
-    (following_line_begins_clean completes accounts fit before lines place told at tells m.line m.next lead begins m.writable m.goes m.due)
-
--- the lines before a text at fault begin a clean log with each line that says what is due, except a challenge
-each_due_line_begins_clean : FrontsBeginClean → (accounts : Accounts) → AllCanBeChallenged accounts
-    → (before : List (List ℕ)) (text : List ℕ) (lines : List LogLine) (place : Place) (told : List LoggedReply)
-    (why : Why) (line : LogLine) → LinesWereRead accounts before lines place told → IsWrongText accounts lines text why
-    → (why ≡ other_challenge → ⊥)
-    → SaysWhatIsDue why line → IsWritable line → BeginsClean accounts (ended_by_lf (before ++ log_line_text line ∷ []))
-each_due_line_begins_clean completes accounts fit before text lines place told is_cut line lead wrong other says writable = absurd says
-each_due_line_begins_clean completes accounts fit before text lines place told no_line line lead wrong other says writable = absurd says
-each_due_line_begins_clean completes accounts fit before text lines place told out_of_order line lead wrong other says writable =
-    absurd says
-each_due_line_begins_clean completes accounts fit before text lines place told other_mechs line lead wrong other says writable =
-    only_due_line_begins_clean completes accounts fit before text lines place told other_mechs line lead wrong tt says writable
-each_due_line_begins_clean completes accounts fit before text lines place told other_challenge line lead wrong other says writable =
-    absurd (other refl)
-each_due_line_begins_clean completes accounts fit before text lines place told (other_outcome (accepted signature)) line lead wrong other
-    (message, bears, same) writable =
-    subst (λ (l : LogLine). BeginsClean accounts (ended_by_lf (before ++ log_line_text l ∷ []))) (sym same)
-    (due_ok_begins_clean completes accounts fit before text lines place told signature message lead wrong bears
-    (subst IsWritable same writable))
-each_due_line_begins_clean completes accounts fit before text lines place told (other_outcome (refused_with message)) line lead wrong other
-    says writable =
-    only_due_line_begins_clean completes accounts fit before text lines place told (other_outcome (refused_with message)) line lead wrong tt
-    says writable
-each_due_line_begins_clean completes accounts fit before text lines place told (other_reply moment due) line lead wrong other says
+-- each line that says what is due, except a challenge, may stand at the place
+pub each_due_line_follows : (accounts : Accounts) → AllCanBeChallenged accounts
+    → (place : Place) (told : List LoggedReply) (text : List ℕ) (x : LogLine) (why : Why) (line : LogLine) → IsLogLine text x
+    → IsDueAt place (class_of x) → IsWrong accounts place told x why → (why ≡ other_challenge → ⊥) → SaysWhatIsDue why line
+    → IsWritable line
+    → Follows accounts place told line
+each_due_line_follows accounts fit place told text x is_cut line is due wrong other says writable = absurd says
+each_due_line_follows accounts fit place told text x no_line line is due wrong other says writable = absurd says
+each_due_line_follows accounts fit place told text x out_of_order line is due wrong other says writable = absurd says
+each_due_line_follows accounts fit place told text x other_mechs line is due wrong other says writable =
+    only_due_line_follows accounts fit place told text x other_mechs line is due wrong tt says writable
+each_due_line_follows accounts fit place told text x other_challenge line is due wrong other says writable = absurd (other refl)
+each_due_line_follows accounts fit place told text x (other_outcome (accepted signature)) line is due wrong other (message, bears, same)
     writable =
-    only_due_line_begins_clean completes accounts fit before text lines place told (other_reply moment due) line lead wrong tt says writable
+    let (next, goes, no_farewell) = due_ok_may_stand accounts place signature message
+    (due_ok_shows_answer accounts place told x signature wrong) bears in
+    subst (Follows accounts place told) (sym same)
+    (record {
+      next = next;
+      goes = goes;
+      due = subst (λ (t : List LoggedReply). AreReplies (demands accounts) (reverse told) t) (sym no_farewell) tt;
+    })
+each_due_line_follows accounts fit place told text x (other_outcome (refused_with message)) line is due wrong other says writable =
+    only_due_line_follows accounts fit place told text x (other_outcome (refused_with message)) line is due wrong tt says writable
+each_due_line_follows accounts fit place told text x (other_reply moment reply) line is due wrong other says writable =
+    only_due_line_follows accounts fit place told text x (other_reply moment reply) line is due wrong tt says writable
 
 -- each line that can be written and says what is due, except a challenge, may stand in place of the line at fault in a log of
 -- version 1, where each front begins a clean log
 pub each_due_line_may_stand : FrontsBeginClean → EachLineThatIsDueMayStand
 each_due_line_may_stand completes accounts fit bytes before text after rest why line cut w other says writable =
     let f = fault_follows_read_lines accounts bytes before text after rest why cut w in
-    each_due_line_begins_clean completes accounts fit before text f.lines f.place f.told why line f.lead f.wrong other says writable
+    let x = named_fault_is_wrong_line accounts f.lines text why (said_due_is_named why line says writable) f.wrong in
+    let l = each_due_line_follows accounts fit x.place x.told text x.line why line x.is x.due x.wrong other says writable in
+    following_line_begins_clean completes accounts fit before f.lines f.place f.told x.place x.told line l.next f.lead x.begins writable
+    l.goes l.due

@@ -1,9 +1,8 @@
 -- What a reason names as due may stand in the place of the numbered line at fault, under its number.
-use Rattle.std.proofs.Common.{◌≡◌, inl, inr, ℕ, ◌+◌, ◌≤◌, List, [], ◌∷◌, ◌++◌, length, reverse, take, refl, sym, ◌∙◌, ap, subst, arith}
+use Rattle.std.proofs.Common.{◌≡◌, inl, inr, ℕ, ◌+◌, List, [], ◌∷◌, ◌++◌, length, reverse, refl, sym, ◌∙◌, ap, subst}
 use Rattle.std.specs.List.{AllByRecursion, AllZip}
-use Rattle.std.proofs.lemmas.Bool.{cases_lt}
 use Rattle.std.proofs.lemmas.Slice.Zip.{all_zipped_more}
-use Rattle.log_grammar.specs.Lines.{LogLine, header_two, said, mechs, cont, accepts, refuses, replies, log_line_text, IsWritable}
+use Rattle.log_grammar.specs.Lines.{LogLine, header_two, said, mechs, cont, accepts, refuses, replies, log_line_text}
 use Rattle.log_grammar.specs.Bytes.{LacksLf, ended_by_lf, IsSplit}
 use Rattle.log_grammar.specs.LoggedReply.{LoggedReply}
 use Rattle.log_grammar.specs.Places.{Place, asks_bare, got_first, got_final, got_code, leaving}
@@ -23,17 +22,15 @@ use Rattle.log_grammar.specs.state_machine.NumberedSteps.{put, IsNumberedTransit
 use Rattle.log_grammar.specs.laws.Reasons.{SaysWhatIsDue, NamesWhatIsDue}
 use Rattle.log_grammar.specs.laws.NumberedReasons.{HasNumberedLineThatMayStand, WhatIsDueMayStandUnderItsNumber}
 use Rattle.log_grammar.specs.laws.NumberedReasons.{EachNumberedLineThatIsDueMayStand}
-use Rattle.log_grammar.proofs.lemmas.lines.Cuts.{one_split}
-use Rattle.log_grammar.proofs.lemmas.reason_laws.DueLines.{NamesOneLine, one_line_says_due, said_due_is_named, due_ok_may_stand, due_ok_shows_answer}
+use Rattle.log_grammar.proofs.lemmas.reason_laws.DueLines.{said_due_is_named, each_due_line_follows}
 use Rattle.log_grammar.proofs.lemmas.kinds.FaultLines.{FaultText, reason_shows_fault_text}
 use Rattle.log_grammar.proofs.lemmas.kinds.Judged.{standing_lines_are_front}
-use Rattle.log_grammar.proofs.lemmas.reason_laws.Mended.{some_line_mends_line, end_reason_names_nothing}
-use Rattle.log_grammar.proofs.lemmas.many_sessions.DueClasses.{line_of_class_has_room, line_of_class_may_follow, number_classes_follow_place}
+use Rattle.log_grammar.proofs.lemmas.reason_laws.Mended.{some_line_mends_line, named_fault_is_whole_line}
+use Rattle.log_grammar.proofs.lemmas.many_sessions.DueClasses.{number_classes_follow_place}
 use Rattle.log_grammar.proofs.lemmas.lines.NumberedReadBack.{one_numbered_line, numbered_line_lacks_lf, numbered_line_is_writable}
 use Rattle.log_grammar.proofs.lemmas.many_sessions.LogSteps.{numbered_log_goes_on}
 use Rattle.log_grammar.proofs.lemmas.many_sessions.Standings.{only_busy_has_busy_class}
-use Rattle.log_grammar.proofs.lemmas.state_machine.Standings.{Follows}
-use Rattle.log_grammar.proofs.lemmas.ListEnds.{index_has_element, all_append, all_front}
+use Rattle.log_grammar.proofs.lemmas.ListEnds.{all_append, all_front}
 
 -- a numbered line is at fault after lines of version 2, for a reason that names what is due at its number
 record IsNumberedFault (limit : ℕ) (accounts : Accounts) (before : List (List ℕ)) (x : Numbered LogLine) (why : Why) : Type 0 where
@@ -196,9 +193,9 @@ due_numbered_begins_clean completes limit accounts fit before x why f line next 
     let same = one_class why (class_of x.value) (class_of line) (wrong_line_has_class accounts (f.places n) f.told x.value why f.wrong)
     (due_line_has_class why line says) in
     let g : IsNumberedTransition limit (demands accounts) f.log f.places f.told n line next = record {
-      room = line_of_class_has_room limit f.log n line (subst (ClassMayBeNumbered limit f.log n) same f.due.room);
-      next = λ earlier z e. line_of_class_may_follow z.number z.value n line (subst (ClassMayFollow z.number z.value n) same
-          (f.due.next earlier z e));
+      room = (subst (ClassMayBeNumbered limit f.log n) same f.due.room) line refl;
+      next = λ earlier z e. (subst (ClassMayFollow z.number z.value n) same
+          (f.due.next earlier z e)) line refl;
       goes = inl goes;
       due = answer;
     } in
@@ -248,59 +245,13 @@ numbered_fault_has_due_line completes limit accounts fit bytes before text more 
 
 -- what a reason names as due may stand in place of the line at fault, under its number, where fronts of version 2 begin clean logs
 pub numbered_what_is_due_may_stand : NumberedFrontsBeginClean → WhatIsDueMayStandUnderItsNumber
-numbered_what_is_due_may_stand completes limit accounts fit bytes texts rest k why cut w names = elim (cases_lt w.before (length texts)) [
-  | inr past ↦
-      let same = (one_split bytes w.fault.texts texts w.fault.rest rest w.fault.are_split cut).0 in
-      absurd (end_reason_names_nothing (version_two limit accounts) (take w.before w.fault.texts) w.fault.texts w.before w.fault.rest why
-      (subst (λ (ts : List (List ℕ)). length ts ≤ w.before) (sym same) past) w.wrong names)
-  | inl less ↦
-      let (before, text, more, same, at) = index_has_element texts w.before less in
-      let this : k ≡ length before + 1 = omega (arith, w.this, at) in
-      subst (λ (ts : List (List ℕ)). HasNumberedLineThatMayStand limit accounts ts k why) (sym same)
-      (subst (λ (i : ℕ). HasNumberedLineThatMayStand limit accounts (before ++ text ∷ more) i why) (sym this)
-      (numbered_fault_has_due_line completes limit accounts fit bytes before text more rest why
-      (subst (λ (ts : List (List ℕ)). IsSplit bytes ts rest) same cut)
-      (subst (λ (i : ℕ). IsWhyOf (version_two limit accounts) bytes i why) this w) names))
-]
-
--- the only line that says what is due may stand at the place
-only_due_line_follows : (accounts : Accounts) → AllCanBeChallenged accounts
-    → (place : Place) (told : List LoggedReply) (x : LogLine) (why : Why) (line : LogLine) → IsWritable x
-    → IsDueAt place (class_of x) → IsWrong accounts place told x why → NamesOneLine why → SaysWhatIsDue why line → IsWritable line
-    → Follows accounts place told line
-only_due_line_follows accounts fit place told x why line is due wrong single says writable =
-    let m = some_line_mends_line accounts fit place told (log_line_text x) x why is due (said_due_is_named why line says writable) wrong in
-    subst (Follows accounts place told) (one_line_says_due why m.line line single m.says says)
-    (record { next = m.next; goes = m.goes; due = m.due })
-
--- each line that says what is due, except a challenge, may stand at the place
-each_due_line_follows : (accounts : Accounts) → AllCanBeChallenged accounts
-    → (place : Place) (told : List LoggedReply) (x : LogLine) (why : Why) (line : LogLine) → IsWritable x
-    → IsDueAt place (class_of x) → IsWrong accounts place told x why → (why ≡ other_challenge → ⊥) → SaysWhatIsDue why line
-    → IsWritable line
-    → Follows accounts place told line
-each_due_line_follows accounts fit place told x is_cut line is due wrong other says writable = absurd says
-each_due_line_follows accounts fit place told x no_line line is due wrong other says writable = absurd says
-each_due_line_follows accounts fit place told x out_of_order line is due wrong other says writable = absurd says
-each_due_line_follows accounts fit place told x other_mechs line is due wrong other says writable =
-    only_due_line_follows accounts fit place told x other_mechs line
-    is due wrong tt says writable
-each_due_line_follows accounts fit place told x other_challenge line is due wrong other says writable = absurd (other refl)
-each_due_line_follows accounts fit place told x (other_outcome (accepted signature)) line is due wrong other (message, bears, same)
-    writable =
-    let (next, goes, no_farewell) = due_ok_may_stand accounts place signature message
-    (due_ok_shows_answer accounts place told x signature wrong) bears in
-    subst (Follows accounts place told) (sym same)
-    (record {
-      next = next;
-      goes = goes;
-      due = subst (λ (t : List LoggedReply). AreReplies (demands accounts) (reverse told) t)
-          (sym no_farewell) tt;
-    })
-each_due_line_follows accounts fit place told x (other_outcome (refused_with message)) line is due wrong other says writable =
-    only_due_line_follows accounts fit place told x (other_outcome (refused_with message)) line is due wrong tt says writable
-each_due_line_follows accounts fit place told x (other_reply moment due_reply) line is due wrong other says writable =
-    only_due_line_follows accounts fit place told x (other_reply moment due_reply) line is due wrong tt says writable
+numbered_what_is_due_may_stand completes limit accounts fit bytes texts rest k why cut w names =
+    let (before, text, more, same, this) = named_fault_is_whole_line (version_two limit accounts) bytes texts rest k why cut w names in
+    subst (λ (ts : List (List ℕ)). HasNumberedLineThatMayStand limit accounts ts k why) (sym same)
+    (subst (λ (i : ℕ). HasNumberedLineThatMayStand limit accounts (before ++ text ∷ more) i why) (sym this)
+    (numbered_fault_has_due_line completes limit accounts fit bytes before text more rest why
+    (subst (λ (ts : List (List ℕ)). IsSplit bytes ts rest) same cut)
+    (subst (λ (i : ℕ). IsWhyOf (version_two limit accounts) bytes i why) this w) names))
 
 -- each line that can be written and says what is due, except a challenge, may stand in place of the line at fault, under its
 -- number, where fronts of version 2 begin clean logs
@@ -308,7 +259,7 @@ pub each_numbered_due_may_stand : NumberedFrontsBeginClean → EachNumberedLineT
 each_numbered_due_may_stand completes limit accounts fit bytes before text more rest why x line cut w other is says writable =
     let f = fault_text_shows_fault limit accounts before text x why is (said_due_is_named why line says writable.line)
     (reason_shows_fault_text (version_two limit accounts) bytes before text more rest why cut w) in
-    let l = each_due_line_follows accounts fit (f.places x.number) f.told x.value why line is.line
+    let l = each_due_line_follows accounts fit (f.places x.number) f.told (log_line_text x.value) x.value why line is.line
     (fault_class_is_due limit accounts before x why f) f.wrong other says writable.line in
     due_numbered_begins_clean completes limit accounts fit before x why f line l.next
     (all_front LacksLf before (text ∷ more) cut.lines) says writable l.goes l.due

@@ -1,29 +1,23 @@
 -- Codes that passed in a log of version 2.
-use Rattle.std.proofs.Common.{◌≡◌, inl, inr, ℕ, List, [], ◌∷◌, ◌++◌, length, reverse, refl, sym, ◌∙◌, ap, subst, arith}
+use Rattle.std.proofs.Common.{◌≡◌, inl, inr, ℕ, List, [], ◌∷◌, ◌++◌, reverse, refl, sym, ◌∙◌, ap, subst}
 use Rattle.std.proofs.Common.{append-nil, append_assoc}
-use Rattle.std.specs.declared.option.Option.{Option}
-use Rattle.std.specs.declared.option.Option.TheVariants.{None, Some}
 use Rattle.scram_text.specs.Laws.{SpellsOneName, HasOneClientFirst}
 use Rattle.otp_core.specs.Attempt.{CodeTexts, used_in}
-use Rattle.otp_core.specs.Reply.{IsDueReply}
 use Rattle.otp_core.specs.Laws.{CandidatesAreNew}
-use Rattle.otp_core.specs.declared.token.reply.Reply.{Reply}
-use Rattle.otp_core.specs.declared.token.reply.Reply.TheVariants.{Pass}
-use Rattle.otp_core.specs.declared.token.kinds.TokenFields.{TokenFields}
 use Rattle.log_grammar.specs.Lines.{LogLine}
 use Rattle.log_grammar.specs.LoggedReply.{LoggedReply}
 use Rattle.log_grammar.specs.Places.{Place, waits_code, got_code}
-use Rattle.log_grammar.specs.Demands.{Accounts, Demands, attempts_of, IsReplyDueBy, demands, AreReplies}
+use Rattle.log_grammar.specs.Demands.{Demands, attempts_of, demands, AreReplies}
 use Rattle.log_grammar.specs.state_machine.Steps.{told_at}
 use Rattle.log_grammar.specs.laws.Replies.{passes, AreRising}
 use Rattle.log_grammar.specs.Numbered.{Numbered, numbered, SpellsNumbered}
 use Rattle.log_grammar.specs.state_machine.NumberedSteps.{IsVisitTransition}
-use Rattle.log_grammar.specs.laws.NumberedReplies.{IsNumberedCodeOf, EachNumberedPassIsACode, NumberedCountersRise}
+use Rattle.log_grammar.specs.laws.NumberedReplies.{EachNumberedPassIsACode, NumberedCountersRise}
 use Rattle.log_grammar.specs.laws.NumberedReplies.{NoNumberedCounterIsUsedTwice}
 use Rattle.log_grammar.proofs.lemmas.state_machine.PlaceBefore.{one_account}
 use Rattle.log_grammar.proofs.lemmas.many_sessions.WithoutLast.{numbered_log_has_last_transition}
 use Rattle.log_grammar.proofs.lemmas.many_sessions.OneReading.{numbered_lines_have_one_reading, front_told_comes_first}
-use Rattle.log_grammar.proofs.lemmas.reply_laws.Passed.{later_pass_is_greater}
+use Rattle.log_grammar.proofs.lemmas.reply_laws.Passed.{later_pass_is_greater, due_pass_fits_token}
 use Rattle.log_grammar.proofs.lemmas.reply_laws.UsedCounters.{replies_keep_counters_rising}
 
 -- a PASS stands where a code, or two in a row, wait for their reply
@@ -33,34 +27,6 @@ pass_follows_code d place next moment counter (inr busy) = absurd (cc busy.1)
 pass_follows_code d (got_code account sent) next moment counter (inl goes) = (account, sent, refl, goes)
 pass_follows_code d place next moment counter (inl goes) = absurd goes
 
--- a PASS that is due to a code of a number is one of a code that could pass then
-due_numbered_pass_is_code : (limit : ℕ) (accounts : Accounts) (log : List (Numbered LogLine)) (n moment counter : ℕ) (next : Place)
-    (account : List ℕ)
-    (sent : CodeTexts)
-    (places : ℕ → Place) (told : List LoggedReply) (o : Option TokenFields) → accounts.token account ≡ o
-    → SpellsNumbered limit (demands accounts) log places told
-    → places n ≡ got_code account sent → next ≡ waits_code account
-    → IsReplyDueBy o (attempts_of account (reverse told)) moment sent (Some (Pass counter))
-    → IsNumberedCodeOf limit accounts log n moment counter next
-due_numbered_pass_is_code limit accounts log n moment counter next account sent places told None has after waits is_next due =
-    absurd (cc due)
-due_numbered_pass_is_code limit accounts log n moment counter next account sent places told (Some token) has after waits is_next
-    (reply, is, due) =
-    let same : reply ≡ Pass counter = cc (sym is) in
-    let fits = subst (λ (r : Reply). IsDueReply token (attempts_of account (reverse told)) moment sent r) same due in
-    record {
-      account = account;
-      sent = sent;
-      places = places;
-      told = told;
-      token = token;
-      after = after;
-      waits = waits;
-      has_token = has;
-      fits = fits.1;
-      is_next = is_next;
-    }
-
 -- PASS stands under a number only after the code of its counter, which could pass then, or after two codes in a row whose
 -- second is that of its counter
 pub each_numbered_pass_is_a_code : EachNumberedPassIsACode
@@ -68,8 +34,20 @@ each_numbered_pass_is_a_code limit accounts log n moment counter places told s =
     let b = numbered_log_has_last_transition limit (demands accounts) log n (passes moment counter) places told s in
     let (account, sent, at, next) = pass_follows_code (demands accounts) (b.before n) (places n) moment counter b.goes.goes in
     let due = subst (λ (p : Place). AreReplies (demands accounts) (reverse b.told) (told_at p (passes moment counter))) at b.goes.due in
-    due_numbered_pass_is_code limit accounts log n moment counter (places n) account sent b.before b.told
-    (accounts.token account) refl b.spells at next due.0
+    let (token, has, fits) =
+    due_pass_fits_token (accounts.token account) (attempts_of account (reverse b.told)) moment counter sent due.0 in
+    record {
+      account = account;
+      sent = sent;
+      places = b.before;
+      told = b.told;
+      token = token;
+      after = b.spells;
+      waits = at;
+      has_token = has;
+      fits = fits;
+      is_next = next;
+    }
 
 -- of two passes of one account in a log of version 2, under whichever numbers, the later has the greater counter, where a
 -- client-first message has one list of parts, a saslname one name, and a counter that can pass is above those that passed
@@ -83,9 +61,9 @@ numbered_counters_rise one_first names new limit accounts log more account n mom
     let split = sym (append_assoc first more (numbered m (passes at greater) ∷ [])) in
     let two = each_numbered_pass_is_a_code limit accounts (first ++ more) m at greater after all
     (subst (λ (l : List (Numbered LogLine)). SpellsNumbered limit (demands accounts) l after all) split longer) in
-    let f = front_told_comes_first limit (demands accounts) (length more) first more two.places two.told (omega arith) two.after in
+    let f = front_told_comes_first limit (demands accounts) first more two.places two.told two.after in
     let same = (numbered_lines_have_one_reading limit (demands accounts) (one_account one_first names accounts)
-    (length first) first f.places places f.earlier told (omega arith) f.spells s).1 in
+    first f.places places f.earlier told f.spells s).1 in
     let told_here = one.tells ∙ ap (λ (p : Place). one.told ++ told_at p line) was in
     let tells = f.tells ∙ ap (λ (l : List LoggedReply). l ++ f.rest) (same ∙ told_here) in
     let whose : mine ≡ two.account = cc (sym next ∙ at_n ∙ sym at_m ∙ two.is_next) in

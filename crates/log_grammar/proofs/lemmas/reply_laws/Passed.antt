@@ -1,5 +1,5 @@
 -- Codes that passed in a log.
-use Rattle.std.proofs.Common.{All, le-leb, get_or, length, arith, ◌≡◌, inl, inr, ℕ, ◌+◌, ◌<◌, true, List, [], ◌∷◌, ◌++◌, reverse, refl, sym}
+use Rattle.std.proofs.Common.{All, le-leb, get_or, arith, ◌≡◌, inl, inr, ℕ, ◌+◌, ◌<◌, true, List, [], ◌∷◌, ◌++◌, reverse, refl, sym}
 use Rattle.std.proofs.Common.{◌∙◌, ap, subst, append_assoc}
 use Rattle.std.proofs.lemmas.List.{reverse-append}
 use Rattle.std.specs.declared.option.Option.{Option}
@@ -31,37 +31,36 @@ use Rattle.log_grammar.specs.Demands.{Accounts, attempts_by, attempts_of, IsRepl
 use Rattle.log_grammar.specs.Begins.{Begins}
 use Rattle.log_grammar.specs.laws.Outcomes.{IsReplied, EachReplyIsDue}
 use Rattle.log_grammar.specs.laws.Replies.{passes, IsCodeOf, EachPassIsACode, CountersRise, NextHotpCodePasses, NextTwoHotpCodesPass}
-use Rattle.log_grammar.proofs.lemmas.state_machine.LogSteps.{first_reply_stands_last}
-use Rattle.log_grammar.proofs.lemmas.reply_laws.ServerLines.{first_lines_tell_first}
+use Rattle.log_grammar.proofs.lemmas.demands.RepliesDue.{first_reply_stands_last}
+use Rattle.log_grammar.proofs.lemmas.outcome_laws.ServerLines.{first_lines_begin_logs}
 use Rattle.log_grammar.proofs.lemmas.state_machine.PlaceBefore.{log_has_one_reading}
 use Rattle.log_grammar.proofs.lemmas.demands.EachAccount.{same_or_other_account}
 
--- a PASS that is due to a code is one of a code that could pass then
-due_pass_is_code : (accounts : Accounts) (log : List LogLine) (account : List ℕ) (sent : CodeTexts) (told : List LoggedReply)
-    (moment counter : ℕ)
-    (next : Place) (o : Option TokenFields)
-    → accounts.token account ≡ o → Begins (demands accounts) log (got_code account sent) told → next ≡ waits_code account
-    → IsReplyDueBy o (attempts_of account (reverse told)) moment sent (Some (Pass counter)) → IsCodeOf accounts log moment counter next
-due_pass_is_code accounts log account sent told moment counter next None has after is_next due = absurd (cc due)
-due_pass_is_code accounts log account sent told moment counter next (Some token) has after is_next (reply, is, due) =
+-- where a PASS is due, there is a token, which a code of its counter fits
+pub due_pass_fits_token : (o : Option TokenFields) (attempts : List Attempt) (moment counter : ℕ) (sent : CodeTexts)
+    → IsReplyDueBy o attempts moment sent (Some (Pass counter))
+    → (token : TokenFields) × (o ≡ Some token) × IsFitting token attempts moment sent counter
+due_pass_fits_token None attempts moment counter sent due = absurd (cc due)
+due_pass_fits_token (Some token) attempts moment counter sent (reply, is, due) =
     let same : reply ≡ Pass counter = cc (sym is) in
-    let fits = subst (λ (r : Reply). IsDueReply token (attempts_of account (reverse told)) moment sent r) same due in
-    record {
-      account = account;
-      sent = sent;
-      told = told;
-      token = token;
-      after = after;
-      has_token = has;
-      fits = fits.1;
-      is_next = is_next;
-    }
+    (token, refl, (subst (λ (r : Reply). IsDueReply token attempts moment sent r) same due).1)
 
 -- a PASS that may stand is one of a code that could pass then
 replied_pass_is_code : (accounts : Accounts) (log : List LogLine) (moment counter : ℕ) (next : Place) (told : List LoggedReply)
     → IsReplied accounts log moment (Some (Pass counter)) next told → IsCodeOf accounts log moment counter next
 replied_pass_is_code accounts log moment counter next told r =
-    due_pass_is_code accounts log r.account r.sent r.told moment counter next (accounts.token r.account) refl r.after r.is_next r.due
+    let (token, has, fits) =
+    due_pass_fits_token (accounts.token r.account) (attempts_of r.account (reverse r.told)) moment counter r.sent r.due in
+    record {
+      account = r.account;
+      sent = r.sent;
+      told = r.told;
+      token = token;
+      after = r.after;
+      has_token = has;
+      fits = fits;
+      is_next = r.is_next;
+    }
 
 -- PASS stands only after the code of its counter, which could pass then, or after two codes in a row whose second is that of its
 -- counter, where replies may stand exactly where they are due
@@ -154,7 +153,7 @@ counters_rise one_first names new replied accounts log more account moment count
     let split = sym (append_assoc first more (passes at greater ∷ [])) in
     let two = each_pass_is_a_code replied accounts (first ++ more) at greater (waits_code account) all
     (subst (λ (l : List LogLine). Begins (demands accounts) l (waits_code account) all) split both) in
-    let front = first_lines_tell_first accounts (length more) first more (got_code two.account two.sent) two.told (omega arith) two.after in
+    let front = first_lines_begin_logs accounts first more (got_code two.account two.sent) two.told two.after in
     let same = (log_has_one_reading one_first names accounts first front.0 (waits_code account) front.1 told front.3 begins).1 in
     let tells = front.4 ∙ ap (λ (l : List LoggedReply). l ++ front.2) (same ∙ one.tells) in
     let mine : one.account ≡ two.account = cc (sym one.is_next ∙ two.is_next) in
@@ -170,7 +169,7 @@ digits_are_code_chars text all = list_all-from_AllPass is_code_char text
     (λ k d within. digit_is_code_char (get_or text k d) (All-get_or IsAsciiDigit text k d within all))
 
 -- the text of a code is one that a client may send
-pub code_text_is_code_word : (text : List ℕ) → IsCodeText text → IsCodeWord text
+code_text_is_code_word : (text : List ℕ) → IsCodeText text → IsCodeWord text
 code_text_is_code_word text is = record {
   at_least = omega (arith, is.count.0);
   at_most = omega (arith, is.count.1);

@@ -12,7 +12,7 @@ use Rattle.otp_core.specs.declared.token.kinds.TokenFields.{TokenFields}
 use Rattle.log_grammar.specs.LoggedReply.{LoggedReply}
 use Rattle.log_grammar.specs.Demands.{Accounts, attempts_by, attempts_of, IsReplyDueBy, demands, AreReplies}
 use Rattle.log_grammar.specs.laws.Replies.{AreRising, NoCounterIsUsedTwice}
-use Rattle.log_grammar.proofs.lemmas.state_machine.LogSteps.{first_reply_stands_last}
+use Rattle.log_grammar.proofs.lemmas.demands.RepliesDue.{first_reply_stands_last}
 use Rattle.log_grammar.proofs.lemmas.demands.EachAccount.{same_or_other_account}
 use Rattle.log_grammar.proofs.lemmas.reply_laws.Passed.{fitting_counter_is_above}
 

@@ -1,13 +1,13 @@
 -- A clean log of version 2 is that of its sessions.
 use Rattle.std.proofs.Common.{◌≡◌, ◌⊎◌, inl, inr, ℕ, Bool, true, false, List, [], ◌∷◌, map, refl, sym, ◌∙◌, ap, subst, append-nil}
-use Rattle.std.specs.List.{AllByRecursion, AllZip}
+use Rattle.std.specs.List.{AllByRecursion}
 use Rattle.std.specs.declared.option.Option.{Option}
 use Rattle.std.specs.declared.option.Option.TheVariants.{None, Some}
 use Rattle.std.proofs.lemmas.Bool.Decides.{eqb_tells}
 use Rattle.std.proofs.lemmas.List.{same_from_push}
 use Rattle.otp_core.specs.Ranges.{IsMoment}
 use Rattle.log_grammar.specs.Lines.{LogLine, header_two, said, ended, busy, halt, log_line_text, EndsWith}
-use Rattle.log_grammar.specs.Bytes.{LacksLf, ended_by_lf, IsSplit}
+use Rattle.log_grammar.specs.Bytes.{ended_by_lf, IsSplit}
 use Rattle.log_grammar.specs.LoggedReply.{LoggedReply}
 use Rattle.log_grammar.specs.Places.{between, halted}
 use Rattle.log_grammar.specs.Demands.{Accounts, demands}
@@ -23,38 +23,7 @@ use Rattle.log_grammar.proofs.lemmas.demands.EachAccount.{each_account_has_its_h
 use Rattle.log_grammar.proofs.lemmas.session_laws.OfSessions.{closed_session_is_between, session_between_is_closed, halted_session_is_at_halt, session_at_halt_is_halted}
 use Rattle.log_grammar.proofs.lemmas.session_laws.MomentRanges.{Ranged, Timed, session_tells_in_time, closing_tells_in_time}
 use Rattle.log_grammar.proofs.lemmas.lines.NumberedReadBack.{numbered_line_lacks_lf}
-
--- texts that are numbered lines are the texts that these lines are written as
-texts_spell_numbered_lines : (texts : List (List ℕ)) (log : List (Numbered LogLine)) → AllZip IsNumberedLine texts log
-    → texts ≡ map numbered_text log
-texts_spell_numbered_lines [] [] are = refl
-texts_spell_numbered_lines [] (x ∷ log) are = absurd are
-texts_spell_numbered_lines (text ∷ texts) [] are = absurd are
-texts_spell_numbered_lines (text ∷ texts) (x ∷ log) are =
-    ap (λ (t : List ℕ). t ∷ texts) are.0.spelled ∙ ap (λ (ts : List (List ℕ)). numbered_text x ∷ ts)
-    (texts_spell_numbered_lines texts log are.1)
-
--- numbered lines that were read can be written
-read_numbered_lines_are_writable : (texts : List (List ℕ)) (log : List (Numbered LogLine)) → AllZip IsNumberedLine texts log
-    → AllByRecursion IsNumberedWritable log
-read_numbered_lines_are_writable [] [] are = tt
-read_numbered_lines_are_writable [] (x ∷ log) are = absurd are
-read_numbered_lines_are_writable (text ∷ texts) [] are = absurd are
-read_numbered_lines_are_writable (text ∷ texts) (x ∷ log) are =
-    (subst (λ (t : List ℕ). IsNumberedLine t x) are.0.spelled are.0, read_numbered_lines_are_writable texts log are.1)
-
--- numbered lines that can be written are read as they are
-pub writable_numbered_lines_are_read : (log : List (Numbered LogLine)) → AllByRecursion IsNumberedWritable log
-    → AllZip IsNumberedLine (map numbered_text log) log
-writable_numbered_lines_are_read [] all = tt
-writable_numbered_lines_are_read (x ∷ log) all = (all.0, writable_numbered_lines_are_read log all.1)
-
--- the texts of numbered lines that can be written have no LF
-pub writable_numbered_lines_lack_lf : (log : List (Numbered LogLine)) → AllByRecursion IsNumberedWritable log
-    → AllByRecursion LacksLf (map numbered_text log)
-writable_numbered_lines_lack_lf [] all = tt
-writable_numbered_lines_lack_lf (x ∷ log) all =
-    (numbered_line_lacks_lf (numbered_text x) x all.0, writable_numbered_lines_lack_lf log all.1)
+use Rattle.log_grammar.proofs.lemmas.lines.ReadAndWritten.{texts_spell_lines, read_lines_are_writable, writable_lines_lack_lf, writable_lines_are_read}
 
 -- the lines of a number are in their ranges
 lines_of_number_are_in_range : (n : ℕ) (log : List (Numbered LogLine)) → AllByRecursion IsNumberedWritable log → Ranged (of_number n log)
@@ -100,7 +69,7 @@ all_told_in_time (t ∷ numbered_told) each = (
 
 -- all replies are at moments in their range, where the lines can be written, and each number has the lines and replies
 -- of what it stands for
-pub numbered_log_tells_in_time : (log : List (Numbered LogLine)) (visit : ℕ → Option Visit) (numbered_told : List (Numbered LoggedReply))
+numbered_log_tells_in_time : (log : List (Numbered LogLine)) (visit : ℕ → Option Visit) (numbered_told : List (Numbered LoggedReply))
     → AllByRecursion IsNumberedWritable log
     → ((n : ℕ) → of_number n log ≡ visit_lines (visit n)) → ((n : ℕ) → of_number n numbered_told ≡ visit_told (visit n))
     → Timed (map (λ t. t.value) numbered_told)
@@ -146,7 +115,7 @@ clean_numbered_log_has_sessions : (limit : ℕ) (accounts : Accounts) (bytes : L
     → (log : List (Numbered LogLine)) × IsNumberedLogOf limit accounts bytes log
 clean_numbered_log_has_sessions limit accounts bytes [] cut ends = absurd ends
 clean_numbered_log_has_sessions limit accounts bytes (first ∷ texts) cut (is, log, places, told, are, s, may) =
-    let written = read_numbered_lines_are_writable texts log are in
+    let written = read_lines_are_writable IsNumberedLine numbered_text (λ t x is. is.spelled) texts log are in
     let moments = numbered_log_tells_in_time log s.visit s.numbered_told written s.sessions.lines s.sessions.told_of_each in
     let replies = subst (λ (t : List LoggedReply). (account : List ℕ) → IsHistory (accounts.token account) account t) s.tells
     ((each_account_has_its_history accounts told (subst Timed (sym s.tells) moments)).0 s.replies) in
@@ -155,7 +124,7 @@ clean_numbered_log_has_sessions limit accounts bytes (first ∷ texts) cut (is, 
       | inr halts ↦ inr (halts.0, visit_at_halt_is_halted (s.visit halts.0) (sym (s.after halts.0) ∙ halts.1))
     ] in
     let same = ap (λ (t : List ℕ). t ∷ texts) is ∙ ap (λ (ts : List (List ℕ)). log_line_text header_two ∷ ts)
-    (texts_spell_numbered_lines texts log are) in (
+    (texts_spell_lines IsNumberedLine numbered_text (λ t x is. is.spelled) texts log are) in (
       log,
       record {
         spelled = cut.bytes_are ∙ append-nil (ended_by_lf (first ∷ texts)) ∙ ap ended_by_lf same;
@@ -177,7 +146,7 @@ numbered_log_of_sessions_is_clean limit accounts bytes log l =
     let cut : IsSplit bytes texts [] =
     record {
       bytes_are = l.spelled ∙ sym (append-nil (ended_by_lf texts));
-      lines = (refl, writable_numbered_lines_lack_lf log l.written);
+      lines = (refl, writable_lines_lack_lf IsNumberedLine numbered_text numbered_line_lacks_lf log l.written);
       after = refl;
     } in
     let told = map (λ (t : Numbered LoggedReply). t.value) l.numbered_told in
@@ -195,7 +164,7 @@ numbered_log_of_sessions_is_clean limit accounts bytes log l =
       | inl all ↦ inl (λ n. closed_visit_is_between (l.visit n) (all n))
       | inr halts ↦ inr (halts.0, halted_visit_is_at_halt (l.visit halts.0) halts.1)
     ] in
-    (texts, cut, (refl, log, places, told, writable_numbered_lines_are_read log l.written, spells, may))
+    (texts, cut, (refl, log, places, told, writable_lines_are_read IsNumberedLine numbered_text log l.written, spells, may))
 
 -- a log of version 2 is clean exactly where it is that of some sessions: all closed or one halted, as demanded,
 -- and with legal histories of the tokens

@@ -1,5 +1,5 @@
 -- The lines that begin sessions are as many as the sessions.
-use Rattle.std.proofs.Common.{◌≡◌, ◌+◌, ℕ, suc, Bool, true, false, List, [], ◌∷◌, length, refl, ◌∙◌, ap, cond, arith}
+use Rattle.std.proofs.Common.{◌≡◌, ◌+◌, ℕ, Bool, true, false, List, [], ◌∷◌, length, refl, ◌∙◌, ap, cond, arith}
 use Rattle.std.specs.Prelude.{flat_map, count_by}
 use Rattle.std.proofs.lemmas.List.Sums.{sum_by-append}
 use Rattle.log_grammar.specs.Lines.{LogLine, header, said, mechs}
@@ -76,17 +76,13 @@ session_begins_one (session names l) =
     sum_by-append (λ x. cond (is_offer x) 1 0) (said (mechs names) ∷ []) (after_mechs l).lines
     ∙ ap (λ (n : ℕ). 1 + n) (after_mechs_begins_none l)
 
--- one and a number make the next number
-one_plus_is_suc : (n : ℕ) → 1 + n ≡ suc n
-one_plus_is_suc n = omega arith
-
 -- in the lines of some sessions as many lines begin a session as there are sessions
 sessions_begin_as_many : (sessions : List Session) → count_by is_offer (flat_map session_lines sessions) ≡ length sessions
 sessions_begin_as_many [] = refl
 sessions_begin_as_many (s ∷ sessions) =
     sum_by-append (λ x. cond (is_offer x) 1 0) (session_lines s) (flat_map session_lines sessions)
     ∙ ap (λ (n : ℕ). n + count_by is_offer (flat_map session_lines sessions)) (session_begins_one s)
-    ∙ ap (λ (n : ℕ). 1 + n) (sessions_begin_as_many sessions) ∙ one_plus_is_suc (length sessions)
+    ∙ ap (λ (n : ℕ). 1 + n) (sessions_begin_as_many sessions) ∙ omega arith
 
 -- as many sessions are counted in a log of version 1 as it has
 pub sessions_are_counted : (sessions : List Session) → (counts_of (header ∷ flat_map session_lines sessions)).sessions ≡ length sessions

@@ -3,21 +3,23 @@ use Rattle.std.proofs.Common.{◌≤◌, ◌+◌, inl, inr, ℕ, List, [], ◌�
 use Rattle.std.specs.List.{AllByRecursion, AllZip}
 use Rattle.std.proofs.lemmas.List.{same_from_push}
 use Rattle.scram_text.specs.Laws.{SpellsOneName, HasOneClientFirst}
-use Rattle.log_grammar.specs.Lines.{LogLine, IsLogLine, longest_log_line}
+use Rattle.log_grammar.specs.Lines.{LogLine, IsLogLine, longest_log_line, header}
 use Rattle.log_grammar.specs.Bytes.{LacksLf, ended_by_lf, IsSplit}
 use Rattle.log_grammar.specs.LoggedReply.{LoggedReply}
-use Rattle.log_grammar.specs.Places.{Place, before_all, halted}
+use Rattle.log_grammar.specs.Places.{Place, before_all, halted, between}
 use Rattle.log_grammar.specs.Demands.{Accounts, demands}
 use Rattle.log_grammar.specs.Begins.{Begins}
 use Rattle.log_grammar.specs.Why.{is_cut, no_line, out_of_order, class_of, LineClass, IsClassDue}
 use Rattle.log_grammar.specs.laws.LogLaws.{ClassesFollowThePlace}
-use Rattle.log_grammar.specs.laws.Examples.{AreWhole}
+use Rattle.log_grammar.specs.laws.Examples.{AreWhole, first_alone, header_one_text}
 use Rattle.log_grammar.proofs.lemmas.lines.Cuts.{one_split, whole_lines_are_split}
+use Rattle.log_grammar.proofs.lemmas.lines.Written.{header_is_writable}
 use Rattle.log_grammar.proofs.lemmas.kinds.ShownByLines.{LinesWereRead, no_lines_were_read, read_lines_are_clean, end_is_cut, rest_is_cut, long_rest_is_no_line, long_text_at_fault}
 use Rattle.log_grammar.proofs.lemmas.kinds.ShownByLines.{last_line_at_fault}
 use Rattle.log_grammar.specs.Versions.{any_version, IsClean, IsWhy}
 use Rattle.log_grammar.proofs.lemmas.ListEnds.{related_list_has_last, all_append, all_front, all_at}
 use Rattle.log_grammar.proofs.lemmas.kinds.AllVersions.{any_version_empty_is_unclean}
+use Rattle.log_grammar.proofs.lemmas.small_logs.SmallLines.{header_was_read}
 
 -- whole lines that lead to the place after `S HALT` are a clean log
 pub halted_is_clean : (accounts : Accounts) (texts : List (List ℕ)) (log : List LogLine) (told : List LoggedReply) → AreWhole texts log
@@ -110,3 +112,28 @@ long_line_is_no_line accounts texts log place told text are begins lacks long =
     long_text_at_fault accounts (ended_by_lf all) texts text [] [] log place told
     (whole_lines_are_split all (all_append LacksLf texts (text ∷ []) are.1 (lacks, tt)))
     (whole_lines_were_read accounts texts log place told are begins) long
+
+-- the first text is a whole log of the first line
+header_is_whole : AreWhole (header_one_text ∷ []) (header ∷ [])
+header_is_whole = ((header_is_writable, tt), (refl, tt))
+
+-- a text of 6203 bytes or more after the first line, with its LF, is no line: line 2 is at fault
+pub second_is_no_line : (accounts : Accounts) (text : List ℕ) → LacksLf text → 6203 ≤ length text
+    → IsWhy accounts (ended_by_lf (header_one_text ∷ text ∷ [])) 2 no_line
+second_is_no_line accounts text lacks long =
+    long_line_is_no_line accounts (header_one_text ∷ []) (header ∷ []) between [] text header_is_whole (header_was_read accounts).begins
+    lacks long
+
+-- 6203 bytes or more after the first line, without an LF, are no line: line 2 is at fault
+pub second_part_is_no_line : (accounts : Accounts) (rest : List ℕ) → LacksLf rest → 6203 ≤ length rest
+    → IsWhy accounts (first_alone ++ rest) 2 no_line
+second_part_is_no_line accounts rest lacks long =
+    long_part_is_no_line accounts (header_one_text ∷ []) (header ∷ []) between [] rest header_is_whole (header_was_read accounts).begins
+    lacks long
+
+-- after the first line, a second without its LF is cut, and at fault, where it has a byte and is not too long
+pub second_is_cut : (accounts : Accounts) (rest : List ℕ) → LacksLf rest → 1 ≤ length rest → length rest ≤ longest_log_line
+    → IsWhy accounts (first_alone ++ rest) 2 is_cut
+second_is_cut accounts rest lacks some short =
+    part_is_cut accounts (header_one_text ∷ []) (header ∷ []) between [] rest header_is_whole (header_was_read accounts).begins lacks some
+    short

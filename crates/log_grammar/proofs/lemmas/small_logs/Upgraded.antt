@@ -11,21 +11,12 @@ use Rattle.log_grammar.specs.Demands.{Accounts}
 use Rattle.log_grammar.specs.Why.{Why, is_cut, no_line, out_of_order, other_mechs, other_challenge, other_outcome, refused_with}
 use Rattle.log_grammar.specs.VersionTwo.{IsFirstText, IsWrongAfterFirst}
 use Rattle.log_grammar.specs.Versions.{most_open, any_version, IsClean, IsWhy}
-use Rattle.log_grammar.specs.Numbered.{is_end as closes}
 use Rattle.log_grammar.specs.NumberedLines.{IsNoFirstLine, numbered_text, IsNoNumberedLine}
 use Rattle.log_grammar.specs.Upgrades.{with_numbers, upgraded_bytes, CanBeUpgraded}
 use Rattle.log_grammar.specs.laws.Examples.{header_one_text}
 use Rattle.log_grammar.specs.laws.UpgradedExamples.{header_two_text, one_numbered, numbered_no}
-use Rattle.log_grammar.proofs.lemmas.small_logs.SmallLogs.{aborted_is_cut, abort_is_early, aborted_is_clean, accepted_abort_is_at_fault, auth_is_cut}
-use Rattle.log_grammar.proofs.lemmas.small_logs.SmallLogs.{bad_is_clean, bad_is_cut, bad_no_is_cut, end_is_missing, first_is_clean}
-use Rattle.log_grammar.proofs.lemmas.small_logs.SmallLogs.{gone_is_clean, gone_is_cut, halt_is_early, invited_is_clean, invited_is_cut}
-use Rattle.log_grammar.proofs.lemmas.small_logs.SmallLogs.{invited_plain_is_at_fault, abort_is_line, auth_is_line, auth_with_is_line, bad_is_line, cont_is_line, end_is_line, error_is_line}
-use Rattle.log_grammar.proofs.lemmas.small_logs.SmallLogs.{gone_is_line, halt_is_line, no_is_line, offer_is_line, ok_is_line, other_offer_is_line, plain_auth_is_line}
-use Rattle.log_grammar.proofs.lemmas.small_logs.SmallLogs.{invited_gone_is_cut, refusal_message_is_at_fault, aborted_no_is_cut, challenged_empty_is_at_fault, not_offered_is_clean}
-use Rattle.log_grammar.proofs.lemmas.small_logs.SmallLogs.{offer_is_cut, other_offer_is_at_fault, not_offered_is_cut, not_offered_no_is_cut, refused_is_clean}
-use Rattle.log_grammar.proofs.lemmas.small_logs.SmallLogs.{refused_is_cut, refused_no_is_cut, refused_auth_is_at_fault, two_sessions_are_clean}
 use Rattle.log_grammar.proofs.lemmas.lines.Cuts.{whole_lines_are_split}
-use Rattle.log_grammar.proofs.lemmas.lines.Written.{header_is_writable}
+use Rattle.log_grammar.proofs.lemmas.lines.Written.{header_is_writable, abort_is_writable, bad_is_writable, bare_cont_is_writable, bare_no_is_writable, end_is_writable, gone_is_writable, halt_is_writable, offer_is_writable}
 use Rattle.log_grammar.proofs.lemmas.kinds.Judged.{text_at_fault}
 use Rattle.log_grammar.proofs.lemmas.kinds.VersionTwo.{version_two_is_headed, last_is_numbered}
 use Rattle.log_grammar.proofs.lemmas.lines.ReadBack.{one_log_line}
@@ -35,6 +26,11 @@ use Rattle.log_grammar.proofs.lemmas.upgraded_logs.SameFault.{upgraded_log_clean
 use Rattle.log_grammar.proofs.lemmas.upgraded_logs.Texts.{next_number_stays_or_rises}
 use Rattle.log_grammar.proofs.lemmas.kinds.AllVersions.{any_version_can_be_shortened, header_two_shows_version_two}
 use Rattle.log_grammar.proofs.lemmas.lines.Words.{after_space, after_space-word, number_is_spaceless}
+use Rattle.log_grammar.proofs.lemmas.small_logs.FaultyLogs.{abort_is_early, accepted_abort_is_at_fault, challenged_empty_is_at_fault, end_is_missing, halt_is_early, invited_plain_is_at_fault, other_offer_is_at_fault, refusal_message_is_at_fault, refused_auth_is_at_fault}
+use Rattle.log_grammar.proofs.lemmas.small_logs.CleanLogs.{aborted_is_clean, bad_is_clean, first_is_clean, gone_is_clean, invited_is_clean, not_offered_is_clean, refused_is_clean, two_sessions_are_clean}
+use Rattle.log_grammar.proofs.lemmas.small_logs.CutLogs.{aborted_is_cut, aborted_no_is_cut, auth_is_cut, bad_is_cut, bad_no_is_cut, gone_is_cut, invited_gone_is_cut, invited_is_cut, not_offered_is_cut, not_offered_no_is_cut, offer_is_cut, refused_is_cut, refused_no_is_cut}
+use Rattle.log_grammar.specs.Numbered.{is_end as closes}
+use Rattle.log_grammar.proofs.lemmas.small_logs.SmallLines.{auth_is_line, auth_with_is_line, error_is_line, ok_is_line, other_offer_is_line, plain_auth_is_line}
 
 -- the texts of lines under numbers of one digit, from this one on
 abbrev digit_texts : ℕ → List LogLine → List (List ℕ)
@@ -88,32 +84,33 @@ upgraded_first_is_clean accounts = digit_log_is_clean accounts [] tt (omega arit
 pub upgraded_aborted_is_clean : (accounts : Accounts) → IsClean accounts (one_numbered (codes "1 C ABORT" ∷ numbered_no))
 upgraded_aborted_is_clean accounts = digit_log_is_clean accounts
     (said (mechs (codes "SCRAM-SHA-256 SCRAM-SHA-1")) ∷ heard abort ∷ said (refuses []) ∷ ended ∷ [])
-    (offer_is_line, (abort_is_line, (no_is_line, (end_is_line, tt)))) (omega arith) (aborted_is_clean accounts)
+    (offer_is_writable, (abort_is_writable, (bare_no_is_writable, (end_is_writable, tt)))) (omega arith) (aborted_is_clean accounts)
 
 pub upgraded_bad_is_clean : (accounts : Accounts) → IsClean accounts (one_numbered (codes "1 C BAD" ∷ numbered_no))
 upgraded_bad_is_clean accounts =
     digit_log_is_clean accounts (said (mechs (codes "SCRAM-SHA-256 SCRAM-SHA-1")) ∷ bad ∷ said (refuses []) ∷ ended ∷ [])
-    (offer_is_line, (bad_is_line, (no_is_line, (end_is_line, tt)))) (omega arith) (bad_is_clean accounts)
+    (offer_is_writable, (bad_is_writable, (bare_no_is_writable, (end_is_writable, tt)))) (omega arith) (bad_is_clean accounts)
 
 pub upgraded_gone_is_clean : (accounts : Accounts) → IsClean accounts (one_numbered (codes "1 C GONE" ∷ codes "1 E" ∷ []))
 upgraded_gone_is_clean accounts = digit_log_is_clean accounts (said (mechs (codes "SCRAM-SHA-256 SCRAM-SHA-1")) ∷ gone ∷ ended ∷ [])
-    (offer_is_line, (gone_is_line, (end_is_line, tt))) (omega arith) (gone_is_clean accounts)
+    (offer_is_writable, (gone_is_writable, (end_is_writable, tt))) (omega arith) (gone_is_clean accounts)
 
 pub upgraded_not_offered_is_clean : (accounts : Accounts) → IsClean accounts (one_numbered (codes "1 C AUTH PLAIN" ∷ numbered_no))
 upgraded_not_offered_is_clean accounts = digit_log_is_clean accounts
     (said (mechs (codes "SCRAM-SHA-256 SCRAM-SHA-1")) ∷ heard (auth (codes "PLAIN")) ∷ said (refuses []) ∷ ended ∷ [])
-    (offer_is_line, (plain_auth_is_line, (no_is_line, (end_is_line, tt)))) (omega arith) (not_offered_is_clean accounts)
+    (offer_is_writable, (plain_auth_is_line, (bare_no_is_writable, (end_is_writable, tt)))) (omega arith) (not_offered_is_clean accounts)
 
 pub upgraded_refused_is_clean : (accounts : Accounts) → IsClean accounts (one_numbered (codes "1 C AUTH SCRAM-SHA-1 :" ∷ numbered_no))
 upgraded_refused_is_clean accounts = digit_log_is_clean accounts
     (said (mechs (codes "SCRAM-SHA-256 SCRAM-SHA-1")) ∷ heard (auth_with (codes "SCRAM-SHA-1") []) ∷ said (refuses []) ∷ ended ∷ [])
-    (offer_is_line, (auth_with_is_line, (no_is_line, (end_is_line, tt)))) (omega arith) (refused_is_clean accounts)
+    (offer_is_writable, (auth_with_is_line, (bare_no_is_writable, (end_is_writable, tt)))) (omega arith) (refused_is_clean accounts)
 
 pub upgraded_invited_is_clean : (accounts : Accounts)
     → IsClean accounts (one_numbered (codes "1 C AUTH SCRAM-SHA-1" ∷ codes "1 S CONT :" ∷ codes "1 C GONE" ∷ codes "1 E" ∷ []))
 upgraded_invited_is_clean accounts = digit_log_is_clean accounts
     (said (mechs (codes "SCRAM-SHA-256 SCRAM-SHA-1")) ∷ heard (auth (codes "SCRAM-SHA-1")) ∷ said (cont []) ∷ gone ∷ ended ∷ [])
-    (offer_is_line, (auth_is_line, (cont_is_line, (gone_is_line, (end_is_line, tt))))) (omega arith) (invited_is_clean accounts)
+    (offer_is_writable, (auth_is_line, (bare_cont_is_writable, (gone_is_writable, (end_is_writable, tt))))) (omega arith)
+    (invited_is_clean accounts)
 
 -- two sessions, one after the other, are a clean log of version 2 under the numbers 1 and 2
 pub upgraded_two_sessions_are_clean : (accounts : Accounts) → IsClean accounts
@@ -122,12 +119,12 @@ pub upgraded_two_sessions_are_clean : (accounts : Accounts) → IsClean accounts
 upgraded_two_sessions_are_clean accounts = digit_log_is_clean accounts
     (said (mechs (codes "SCRAM-SHA-256 SCRAM-SHA-1")) ∷ gone ∷ ended ∷ said (mechs (codes "SCRAM-SHA-256 SCRAM-SHA-1")) ∷ heard abort
     ∷ said (refuses []) ∷ ended ∷ []) (
-      offer_is_line,
+      offer_is_writable,
       (
-        gone_is_line,
+        gone_is_writable,
         (
-          end_is_line,
-          (offer_is_line, (abort_is_line, (no_is_line, (end_is_line, tt)))),
+          end_is_writable,
+          (offer_is_writable, (abort_is_writable, (bare_no_is_writable, (end_is_writable, tt)))),
         ),
       ),
     ) (omega arith)
@@ -136,7 +133,7 @@ upgraded_two_sessions_are_clean accounts = digit_log_is_clean accounts
 -- each small log of one session that is cut in version 1 is cut at the same line in version 2, under the number of the session:
 pub upgraded_offer_is_cut : HasOneClientFirst → SpellsOneName → (accounts : Accounts) → IsWhy accounts (one_numbered []) 3 is_cut
 upgraded_offer_is_cut one_first once accounts =
-    digit_log_is_at_fault accounts (said (mechs (codes "SCRAM-SHA-256 SCRAM-SHA-1")) ∷ []) 3 is_cut (offer_is_line, tt) (tt, tt)
+    digit_log_is_at_fault accounts (said (mechs (codes "SCRAM-SHA-256 SCRAM-SHA-1")) ∷ []) 3 is_cut (offer_is_writable, tt) (tt, tt)
     (omega arith)
     (offer_is_cut one_first once accounts)
 
@@ -144,59 +141,61 @@ pub upgraded_aborted_is_cut : HasOneClientFirst → SpellsOneName → (accounts 
     → IsWhy accounts (one_numbered (codes "1 C ABORT" ∷ [])) 4 is_cut
 upgraded_aborted_is_cut one_first once accounts =
     digit_log_is_at_fault accounts (said (mechs (codes "SCRAM-SHA-256 SCRAM-SHA-1")) ∷ heard abort ∷ []) 4 is_cut
-    (offer_is_line, (abort_is_line, tt))
+    (offer_is_writable, (abort_is_writable, tt))
     (tt, (tt, tt)) (omega arith) (aborted_is_cut one_first once accounts)
 
 pub upgraded_aborted_no_is_cut : HasOneClientFirst → SpellsOneName → (accounts : Accounts)
     → IsWhy accounts (one_numbered (codes "1 C ABORT" ∷ codes "1 S NO :" ∷ [])) 5 is_cut
 upgraded_aborted_no_is_cut one_first once accounts =
     digit_log_is_at_fault accounts (said (mechs (codes "SCRAM-SHA-256 SCRAM-SHA-1")) ∷ heard abort ∷ said (refuses []) ∷ []) 5 is_cut
-    (offer_is_line, (abort_is_line, (no_is_line, tt))) (tt, (tt, (tt, tt))) (omega arith) (aborted_no_is_cut one_first once accounts)
+    (offer_is_writable, (abort_is_writable, (bare_no_is_writable, tt))) (tt, (tt, (tt, tt))) (omega arith)
+    (aborted_no_is_cut one_first once accounts)
 
 pub upgraded_gone_is_cut : HasOneClientFirst → SpellsOneName → (accounts : Accounts)
     → IsWhy accounts (one_numbered (codes "1 C GONE" ∷ [])) 4 is_cut
 upgraded_gone_is_cut one_first once accounts =
     digit_log_is_at_fault accounts (said (mechs (codes "SCRAM-SHA-256 SCRAM-SHA-1")) ∷ gone ∷ []) 4 is_cut
-    (offer_is_line, (gone_is_line, tt)) (tt, (tt, tt))
+    (offer_is_writable, (gone_is_writable, tt)) (tt, (tt, tt))
     (omega arith) (gone_is_cut one_first once accounts)
 
 pub upgraded_auth_is_cut : HasOneClientFirst → SpellsOneName → (accounts : Accounts)
     → IsWhy accounts (one_numbered (codes "1 C AUTH SCRAM-SHA-1" ∷ [])) 4 is_cut
 upgraded_auth_is_cut one_first once accounts =
     digit_log_is_at_fault accounts (said (mechs (codes "SCRAM-SHA-256 SCRAM-SHA-1")) ∷ heard (auth (codes "SCRAM-SHA-1")) ∷ []) 4 is_cut
-    (offer_is_line, (auth_is_line, tt)) (tt, (tt, tt)) (omega arith) (auth_is_cut one_first once accounts)
+    (offer_is_writable, (auth_is_line, tt)) (tt, (tt, tt)) (omega arith) (auth_is_cut one_first once accounts)
 
 pub upgraded_invited_is_cut : HasOneClientFirst → SpellsOneName → (accounts : Accounts)
     → IsWhy accounts (one_numbered (codes "1 C AUTH SCRAM-SHA-1" ∷ codes "1 S CONT :" ∷ [])) 5 is_cut
 upgraded_invited_is_cut one_first once accounts =
     digit_log_is_at_fault accounts (said (mechs (codes "SCRAM-SHA-256 SCRAM-SHA-1")) ∷ heard (auth (codes "SCRAM-SHA-1")) ∷ said (cont [])
-    ∷ []) 5 is_cut (offer_is_line, (auth_is_line, (cont_is_line, tt))) (tt, (tt, (tt, tt))) (omega arith)
+    ∷ []) 5 is_cut (offer_is_writable, (auth_is_line, (bare_cont_is_writable, tt))) (tt, (tt, (tt, tt))) (omega arith)
     (invited_is_cut one_first once accounts)
 
 pub upgraded_bad_is_cut : HasOneClientFirst → SpellsOneName → (accounts : Accounts)
     → IsWhy accounts (one_numbered (codes "1 C BAD" ∷ [])) 4 is_cut
 upgraded_bad_is_cut one_first once accounts =
-    digit_log_is_at_fault accounts (said (mechs (codes "SCRAM-SHA-256 SCRAM-SHA-1")) ∷ bad ∷ []) 4 is_cut (offer_is_line, (bad_is_line, tt))
-    (tt, (tt, tt))
+    digit_log_is_at_fault accounts (said (mechs (codes "SCRAM-SHA-256 SCRAM-SHA-1")) ∷ bad ∷ []) 4 is_cut
+    (offer_is_writable, (bad_is_writable, tt)) (tt, (tt, tt))
     (omega arith) (bad_is_cut one_first once accounts)
 
 pub upgraded_bad_no_is_cut : HasOneClientFirst → SpellsOneName → (accounts : Accounts)
     → IsWhy accounts (one_numbered (codes "1 C BAD" ∷ codes "1 S NO :" ∷ [])) 5 is_cut
 upgraded_bad_no_is_cut one_first once accounts =
     digit_log_is_at_fault accounts (said (mechs (codes "SCRAM-SHA-256 SCRAM-SHA-1")) ∷ bad ∷ said (refuses []) ∷ []) 5 is_cut
-    (offer_is_line, (bad_is_line, (no_is_line, tt))) (tt, (tt, (tt, tt))) (omega arith) (bad_no_is_cut one_first once accounts)
+    (offer_is_writable, (bad_is_writable, (bare_no_is_writable, tt))) (tt, (tt, (tt, tt))) (omega arith)
+    (bad_no_is_cut one_first once accounts)
 
 pub upgraded_not_offered_is_cut : HasOneClientFirst → SpellsOneName → (accounts : Accounts)
     → IsWhy accounts (one_numbered (codes "1 C AUTH PLAIN" ∷ [])) 4 is_cut
 upgraded_not_offered_is_cut one_first once accounts =
     digit_log_is_at_fault accounts (said (mechs (codes "SCRAM-SHA-256 SCRAM-SHA-1")) ∷ heard (auth (codes "PLAIN")) ∷ []) 4 is_cut
-    (offer_is_line, (plain_auth_is_line, tt)) (tt, (tt, tt)) (omega arith) (not_offered_is_cut one_first once accounts)
+    (offer_is_writable, (plain_auth_is_line, tt)) (tt, (tt, tt)) (omega arith) (not_offered_is_cut one_first once accounts)
 
 pub upgraded_not_offered_no_is_cut : HasOneClientFirst → SpellsOneName → (accounts : Accounts)
     → IsWhy accounts (one_numbered (codes "1 C AUTH PLAIN" ∷ codes "1 S NO :" ∷ [])) 5 is_cut
 upgraded_not_offered_no_is_cut one_first once accounts =
     digit_log_is_at_fault accounts (said (mechs (codes "SCRAM-SHA-256 SCRAM-SHA-1")) ∷ heard (auth (codes "PLAIN")) ∷ said (refuses [])
-    ∷ []) 5 is_cut (offer_is_line, (plain_auth_is_line, (no_is_line, tt))) (tt, (tt, (tt, tt))) (omega arith)
+    ∷ []) 5 is_cut (offer_is_writable, (plain_auth_is_line, (bare_no_is_writable, tt))) (tt, (tt, (tt, tt))) (omega arith)
     (not_offered_no_is_cut one_first once accounts)
 
 pub upgraded_refused_is_cut : HasOneClientFirst → SpellsOneName → (accounts : Accounts)
@@ -204,14 +203,14 @@ pub upgraded_refused_is_cut : HasOneClientFirst → SpellsOneName → (accounts 
 upgraded_refused_is_cut one_first once accounts =
     digit_log_is_at_fault accounts (said (mechs (codes "SCRAM-SHA-256 SCRAM-SHA-1")) ∷ heard (auth_with (codes "SCRAM-SHA-1") []) ∷ []) 4
     is_cut
-    (offer_is_line, (auth_with_is_line, tt)) (tt, (tt, tt)) (omega arith) (refused_is_cut one_first once accounts)
+    (offer_is_writable, (auth_with_is_line, tt)) (tt, (tt, tt)) (omega arith) (refused_is_cut one_first once accounts)
 
 pub upgraded_refused_no_is_cut : HasOneClientFirst → SpellsOneName → (accounts : Accounts)
     → IsWhy accounts (one_numbered (codes "1 C AUTH SCRAM-SHA-1 :" ∷ codes "1 S NO :" ∷ [])) 5 is_cut
 upgraded_refused_no_is_cut one_first once accounts =
     digit_log_is_at_fault accounts (said (mechs (codes "SCRAM-SHA-256 SCRAM-SHA-1")) ∷ heard (auth_with (codes "SCRAM-SHA-1") [])
     ∷ said (refuses [])
-    ∷ []) 5 is_cut (offer_is_line, (auth_with_is_line, (no_is_line, tt))) (tt, (tt, (tt, tt))) (omega arith)
+    ∷ []) 5 is_cut (offer_is_writable, (auth_with_is_line, (bare_no_is_writable, tt))) (tt, (tt, (tt, tt))) (omega arith)
     (refused_no_is_cut one_first once accounts)
 
 pub upgraded_invited_gone_is_cut : HasOneClientFirst → SpellsOneName → (accounts : Accounts)
@@ -219,14 +218,15 @@ pub upgraded_invited_gone_is_cut : HasOneClientFirst → SpellsOneName → (acco
 upgraded_invited_gone_is_cut one_first once accounts =
     digit_log_is_at_fault accounts (said (mechs (codes "SCRAM-SHA-256 SCRAM-SHA-1")) ∷ heard (auth (codes "SCRAM-SHA-1")) ∷ said (cont [])
     ∷ gone
-    ∷ []) 6 is_cut (offer_is_line, (auth_is_line, (cont_is_line, (gone_is_line, tt)))) (tt, (tt, (tt, (tt, tt)))) (omega arith)
+    ∷ []) 6 is_cut
+    (offer_is_writable, (auth_is_line, (bare_cont_is_writable, (gone_is_writable, tt)))) (tt, (tt, (tt, (tt, tt)))) (omega arith)
     (invited_gone_is_cut one_first once accounts)
 
 -- each of these small logs is at fault in version 2 in the same line as in version 1, and for the same reason:
 pub upgraded_abort_is_early : HasOneClientFirst → SpellsOneName → (accounts : Accounts)
     → IsWhy accounts (ended_by_lf (header_two_text ∷ codes "1 C ABORT" ∷ [])) 2 out_of_order
 upgraded_abort_is_early one_first once accounts =
-    digit_log_is_at_fault accounts (heard abort ∷ []) 2 out_of_order (abort_is_line, tt) (tt, tt) (omega arith)
+    digit_log_is_at_fault accounts (heard abort ∷ []) 2 out_of_order (abort_is_writable, tt) (tt, tt) (omega arith)
     (abort_is_early one_first once accounts)
 
 pub upgraded_end_is_missing : HasOneClientFirst → SpellsOneName → (accounts : Accounts)
@@ -234,14 +234,14 @@ pub upgraded_end_is_missing : HasOneClientFirst → SpellsOneName → (accounts 
 upgraded_end_is_missing one_first once accounts =
     digit_log_is_at_fault accounts (said (mechs (codes "SCRAM-SHA-256 SCRAM-SHA-1")) ∷ gone
     ∷ said (mechs (codes "SCRAM-SHA-256 SCRAM-SHA-1"))
-    ∷ []) 4 out_of_order (offer_is_line, (gone_is_line, (offer_is_line, tt))) (tt, (tt, (tt, tt))) (omega arith)
+    ∷ []) 4 out_of_order (offer_is_writable, (gone_is_writable, (offer_is_writable, tt))) (tt, (tt, (tt, tt))) (omega arith)
     (end_is_missing one_first once accounts)
 
 pub upgraded_halt_is_early : HasOneClientFirst → SpellsOneName → (accounts : Accounts)
     → IsWhy accounts (one_numbered (codes "1 S HALT" ∷ [])) 3 out_of_order
 upgraded_halt_is_early one_first once accounts =
     digit_log_is_at_fault accounts (said (mechs (codes "SCRAM-SHA-256 SCRAM-SHA-1")) ∷ said halt ∷ []) 3 out_of_order
-    (offer_is_line, (halt_is_line, tt))
+    (offer_is_writable, (halt_is_writable, tt))
     (tt, (tt, tt)) (omega arith) (halt_is_early one_first once accounts)
 
 pub upgraded_other_offer_is_at_fault : HasOneClientFirst → SpellsOneName → (accounts : Accounts)
@@ -254,7 +254,8 @@ pub upgraded_invited_plain_is_at_fault : HasOneClientFirst → SpellsOneName →
     → IsWhy accounts (one_numbered (codes "1 C AUTH PLAIN" ∷ codes "1 S CONT :" ∷ [])) 4 (other_outcome (refused_with []))
 upgraded_invited_plain_is_at_fault one_first once accounts =
     digit_log_is_at_fault accounts (said (mechs (codes "SCRAM-SHA-256 SCRAM-SHA-1")) ∷ heard (auth (codes "PLAIN")) ∷ said (cont []) ∷ []) 4
-    (other_outcome (refused_with [])) (offer_is_line, (plain_auth_is_line, (cont_is_line, tt))) (tt, (tt, (tt, tt))) (omega arith)
+    (other_outcome (refused_with [])) (offer_is_writable, (plain_auth_is_line, (bare_cont_is_writable, tt))) (tt, (tt, (tt, tt)))
+    (omega arith)
     (invited_plain_is_at_fault one_first once accounts)
 
 pub upgraded_refused_auth_is_at_fault : HasOneClientFirst → SpellsOneName → (accounts : Accounts)
@@ -262,21 +263,21 @@ pub upgraded_refused_auth_is_at_fault : HasOneClientFirst → SpellsOneName → 
 upgraded_refused_auth_is_at_fault one_first once accounts =
     digit_log_is_at_fault accounts (said (mechs (codes "SCRAM-SHA-256 SCRAM-SHA-1")) ∷ heard (auth (codes "SCRAM-SHA-1"))
     ∷ said (refuses [])
-    ∷ []) 4 other_challenge (offer_is_line, (auth_is_line, (no_is_line, tt))) (tt, (tt, (tt, tt))) (omega arith)
+    ∷ []) 4 other_challenge (offer_is_writable, (auth_is_line, (bare_no_is_writable, tt))) (tt, (tt, (tt, tt))) (omega arith)
     (refused_auth_is_at_fault one_first once accounts)
 
 pub upgraded_accepted_abort_is_at_fault : HasOneClientFirst → SpellsOneName → (accounts : Accounts)
     → IsWhy accounts (one_numbered (codes "1 C ABORT" ∷ codes "1 S OK :" ∷ [])) 4 (other_outcome (refused_with []))
 upgraded_accepted_abort_is_at_fault one_first once accounts =
     digit_log_is_at_fault accounts (said (mechs (codes "SCRAM-SHA-256 SCRAM-SHA-1")) ∷ heard abort ∷ said (accepts []) ∷ []) 4
-    (other_outcome (refused_with [])) (offer_is_line, (abort_is_line, (ok_is_line, tt))) (tt, (tt, (tt, tt))) (omega arith)
+    (other_outcome (refused_with [])) (offer_is_writable, (abort_is_writable, (ok_is_line, tt))) (tt, (tt, (tt, tt))) (omega arith)
     (accepted_abort_is_at_fault one_first once accounts)
 
 pub upgraded_refusal_message_is_at_fault : HasOneClientFirst → SpellsOneName → (accounts : Accounts)
     → IsWhy accounts (one_numbered (codes "1 C BAD" ∷ codes "1 S NO :e=other-error" ∷ [])) 4 (other_outcome (refused_with []))
 upgraded_refusal_message_is_at_fault one_first once accounts =
     digit_log_is_at_fault accounts (said (mechs (codes "SCRAM-SHA-256 SCRAM-SHA-1")) ∷ bad ∷ said (refuses (codes "e=other-error")) ∷ []) 4
-    (other_outcome (refused_with [])) (offer_is_line, (bad_is_line, (error_is_line, tt))) (tt, (tt, (tt, tt))) (omega arith)
+    (other_outcome (refused_with [])) (offer_is_writable, (bad_is_writable, (error_is_line, tt))) (tt, (tt, (tt, tt))) (omega arith)
     (refusal_message_is_at_fault one_first once accounts)
 
 pub upgraded_challenged_empty_is_at_fault : HasOneClientFirst → SpellsOneName → (accounts : Accounts)
@@ -284,7 +285,8 @@ pub upgraded_challenged_empty_is_at_fault : HasOneClientFirst → SpellsOneName 
 upgraded_challenged_empty_is_at_fault one_first once accounts =
     digit_log_is_at_fault accounts (said (mechs (codes "SCRAM-SHA-256 SCRAM-SHA-1")) ∷ heard (auth_with (codes "SCRAM-SHA-1") [])
     ∷ said (cont [])
-    ∷ []) 4 (other_outcome (refused_with [])) (offer_is_line, (auth_with_is_line, (cont_is_line, tt))) (tt, (tt, (tt, tt))) (omega arith)
+    ∷ []) 4 (other_outcome (refused_with []))
+    (offer_is_writable, (auth_with_is_line, (bare_cont_is_writable, tt))) (tt, (tt, (tt, tt))) (omega arith)
     (challenged_empty_is_at_fault one_first once accounts)
 
 -- a text after the first line of version 2, which is no numbered line, is at fault in line 2, for the reason for which it is wrong

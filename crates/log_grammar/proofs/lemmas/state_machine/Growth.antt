@@ -2,9 +2,9 @@
 -- after it.
 use Rattle.std.proofs.Common.{◌≡◌, ◌⊎◌, inl, inr, ℕ, true, false, List, [], ◌∷◌, ◌++◌, refl, sym, ◌∙◌, ap, append_assoc}
 use Rattle.otp_core.specs.Attempt.{OneText, TwoTexts}
-use Rattle.log_grammar.specs.Lines.{LogLine, said, heard, bad, gone, ended, mechs, cont, accepts, refuses, replies, halt, auth, auth_with}
-use Rattle.log_grammar.specs.Lines.{resp, abort, code, sync, code_line}
-use Rattle.log_grammar.specs.LoggedReply.{LoggedReply, logged_reply_of}
+use Rattle.log_grammar.specs.Lines.{LogLine, said, heard, bad, gone, ended, cont, accepts, refuses, replies, halt, auth, auth_with}
+use Rattle.log_grammar.specs.Lines.{resp, abort, code, sync}
+use Rattle.log_grammar.specs.LoggedReply.{LoggedReply}
 use Rattle.log_grammar.specs.Places.{Place, between}
 use Rattle.log_grammar.specs.Demands.{Demands}
 use Rattle.log_grammar.specs.Sessions.{Part, Farewell, parting, Quit, quitting, AfterOk, after_ok, AfterFinal, after_final, AfterChallenge}
@@ -14,6 +14,7 @@ use Rattle.log_grammar.specs.Sessions.{quits_codes, unreplied, replied, halted_a
 use Rattle.log_grammar.specs.Sessions.{sends_final, no_answer, refused, challenged, no_first, quits_first, sends_first, no_invitation}
 use Rattle.log_grammar.specs.Sessions.{unoffered, invited, no_login, quits_login, with_first, without_first, session}
 use Rattle.log_grammar.specs.state_machine.Steps.{IsTransition, told_at}
+use Rattle.log_grammar.proofs.lemmas.state_machine.Within.{IsWithin, aborts_within, sends_bad_within, quits_codes_within, replied_within, granted_within, quits_final_within, sends_final_within, challenged_within, quits_first_within, sends_first_within, invited_within, quits_login_within, with_first_within, without_first_within, session_within}
 
 -- a part of a session goes on by one line, which leads to this place and tells this
 pub record Grown {X : Type 0} (d : Demands) (part : X → Part) (old : X) (line : LogLine) (next : Place)
@@ -29,31 +30,25 @@ abbrev pub GoesOn : {X : Type 0} → Demands → (X → Part) → X → LogLine 
 GoesOn d part old line next = ((part old).place ≡ between) ⊎ Grown d part old line next (told_at (part old).place line)
 
 -- where a part within another goes on, so does the other, and where it has its end, so has the other:
-outer_grows : {X Y : Type 0} (d : Demands) (inner : X → Part) (outer : Y → Part) (wrap : X → Y) (front : List LogLine)
-    (before : List LoggedReply)
-    → ((t : X) → (outer (wrap t)).lines ≡ front ++ (inner t).lines) → ((t : X) → (outer (wrap t)).place ≡ (inner t).place)
-    → ((t : X) → (outer (wrap t)).told ≡ before ++ (inner t).told) → ((t : X) → (inner t).Meets d → (outer (wrap t)).Meets d)
+outer_grows : {X Y : Type 0} (d : Demands) (inner : X → Part) (outer : Y → Part) (wrap : X → Y) → IsWithin d inner outer wrap
     → (old : X) (line : LogLine) (next : Place) (more : List LoggedReply)
     → Grown d inner old line next more → Grown d outer (wrap old) line next more
-outer_grows d inner outer wrap front before ls ps ts ms old line next more g = record {
+outer_grows d inner outer wrap w old line next more g = record {
   tree = wrap g.tree;
-  lines = ls g.tree ∙ ap (λ (l : List LogLine). front ++ l) g.lines ∙ sym (append_assoc front (inner old).lines (line ∷ [])) ∙ ap
-      (λ (l : List LogLine). l ++ line ∷ []) (sym (ls old));
-  at = ps g.tree ∙ g.at;
-  tells = ts g.tree ∙ ap (λ (l : List LoggedReply). before ++ l) g.tells ∙ sym (append_assoc before (inner old).told more) ∙ ap
-      (λ (l : List LoggedReply). l ++ more) (sym (ts old));
-  good = ms g.tree g.good;
+  lines = (w.around g.tree).0 ∙ ap (λ (l : List LogLine). w.front ++ l) g.lines ∙ sym (append_assoc w.front (inner old).lines (line ∷ []))
+      ∙ ap (λ (l : List LogLine). l ++ line ∷ []) (sym ((w.around old).0));
+  at = (w.around g.tree).1 ∙ g.at;
+  tells = (w.around g.tree).2 ∙ ap (λ (l : List LoggedReply). w.before ++ l) g.tells ∙ sym (append_assoc w.before (inner old).told more)
+      ∙ ap (λ (l : List LoggedReply). l ++ more) (sym ((w.around old).2));
+  good = (w.around g.tree).3 g.good;
 }
 
-outer_goes_on : {X Y : Type 0} (d : Demands) (inner : X → Part) (outer : Y → Part) (wrap : X → Y) (front : List LogLine)
-    (before : List LoggedReply)
-    → ((t : X) → (outer (wrap t)).lines ≡ front ++ (inner t).lines) → ((t : X) → (outer (wrap t)).place ≡ (inner t).place)
-    → ((t : X) → (outer (wrap t)).told ≡ before ++ (inner t).told) → ((t : X) → (inner t).Meets d → (outer (wrap t)).Meets d)
+outer_goes_on : {X Y : Type 0} (d : Demands) {inner : X → Part} {outer : Y → Part} {wrap : X → Y} → IsWithin d inner outer wrap
     → (old : X) (line : LogLine) (next : Place) → GoesOn d inner old line next
     → ((outer (wrap old)).place ≡ between) ⊎ Grown d outer (wrap old) line next (told_at (inner old).place line)
-outer_goes_on d inner outer wrap front before ls ps ts ms old line next (inl closed) = inl (ps old ∙ closed)
-outer_goes_on d inner outer wrap front before ls ps ts ms old line next (inr g) =
-    inr (outer_grows d inner outer wrap front before ls ps ts ms old line next (told_at (inner old).place line) g)
+outer_goes_on d {inner} {outer} {wrap} w old line next (inl closed) = inl ((w.around old).1 ∙ closed)
+outer_goes_on d {inner} {outer} {wrap} w old line next (inr g) =
+    inr (outer_grows d inner outer wrap w old line next (told_at (inner old).place line) g)
 
 -- each part of a session, from its end to its beginning, has its end or goes on by a line that may stand at its place:
 farewell_goes_on : (d : Demands) (t : Farewell) (line : LogLine) (next : Place) → (parting t).Meets d
@@ -79,11 +74,9 @@ quit_goes_on d (goes_away false) ended next meets h = inr (record {
 })
 quit_goes_on d (goes_away false) line next meets h = absurd h
 quit_goes_on d (aborts f) line next meets h =
-    outer_goes_on d parting quitting aborts (heard abort ∷ []) [] (λ t. refl) (λ t. refl) (λ t. refl) (λ t m. m) f line next
-    (farewell_goes_on d f line next meets h)
+    outer_goes_on d (aborts_within d) f line next (farewell_goes_on d f line next meets h)
 quit_goes_on d (sends_bad f) line next meets h =
-    outer_goes_on d parting quitting sends_bad (bad ∷ []) [] (λ t. refl) (λ t. refl) (λ t. refl) (λ t m. m) f line next
-    (farewell_goes_on d f line next meets h)
+    outer_goes_on d (sends_bad_within d) f line next (farewell_goes_on d f line next meets h)
 
 after_ok_goes_on : (d : Demands) (account : List ℕ) (t : AfterOk) (line : LogLine) (next : Place) → (after_ok account t).Meets d
     → IsTransition d (after_ok account t).place line next
@@ -100,18 +93,14 @@ after_ok_goes_on d account no_code gone next meets h = inr
     (record { tree = quits_codes (goes_away false); lines = refl; at = sym h; tells = refl; good = tt })
 after_ok_goes_on d account no_code line next meets h = absurd h
 after_ok_goes_on d account (quits_codes q) line next meets h =
-    outer_goes_on d quitting (after_ok account) quits_codes [] [] (λ t. refl) (λ t. refl) (λ t. refl) (λ t m. m) q line next
-    (quit_goes_on d q line next meets h)
+    outer_goes_on d (quits_codes_within d account) q line next (quit_goes_on d q line next meets h)
 after_ok_goes_on d account (unreplied sent) (said (replies moment reply)) next meets h = inr
     (record { tree = replied sent moment reply no_code; lines = refl; at = sym h; tells = refl; good = tt })
 after_ok_goes_on d account (unreplied sent) (said halt) next meets h = inr
     (record { tree = halted_at sent; lines = refl; at = sym h; tells = refl; good = tt })
 after_ok_goes_on d account (unreplied sent) line next meets h = absurd h
 after_ok_goes_on d account (replied sent moment reply more) line next meets h =
-    outer_goes_on d (after_ok account) (after_ok account) (replied sent moment reply)
-    (heard (code_line sent) ∷ said (replies moment reply) ∷ [])
-    (logged_reply_of account moment sent reply ∷ []) (λ t. refl) (λ t. refl) (λ t. refl) (λ t m. m) more line next
-    (after_ok_goes_on d account more line next meets h)
+    outer_goes_on d (replied_within d account sent moment reply) more line next (after_ok_goes_on d account more line next meets h)
 after_ok_goes_on d account (halted_at sent) line next meets h = absurd h
 
 after_final_goes_on : (d : Demands) (m account first challenge last : List ℕ) (t : AfterFinal) (line : LogLine) (next : Place)
@@ -127,8 +116,7 @@ after_final_goes_on d m account first challenge last (denied text false) ended n
     (record { tree = denied text true; lines = refl; at = sym h; tells = refl; good = meets })
 after_final_goes_on d m account first challenge last (denied text false) line next meets h = absurd h
 after_final_goes_on d m account first challenge last (granted text c) line next meets h =
-    outer_goes_on d (after_ok account) (after_final m account first challenge last) (granted text) (said (accepts text) ∷ []) [] (λ t. refl)
-    (λ t. refl) (λ t. refl) (λ t more. (meets.0, more)) c line next
+    outer_goes_on d (granted_within d m account first challenge last text meets.0) c line next
     (after_ok_goes_on d account c line next meets.1 h)
 
 after_challenge_goes_on : (d : Demands) (m account first challenge : List ℕ) (t : AfterChallenge) (line : LogLine) (next : Place)
@@ -144,12 +132,9 @@ after_challenge_goes_on d m account first challenge no_final gone next meets h =
     (record { tree = quits_final (goes_away false); lines = refl; at = sym h; tells = refl; good = tt })
 after_challenge_goes_on d m account first challenge no_final line next meets h = absurd h
 after_challenge_goes_on d m account first challenge (quits_final q) line next meets h =
-    outer_goes_on d quitting (after_challenge m account first challenge) quits_final [] [] (λ t. refl) (λ t. refl) (λ t. refl)
-    (λ t m. m) q line next
-    (quit_goes_on d q line next meets h)
+    outer_goes_on d (quits_final_within d m account first challenge) q line next (quit_goes_on d q line next meets h)
 after_challenge_goes_on d m account first challenge (sends_final last j) line next meets h =
-    outer_goes_on d (after_final m account first challenge last) (after_challenge m account first challenge) (sends_final last)
-    (heard (resp last) ∷ []) [] (λ t. refl) (λ t. refl) (λ t. refl) (λ t m. m) j line next
+    outer_goes_on d (sends_final_within d m account first challenge last) j line next
     (after_final_goes_on d m account first challenge last j line next meets h)
 
 after_first_goes_on : (d : Demands) (m first : List ℕ) (t : AfterFirst) (line : LogLine) (next : Place) → (after_first m first t).Meets d
@@ -165,9 +150,7 @@ after_first_goes_on d m first (refused text false) ended next meets h = inr
     (record { tree = refused text true; lines = refl; at = sym h; tells = refl; good = meets })
 after_first_goes_on d m first (refused text false) line next meets h = absurd h
 after_first_goes_on d m first (challenged account text p) line next meets h =
-    outer_goes_on d (after_challenge m account first text) (after_first m first) (challenged account text) (said (cont text) ∷ []) []
-    (λ t. refl)
-    (λ t. refl) (λ t. refl) (λ t more. (meets.0, more)) p line next
+    outer_goes_on d (challenged_within d m first account text meets.0) p line next
     (after_challenge_goes_on d m account first text p line next meets.1 h)
 
 after_empty_goes_on : (d : Demands) (m : List ℕ) (t : AfterEmpty) (line : LogLine) (next : Place) → (after_empty m t).Meets d
@@ -183,13 +166,9 @@ after_empty_goes_on d m no_first gone next meets h = inr
     (record { tree = quits_first (goes_away false); lines = refl; at = sym h; tells = refl; good = tt })
 after_empty_goes_on d m no_first line next meets h = absurd h
 after_empty_goes_on d m (quits_first q) line next meets h =
-    outer_goes_on d quitting (after_empty m) quits_first [] [] (λ t. refl) (λ t. refl) (λ t. refl) (λ t m. m) q line next
-    (quit_goes_on d q line next meets h)
+    outer_goes_on d (quits_first_within d m) q line next (quit_goes_on d q line next meets h)
 after_empty_goes_on d m (sends_first first a) line next meets h =
-    outer_goes_on d (after_first m first) (after_empty m) (sends_first first) (heard (resp first) ∷ []) [] (λ t. refl) (λ t. refl)
-    (λ t. refl)
-    (λ t m. m) a line next
-    (after_first_goes_on d m first a line next meets h)
+    outer_goes_on d (sends_first_within d m first) a line next (after_first_goes_on d m first a line next meets h)
 
 after_auth_goes_on : (d : Demands) (m : List ℕ) (t : AfterAuth) (line : LogLine) (next : Place) → (after_auth m t).Meets d
     → IsTransition d (after_auth m t).place line next
@@ -204,9 +183,7 @@ after_auth_goes_on d m (unoffered text false) ended next meets h = inr
     (record { tree = unoffered text true; lines = refl; at = sym h; tells = refl; good = meets })
 after_auth_goes_on d m (unoffered text false) line next meets h = absurd h
 after_auth_goes_on d m (invited text f) line next meets h =
-    outer_goes_on d (after_empty m) (after_auth m) (invited text) (said (cont text) ∷ []) [] (λ t. refl) (λ t. refl) (λ t. refl)
-    (λ t more. (meets.0, more)) f line next
-    (after_empty_goes_on d m f line next meets.1 h)
+    outer_goes_on d (invited_within d m text meets.0) f line next (after_empty_goes_on d m f line next meets.1 h)
 
 after_mechs_goes_on : (d : Demands) (t : AfterMechs) (line : LogLine) (next : Place) → (after_mechs t).Meets d
     → IsTransition d (after_mechs t).place line next
@@ -223,23 +200,15 @@ after_mechs_goes_on d no_login gone next meets h = inr
     (record { tree = quits_login (goes_away false); lines = refl; at = sym h; tells = refl; good = tt })
 after_mechs_goes_on d no_login line next meets h = absurd h
 after_mechs_goes_on d (quits_login q) line next meets h =
-    outer_goes_on d quitting after_mechs quits_login [] [] (λ t. refl) (λ t. refl) (λ t. refl) (λ t m. m) q line next
-    (quit_goes_on d q line next meets h)
+    outer_goes_on d (quits_login_within d) q line next (quit_goes_on d q line next meets h)
 after_mechs_goes_on d (with_first m first a) line next meets h =
-    outer_goes_on d (after_first m first) after_mechs (with_first m first) (heard (auth_with m first) ∷ []) [] (λ t. refl) (λ t. refl)
-    (λ t. refl)
-    (λ t m. m) a line next
-    (after_first_goes_on d m first a line next meets h)
+    outer_goes_on d (with_first_within d m first) a line next (after_first_goes_on d m first a line next meets h)
 after_mechs_goes_on d (without_first m i) line next meets h =
-    outer_goes_on d (after_auth m) after_mechs (without_first m) (heard (auth m) ∷ []) [] (λ t. refl) (λ t. refl) (λ t. refl)
-    (λ t m. m) i line next
-    (after_auth_goes_on d m i line next meets h)
+    outer_goes_on d (without_first_within d m) i line next (after_auth_goes_on d m i line next meets h)
 
 -- a session that meets the demands is closed, or goes on with any line that may stand at its place and then meets them still
 pub session_goes_on : (d : Demands) (t : Session) (line : LogLine) (next : Place) → (session_part t).Meets d
     → IsTransition d (session_part t).place line next
     → GoesOn d session_part t line next
 session_goes_on d (session names l) line next meets h =
-    outer_goes_on d after_mechs session_part (session names) (said (mechs names) ∷ []) [] (λ t. refl) (λ t. refl) (λ t. refl)
-    (λ t more. (meets.0, more)) l line next
-    (after_mechs_goes_on d l line next meets.1 h)
+    outer_goes_on d (session_within d names meets.0) l line next (after_mechs_goes_on d l line next meets.1 h)

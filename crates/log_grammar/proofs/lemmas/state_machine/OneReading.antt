@@ -1,7 +1,6 @@
 -- A log is read in one way: its place and what was told in it follow from its lines. Its first lines are
 -- again lines that a log may begin with.
-use Rattle.std.proofs.Common.{◌≡◌, inl, inr, ℕ, zero, suc, ◌≤◌, List, [], ◌∷◌, ◌++◌, length, sym, ◌∙◌, ap, subst, arith}
-use Rattle.std.proofs.lemmas.List.{same_from_push}
+use Rattle.std.proofs.Common.{◌≡◌, ℕ, List, [], ◌∷◌, ◌++◌, sym, ◌∙◌, ap, subst, refl}
 use Rattle.log_grammar.specs.Lines.{LogLine, header, said, heard, bad, gone, ended, mechs, cont, accepts, refuses, replies, halt, auth}
 use Rattle.log_grammar.specs.Lines.{auth_with, resp, abort, code, sync}
 use Rattle.log_grammar.specs.LoggedReply.{LoggedReply}
@@ -12,9 +11,8 @@ use Rattle.log_grammar.specs.state_machine.Steps.{FromOffered, FromAsksBare, Fro
 use Rattle.log_grammar.specs.state_machine.Steps.{FromWaitsCode, FromGotCode, FromLeaving, FromBetween, FromOver, FromBeforeAll}
 use Rattle.log_grammar.specs.state_machine.Steps.{IsTransition, told_at}
 use Rattle.log_grammar.specs.Begins.{Begins}
-use Rattle.log_grammar.proofs.lemmas.state_machine.LogSteps.{log_has_last_line}
-use Rattle.scram_text.proofs.lemmas.ListEnds.{empty_has_no_last}
-use Rattle.log_grammar.proofs.lemmas.ListEnds.{empty_has_no_element, length-last}
+use Rattle.log_grammar.proofs.lemmas.state_machine.LogSteps.{log_has_last_transition, no_lines_begin_before_all}
+use Rattle.log_grammar.proofs.lemmas.ListEnds.{holds_by_last}
 
 -- a challenge is that of one account
 abbrev pub OneAccount : Demands → Type 0
@@ -119,36 +117,25 @@ same_line_tells_same told other p q x y a b c =
     (λ (l : LogLine). other ++ told_at q l) c
 
 -- the place and what was told follow from the lines
-pub lines_have_one_reading : (d : Demands) → OneAccount d → (n : ℕ) (log : List LogLine) (p q : Place) (told other : List LoggedReply)
-    → length log ≤ n
+pub lines_have_one_reading : (d : Demands) → OneAccount d → (log : List LogLine) (p q : Place) (told other : List LoggedReply)
     → Begins d log p told → Begins d log q other → (p ≡ q) × (told ≡ other)
-lines_have_one_reading d one n log p q told other short (inl a) (inl b) = (a.1 ∙ sym b.1, a.2 ∙ sym b.2)
-lines_have_one_reading d one n log p q told other short (inl a) (inr s) =
-    let b = log_has_last_line d log q other s in absurd (empty_has_no_element b.lines b.line [] (sym a.0 ∙ b.same))
-lines_have_one_reading d one n log p q told other short (inr s) (inl a) =
-    let b = log_has_last_line d log p told s in absurd (empty_has_no_element b.lines b.line [] (sym a.0 ∙ b.same))
-lines_have_one_reading d one zero log p q told other short (inr s) (inr r) =
-    let b = log_has_last_line d log p told s in absurd (omega (arith, short, ap length b.same, length-last b.lines b.line))
-lines_have_one_reading d one (suc n) log p q told other short (inr s) (inr r) =
-    let a = log_has_last_line d log p told s in
-    let b = log_has_last_line d log q other r in
-    let same = same_from_push a.lines b.lines a.line b.line (sym a.same ∙ b.same) in
-    let shorter : length a.lines ≤ n = omega (arith, short, ap length a.same, length-last a.lines a.line) in
-    let earlier = lines_have_one_reading d one n a.lines a.at b.at a.tells b.tells shorter a.begins
-    (subst (λ (l : List LogLine). Begins d l b.at b.tells) (sym same.0) b.begins) in
-    let moved = subst (λ (x : LogLine). IsTransition d a.at x q) (sym same.1)
-    (subst (λ (r : Place). IsTransition d r b.line q) (sym earlier.0) b.goes) in (
-      one_next_place d one a.at a.line p q a.goes moved,
-      a.all ∙ same_line_tells_same a.tells b.tells a.at b.at a.line b.line earlier.1 earlier.0 same.1 ∙
-          sym b.all,
-    )
+lines_have_one_reading d one = holds_by_last
+    (λ log. (p q : Place) (told other : List LoggedReply) → Begins d log p told → Begins d log q other → (p ≡ q) × (told ≡ other))
+    (λ p q told other s r.
+    let a = no_lines_begin_before_all d p told s in
+    let b = no_lines_begin_before_all d q other r in
+    (a.0 ∙ sym b.0, a.1 ∙ sym b.1))
+    (λ log line earlier p q told other s r.
+    let a = log_has_last_transition d log line p told s in
+    let b = log_has_last_transition d log line q other r in
+    let same = earlier a.place b.place a.told b.told a.begins b.begins in
+    let moved = subst (λ (at : Place). IsTransition d at line q) (sym same.0) b.goes in (
+      one_next_place d one a.place line p q a.goes moved,
+      a.tells ∙ same_line_tells_same a.told b.told a.place b.place line line same.1 same.0 refl ∙ sym b.tells,
+    ))
 
 -- without its last line a log still begins as a log may
 pub shorter_log_begins : (d : Demands) (log : List LogLine) (line : LogLine) (p : Place) (told : List LoggedReply)
     → Begins d (log ++ line ∷ []) p told
     → (q : Place) × (other : List LoggedReply) × Begins d log q other
-shorter_log_begins d log line p told (inl none) = absurd (empty_has_no_last log line none.0)
-shorter_log_begins d log line p told (inr s) =
-    let b = log_has_last_line d (log ++ line ∷ []) p told s in
-    let same = same_from_push log b.lines line b.line b.same in
-    (b.at, b.tells, subst (λ (l : List LogLine). Begins d l b.at b.tells) (sym same.0) b.begins)
+shorter_log_begins d log line p told begins = let b = log_has_last_transition d log line p told begins in (b.place, b.told, b.begins)

@@ -1,4 +1,4 @@
-use Rattle.std.proofs.Common.{◌≡◌, ◌⊎◌, inl, inr, ℕ, ◌+◌, ◌≤◌, List, ◌∷◌, ◌++◌, [], length, arith}
+use Rattle.std.proofs.Common.{◌≡◌, ◌⊎◌, inl, inr, ℕ, ◌+◌, ◌≤◌, List, ◌∷◌, ◌++◌, [], arith}
 use Rattle.log_grammar.specs.Lines.{LogLine, said, busy}
 use Rattle.log_grammar.specs.Demands.{demands}
 use Rattle.log_grammar.specs.Numbered.{Numbered, numbered, given_in, closed_in}
@@ -14,4 +14,4 @@ few_numbers_are_open limit opens log all (inr (before, n, last, many)) = inr (be
 pub returns : goal.returns
 returns c = λ limit accounts log places told s.
     few_numbers_are_open limit _ log (c.open_sessions_are_counted.ensures limit accounts log places told s).0
-    (few_are_open limit (demands accounts) (length log) log places told (omega arith) s)
+    (few_are_open limit (demands accounts) log places told s)

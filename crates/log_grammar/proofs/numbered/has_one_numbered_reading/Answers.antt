@@ -1,4 +1,3 @@
-use Rattle.std.proofs.Common.{length, arith}
 use Rattle.log_grammar.specs.Demands.{demands}
 use Rattle.log_grammar.proofs.lemmas.state_machine.PlaceBefore.{one_account}
 use Rattle.log_grammar.proofs.lemmas.many_sessions.OneReading.{numbered_lines_have_one_reading}
@@ -7,4 +6,4 @@ use Rattle.log_grammar.proofs.numbered.has_one_numbered_reading.Goals as goal
 pub returns : goal.returns
 returns c = λ limit accounts log places others told also s r.
     let one = one_account c.has_one_client_first.ensures c.spells_one_name.ensures accounts in
-    numbered_lines_have_one_reading limit (demands accounts) one (length log) log places others told also (omega arith) s r
+    numbered_lines_have_one_reading limit (demands accounts) one log places others told also s r

@@ -1,4 +1,4 @@
-use Rattle.log_grammar.proofs.lemmas.reply_laws.ServerLines.{each_halt_ends_a_code}
+use Rattle.log_grammar.proofs.lemmas.outcome_laws.ServerLines.{each_halt_ends_a_code}
 use Rattle.log_grammar.proofs.outcomes.each_halt_ends_a_code.Goals as goal
 
 pub returns : goal.returns

@@ -1,4 +1,4 @@
-use Rattle.log_grammar.proofs.lemmas.reply_laws.ServerLines.{each_reply_is_due}
+use Rattle.log_grammar.proofs.lemmas.outcome_laws.ServerLines.{each_reply_is_due}
 use Rattle.log_grammar.proofs.outcomes.each_reply_is_due.Goals as goal
 
 pub returns : goal.returns

@@ -1,4 +1,4 @@
-use Rattle.log_grammar.proofs.lemmas.reply_laws.ServerLines.{first_lines_begin_logs}
+use Rattle.log_grammar.proofs.lemmas.outcome_laws.ServerLines.{first_lines_begin_logs}
 use Rattle.log_grammar.proofs.outcomes.first_lines_begin_logs.Goals as goal
 
 pub returns : goal.returns

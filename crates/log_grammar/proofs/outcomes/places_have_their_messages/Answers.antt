@@ -1,4 +1,4 @@
-use Rattle.log_grammar.proofs.lemmas.login_laws.PlaceMessages.{places_have_messages}
+use Rattle.log_grammar.proofs.lemmas.outcome_laws.PlaceMessages.{places_have_messages}
 use Rattle.log_grammar.proofs.outcomes.places_have_their_messages.Goals as goal
 
 pub returns : goal.returns

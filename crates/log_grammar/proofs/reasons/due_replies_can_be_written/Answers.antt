@@ -1,4 +1,4 @@
-use Rattle.log_grammar.proofs.lemmas.demands.CounterRanges.{due_replies_can_be_written}
+use Rattle.log_grammar.proofs.lemmas.reason_laws.CounterRanges.{due_replies_can_be_written}
 use Rattle.log_grammar.proofs.reasons.due_replies_can_be_written.Goals as goal
 
 pub returns : goal.returns

@@ -21,10 +21,11 @@ use Rattle.log_grammar.specs.LoggedReply.{LoggedReply}
 use Rattle.log_grammar.specs.Places.{Place, before_all, between, is_closed}
 use Rattle.log_grammar.specs.Demands.{Accounts, demands}
 use Rattle.log_grammar.specs.Numbered.{Numbered, numbered, of_number, SpellsNumbered, MayEndNumbered}
-use Rattle.log_grammar.specs.NumberedLines.{numbered_text, IsNumberedWritable}
+use Rattle.log_grammar.specs.NumberedLines.{numbered_text, IsNumberedLine, IsNumberedWritable}
 use Rattle.log_grammar.proofs.lemmas.many_sessions.WithoutLast.{numbered_log_has_last_transition}
 use Rattle.log_grammar.proofs.lemmas.many_sessions.LinesOfNumber.{of_number_append, of_number_all, of_number_none}
-use Rattle.log_grammar.proofs.lemmas.session_laws.NumberedOfSessions.{writable_numbered_lines_are_read, writable_numbered_lines_lack_lf}
+use Rattle.log_grammar.proofs.lemmas.lines.NumberedReadBack.{numbered_line_lacks_lf}
+use Rattle.log_grammar.proofs.lemmas.lines.ReadAndWritten.{writable_lines_are_read, writable_lines_lack_lf}
 use Rattle.log_grammar.proofs.lemmas.many_sessions.HaltAndBusy.{visit_halt_leads_to_halted}
 use Rattle.log_grammar.proofs.lemmas.lines.Cuts.{ended_by_lf-append}
 use Rattle.sasl_desk.specs.Desks.{HoldsBook, IsLostAfter, session_phase, spent_by_all}
@@ -53,7 +54,7 @@ hall_log_is_split : (calls : List (Numbered Call)) → AllByRecursion IsNumbered
 hall_log_is_split calls written = record {
   bytes_are = sym (append-nil (ended_by_lf (log_line_text header_two ∷ map numbered_text (hall_lines calls)))
       ∙ ended_by_lf-append (log_line_text header_two ∷ []) (map numbered_text (hall_lines calls)));
-  lines = (refl, writable_numbered_lines_lack_lf (hall_lines calls) written);
+  lines = (refl, writable_lines_lack_lf IsNumberedLine numbered_text numbered_line_lacks_lf (hall_lines calls) written);
   after = refl;
 }
 
@@ -65,7 +66,14 @@ pub hall_log_is_front : {S : Type 0} (facts : S → StoreFacts) (IsStored : List
 hall_log_is_front facts IsStored start calls hall s = (
   log_line_text header_two ∷ map numbered_text (hall_lines calls),
   hall_log_is_split calls s.writable,
-  inr (refl, hall_lines calls, s.places, s.told, writable_numbered_lines_are_read (hall_lines calls) s.writable, s.spelled),
+  inr (
+    refl,
+    hall_lines calls,
+    s.places,
+    s.told,
+    writable_lines_are_read IsNumberedLine numbered_text (hall_lines calls) s.writable,
+    s.spelled,
+  ),
 )
 
 -- the log of a hall is clean where its places let it end
@@ -76,7 +84,15 @@ ended_hall_log_is_clean : {S : Type 0} (facts : S → StoreFacts) (IsStored : Li
 ended_hall_log_is_clean facts IsStored start calls hall s ends = (
   log_line_text header_two ∷ map numbered_text (hall_lines calls),
   hall_log_is_split calls s.writable,
-  inr (refl, hall_lines calls, s.places, s.told, writable_numbered_lines_are_read (hall_lines calls) s.writable, s.spelled, ends),
+  inr (
+    refl,
+    hall_lines calls,
+    s.places,
+    s.told,
+    writable_lines_are_read IsNumberedLine numbered_text (hall_lines calls) s.writable,
+    s.spelled,
+    ends,
+  ),
 )
 
 -- after a call nothing is left to be said at its session's place:

@@ -23,8 +23,7 @@ use Rattle.log_grammar.specs.Begins.{Begins}
 use Rattle.log_grammar.proofs.lemmas.lines.LackLf.{reply_is_writable}
 use Rattle.log_grammar.proofs.lemmas.state_machine.Shortening.{code_may_stand}
 use Rattle.log_grammar.proofs.lemmas.ListEnds.{all_append}
-use Rattle.log_grammar.proofs.lemmas.reason_laws.Mended.{offer_is_writable}
-use Rattle.log_grammar.proofs.lemmas.lines.Written.{header_is_writable, halt_is_writable}
+use Rattle.log_grammar.proofs.lemmas.lines.Written.{offer_is_writable, header_is_writable, halt_is_writable}
 use Rattle.sasl_log.specs.Logins.{KeepsEntries}
 use Rattle.sasl_log.specs.Tokens.{IsBookAfter}
 use Rattle.sasl_desk.specs.Events.{ClientEvent}

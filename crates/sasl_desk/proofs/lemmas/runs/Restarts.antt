@@ -9,7 +9,7 @@ use Rattle.account_book.specs.Laws.{TokensAreApart, AddedIsApart}
 use Rattle.otp_core.specs.Laws.{BeginsWithItself, CandidatesAreNew}
 use Rattle.log_grammar.specs.Books.{accounts_in}
 use Rattle.log_grammar.specs.laws.LogLaws.{GoesOnByNoOther}
-use Rattle.log_grammar.specs.Lines.{LogLine, said, halt, log_line_text, log_bytes}
+use Rattle.log_grammar.specs.Lines.{LogLine, said, halt, log_line_text, IsLogLine, log_bytes}
 use Rattle.log_grammar.specs.LoggedReply.{LoggedReply}
 use Rattle.log_grammar.specs.Places.{Place, MayEnd, halted}
 use Rattle.log_grammar.specs.Demands.{Accounts, demands}
@@ -18,7 +18,8 @@ use Rattle.log_grammar.specs.Versions.{IsFront, IsClean}
 use Rattle.log_grammar.proofs.lemmas.ListEnds.{all_back}
 use Rattle.log_grammar.proofs.lemmas.many_sessions.HaltAndBusy.{halt_leads_to_halted}
 use Rattle.log_grammar.proofs.lemmas.kinds.ShownByLines.{log_lines_are_front, log_lines_are_clean}
-use Rattle.log_grammar.proofs.lemmas.session_laws.OfSessions.{writable_lines_are_read, writable_lines_lack_lf}
+use Rattle.log_grammar.proofs.lemmas.lines.LackLf.{lines_lack_lf}
+use Rattle.log_grammar.proofs.lemmas.lines.ReadAndWritten.{writable_lines_are_read, writable_lines_lack_lf}
 use Rattle.sasl_desk.specs.Keeper.{IsAttemptJudged}
 use Rattle.sasl_desk.specs.Sessions.{CanBeWritten}
 use Rattle.sasl_desk.specs.Runs.{Call, run_lines}
@@ -42,8 +43,12 @@ use Rattle.sasl_log.proofs.lemmas.audits.AuditedLineByLine.{book_follows_nothing
 bytes_are_lines : (lines : List LogLine) → CanBeWritten lines → AreLines (log_bytes lines) lines []
 bytes_are_lines lines written = (
   map log_line_text lines,
-  record { bytes_are = sym (append-nil (log_bytes lines)); lines = writable_lines_lack_lf lines written; after = refl },
-  writable_lines_are_read lines written,
+  record {
+    bytes_are = sym (append-nil (log_bytes lines));
+    lines = writable_lines_lack_lf IsLogLine log_line_text lines_lack_lf lines written;
+    after = refl;
+  },
+  writable_lines_are_read IsLogLine log_line_text lines written,
 )
 
 -- a desk's log is a front

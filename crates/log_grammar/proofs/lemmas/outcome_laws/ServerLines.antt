@@ -1,5 +1,5 @@
 -- The server's lines one by one: from which place each goes on.
-use Rattle.std.proofs.Common.{◌≡◌, inl, inr, ℕ, zero, suc, ◌≤◌, List, [], ◌∷◌, ◌++◌, length, reverse, refl, sym, ◌∙◌, ap, subst, arith}
+use Rattle.std.proofs.Common.{◌≡◌, inl, inr, ℕ, List, [], ◌∷◌, ◌++◌, reverse, refl, sym, ◌∙◌, ap, subst}
 use Rattle.std.proofs.Common.{append_assoc, append-nil}
 use Rattle.std.specs.declared.option.Option.{Option}
 use Rattle.mac_core.specs.declared.mechanism.Mechanism.{Mechanism}
@@ -18,10 +18,8 @@ use Rattle.log_grammar.specs.Begins.{Begins}
 use Rattle.log_grammar.specs.laws.Logins.{IsLoginTo, exchange_of}
 use Rattle.log_grammar.specs.laws.Outcomes.{FirstLinesBeginLogs, EachOfferIsDue, IsChallengeDue, EachChallengeIsDue, IsRefusalDue}
 use Rattle.log_grammar.specs.laws.Outcomes.{EachRefusalIsDue, IsReplied, EachReplyIsDue, EachHaltEndsACode}
-use Rattle.log_grammar.proofs.lemmas.state_machine.LogSteps.{log_goes_on}
-use Rattle.scram_text.proofs.lemmas.ListEnds.{nonempty_has_last}
-use Rattle.log_grammar.proofs.lemmas.ListEnds.{length-last}
-use Rattle.log_grammar.proofs.lemmas.state_machine.PlaceBefore.{log_has_last_transition}
+use Rattle.log_grammar.proofs.lemmas.state_machine.LogSteps.{log_goes_on, log_has_last_transition}
+use Rattle.log_grammar.proofs.lemmas.ListEnds.{holds_by_last}
 use Rattle.log_grammar.proofs.lemmas.kinds.OneWhy.{one_mechanism}
 
 -- where no more was told, what was told in a log's lines is the same
@@ -46,30 +44,25 @@ log_goes_on_quietly accounts log at told line next none begins goes =
 told_first_stays_first : (told before rest tells : List LoggedReply) → before ≡ told ++ rest → before ++ tells ≡ told ++ (rest ++ tells)
 told_first_stays_first told before rest tells same = ap (λ (l : List LoggedReply). l ++ tells) same ∙ append_assoc told rest tells
 
--- the first lines of what a log may begin with are such lines too, and what was told in them comes first, where at most n lines
--- come after them
-pub first_lines_tell_first : (accounts : Accounts) (n : ℕ) (log more : List LogLine) (place : Place) (told : List LoggedReply)
-    → length more ≤ n
-    → Begins (demands accounts) (log ++ more) place told
-    → (at : Place) × (before : List LoggedReply) × (rest : List LoggedReply) × Begins (demands accounts) log at before
-    × (told ≡ before ++ rest)
-first_lines_tell_first accounts n log [] place told short begins =
-    (place, told, [], subst (λ (l : List LogLine). Begins (demands accounts) l place told) (append-nil log) begins, sym (append-nil told))
-first_lines_tell_first accounts zero log (x ∷ more) place told short begins = absurd (omega (arith, short))
-first_lines_tell_first accounts (suc n) log (x ∷ more) place told short begins =
-    let last = nonempty_has_last x more in
-    let shorter : length last.0 ≤ n = omega (arith, short, ap length last.2, length-last last.0 last.1) in
-    let split = ap (λ (l : List LogLine). log ++ l) last.2 ∙ sym (append_assoc log last.0 (last.1 ∷ [])) in
-    let s = log_has_last_transition accounts (log ++ last.0) last.1 place told
-    (subst (λ (l : List LogLine). Begins (demands accounts) l place told) split begins) in
-    let less = first_lines_tell_first accounts n log last.0 s.place s.told shorter s.begins in
-    let tells = told_at s.place last.1 in
-    (less.0, less.1, less.2 ++ tells, less.3, s.tells ∙ told_first_stays_first less.1 s.told less.2 tells less.4)
-
 -- the first lines of what a log may begin with also begin a log, and what was told in them comes first
 pub first_lines_begin_logs : FirstLinesBeginLogs
-first_lines_begin_logs accounts lines more place told begins =
-    first_lines_tell_first accounts (length more) lines more place told (omega arith) begins
+first_lines_begin_logs accounts log = holds_by_last
+    (λ more. (place : Place) (told : List LoggedReply) → Begins (demands accounts) (log ++ more) place told
+    → (at : Place) × (before : List LoggedReply) × (rest : List LoggedReply) × Begins (demands accounts) log at before
+    × (told ≡ before ++ rest))
+    (λ place told begins. (
+      place,
+      told,
+      [],
+      subst (λ (l : List LogLine). Begins (demands accounts) l place told) (append-nil log) begins,
+      sym (append-nil told),
+    ))
+    (λ more line earlier place told begins.
+    let s = log_has_last_transition (demands accounts) (log ++ more) line place told
+    (subst (λ (l : List LogLine). Begins (demands accounts) l place told) (sym (append_assoc log more (line ∷ []))) begins) in
+    let (at, before, rest, front, same) = earlier s.place s.told s.begins in
+    let tells = told_at s.place line in
+    (at, before, rest ++ tells, front, s.tells ∙ told_first_stays_first before s.told rest tells same))
 
 -- `S MECHS` may stand between sessions alone, with the names demanded, and leads to the place after an offer
 offer_is_due : (accounts : Accounts) (log : List LogLine) (names : List ℕ) (next at : Place) (all told : List LoggedReply)
@@ -84,7 +77,7 @@ offer_is_due accounts log names next at all told same b goes = absurd goes
 pub each_offer_is_due : EachOfferIsDue
 each_offer_is_due accounts log names next told = (
   λ begins.
-      let s = log_has_last_transition accounts log (said (mechs names)) next told begins in
+      let s = log_has_last_transition (demands accounts) log (said (mechs names)) next told begins in
       offer_is_due accounts log names next s.place told s.told s.tells s.begins s.goes,
   λ is. log_goes_on_quietly accounts log between told (said (mechs names)) next refl is.0 (is.1, is.2),
 )
@@ -114,7 +107,7 @@ due_challenge_may_stand accounts log text next told (inr (m, first, name, begins
 pub each_challenge_is_due : EachChallengeIsDue
 each_challenge_is_due accounts log text next told = (
   λ begins.
-      let s = log_has_last_transition accounts log (said (cont text)) next told begins in
+      let s = log_has_last_transition (demands accounts) log (said (cont text)) next told begins in
       challenge_is_due accounts log text next s.place told s.told s.tells s.begins s.goes,
   λ is. due_challenge_may_stand accounts log text next told is,
 )
@@ -181,7 +174,7 @@ due_refusal_may_stand accounts log text next told (inr (inr (inr (begins, bare))
 pub each_refusal_is_due : AtMostOneVerdictIsDue → AcceptsExactlyValid → EachRefusalIsDue
 each_refusal_is_due once valid accounts log text next told = (
   λ begins.
-      let s = log_has_last_transition accounts log (said (refuses text)) next told begins in
+      let s = log_has_last_transition (demands accounts) log (said (refuses text)) next told begins in
       refusal_is_due once valid accounts log text next s.place told s.told s.tells s.begins s.goes,
   λ is. due_refusal_may_stand accounts log text next told is.0 is.1,
 )
@@ -201,7 +194,7 @@ reply_is_due accounts log moment reply next at all told same due b goes = absurd
 pub each_reply_is_due : EachReplyIsDue
 each_reply_is_due accounts log moment reply next all = (
   λ begins.
-      let s = log_has_last_transition accounts log (said (replies moment reply)) next all begins in
+      let s = log_has_last_transition (demands accounts) log (said (replies moment reply)) next all begins in
       reply_is_due accounts log moment reply next s.place all s.told s.tells s.due s.begins s.goes,
   λ r.
       subst (λ (t : List LoggedReply). Begins (demands accounts) (log ++ said (replies moment reply) ∷ []) next t) (sym r.tells)
@@ -226,8 +219,8 @@ halt_ends_code accounts log next at all told same b goes = absurd goes
 pub each_halt_ends_a_code : EachHaltEndsACode
 each_halt_ends_a_code accounts log next told = (
   λ begins.
-      let s = log_has_last_transition accounts log (said halt) next told begins in halt_ends_code accounts log next s.place told s.told
-      s.tells s.begins
+      let s = log_has_last_transition (demands accounts) log (said halt) next told begins in
+      halt_ends_code accounts log next s.place told s.told s.tells s.begins
       s.goes,
   λ is. log_goes_on_quietly accounts log (got_code is.0 is.1) told (said halt) next refl is.2 is.3,
 )
