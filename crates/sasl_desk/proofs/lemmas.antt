@@ -1,4 +1,5 @@
 -- Lemmas: what the proofs of this crate and of those above it cite.
-pub mod halls
-pub mod runs
+pub mod Lists
 pub mod turns
+pub mod runs
+pub mod halls

@@ -15,13 +15,20 @@ use Rattle.log_grammar.specs.LoggedReply.{LoggedReply}
 use Rattle.log_grammar.specs.Demands.{IsLoggedReplyDue}
 use Rattle.sasl_log.specs.Tokens.{IsBookAfter}
 
--- the account has a token, and this counter is below each that can pass with it, alone or as the first of a pair, at
--- every moment and after every legal history
+-- a counter can pass at a moment after a history, alone or as the first of a pair
+abbrev pub CanPass : TokenFields → List Attempt → (moment c : ℕ) → Type 0
+CanPass token history moment c = IsCandidate token history moment c ⊎ IsPairCandidate token history c
+
+-- a counter is below each that can pass with a token, at every moment and after every legal history
+abbrev pub IsBelow : TokenFields → (counter : ℕ) → Type 0
+IsBelow token counter = (history : List Attempt) (moment c : ℕ) → IsMoment moment → IsLegal token history
+    → CanPass token history moment c → counter < c
+
+-- the account has a token, and this counter is below each that can pass with it
 pub record IsCounterSpent (book : BookFields) (name : List ℕ) (counter : ℕ) : Type 0 where
   pub token : TokenFields
   pub has : token_at book name ≡ Some token
-  pub below : (history : List Attempt) (moment c : ℕ) → IsMoment moment → IsLegal token history
-      → (IsCandidate token history moment c ⊎ IsPairCandidate token history c) → counter < c
+  pub below : IsBelow token counter
 
 -- no counter of an account stands twice
 abbrev pub AreDifferent : List (List ℕ × ℕ) → Type 0

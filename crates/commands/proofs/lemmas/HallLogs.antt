@@ -16,7 +16,7 @@ use Rattle.sasl_desk.specs.Halls.{HallFields, hall_of, hall_shown, hall_bytes, n
 use Rattle.sasl_desk.specs.Runs.{Request, Call, call_of}
 use Rattle.sasl_desk.specs.declared.session.phase.Phase.{Phase}
 use Rattle.sasl_desk.specs.declared.hall.Hall.{Hall}
-use Rattle.sasl_desk.proofs.lemmas.halls.Laws.{hall_bytes_next}
+use Rattle.sasl_desk.proofs.lemmas.halls.Logs.{hall_bytes_next}
 use Rattle.sasl_desk.proofs.lemmas.halls.Turns.{reordered_hall_stands}
 use Rattle.commands.specs.PrintedLog.{IsUnsavedOrUnlogged}
 use Rattle.commands.specs.Hall.{InputEvent, opens, does_at, SaysEvent, SaysNoEvent, IsCallFor, IsHallLogOf, Hears}

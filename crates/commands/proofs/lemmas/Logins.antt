@@ -19,7 +19,7 @@ use Rattle.sasl_desk.specs.declared.desk.Desk.{Desk}
 use Rattle.sasl_desk.specs.declared.desk.state.State.{State}
 use Rattle.sasl_desk.specs.declared.fault.ServeFault.{ServeFault}
 use Rattle.sasl_desk.specs.declared.fault.ServeFault.TheVariants.{Halted, Unwritable, NoMemory, WriteFault, LogFault}
-use Rattle.sasl_desk.proofs.lemmas.runs.Bytes.{log_bytes-append}
+use Rattle.sasl_desk.proofs.lemmas.turns.TurnBytes.{log_bytes-append}
 use Rattle.command_line.specs.Fault.{IsFileUnwritten}
 use Rattle.command_line.specs.declared.fault.Fault.{Fault}
 use Rattle.command_line.specs.declared.fault.Fault.TheVariants.{NoMemory as OutOfMemory}

@@ -1,7 +1,11 @@
--- What a hall stands for after each call.
+-- What a hall stands for after each call; in the order in which to read it.
 pub mod Guests
-pub mod Greetings
-pub mod Laws
-pub mod Calls
 pub mod Paths
 pub mod Turns
+pub mod Calls
+pub mod Greetings
+pub mod Phases
+pub mod Logs
+pub mod Records
+pub mod Stores
+pub mod Alone

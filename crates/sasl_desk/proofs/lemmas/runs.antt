@@ -1,11 +1,13 @@
--- What a desk stands for after each call, and over runs: its log, its book, what is spent.
-pub mod SameRequests
-pub mod Records
-pub mod Restarts
-pub mod Bytes
-pub mod Calls
-pub mod OneAnswer
-pub mod Served
-pub mod Spent
+-- What a desk stands for after each call, and over runs: its log, its book, what is spent; in the order in which to read it.
 pub mod IsDeskAfter
+pub mod Calls
+pub mod Records
+pub mod Acceptances
+pub mod OneAnswer
+pub mod SameRequests
+pub mod Spent
 pub mod Unlocks
+pub mod Logs
+pub mod Restarts
+pub mod Stores
+pub mod Served

@@ -1,9 +1,10 @@
--- One turn of one session: its record, its answer, its path.
+-- One turn of one session: its record, its answer, its path and bytes, and what a keeper did with a code; in the order to read it.
+pub mod DueRecords
+pub mod NotDue
 pub mod DueAnswers
 pub mod HeardLines
-pub mod Keepers
-pub mod TurnBytes
+pub mod AnswerLines
 pub mod Paths
-pub mod DueRecords
 pub mod Writable
-pub mod NotDue
+pub mod TurnBytes
+pub mod Keepers

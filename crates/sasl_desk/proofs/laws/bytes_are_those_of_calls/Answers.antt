@@ -1,5 +1,5 @@
 use Rattle.sasl_desk.specs.Runs.{run_lines}
-use Rattle.sasl_desk.proofs.lemmas.runs.Bytes.{log_bytes-append, wire_bytes-append}
+use Rattle.sasl_desk.proofs.lemmas.turns.TurnBytes.{log_bytes-append, wire_bytes-append}
 use Rattle.sasl_desk.proofs.laws.bytes_are_those_of_calls.Goals as goal
 
 pub returns-clause-log : goal.returns-clause-log

@@ -1,4 +1,4 @@
-use Rattle.sasl_desk.proofs.lemmas.runs.Restarts.{desk_log_is_front}
+use Rattle.sasl_desk.proofs.lemmas.runs.Logs.{desk_log_is_front}
 use Rattle.sasl_desk.proofs.laws.log_is_a_front.Goals as goal
 
 pub returns : goal.returns

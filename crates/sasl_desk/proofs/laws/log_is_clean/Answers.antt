@@ -1,4 +1,4 @@
-use Rattle.sasl_desk.proofs.lemmas.runs.Restarts.{log_is_clean, halted_desk_log_is_clean}
+use Rattle.sasl_desk.proofs.lemmas.runs.Logs.{log_is_clean, halted_desk_log_is_clean}
 use Rattle.sasl_desk.proofs.laws.log_is_clean.Goals as goal
 
 pub returns-clause-closed : goal.returns-clause-closed

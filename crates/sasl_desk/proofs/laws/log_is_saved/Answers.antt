@@ -1,4 +1,4 @@
-use Rattle.sasl_desk.proofs.lemmas.runs.Restarts.{log_is_saved}
+use Rattle.sasl_desk.proofs.lemmas.runs.Stores.{log_is_saved}
 use Rattle.sasl_desk.proofs.laws.log_is_saved.Goals as goal
 
 pub returns : goal.returns

@@ -1,4 +1,4 @@
-use Rattle.sasl_desk.proofs.lemmas.runs.Restarts.{stopped_desk_leaves_attempt}
+use Rattle.sasl_desk.proofs.lemmas.runs.Stores.{stopped_desk_leaves_attempt}
 use Rattle.sasl_desk.proofs.laws.stops_leave_runs.Goals as goal
 
 pub returns : goal.returns

@@ -1,4 +1,4 @@
-use Rattle.sasl_desk.proofs.lemmas.runs.Restarts.{desk_store_holds_left_book}
+use Rattle.sasl_desk.proofs.lemmas.runs.Stores.{desk_store_holds_left_book}
 use Rattle.sasl_desk.proofs.laws.store_holds_a_book.Goals as goal
 
 pub returns : goal.returns

@@ -1,4 +1,4 @@
-use Rattle.sasl_desk.proofs.lemmas.runs.Restarts.{desk_store_keeps_spent_counters, stopped_desk_keeps_spent_counters}
+use Rattle.sasl_desk.proofs.lemmas.runs.Stores.{desk_store_keeps_spent_counters, stopped_desk_keeps_spent_counters}
 use Rattle.sasl_desk.proofs.laws.told_counters_are_saved.Goals as goal
 
 pub returns-clause-ended : goal.returns-clause-ended

@@ -18,7 +18,7 @@ use Rattle.log_grammar.specs.Books.{accounts_in}
 use Rattle.log_grammar.specs.Bytes.{ended_by_lf}
 use Rattle.log_grammar.specs.Lines.{LogLine, heard, code_line, log_line_text}
 use Rattle.log_grammar.specs.LoggedReply.{LoggedReply, logged_reply_of}
-use Rattle.log_grammar.specs.Places.{Place, between, waits_code, got_code, halted, is_closed}
+use Rattle.log_grammar.specs.Places.{Place, waits_code, got_code, halted}
 use Rattle.log_grammar.specs.Demands.{Accounts, demands}
 use Rattle.log_grammar.specs.Numbered.{Numbered, numbered, of_number}
 use Rattle.log_grammar.specs.NumberedLines.{numbered_text}
@@ -31,7 +31,7 @@ use Rattle.sasl_desk.specs.Desks.{HoldsBook, IsBookAfterReplies, spent_by_all, s
 use Rattle.sasl_desk.specs.SavedCalls.{is_saving, IsAttemptOf}
 use Rattle.sasl_desk.specs.Events.{ClientEvent}
 use Rattle.sasl_desk.specs.Guests.{guest_of}
-use Rattle.sasl_desk.specs.Halls.{HallFields, hall_of, hall_lines, numbered_bytes, IsSessionRun, IsPhaseOf, IsHallAfter, AnswersIn}
+use Rattle.sasl_desk.specs.Halls.{HallFields, hall_of, hall_lines, numbered_bytes, IsPhaseOf, IsHallAfter, AnswersIn}
 use Rattle.sasl_desk.specs.Halls.{IsSameHall}
 use Rattle.sasl_desk.specs.Keeper.{IsAttemptJudged, IsJudged, IsJudgedInRange}
 use Rattle.sasl_desk.specs.TurnResults.{after_turn_of, judged_lines, after_judged, SessionAnswers, AsksJudgement, IsTurnOf, IsTurnWritten}
@@ -51,13 +51,14 @@ use Rattle.sasl_desk.specs.declared.session.phase.Phase.TheVariants as phase
 use Rattle.sasl_desk.specs.declared.turn.AfterTurn.{AfterTurn}
 use Rattle.sasl_desk.specs.declared.turn.AfterTurn.TheVariants.{Going, Over, Halted}
 use Rattle.sasl_desk.proofs.lemmas.halls.Paths.{ends_of, turn_has_turn_lines, turn_closes_its_session, numbered_goes_on_by_path, numbered_goes_on_by_reply}
-use Rattle.sasl_desk.proofs.lemmas.halls.Turns.{client_turn_is_open, any_line_follows_log, working_hall_holds_book, reordered_hall_stands, LeavesAt, guests_after}
-use Rattle.sasl_desk.proofs.lemmas.halls.Turns.{halted_after, HallStep, stands_by_step}
+use Rattle.sasl_desk.proofs.lemmas.halls.Turns.{client_turn_is_open, open_session_has_run, any_line_follows_log, working_hall_holds_book, reordered_hall_stands, LeavesAt, guests_after}
+use Rattle.sasl_desk.proofs.lemmas.halls.Turns.{IsHallStep, step_adds_hall_call}
 use Rattle.sasl_desk.proofs.lemmas.turns.Keepers.{judged_reply_is_due}
 use Rattle.sasl_desk.proofs.lemmas.turns.Paths.{session_has_client_turn, turn_is_path, turn_has_no_reply}
 use Rattle.sasl_desk.proofs.lemmas.runs.IsDeskAfter.{book_after_told, held_book_fits_place, left_place_not_halted, kept_store_holds_book, reply_spends_counters}
 use Rattle.sasl_desk.proofs.lemmas.runs.IsDeskAfter.{session_turn_is_taken, reply_turn_is_taken, halt_turn_is_taken, lost_save_fits_halt}
-use Rattle.sasl_desk.proofs.lemmas.runs.Calls.{session_turn_saves_nothing, code_counts_saves, code_asks_for_save, code_is_quiet, lost_store_has_failed, open_session_not_halted}
+use Rattle.sasl_desk.proofs.lemmas.runs.Calls.{session_turn_saves_nothing, code_counts_saves, code_asks_for_save, code_is_quiet, halted_after, halting_code_failed_saving}
+use Rattle.sasl_desk.proofs.lemmas.runs.Calls.{open_session_not_halted, left_session_halts_nothing}
 
 -- lines written each after a number have the texts of that number's lines
 prefixed_texts_are_numbered : (n : ℕ) (lines : List LogLine)
@@ -69,13 +70,6 @@ prefixed_texts_are_numbered n (line ∷ lines) =
 -- lines written each after a session's number are, byte for byte, that session's numbered lines
 pub prefixed_bytes_are_numbered : (n : ℕ) (lines : List LogLine) → prefixed_bytes (Some n) lines ≡ numbered_bytes (map (numbered n) lines)
 prefixed_bytes_are_numbered n lines = ap ended_by_lf (prefixed_texts_are_numbered n lines)
-
--- a session that is open, and so was not turned away, has a run
-open_session_has_run : (accounts : Accounts) (calls : List Call) (at : Place) → is_closed at ≡ false → IsSessionRun accounts calls at
-    → IsRun accounts calls at
-open_session_has_run accounts calls at is_open (inl run) = run
-open_session_has_run accounts calls at is_open (inr (turned, same)) =
-    let never : is_closed between ≡ false = subst (λ (p : Place). is_closed p ≡ false) same is_open in absurd (cc never)
 
 -- a turn that leaves its session at a place, or ends it, leaves it so in a hall
 left_session_leaves_place : (accounts : Accounts) (next : Place) (ends : ℕ) (going : Option Session) → IsLeftAt accounts next going
@@ -91,7 +85,7 @@ answer_is_hall_step : BeginsWithItself → {S : Type 0} (facts : S → StoreFact
     (left : AfterTurn) (new : Keeper S)
     (s : IsHallAfter facts IsStored start calls (hall_of keeper (guest_of n going server_nonce ∷ others) given false))
     → SessionAnswers keeper going server_nonce event lines left new
-    → HallStep facts IsStored start calls s.places n event moment lines left new
+    → IsHallStep facts IsStored start calls s.places n event moment lines left new
 answer_is_hall_step itself facts IsStored start calls keeper n going server_nonce others given event moment lines left new s t =
     let accounts = accounts_in start in
     let hall = hall_of keeper (guest_of n going server_nonce ∷ others) given false in
@@ -133,7 +127,7 @@ reply_is_hall_step : BeginsWithItself → SpentStaysSpent
     → AsksJudgement old going event name sent
     → IsJudged IsStored old.book (facts old.store) name moment sent (Replied reply) new.book (facts new.store)
     → IsJudgedInRange (Replied reply)
-    → HallStep facts IsStored start calls s.places n event moment (judged_lines moment sent (Replied reply))
+    → IsHallStep facts IsStored start calls s.places n event moment (judged_lines moment sent (Replied reply))
     (after_judged name (Replied reply)) new
 reply_is_hall_step itself stays facts IsStored start calls old new n going server_nonce others given event moment name sent reply s asked
     (one, kept) range =
@@ -172,7 +166,7 @@ halt_is_hall_step : BeginsWithItself → {S : Type 0} (facts : S → StoreFacts)
     (s : IsHallAfter facts IsStored start calls (hall_of old (guest_of n going server_nonce ∷ others) given false))
     → AsksJudgement old going event name sent
     → IsJudged IsStored old.book (facts old.store) name moment sent Lost new.book (facts new.store)
-    → HallStep facts IsStored start calls s.places n event moment (judged_lines moment sent Lost) (after_judged name Lost) new
+    → IsHallStep facts IsStored start calls s.places n event moment (judged_lines moment sent Lost) (after_judged name Lost) new
 halt_is_hall_step itself facts IsStored start calls old new n going server_nonce others given event moment name sent s asked judged =
     let accounts = accounts_in start in
     let hall = hall_of old (guest_of n going server_nonce ∷ others) given false in
@@ -219,7 +213,7 @@ code_is_hall_step : BeginsWithItself → SpentStaysSpent
     → AsksJudgement old going event name sent
     → IsJudged IsStored old.book (facts old.store) name moment sent judged new.book (facts new.store)
     → IsJudgedInRange judged
-    → HallStep facts IsStored start calls s.places n event moment (judged_lines moment sent judged) (after_judged name judged) new
+    → IsHallStep facts IsStored start calls s.places n event moment (judged_lines moment sent judged) (after_judged name judged) new
 code_is_hall_step itself stays facts IsStored start calls old new n going server_nonce others given event moment name sent
     (Replied reply) s asked judged range =
     reply_is_hall_step itself stays facts IsStored start calls old new n going server_nonce others given event moment name sent reply s
@@ -239,7 +233,7 @@ turn_is_hall_step : BeginsWithItself → SpentStaysSpent
     (left : AfterTurn)
     (s : IsHallAfter facts IsStored start calls (hall_of old (guest_of n going server_nonce ∷ others) given false))
     → IsTurnOf facts IsStored old going server_nonce event moment lines left new
-    → HallStep facts IsStored start calls s.places n event moment lines left new
+    → IsHallStep facts IsStored start calls s.places n event moment lines left new
 turn_is_hall_step itself stays facts IsStored start calls old new n going server_nonce others given event moment lines left s (inl t) =
     answer_is_hall_step itself facts IsStored start calls old n going server_nonce others given event moment lines left new s t
 turn_is_hall_step itself stays facts IsStored start calls old new n going server_nonce others given event moment lines left s
@@ -297,21 +291,6 @@ turn_is_quiet facts IsStored old new going server_nonce event moment lines left 
     code_is_quiet IsStored moment sent name t.judged old.book new.book (facts old.store) (facts new.store) t.is_judged
     (rw t.lines_are at none)
 
--- a code that halts a hall does so where its store has failed, and changes no book
-halted_hall_failed_saving : (IsStored : List ℕ → Type 0) (moment : ℕ) (sent : CodeTexts) (name : List ℕ) (judged : CodeJudged)
-    (old new : BookFields)
-    (was now : StoreFacts)
-    → IsJudged IsStored old was name moment sent judged new now → halted_after (after_judged name judged) ≡ true → (now.failed ≡ true)
-    × (new ≡ old)
-halted_hall_failed_saving IsStored moment sent name (Replied reply) old new was now judged is = absurd (cc is)
-halted_hall_failed_saving IsStored moment sent name Lost old new was now (same, (reply, next, needs, one, loses)) is =
-    (lost_store_has_failed was now loses.text loses.lost, same)
-
--- a session that goes on or has ended halts no hall
-left_hall_not_halted : (going : Option Session) → halted_after (after_turn_of going) ≡ true → ⊥
-left_hall_not_halted (Some going) is = cc is
-left_hall_not_halted None is = cc is
-
 -- a turn that halts a hall does so where its store has failed, and changes no book
 halting_turn_failed_saving : {S : Type 0} (facts : S → StoreFacts) (IsStored : List ℕ → Type 0) (old new : Keeper S) (going : Session)
     (server_nonce : List ℕ)
@@ -319,9 +298,9 @@ halting_turn_failed_saving : {S : Type 0} (facts : S → StoreFacts) (IsStored :
     (left : AfterTurn) → IsTurnOf facts IsStored old going server_nonce event moment lines left new → halted_after left ≡ true
     → ((facts new.store).failed ≡ true) × (new.book ≡ old.book)
 halting_turn_failed_saving facts IsStored old new going server_nonce event moment lines left (inl t) is = absurd
-    (left_hall_not_halted t.turn.answer.session (rw t.is_left at is))
+    (left_session_halts_nothing t.turn.answer.session (rw t.is_left at is))
 halting_turn_failed_saving facts IsStored old new going server_nonce event moment lines left (inr (name, sent, asked, t)) is =
-    halted_hall_failed_saving IsStored moment sent name t.judged old.book new.book (facts old.store) (facts new.store) t.is_judged
+    halting_code_failed_saving IsStored moment sent name t.judged old.book new.book (facts old.store) (facts new.store) t.is_judged
     (rw t.is_left at is)
 
 -- a turn with a line for which the store was asked to save is an attempt, and the store was asked to save the book with it
@@ -370,7 +349,7 @@ turn_answers_hall_call itself stays facts IsStored old new n going server_nonce 
       stands = λ start calls s.
           let step = turn_is_hall_step itself stays facts IsStored start calls old new n going server_nonce others given event moment lines
           left s t in
-          let after = stands_by_step facts IsStored start calls old new n going server_nonce others given event moment lines left s
+          let after = step_adds_hall_call facts IsStored start calls old new n going server_nonce others given event moment lines left s
           step in (
             after.0,
             subst (λ (p : Place). IsPhaseOf p (phase_left left)) (sym after.1)

@@ -1,21 +1,12 @@
--- The guests of a hall, counted and found by their numbers, and what is counted and found in lists.
-use Rattle.std.proofs.Common.{◌≡◌, ◌+◌, ◌<◌, inl, inr, Bool, true, false, ℕ, List, [], ◌∷◌, ◌++◌, length, refl, sym, ◌∙◌, ap, subst, arith}
-use Rattle.std.specs.Prelude.{count_by, slice_get, nat_lt}
-use Rattle.std.specs.Bool.{Decides}
-use Rattle.std.specs.List.{AllByRecursion, find, position, position_or_len}
-use Rattle.std.specs.declared.option.Option.TheVariants.{None, Some}
-use Rattle.std.proofs.lemmas.Bool.{cases_Bool, eq-eqb}
-use Rattle.std.proofs.lemmas.Bool.Decides.{eqb_tells, Decides-ltb}
-use Rattle.std.proofs.lemmas.List.Folds.{find_at}
-use Rattle.std.proofs.lemmas.Option.{slice_get_cases}
-use Rattle.std.proofs.lemmas.List.Sums.{sum_by-append}
+-- The guests of a hall, counted by their numbers.
+use Rattle.std.proofs.Common.{◌≡◌, ◌+◌, inl, inr, ℕ, List, [], ◌∷◌, refl, sym, ◌∙◌, ap, arith}
+use Rattle.std.specs.Prelude.{count_by}
+use Rattle.std.specs.List.{AllByRecursion}
+use Rattle.std.proofs.lemmas.Bool.{eq-eqb}
+use Rattle.std.proofs.lemmas.Bool.Decides.{eqb_tells}
 use Rattle.sasl_desk.specs.Guests.{is_of}
 use Rattle.sasl_desk.specs.declared.hall.guest.Guest.{Guest}
 use Rattle.sasl_log.proofs.lemmas.ListCounts.{passing_counts_one, failing_counts_none, first_adds_its_count}
-
--- as many pass a test in two lists joined as in both
-count_by-append : {X : Type 0} (p : X → Bool) (xs ys : List X) → count_by p (xs ++ ys) ≡ count_by p xs + count_by p ys
-count_by-append p xs ys = sum_by-append _ xs ys
 
 -- a guest of a number adds one to the guests of that number
 pub own_guest_counts : (n : ℕ) (guest : Guest) (guests : List Guest) → guest.number ≡ n
@@ -33,10 +24,6 @@ other_guest_counts_not n guest guests other = elim (eqb_tells guest.number n) [
       omega (arith, failing_counts_none (is_of n) guest differ.0, first_adds_its_count (is_of n) guest guests)
 ]
 
--- an element counts the same at the end of a list as at its head
-pub last_counts_as_first : {X : Type 0} (p : X → Bool) (xs : List X) (x : X) → count_by p (xs ++ x ∷ []) ≡ count_by p (x ∷ xs)
-last_counts_as_first p xs x = omega (arith, count_by-append p xs (x ∷ []), first_adds_its_count p x xs)
-
 -- where a number has a guest, what holds of each guest holds of one with this number
 pub some_guest : (P : Guest → Type 0) (n : ℕ) (guests : List Guest) → AllByRecursion P guests → (count_by (is_of n) guests ≡ 0 → ⊥)
     → (guest : Guest) × P guest × (guest.number ≡ n)
@@ -53,64 +40,4 @@ guests_are_of_others n [] none = tt
 guests_are_of_others n (guest ∷ guests) none = elim (eqb_tells guest.number n) [
   | inl same ↦ absurd (omega (arith, none, own_guest_counts n guest guests same.1))
   | inr differ ↦ (differ.1, guests_are_of_others n guests (sym (other_guest_counts_not n guest guests differ.1) ∙ none))
-]
-
--- what follows from two facts, each of which holds of each in a list, holds of each
-pub each_follows_from_both : {X : Type 0} (P Q R : X → Type 0) (xs : List X) → AllByRecursion P xs → AllByRecursion Q xs
-    → ((x : X) → P x → Q x → R x)
-    → AllByRecursion R xs
-each_follows_from_both P Q R [] these those both = tt
-each_follows_from_both P Q R (x ∷ xs) these those both = (both x these.0 those.0, each_follows_from_both P Q R xs these.1 those.1 both)
-
--- the element at the first place that passes is the first that does
-pub found_is_at_position : {X : Type 0} (p : X → Bool) (xs : List X) (i : ℕ) → position p xs ≡ Some i → find p xs ≡ slice_get xs i
-found_is_at_position p xs i is = elim (cases_Bool (nat_lt (position_or_len p xs) (length xs))) [
-  | inl less ↦
-      let there = rw less at is in
-      let same : position_or_len p xs ≡ i = cc there in
-      find_at p xs ∙ ap (λ (k : ℕ). slice_get xs k) same
-  | inr not_less ↦ let nowhere = rw not_less at is in absurd (cc nowhere)
-]
-
--- where `position` finds no element that passes, `find` finds none
-pub no_position_finds_none : {X : Type 0} (p : X → Bool) (xs : List X) → position p xs ≡ None → find p xs ≡ None
-no_position_finds_none p xs is = elim (cases_Bool (nat_lt (position_or_len p xs) (length xs))) [
-  | inl less ↦ let there = rw less at is in absurd (cc there)
-  | inr not_less ↦
-      let past = subst (λ (b : Bool). Decides b (position_or_len p xs < length xs)) not_less
-      (Decides-ltb (position_or_len p xs) (length xs)) in
-      find_at p xs ∙ elim (slice_get_cases xs (position_or_len p xs)).1 [
-        | inl (x, less, is_there, at) ↦ let true_is : false ≡ true = past.1 less in absurd (cc true_is)
-        | inr (long, none) ↦ none
-      ]
-]
-
--- where `find` finds no element that passes, none is counted
-pub none_found_none_counted : {X : Type 0} (p : X → Bool) (xs : List X) → find p xs ≡ None → count_by p xs ≡ 0
-none_found_none_counted p [] none = refl
-none_found_none_counted p (x ∷ xs) none = elim (cases_Bool (p x)) [
-  | inl passes ↦ let some = rw passes at none in absurd (cc some)
-  | inr fails ↦
-      let rest = rw fails at none in
-      omega (arith, failing_counts_none p x fails, first_adds_its_count p x xs, none_found_none_counted p xs rest)
-]
-
--- the element that `find` finds passes, and what holds of each holds of it
-pub found_has_property : {X : Type 0} (P : X → Type 0) (p : X → Bool) (xs : List X) (y : X) → AllByRecursion P xs → find p xs ≡ Some y → P y
-    × (p y ≡ true)
-found_has_property P p [] y all is = absurd (cc is)
-found_has_property P p (x ∷ xs) y all is = elim (cases_Bool (p x)) [
-  | inl passes ↦
-      let there = rw passes at is in
-      let same : x ≡ y = cc there in
-      (subst P same all.0, subst (λ z. p z ≡ true) same passes)
-  | inr fails ↦ found_has_property P p xs y all.1 (rw fails at is)
-]
-
--- an element that `find` finds is counted
-pub found_is_counted : {X : Type 0} (p : X → Bool) (xs : List X) (y : X) → find p xs ≡ Some y → count_by p xs ≡ 0 → ⊥
-found_is_counted p [] y is none = cc is
-found_is_counted p (x ∷ xs) y is none = elim (cases_Bool (p x)) [
-  | inl passes ↦ omega (arith, none, first_adds_its_count p x xs, passing_counts_one p x passes)
-  | inr fails ↦ found_is_counted p xs y (rw fails at is) (omega (arith, none, first_adds_its_count p x xs))
 ]

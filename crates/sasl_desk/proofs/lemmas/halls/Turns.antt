@@ -5,7 +5,7 @@ use Rattle.std.specs.Prelude.{count_by}
 use Rattle.std.specs.List.{AllByRecursion}
 use Rattle.std.specs.List.Sorted.{IsPermutation}
 use Rattle.std.proofs.lemmas.List.Sorted.{length_permutation}
-use Rattle.std.proofs.lemmas.Bool.{cases_Bool, eq-eqb}
+use Rattle.std.proofs.lemmas.Bool.{cases_Bool, eq-eqb, false≢true, true≢false}
 use Rattle.std.proofs.lemmas.Bool.Decides.{eqb_tells}
 use Rattle.book_format.specs.Book.{BookFields}
 use Rattle.account_book.specs.Store.{StoreFacts}
@@ -28,7 +28,7 @@ use Rattle.sasl_desk.specs.Desks.{HoldsBook, IsStoredAt, IsBookAfterReplies, spe
 use Rattle.sasl_desk.specs.Events.{ClientEvent}
 use Rattle.sasl_desk.specs.Guests.{is_of, guest_of}
 use Rattle.sasl_desk.specs.Halls.{HallFields, hall_of, hall_lines, IsSessionRun, IsSeated, IsHallAfter}
-use Rattle.sasl_desk.specs.Runs.{hears, Call, call_of, server_nonce_of, IsTurnTaken}
+use Rattle.sasl_desk.specs.Runs.{hears, Call, call_of, server_nonce_of, IsTurnTaken, IsRun}
 use Rattle.sasl_desk.specs.Sessions.{IsSessionAt, CanBeWritten}
 use Rattle.sasl_desk.specs.Spent.{AreSpent}
 use Rattle.sasl_desk.specs.DueLines.{is_client_turn}
@@ -37,9 +37,11 @@ use Rattle.sasl_desk.specs.declared.keeper.Keeper.{Keeper}
 use Rattle.sasl_desk.specs.declared.session.Session.{Session}
 use Rattle.sasl_desk.specs.declared.turn.AfterTurn.{AfterTurn}
 use Rattle.sasl_desk.specs.declared.turn.AfterTurn.TheVariants.{Going, Over, Halted}
-use Rattle.sasl_desk.proofs.lemmas.halls.Guests.{own_guest_counts, other_guest_counts_not, last_counts_as_first, some_guest, guests_are_of_others, each_follows_from_both}
+use Rattle.sasl_desk.proofs.lemmas.Lists.{last_counts_as_first, each_follows_from_both}
+use Rattle.sasl_desk.proofs.lemmas.halls.Guests.{own_guest_counts, other_guest_counts_not, some_guest, guests_are_of_others}
 use Rattle.sasl_desk.proofs.lemmas.halls.Paths.{IsTurnLine, turn_line_may_have_number, turn_gives_no_number}
 use Rattle.sasl_desk.proofs.lemmas.turns.Paths.{session_has_client_turn}
+use Rattle.sasl_desk.proofs.lemmas.runs.Calls.{halted_after}
 use Rattle.sasl_desk.proofs.lemmas.runs.IsDeskAfter.{unhalted_store_holds_book}
 
 -- the first element of a numbered list is the first of those of its number
@@ -68,6 +70,13 @@ client_turn_is_open before_all turn = absurd (cc turn)
 client_turn_is_open between turn = absurd (cc turn)
 client_turn_is_open at turn = refl
 
+-- a session that is open, and so was not turned away, has a run
+pub open_session_has_run : (accounts : Accounts) (calls : List Call) (at : Place) → is_closed at ≡ false → IsSessionRun accounts calls at
+    → IsRun accounts calls at
+open_session_has_run accounts calls at is_open (inl run) = run
+open_session_has_run accounts calls at is_open (inr (turned, same)) =
+    absurd (true≢false (subst (λ (p : Place). is_closed p ≡ false) same is_open))
+
 -- nothing is left to be said at a place: no session is open there, or it is its client's turn. Unlike `IsAtRest`, this holds before
 -- all lines, and not where the log is halted.
 abbrev pub IsClosedOrClientTurn : Place → Type 0
@@ -75,15 +84,12 @@ IsClosedOrClientTurn at = (is_closed at ≡ true) ⊎ (is_client_turn at ≡ tru
 
 -- a place where the log is halted, or where `E` is due, is not at rest:
 halted_place_is_neither : (at : Place) → at ≡ halted → IsClosedOrClientTurn at → ⊥
-halted_place_is_neither at is (inl closed) =
-    let same : is_closed halted ≡ true = subst (λ (p : Place). is_closed p ≡ true) is closed in cc same
-halted_place_is_neither at is (inr turn) =
-    let same : is_client_turn halted ≡ true = subst (λ (p : Place). is_client_turn p ≡ true) is turn in cc same
+halted_place_is_neither at is (inl closed) = false≢true (subst (λ (p : Place). is_closed p ≡ true) is closed)
+halted_place_is_neither at is (inr turn) = false≢true (subst (λ (p : Place). is_client_turn p ≡ true) is turn)
 
 over_place_is_neither : (at : Place) → at ≡ over → IsClosedOrClientTurn at → ⊥
-over_place_is_neither at is (inl closed) = let same : is_closed over ≡ true = subst (λ (p : Place). is_closed p ≡ true) is closed in cc same
-over_place_is_neither at is (inr turn) =
-    let same : is_client_turn over ≡ true = subst (λ (p : Place). is_client_turn p ≡ true) is turn in cc same
+over_place_is_neither at is (inl closed) = false≢true (subst (λ (p : Place). is_closed p ≡ true) is closed)
+over_place_is_neither at is (inr turn) = false≢true (subst (λ (p : Place). is_client_turn p ≡ true) is turn)
 
 -- any line may follow one that leads to a place where nothing is left to be said
 any_line_may_follow : (d : Demands) (at next : Place) (n m : ℕ) (line more : LogLine) → IsVisitTransition d at line next
@@ -179,12 +185,6 @@ guests_after n server_nonce (Going going) others = others ++ guest_of n going se
 guests_after n server_nonce Over others = others
 guests_after n server_nonce (Halted going) others = others ++ guest_of n going server_nonce ∷ []
 
--- whether a turn that leaves its session so has halted the hall
-abbrev pub halted_after : AfterTurn → Bool
-halted_after (Going going) = false
-halted_after Over = false
-halted_after (Halted going) = true
-
 -- how many seats a session takes after a turn: none where it has ended, else one
 seats_of : AfterTurn → ℕ
 seats_of (Going going) = 1
@@ -277,7 +277,7 @@ other_guests_stay_seated accounts calls places n call next others seated differ 
 
 -- what a turn of the session of this number gives its hall: the place to which it leads, the log with its lines, and the book and the store
 -- as they are due there
-pub record HallStep {S : Type 0} (facts : S → StoreFacts) (IsStored : List ℕ → Type 0) (start : BookFields) (calls : List (Numbered Call))
+pub record IsHallStep {S : Type 0} (facts : S → StoreFacts) (IsStored : List ℕ → Type 0) (start : BookFields) (calls : List (Numbered Call))
     (places : ℕ → Place) (n : ℕ) (event : ClientEvent)
     (moment : ℕ) (lines : List LogLine) (left : AfterTurn) (keeper : Keeper S) : Type 0 where
   pub next : Place
@@ -305,15 +305,15 @@ turn_leaves_guests_seated accounts calls places n server_nonce Over others ends 
 turn_leaves_guests_seated accounts calls places n server_nonce (Halted going) others ends is seated same working = absurd (cc working)
 
 -- a hall stands for one call more after a turn of one of its sessions, which then stands at the place to which the turn led
-pub stands_by_step : {S : Type 0} (facts : S → StoreFacts) (IsStored : List ℕ → Type 0) (start : BookFields) (calls : List (Numbered Call))
-    (old new : Keeper S) (n : ℕ) (going : Session)
+pub step_adds_hall_call : {S : Type 0} (facts : S → StoreFacts) (IsStored : List ℕ → Type 0) (start : BookFields)
+    (calls : List (Numbered Call)) (old new : Keeper S) (n : ℕ) (going : Session)
     (server_nonce : List ℕ) (others : List Guest) (given : ℕ) (event : ClientEvent) (moment : ℕ) (lines : List LogLine) (left : AfterTurn)
     (s : IsHallAfter facts IsStored start calls (hall_of old (guest_of n going server_nonce ∷ others) given false))
-    (step : HallStep facts IsStored start calls s.places n event moment lines left new)
+    (step : IsHallStep facts IsStored start calls s.places n event moment lines left new)
     → (after : IsHallAfter facts IsStored start (numbered n (call_of (hears event moment) lines) ∷ calls)
     (hall_of new (guests_after n server_nonce left others) given (halted_after left)))
     × (after.places n ≡ step.next)
-stands_by_step facts IsStored start calls old new n going server_nonce others given event moment lines left s step =
+step_adds_hall_call facts IsStored start calls old new n going server_nonce others given event moment lines left s step =
     let accounts = accounts_in start in
     let call = call_of (hears event moment) lines in
     let guest = guest_of n going server_nonce in
@@ -335,11 +335,8 @@ stands_by_step facts IsStored start calls old new n going server_nonce others gi
         told = step.told;
         session_runs = one_and_others_cover_each (λ (m : ℕ). IsSessionRun accounts (of_number m (numbered n call ∷ calls)) (places m)) n
             (subst (λ (l : List Call). IsSessionRun accounts l (places n)) (sym mine)
-            (subst (λ (p : Place). IsSessionRun accounts (call ∷ of_number n calls) p) (sym here) (elim (s.session_runs n) [
-              | inl run ↦ inl (s.places n, run, step.taken)
-              | inr (turned, at) ↦ absurd
-                  (let same : is_closed between ≡ false = subst (λ (p : Place). is_closed p ≡ false) at is_open in cc same)
-            ])))
+            (subst (λ (p : Place). IsSessionRun accounts (call ∷ of_number n calls) p) (sym here)
+            (inl (s.places n, open_session_has_run accounts (of_number n calls) (s.places n) is_open (s.session_runs n), step.taken))))
             (λ m other. subst (λ (l : List Call). IsSessionRun accounts l (places m)) (sym (other_item_is_skipped n m call calls other))
             (subst (λ (p : Place). IsSessionRun accounts (of_number m calls) p) (sym (put_keeps_others n step.next s.places m other))
             (s.session_runs m)));

@@ -1,5 +1,5 @@
 -- What a call of a desk saves and changes, and that the desk has then answered it.
-use Rattle.std.proofs.Common.{◌≡◌, inl, inr, ◌⊎◌, ◌+◌, true, ℕ, List, [], ◌∷◌, ◌++◌, length, filter, refl, sym, ◌∙◌, ap, subst, arith}
+use Rattle.std.proofs.Common.{◌≡◌, inl, inr, ◌⊎◌, ◌+◌, Bool, true, false, ℕ, List, [], ◌∷◌, ◌++◌, length, filter, refl, sym, ap, subst, arith}
 use Rattle.std.specs.declared.option.Option.{Option}
 use Rattle.std.specs.declared.option.Option.TheVariants.{None, Some}
 use Rattle.otp_core.specs.Attempt.{CodeTexts}
@@ -16,7 +16,7 @@ use Rattle.log_grammar.specs.LoggedReply.{LoggedReply, logged_reply_of}
 use Rattle.log_grammar.specs.Places.{Place, waits_code}
 use Rattle.sasl_desk.specs.Events.{ClientEvent}
 use Rattle.sasl_desk.specs.Keeper.{IsAttemptJudged, IsJudged}
-use Rattle.sasl_desk.specs.Sessions.{IsSessionAt, IsRecord, recorded_shown, said_lines, end_lines, lines_of_answer, turn_lines}
+use Rattle.sasl_desk.specs.Sessions.{IsSessionAt, IsRecord, recorded_shown, turn_lines}
 use Rattle.sasl_desk.specs.Runs.{greets, hears, Call, wire_bytes}
 use Rattle.sasl_desk.specs.Spent.{SpentStaysSpent}
 use Rattle.sasl_desk.specs.TurnResults.{after_turn_of, judged_lines, after_judged, SessionAnswers, KeeperReplies, AsksJudgement, AreLoggedAndSent}
@@ -24,6 +24,7 @@ use Rattle.sasl_desk.specs.TurnResults.{IsTurnWritten}
 use Rattle.sasl_desk.specs.Desks.{HoldsBook, IsDeskAfter, Answers, phase_of, session_phase, desk_of, state_after}
 use Rattle.sasl_desk.specs.SavedCalls.{is_saving, IsAttemptOf}
 use Rattle.sasl_desk.specs.declared.turn.AfterTurn.{AfterTurn}
+use Rattle.sasl_desk.specs.declared.turn.AfterTurn.TheVariants.{Going, Over, Halted}
 use Rattle.sasl_desk.specs.declared.keeper.Keeper.{Keeper}
 use Rattle.sasl_desk.specs.declared.keeper.CodeJudged.{CodeJudged}
 use Rattle.sasl_desk.specs.declared.keeper.CodeJudged.TheVariants.{Replied, Lost}
@@ -35,37 +36,26 @@ use Rattle.sasl_desk.specs.declared.session.phase.Phase.TheVariants as phase
 use Rattle.sasl_desk.specs.declared.session.Session.TheVariants.{WaitAuth, WaitFirst, WaitFinal, WaitCode}
 use Rattle.sasl_desk.specs.declared.session.event.Recorded.{Recorded}
 use Rattle.sasl_desk.specs.declared.session.event.Recorded.TheVariants as recorded
-use Rattle.sasl_desk.specs.declared.session.event.Saying.{Saying}
-use Rattle.sasl_desk.specs.declared.session.event.Saying.TheVariants.{Nothing, Continues, Accepts, Refuses}
 use Rattle.sasl_desk.specs.declared.session.event.Turn.{Turn}
+use Rattle.sasl_desk.proofs.lemmas.Lists.{none_passes_none_kept}
+use Rattle.sasl_desk.proofs.lemmas.turns.AnswerLines.{answer_lines_have}
 use Rattle.sasl_desk.proofs.lemmas.turns.Paths.{session_has_client_turn}
 use Rattle.sasl_desk.proofs.lemmas.runs.IsDeskAfter.{book_after_told, client_turn_store_holds_book, save_failed_now, greeting_adds_desk_call, turn_adds_desk_call}
 use Rattle.sasl_desk.proofs.lemmas.runs.IsDeskAfter.{code_adds_desk_call}
 
 -- what is recorded of a client stands for no save
-record_saves_nothing : (kept : Recorded) (lines : List LogLine) → filter is_saving (recorded_shown kept ∷ lines) ≡ filter is_saving lines
-record_saves_nothing (recorded.Line line) lines = refl
-record_saves_nothing recorded.Bad lines = refl
-record_saves_nothing recorded.Gone lines = refl
-
--- the end of a session stands for no save
-end_saves_nothing : (going : Option Session) → filter is_saving (end_lines going) ≡ []
-end_saves_nothing (Some going) = refl
-end_saves_nothing None = refl
-
--- the lines that a session answers stand for no save
-answer_saves_nothing : (says : Saying) (going : Option Session) (message : List ℕ)
-    → filter is_saving (said_lines says message ++ end_lines going) ≡ []
-answer_saves_nothing Nothing going message = end_saves_nothing going
-answer_saves_nothing Continues going message = end_saves_nothing going
-answer_saves_nothing Accepts going message = end_saves_nothing going
-answer_saves_nothing Refuses going message = end_saves_nothing going
+record_is_not_saving : (kept : Recorded) → is_saving (recorded_shown kept) ≡ false
+record_is_not_saving (recorded.Line line) = refl
+record_is_not_saving recorded.Bad = refl
+record_is_not_saving recorded.Gone = refl
 
 -- the store is not asked to save for any line of a turn that a session answers
 pub session_turn_saves_nothing : (turn : Turn) (message : List ℕ) → filter is_saving (turn_lines turn message) ≡ []
-session_turn_saves_nothing turn message =
-    record_saves_nothing turn.recorded (lines_of_answer turn.answer message)
-    ∙ answer_saves_nothing turn.answer.says turn.answer.session message
+session_turn_saves_nothing turn message = none_passes_none_kept is_saving (turn_lines turn message) (
+  record_is_not_saving turn.recorded,
+  answer_lines_have (λ line. is_saving line ≡ false) (λ text. refl) (λ text. refl) (λ text. refl) refl turn.answer.says turn.answer.session
+      message,
+)
 
 -- for a code, or two in a row, there is one save if the answer is PASS, FAIL or HALT, and none for another answer
 pub code_counts_saves : (IsStored : List ℕ → Type 0) (moment : ℕ) (sent : CodeTexts) (name : List ℕ) (judged : CodeJudged)
@@ -134,20 +124,25 @@ code_is_quiet IsStored moment sent name (Replied None) old new was now (one, kep
 code_is_quiet IsStored moment sent name Lost old new was now judged none = absurd (cc none)
 
 -- a store that was to save and lost it, or that had failed before, has failed
-pub lost_store_has_failed : (was now : StoreFacts) (text : List ℕ) → ((was.failed ≡ true) × (now ≡ was)) ⊎ IsFailedSave was text now
+lost_store_has_failed : (was now : StoreFacts) (text : List ℕ) → ((was.failed ≡ true) × (now ≡ was)) ⊎ IsFailedSave was text now
     → now.failed ≡ true
 lost_store_has_failed was now text (inl (failed, same)) = rw same failed
 lost_store_has_failed was now text (inr lost) = lost.failed
 
--- a desk that has halted after a code has a store that failed, and its book did not change
-halted_desk_failed_saving : (IsStored : List ℕ → Type 0) (moment : ℕ) (sent : CodeTexts) (name server_nonce : List ℕ) (judged : CodeJudged)
+-- whether a turn that leaves its session so has halted its desk or its hall
+abbrev pub halted_after : AfterTurn → Bool
+halted_after (Going going) = false
+halted_after Over = false
+halted_after (Halted going) = true
+
+-- a code that halts a desk or a hall does so where its store has failed, and changes no book
+pub halting_code_failed_saving : (IsStored : List ℕ → Type 0) (moment : ℕ) (sent : CodeTexts) (name : List ℕ) (judged : CodeJudged)
     (old new : BookFields)
     (was now : StoreFacts)
-    → IsJudged IsStored old was name moment sent judged new now
-    → phase_of (state_after (after_judged name judged) server_nonce) ≡ phase.Halted
-    → (now.failed ≡ true) × (new ≡ old)
-halted_desk_failed_saving IsStored moment sent name server_nonce (Replied reply) old new was now judged is = absurd (cc is)
-halted_desk_failed_saving IsStored moment sent name server_nonce Lost old new was now (same, (reply, next, needs, one, loses)) is =
+    → IsJudged IsStored old was name moment sent judged new now → halted_after (after_judged name judged) ≡ true → (now.failed ≡ true)
+    × (new ≡ old)
+halting_code_failed_saving IsStored moment sent name (Replied reply) old new was now judged is = absurd (cc is)
+halting_code_failed_saving IsStored moment sent name Lost old new was now (same, (reply, next, needs, one, loses)) is =
     (lost_store_has_failed was now loses.text loses.lost, same)
 
 -- an open session is no halt
@@ -157,12 +152,17 @@ open_session_not_halted (WaitFirst mechanism) is = cc is
 open_session_not_halted (WaitFinal waiting) is = cc is
 open_session_not_halted (WaitCode name) is = cc is
 
--- a desk whose session goes on or has ended has not halted
-left_desk_not_halted : (going : Option Session) (server_nonce : List ℕ)
-    → phase_of (state_after (after_turn_of going) server_nonce) ≡ phase.Halted
-    → ⊥
-left_desk_not_halted None server_nonce is = cc is
-left_desk_not_halted (Some going) server_nonce is = open_session_not_halted going is
+-- a session that goes on or has ended halts neither a desk nor a hall
+pub left_session_halts_nothing : (going : Option Session) → halted_after (after_turn_of going) ≡ true → ⊥
+left_session_halts_nothing (Some going) is = cc is
+left_session_halts_nothing None is = cc is
+
+-- a desk whose phase after a turn is Halted was halted by that turn
+halted_phase_shows_halting_turn : (left : AfterTurn) (server_nonce : List ℕ) → phase_of (state_after left server_nonce) ≡ phase.Halted
+    → halted_after left ≡ true
+halted_phase_shows_halting_turn (Going going) server_nonce is = absurd (open_session_not_halted going is)
+halted_phase_shows_halting_turn Over server_nonce is = absurd (cc is)
+halted_phase_shows_halting_turn (Halted going) server_nonce is = refl
 
 -- a desk whose open session judged a code, or two in a row, has answered the call
 code_answers_desk_call : BeginsWithItself → SpentStaysSpent → GoesOnByALine
@@ -207,9 +207,8 @@ code_answers_desk_call itself stays law {S} facts IsStored old going server_nonc
           code_is_quiet IsStored moment sent name t.judged old.book new.keeper.book (facts old.store) (facts new.keeper.store) t.is_judged
           (rw t.lines_are at none);
       halts = λ is.
-          halted_desk_failed_saving IsStored moment sent name server_nonce t.judged old.book new.keeper.book (facts old.store)
-          (facts new.keeper.store) t.is_judged
-          (rw (is_state, t.is_left) at is);
+          halting_code_failed_saving IsStored moment sent name t.judged old.book new.keeper.book (facts old.store) (facts new.keeper.store)
+          t.is_judged (halted_phase_shows_halting_turn (after_judged name t.judged) server_nonce (rw (is_state, t.is_left) at is));
     }
 
 -- a desk whose open session answered a turn has answered the call
@@ -237,7 +236,8 @@ session_answers_desk_call itself law facts IsStored keeper going server_nonce ev
           omega (arith, none, unasked);
       asks = λ start calls s some. absurd (some none_saved);
       quiet = λ none. (ap (λ (k : Keeper _). k.book) t.same, ap (λ (k : Keeper _). facts k.store) t.same);
-      halts = λ is. absurd (left_desk_not_halted t.turn.answer.session server_nonce (rw (is_state, t.is_left) at is));
+      halts = λ is. absurd (left_session_halts_nothing t.turn.answer.session
+          (halted_phase_shows_halting_turn (after_turn_of t.turn.answer.session) server_nonce (rw (is_state, t.is_left) at is)));
     }
 
 -- where the open session took a turn and its lines were written, the desk has answered the call

@@ -3,6 +3,7 @@ use Rattle.std.proofs.Common.{◌≡◌, inl, inr, ◌⊎◌, Bool, true, false,
 use Rattle.std.proofs.Common.{append_assoc, append-nil}
 use Rattle.std.specs.declared.option.Option.{Option}
 use Rattle.std.specs.declared.option.Option.TheVariants.{None, Some}
+use Rattle.std.proofs.lemmas.Bool.{false≢true}
 use Rattle.std.proofs.lemmas.Grind.{reverse_onto}
 use Rattle.std.proofs.lemmas.List.{reverse-append, reverse-reverse}
 use Rattle.otp_core.specs.Attempt.{CodeTexts}
@@ -31,7 +32,7 @@ use Rattle.sasl_desk.specs.DueLines.{is_client_turn, IsPath}
 use Rattle.sasl_desk.specs.Keeper.{IsAttemptJudged, IsKept, IsJudged, IsJudgedInRange}
 use Rattle.sasl_desk.specs.Sessions.{IsSessionAt, IsLeftAt, IsRecord, IsTurnOnEvent, recorded_shown, lines_of_answer, turn_lines}
 use Rattle.sasl_desk.specs.Sessions.{CanBeWritten, IsChallengeWith}
-use Rattle.sasl_desk.specs.Runs.{greets, hears, IsTurnTaken, Call, call_of, run_lines, server_nonce_of, IsRun}
+use Rattle.sasl_desk.specs.Runs.{greets, hears, BearsMoment, IsAnswerLine, IsTurnTaken, Call, call_of, run_lines, server_nonce_of, IsRun}
 use Rattle.sasl_desk.specs.Spent.{AreSpent, spent_by, SpentStaysSpent}
 use Rattle.sasl_desk.specs.TurnResults.{after_turn_of, judged_lines, after_judged}
 use Rattle.sasl_desk.specs.Desks.{IsStateAt, HoldsBook, IsStoredAt, IsBookAfterReplies, spent_by_all, IsDeskAfter, desk_of, state_after}
@@ -43,9 +44,9 @@ use Rattle.sasl_desk.specs.declared.desk.state.State.TheVariants.{Closed, Open, 
 use Rattle.sasl_desk.specs.declared.session.Session.{Session}
 use Rattle.sasl_desk.specs.declared.session.Session.TheVariants.{WaitAuth, WaitCode}
 use Rattle.sasl_desk.specs.declared.session.event.Turn.{Turn}
+use Rattle.sasl_desk.proofs.lemmas.turns.AnswerLines.{answer_lines_have}
 use Rattle.sasl_desk.proofs.lemmas.turns.Keepers.{judged_reply_is_due, judged_book_is_after}
-use Rattle.sasl_desk.proofs.lemmas.turns.Paths.{session_has_client_turn, turn_is_path, turn_has_no_reply, goes_on_by_path}
-use Rattle.sasl_desk.proofs.lemmas.runs.Bytes.{left_session_rests, answer_bears_moment, answer_has_answer_lines}
+use Rattle.sasl_desk.proofs.lemmas.turns.Paths.{session_has_client_turn, turn_is_path, turn_has_no_reply, log_goes_on_by_path, left_session_rests}
 use Rattle.sasl_log.proofs.lemmas.audits.AuditedLineByLine.{book_follows_nothing}
 
 -- the book after replies, given with the latest first, is the book after them, given with the earliest first
@@ -88,7 +89,7 @@ pub client_turn_store_holds_book : (IsStored : List ℕ → Type 0) (accounts : 
     → is_client_turn at ≡ true → IsStoredAt IsStored accounts calls at book store → HoldsBook IsStored book store
 client_turn_store_holds_book IsStored accounts calls at book store turn stored =
     unhalted_store_holds_book IsStored accounts calls at book store
-    (λ is. let never : is_client_turn halted ≡ true = subst (λ (p : Place). is_client_turn p ≡ true) is turn in cc never) stored
+    (λ is. false≢true (subst (λ (p : Place). is_client_turn p ≡ true) is turn)) stored
 
 -- at a place that is no halt, a store that holds the book is as it has to be
 pub held_book_fits_place : (IsStored : List ℕ → Type 0) (accounts : Accounts) (calls : List Call) (at : Place) (book : BookFields)
@@ -101,9 +102,7 @@ held_book_fits_place IsStored accounts calls at book store going held = held
 pub left_place_not_halted : (accounts : Accounts) (at : Place) (going : Option Session) → IsLeftAt accounts at going → at ≡ halted → ⊥
 left_place_not_halted accounts at None is same = cc (is, same)
 left_place_not_halted accounts at (Some going) is same =
-    let turn : is_client_turn halted ≡ true = subst (λ (p : Place). is_client_turn p ≡ true) same
-    (session_has_client_turn accounts at going is) in
-    cc turn
+    false≢true (subst (λ (p : Place). is_client_turn p ≡ true) same (session_has_client_turn accounts at going is))
 
 -- where a turn leaves a session, its desk is in the state that is due there
 left_desk_fits_place : (accounts : Accounts) (server_nonce kept : List ℕ) (at : Place) (going : Option Session) → kept ≡ server_nonce
@@ -182,12 +181,12 @@ session_turn_is_taken accounts server_nonce kept event moment at going turn mess
   answered = lines_of_answer turn.answer message;
   lines_are = refl;
   is_record = t.is_record;
-  answers = answer_has_answer_lines turn.answer.says turn.answer.session message;
+  answers = answer_lines_have IsAnswerLine (λ text. tt) (λ text. tt) (λ text. tt) tt turn.answer.says turn.answer.session message;
   path = turn_is_path accounts kept event at going turn message is t;
   rests = left_session_rests accounts t.is_answer.next turn.answer.session t.is_answer.left;
   challenge = subst (λ (o : List ℕ). IsChallengeWith accounts o t.is_answer.next) same t.is_answer.challenge;
   plain = t.is_answer.plain;
-  moments = answer_bears_moment moment turn.answer.says turn.answer.session message;
+  moments = answer_lines_have (BearsMoment moment) (λ text. tt) (λ text. tt) (λ text. tt) tt turn.answer.says turn.answer.session message;
 }
 
 -- a code, or two in a row, with its reply is the turn of the call, as a run says it
@@ -252,7 +251,7 @@ turn_adds_desk_call itself law facts IsStored start calls keeper going server_no
         s.is_run,
         session_turn_is_taken accounts (server_nonce_of calls) server_nonce event moment s.place going turn message same is t,
       );
-      begins = goes_on_by_path law accounts (run_lines calls) s.place s.told lines t.is_answer.next s.begins path
+      begins = log_goes_on_by_path law accounts (run_lines calls) s.place s.told lines t.is_answer.next s.begins path
           (turn_has_no_reply accounts server_nonce event s.place turn message t);
       writable = all_append IsWritable (run_lines calls) lines s.writable written;
       is_state = left_desk_fits_place accounts (server_nonce_of calls) server_nonce t.is_answer.next turn.answer.session same
@@ -349,7 +348,7 @@ reply_adds_desk_call itself stays law facts IsStored start calls old new name se
 pub save_failed_now : (was now : StoreFacts) (text : List ℕ) → was.failed ≡ false
     → ((was.failed ≡ true) × (now ≡ was)) ⊎ IsFailedSave was text now
     → IsFailedSave was text now
-save_failed_now was now text working (inl (failed, same)) = let never : false ≡ true = sym working ∙ failed in absurd (cc never)
+save_failed_now was now text working (inl (failed, same)) = absurd (false≢true (sym working ∙ failed))
 save_failed_now was now text working (inr lost) = lost
 
 -- after a save that failed, the store is as it has to be at the halt
@@ -411,7 +410,7 @@ halt_adds_desk_call law facts IsStored start calls old new name server_nonce eve
         run,
         halt_turn_is_taken accounts (server_nonce_of calls) event moment name sent is_record,
       );
-      begins = goes_on_by_path law accounts (run_lines calls) (waits_code name) s.told lines halted begins path (tt, (tt, tt));
+      begins = log_goes_on_by_path law accounts (run_lines calls) (waits_code name) s.told lines halted begins path (tt, (tt, tt));
       writable = all_append IsWritable (run_lines calls) lines s.writable (written, (halt_is_writable, tt));
       is_state = tt;
       is_book = subst (λ (b : BookFields). IsBookAfterReplies start (reverse s.told) b) (sym same) s.is_book;

@@ -1,6 +1,7 @@
 -- There is one answer to an event: one record of it, one list of lines that is due after the record, and one place to which they lead.
-use Rattle.std.proofs.Common.{◌≡◌, ◌⊎◌, inl, inr, true, false, Bool, ℕ, List, [], ◌∷◌, ◌++◌, refl, sym, ◌∙◌, ap, subst}
+use Rattle.std.proofs.Common.{◌≡◌, ◌⊎◌, inl, inr, true, ℕ, List, [], ◌∷◌, ◌++◌, refl, sym, ◌∙◌, ap, subst}
 use Rattle.std.specs.List.{AllByRecursion}
+use Rattle.std.proofs.lemmas.Bool.{false≢true}
 use Rattle.mac_core.specs.declared.mechanism.Mechanism.{Mechanism}
 use Rattle.scram_text.specs.Laws.{SpellsOneName, HasOneClientFirst, HasOneServerFinal}
 use Rattle.scram_text.specs.Messages.{ClientFirstParts, ServerFinalParts, server_first_text}
@@ -20,13 +21,14 @@ use Rattle.log_grammar.specs.Demands.{Accounts, Demands, NamesMechanism, IsFirst
 use Rattle.log_grammar.specs.state_machine.Steps.{IsTransition}
 use Rattle.log_grammar.proofs.lemmas.demands.Challenges.{one_name, challenged_first_is_of_name}
 use Rattle.log_grammar.proofs.lemmas.kinds.OneWhy.{one_mechanism, one_verdict}
-use Rattle.sasl_desk.specs.Alone.{IsSameRequest, up_to_acceptance}
+use Rattle.sasl_desk.specs.Alone.{IsSameRequest}
 use Rattle.sasl_desk.specs.Events.{ClientEvent, sends, goes_away}
 use Rattle.sasl_desk.specs.Runs.{Request, greets, hears, IsAtRest, IsAnswerLine, IsTurnTaken, IsAnsweredBy}
 use Rattle.sasl_desk.specs.Sessions.{IsRecord, IsChallengeWith, LacksExtensions}
 use Rattle.sasl_desk.specs.DueLines.{is_client_turn, is_due, heard_place, record_place, IsPath}
 use Rattle.sasl_desk.proofs.lemmas.turns.HeardLines.{from_client_is_injective}
 use Rattle.sasl_desk.proofs.lemmas.turns.DueRecords.{standing_client_line_is_due, bad_stands_in_turn, gone_stands_in_turn}
+use Rattle.sasl_desk.proofs.lemmas.runs.Acceptances.{has_acceptance, rest_brings_acceptance}
 
 -- the laws of the crates below: a message has one list of parts, a name one spelling, a login one verdict, and a text is one line
 pub record UniquenessLaws : Type 0 where
@@ -98,7 +100,7 @@ between_path_is_empty d (line ∷ lines) next (middle, goes, path) all = absurd 
 pub over_path_is_end : (d : Demands) (lines : List LogLine) (next : Place) → IsPath d over lines next → AllByRecursion IsAnswerLine lines
     → IsAtRest next
     → (lines ≡ ended ∷ []) × (next ≡ between)
-over_path_is_end d [] next path all rests = let turn : is_client_turn over ≡ true = subst IsAtRest path rests in absurd (cc turn)
+over_path_is_end d [] next path all rests = absurd (false≢true (subst IsAtRest path rests))
 over_path_is_end d (ended ∷ lines) next (middle, goes, path) all rests =
     let rest = between_path_is_empty d lines next (subst (λ (p : Place). IsPath d p lines next) goes path) all.1 in
     (ap (λ (l : List LogLine). ended ∷ l) rest.0, rest.1)
@@ -135,23 +137,23 @@ abbrev pub IsRefusal : (text : List ℕ) → List LogLine → Place → Type 0
 IsRefusal text lines next = (lines ≡ said (refuses text) ∷ ended ∷ []) × (next ≡ between)
 
 -- the lines are an answer that may stand at this place, where one is due, and lead to the next. Of other places nothing is said.
-abbrev pub ShapeAt : Accounts → Place → List LogLine → Place → Type 0
-ShapeAt accounts leaving lines next = IsRefusal [] lines next
-ShapeAt accounts over lines next = (lines ≡ ended ∷ []) × (next ≡ between)
-ShapeAt accounts (asks_bare mechanism) lines next =
+abbrev pub HasShapeAt : Accounts → Place → List LogLine → Place → Type 0
+HasShapeAt accounts leaving lines next = IsRefusal [] lines next
+HasShapeAt accounts over lines next = (lines ≡ ended ∷ []) × (next ≡ between)
+HasShapeAt accounts (asks_bare mechanism) lines next =
     (((m : Mechanism) → NamesMechanism mechanism m → ⊥) × IsRefusal [] lines next)
     ⊎ (((m : Mechanism) × NamesMechanism mechanism m) × ((lines ≡ said (cont []) ∷ []) × (next ≡ waits_first mechanism)))
-ShapeAt accounts (got_first mechanism first) lines next =
+HasShapeAt accounts (got_first mechanism first) lines next =
     (((name : List ℕ) → IsFirstOf mechanism first name → ⊥) × IsRefusal [] lines next)
     ⊎ ((account : List ℕ) × (text : List ℕ) × IsChallenged accounts mechanism account first text
     × ((lines ≡ said (cont text) ∷ []) × (next ≡ waits_final mechanism account first text)))
-ShapeAt accounts (got_final mechanism account first challenge last) lines next =
+HasShapeAt accounts (got_final mechanism account first challenge last) lines next =
     ((why : Refusal) × IsVerdictDue accounts mechanism account first challenge last (refuse why)
     × IsRefusal (due_text (refuse why)) lines next)
     ⊎ ((signature : List ℕ) × (text : List ℕ) × IsVerdictDue accounts mechanism account first challenge last (accept signature)
     × IsAuthentic text signature
     × ((lines ≡ said (accepts text) ∷ []) × (next ≡ waits_code account)))
-ShapeAt accounts at lines next = Unit {0}
+HasShapeAt accounts at lines next = Unit {0}
 
 -- an answer that begins with a refusal is that refusal, and one whose first line leads to the client's turn is that line:
 refusal_is_whole_answer : (text due : List ℕ) (lines : List LogLine) (next middle : Place) (d : Demands) → text ≡ due → middle ≡ over
@@ -172,15 +174,13 @@ one_line_is_whole_answer line due lines next middle at d same is turn path all =
 
 -- each answer has the shape of its place
 answer_has_shape : (accounts : Accounts) (at : Place) (lines : List LogLine) (next : Place) → IsPath (demands accounts) at lines next
-    → AllByRecursion IsAnswerLine lines → IsAtRest next → ShapeAt accounts at lines next
-answer_has_shape accounts leaving [] next path all rests =
-    let turn : is_client_turn leaving ≡ true = subst IsAtRest path rests in absurd (cc turn)
+    → AllByRecursion IsAnswerLine lines → IsAtRest next → HasShapeAt accounts at lines next
+answer_has_shape accounts leaving [] next path all rests = absurd (false≢true (subst IsAtRest path rests))
 answer_has_shape accounts leaving (said (refuses text) ∷ lines) next (middle, goes, path) all rests =
     refusal_is_whole_answer text [] lines next middle (demands accounts) goes.0 goes.1 path all.1 rests
 answer_has_shape accounts leaving (line ∷ lines) next (middle, goes, path) all rests = absurd goes
 answer_has_shape accounts over lines next path all rests = over_path_is_end (demands accounts) lines next path all rests
-answer_has_shape accounts (asks_bare m) [] next path all rests = let turn : is_client_turn (asks_bare m)
-    ≡ true = subst IsAtRest path rests in absurd (cc turn)
+answer_has_shape accounts (asks_bare m) [] next path all rests = absurd (false≢true (subst IsAtRest path rests))
 answer_has_shape accounts (asks_bare m) (said (refuses text) ∷ lines) next (middle, goes, path) all rests =
     inl (goes.0.0, refusal_is_whole_answer text [] lines next middle (demands accounts) goes.0.1 goes.1 path all.1 rests)
 answer_has_shape accounts (asks_bare m) (said (cont text) ∷ lines) next (middle, goes, path) all rests =
@@ -190,8 +190,7 @@ answer_has_shape accounts (asks_bare m) (said (cont text) ∷ lines) next (middl
           (ap (λ (t : List ℕ). said (cont t)) goes.0.1) goes.1 refl path all.1,
     )
 answer_has_shape accounts (asks_bare m) (line ∷ lines) next (middle, goes, path) all rests = absurd goes
-answer_has_shape accounts (got_first m first) [] next path all rests =
-    let turn : is_client_turn (got_first m first) ≡ true = subst IsAtRest path rests in absurd (cc turn)
+answer_has_shape accounts (got_first m first) [] next path all rests = absurd (false≢true (subst IsAtRest path rests))
 answer_has_shape accounts (got_first m first) (said (refuses text) ∷ lines) next (middle, goes, path) all rests =
     inl (goes.0.0, refusal_is_whole_answer text [] lines next middle (demands accounts) goes.0.1 goes.1 path all.1 rests)
 answer_has_shape accounts (got_first m first) (said (cont text) ∷ lines) next (middle, goes, path) all rests =
@@ -204,7 +203,7 @@ answer_has_shape accounts (got_first m first) (said (cont text) ∷ lines) next 
     )
 answer_has_shape accounts (got_first m first) (line ∷ lines) next (middle, goes, path) all rests = absurd goes
 answer_has_shape accounts (got_final m account first challenge last) [] next path all rests =
-    let turn : is_client_turn (got_final m account first challenge last) ≡ true = subst IsAtRest path rests in absurd (cc turn)
+    absurd (false≢true (subst IsAtRest path rests))
 answer_has_shape accounts (got_final m account first challenge last) (said (refuses text) ∷ lines) next (middle, goes, path) all rests =
     inl (
       goes.0.0,
@@ -261,7 +260,7 @@ one_due_answer : UniquenessLaws → (accounts : Accounts) (server_nonce : List �
     (next also : Place)
     → IsAnswerDue at
     → IsChallengeWith accounts server_nonce next → IsChallengeWith accounts server_nonce also → AllByRecursion LacksExtensions lines
-    → AllByRecursion LacksExtensions others → ShapeAt accounts at lines next → ShapeAt accounts at others also → (lines ≡ others)
+    → AllByRecursion LacksExtensions others → HasShapeAt accounts at lines next → HasShapeAt accounts at others also → (lines ≡ others)
     × (next ≡ also)
 one_due_answer t accounts server_nonce leaving lines others next also due mine yours plain bare a b = (a.0 ∙ sym b.0, a.1 ∙ sym b.1)
 one_due_answer t accounts server_nonce over lines others next also due mine yours plain bare a b = (a.0 ∙ sym b.0, a.1 ∙ sym b.1)
@@ -327,55 +326,9 @@ record_leads_to_place d goes_away at middle gone is goes = (gone_stands_in_turn 
 record_leads_to_place d (sends text) at middle kept is goes = absurd is
 record_leads_to_place d goes_away at middle kept is goes = absurd is
 
--- the lines have an acceptance
-pub has_acceptance : List LogLine → Bool
-has_acceptance [] = false
-has_acceptance (said (accepts message) ∷ lines) = true
-has_acceptance (line ∷ lines) = has_acceptance lines
-
--- lines that begin with lines with an acceptance have an acceptance
-pub front_brings_acceptance : (lines more : List LogLine) → has_acceptance lines ≡ true → has_acceptance (lines ++ more) ≡ true
-unfolding has_acceptance
-front_brings_acceptance [] more is = absurd (cc is)
-front_brings_acceptance (said (accepts message) ∷ lines) more is = refl
-front_brings_acceptance (said line ∷ lines) more is = front_brings_acceptance lines more is
-front_brings_acceptance (header ∷ lines) more is = front_brings_acceptance lines more is
-front_brings_acceptance (header_two ∷ lines) more is = front_brings_acceptance lines more is
-front_brings_acceptance (heard line ∷ lines) more is = front_brings_acceptance lines more is
-front_brings_acceptance (bad ∷ lines) more is = front_brings_acceptance lines more is
-front_brings_acceptance (gone ∷ lines) more is = front_brings_acceptance lines more is
-front_brings_acceptance (ended ∷ lines) more is = front_brings_acceptance lines more is
-
--- lines that end in lines with an acceptance have an acceptance
-pub rest_brings_acceptance : (lines more : List LogLine) → has_acceptance more ≡ true → has_acceptance (lines ++ more) ≡ true
-unfolding has_acceptance
-rest_brings_acceptance [] more is = is
-rest_brings_acceptance (said (accepts message) ∷ lines) more is = refl
-rest_brings_acceptance (said line ∷ lines) more is = rest_brings_acceptance lines more is
-rest_brings_acceptance (header ∷ lines) more is = rest_brings_acceptance lines more is
-rest_brings_acceptance (header_two ∷ lines) more is = rest_brings_acceptance lines more is
-rest_brings_acceptance (heard line ∷ lines) more is = rest_brings_acceptance lines more is
-rest_brings_acceptance (bad ∷ lines) more is = rest_brings_acceptance lines more is
-rest_brings_acceptance (gone ∷ lines) more is = rest_brings_acceptance lines more is
-rest_brings_acceptance (ended ∷ lines) more is = rest_brings_acceptance lines more is
-
--- what follows lines with an acceptance is not among those up to the acceptance
-pub acceptance_cuts_rest : (lines more : List LogLine) → has_acceptance lines ≡ true
-    → up_to_acceptance (lines ++ more) ≡ up_to_acceptance lines
-unfolding has_acceptance
-acceptance_cuts_rest [] more is = absurd (cc is)
-acceptance_cuts_rest (said (accepts message) ∷ lines) more is = refl
-acceptance_cuts_rest (said line ∷ lines) more is = cc (acceptance_cuts_rest lines more is)
-acceptance_cuts_rest (header ∷ lines) more is = cc (acceptance_cuts_rest lines more is)
-acceptance_cuts_rest (header_two ∷ lines) more is = cc (acceptance_cuts_rest lines more is)
-acceptance_cuts_rest (heard line ∷ lines) more is = cc (acceptance_cuts_rest lines more is)
-acceptance_cuts_rest (bad ∷ lines) more is = cc (acceptance_cuts_rest lines more is)
-acceptance_cuts_rest (gone ∷ lines) more is = cc (acceptance_cuts_rest lines more is)
-acceptance_cuts_rest (ended ∷ lines) more is = cc (acceptance_cuts_rest lines more is)
-
 -- an answer has an acceptance, or its session does not wait for codes
 acceptance_or_no_code : (accounts : Accounts) (at : Place) (lines : List LogLine) (next : Place) → IsAnswerDue at
-    → ShapeAt accounts at lines next
+    → HasShapeAt accounts at lines next
     → (has_acceptance lines ≡ true) ⊎ ((account : List ℕ) → next ≡ waits_code account → ⊥)
 unfolding has_acceptance
 acceptance_or_no_code accounts leaving lines next due a =

@@ -1,5 +1,5 @@
 -- What a session is told up to its outcome follows from what it was asked: two sessions that were asked the same are told the same.
-use Rattle.std.proofs.Common.{◌≡◌, ◌≢◌, ◌⊎◌, inl, inr, true, ℕ, List, [], ◌∷◌, ◌++◌, refl, sym, ◌∙◌, ap, subst}
+use Rattle.std.proofs.Common.{◌≡◌, ◌⊎◌, inl, inr, true, ℕ, List, [], ◌∷◌, ◌++◌, refl, sym, ◌∙◌, ap, subst}
 use Rattle.scram_ends.specs.Entry.{Entry}
 use Rattle.scram_ends.specs.First.{IsChallengeTo}
 use Rattle.scram_ends.specs.Opening.{IsOpening}
@@ -10,17 +10,12 @@ use Rattle.log_grammar.specs.Places.{Place, between, got_first, waits_final, got
 use Rattle.log_grammar.specs.Demands.{Accounts, IsVerdictDue, demands}
 use Rattle.log_grammar.specs.state_machine.Steps.{IsTransition}
 use Rattle.sasl_desk.specs.Alone.{IsSameRequest, HaveSameRequests, up_to_acceptance, HaveSameEntries}
-use Rattle.sasl_desk.specs.Halls.{HallFields, hall_lines, busy_lines, IsSessionRun, IsHallAfter}
 use Rattle.sasl_desk.specs.Runs.{Request, greets, hears, Call, server_nonce_after, server_nonce_of, IsAnsweredBy, IsRun}
 use Rattle.sasl_desk.specs.Serves.{call_lines}
 use Rattle.sasl_desk.specs.Sessions.{IsChallengeWith}
 use Rattle.sasl_desk.specs.DueLines.{IsPath}
-use Rattle.book_format.specs.Book.{BookFields}
-use Rattle.account_book.specs.Store.{StoreFacts}
-use Rattle.log_grammar.specs.Books.{accounts_in}
-use Rattle.log_grammar.specs.Numbered.{Numbered, of_number}
-use Rattle.sasl_desk.proofs.lemmas.halls.Laws.{of_number_lines}
-use Rattle.sasl_desk.proofs.lemmas.runs.OneAnswer.{UniquenessLaws, has_acceptance, front_brings_acceptance, rest_brings_acceptance, acceptance_cuts_rest, one_answer_to_call}
+use Rattle.sasl_desk.proofs.lemmas.runs.Acceptances.{has_acceptance, front_brings_acceptance, rest_brings_acceptance, acceptance_cuts_rest}
+use Rattle.sasl_desk.proofs.lemmas.runs.OneAnswer.{UniquenessLaws, one_answer_to_call}
 
 -- after calls that asked the same, sessions have the same part of the nonce:
 same_request_has_same_nonce : (request other : Request) (server_nonce theirs : List ℕ) → IsSameRequest request other → server_nonce ≡ theirs
@@ -150,29 +145,3 @@ runs_tell_same t one other calls others at also entries run runs same =
       | inl (accepted, too, told) ↦ told
       | inr (lines, here, apart) ↦ ap up_to_acceptance lines
     ]
-
--- a session that was not turned away has a run
-admitted_session_has_run : (accounts : Accounts) (calls : List Call) (at : Place) → (call_lines calls ≡ busy_lines → ⊥)
-    → IsSessionRun accounts calls at
-    → IsRun accounts calls at
-admitted_session_has_run accounts calls at let_in (inl run) = run
-admitted_session_has_run accounts calls at let_in (inr (turned, is)) = absurd (let_in (ap call_lines turned.1))
-
--- two sessions with equal entries and requests, neither turned away, have equal lines up to an acceptance
-pub sessions_tell_same : UniquenessLaws
-    → {S : Type 0} (facts : S → StoreFacts) (IsStored : List ℕ → Type 0) (start begun : BookFields) (calls others : List (Numbered Call))
-    (hall other : HallFields S) (n m : ℕ) → IsHallAfter facts IsStored start calls hall → IsHallAfter facts IsStored begun others other
-    → HaveSameEntries (accounts_in start) (accounts_in begun)
-    → of_number n (hall_lines calls) ≢ busy_lines → of_number m (hall_lines others) ≢ busy_lines
-    → HaveSameRequests (of_number n calls) (of_number m others)
-    → up_to_acceptance (of_number n (hall_lines calls)) ≡ up_to_acceptance (of_number m (hall_lines others))
-sessions_tell_same t facts IsStored start begun calls others hall other n m s r entries let_in let_in_too same =
-    let one = admitted_session_has_run (accounts_in start) (of_number n calls) (s.places n) (λ is. let_in (of_number_lines n calls ∙ is))
-    (s.session_runs n) in
-    let two = admitted_session_has_run (accounts_in begun) (of_number m others) (r.places m)
-    (λ is. let_in_too (of_number_lines m others ∙ is))
-    (r.session_runs m) in
-    ap up_to_acceptance (of_number_lines n calls)
-    ∙ runs_tell_same t (accounts_in start) (accounts_in begun) (of_number n calls) (of_number m others) (s.places n)
-    (r.places m) entries one two same
-    ∙ ap up_to_acceptance (sym (of_number_lines m others))

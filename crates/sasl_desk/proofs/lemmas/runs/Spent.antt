@@ -1,12 +1,11 @@
 -- What was spent stays spent.
-use Rattle.std.proofs.Common.{◌≡◌, ◌≢◌, ◌<◌, ◌≤◌, ◌-◌, ◌⊎◌, ℕ, List, [], ◌∷◌, ◌++◌, Option, inl, inr, refl, sym, ap, subst, arith, ◌∙◌}
-use Rattle.std.specs.List.{AllByRecursion}
+use Rattle.std.proofs.Common.{◌≡◌, ◌≢◌, ◌<◌, ◌≤◌, ◌-◌, ℕ, List, [], ◌∷◌, ◌++◌, Option, inl, inr, refl, sym, ap, subst, arith, ◌∙◌}
 use Rattle.std.specs.declared.option.Option.TheVariants.{None, Some}
 use Rattle.std.proofs.lemmas.Slice.Eq.{bytes_eq-Decides}
 use Rattle.std.proofs.lemmas.Option.{same_Some}
 use Rattle.otp_core.specs.Attempt.{Attempt, CodeTexts, OneText, TwoTexts, used_in, used_in_reply, attempt_of}
 use Rattle.otp_core.specs.Ranges.{IsMoment}
-use Rattle.otp_core.specs.Window.{IsCandidate, IsPairCandidate, IsAbove}
+use Rattle.otp_core.specs.Window.{IsAbove}
 use Rattle.otp_core.specs.Reply.{IsFitting, IsDueReply}
 use Rattle.otp_core.specs.History.{IsAfter, IsLegal}
 use Rattle.otp_core.specs.Laws.{CandidatesAreNew, LegalHistoriesJoin}
@@ -20,12 +19,8 @@ use Rattle.log_grammar.specs.LoggedReply.{LoggedReply, logged_reply_of}
 use Rattle.log_grammar.specs.Demands.{attempts_of, IsReplyDueBy}
 use Rattle.sasl_log.specs.Tokens.{LeadsTo, IsBookAfter}
 use Rattle.log_grammar.proofs.lemmas.ListEnds.{all_front, all_back}
-use Rattle.sasl_desk.specs.Spent.{IsCounterSpent, AreSpent, used_by_reply, of_account, SpentStaysSpent}
-
--- a counter is below each that can pass with a token
-abbrev pub IsBelow : TokenFields → ℕ → Type 0
-IsBelow token counter = (history : List Attempt) (moment c : ℕ) → IsMoment moment → IsLegal token history
-    → (IsCandidate token history moment c ⊎ IsPairCandidate token history c) → counter < c
+use Rattle.sasl_desk.proofs.lemmas.Lists.{each_follows}
+use Rattle.sasl_desk.specs.Spent.{CanPass, IsBelow, IsCounterSpent, AreSpent, used_by_reply, of_account, SpentStaysSpent}
 
 -- attempts that lead from a token lead to a token after them
 attempts_lead_to_token : (start : TokenFields) (attempts : List Attempt) (o : Option TokenFields) → LeadsTo (Some start) attempts o
@@ -37,9 +32,9 @@ attempts_lead_to_token start attempts (Some token) leads = (token, refl, leads)
 later_candidate_was_candidate : LegalHistoriesJoin → (start : TokenFields) (attempts : List Attempt) (token : TokenFields)
     → IsAfter start attempts token
     → (history : List Attempt) (moment c : ℕ) → IsMoment moment → IsLegal token history
-    → (IsCandidate token history moment c ⊎ IsPairCandidate token history c)
+    → CanPass token history moment c
     → IsLegal start (history ++ attempts)
-    × (IsCandidate start (history ++ attempts) moment c ⊎ IsPairCandidate start (history ++ attempts) c)
+    × CanPass start (history ++ attempts) moment c
 later_candidate_was_candidate join start attempts token after history moment c is legal can =
     let joined = join start attempts token history after legal in
     (joined.0, elim can [ inl h ↦ inl ((joined.1.candidates moment c is).1 h) | inr h ↦ inr ((joined.1.pairs c).1 h) ])
@@ -63,7 +58,7 @@ above_all_is_above_earlier (a ∷ later) earlier c above =
 candidate_is_above_used : LegalHistoriesJoin → CandidatesAreNew → (start : TokenFields) (a : Attempt) (token : TokenFields)
     → IsAfter start (a ∷ []) token
     → (history : List Attempt) (moment c : ℕ) → IsMoment moment → IsLegal token history
-    → (IsCandidate token history moment c ⊎ IsPairCandidate token history c) → IsAbove (used_in_reply a.sent a.reply) c
+    → CanPass token history moment c → IsAbove (used_in_reply a.sent a.reply) c
 candidate_is_above_used join fresh start a token after history moment c is legal can =
     let before = later_candidate_was_candidate join start (a ∷ []) token after history moment c is legal can in
     all_front (λ (used : ℕ). used < c) (used_in_reply a.sent a.reply) []
@@ -82,23 +77,18 @@ reply_keeps_spent_counter join old new t after name counter used =
     let later = attempts_lead_to_token used.token (attempts_of name (t ∷ [])) (token_at new name) leads in
     record { token = later.0; has = later.1; below = attempts_keep_below join used.token _ later.0 counter later.2 used.below }
 
--- where each in a list has a property, and another follows from it, each has the other
-pub each_follows : {X : Type 0} (P Q : X → Type 0) → ((x : X) → P x → Q x) → (xs : List X) → AllByRecursion P xs → AllByRecursion Q xs
-each_follows P Q on [] all = tt
-each_follows P Q on (x ∷ xs) all = (on x all.0, each_follows P Q on xs all.1)
-
 -- a counter that could pass is none of those that are spent
 candidate_is_not_spent : (old : BookFields) (name : List ℕ) (start : TokenFields) (counter c moment : ℕ) → token_at old name ≡ Some start
     → IsMoment moment
-    → (IsCandidate start [] moment c ⊎ IsPairCandidate start [] c) → c ≤ counter
+    → CanPass start [] moment c → c ≤ counter
     → (q : List ℕ × ℕ) → IsCounterSpent old q.0 q.1 → (name, counter) ≢ q
 candidate_is_not_spent old name start counter c moment has is can at (other, used) up same =
     let names : name ≡ other = ap (λ (p : List ℕ × ℕ). p.0) same in
     let counters : counter ≡ used = ap (λ (p : List ℕ × ℕ). p.1) same in
     let tokens : start ≡ up.token = same_Some start up.token (sym has ∙ (ap (token_at old) names ∙ up.has)) in
     let apart : used < c =
-    up.below [] moment c is tt (subst (λ (token : TokenFields). IsCandidate token [] moment c
-    ⊎ IsPairCandidate token [] c) tokens can) in omega (arith, apart, at, counters)
+    up.below [] moment c is tt (subst (λ (token : TokenFields). CanPass token [] moment c) tokens can) in
+    omega (arith, apart, at, counters)
 
 -- counters that are spent stay so after one more reply
 reply_keeps_spent_counters : LegalHistoriesJoin → (old new : BookFields) (t : LoggedReply) (ps : List (List ℕ × ℕ))
@@ -116,7 +106,7 @@ pass_leaves_higher_candidates : LegalHistoriesJoin → CandidatesAreNew
     → token_at old name ≡ Some start → IsBookAfter (accounts_in old) (logged_reply_of name moment sent (Some (Pass c)) ∷ []) new
     → (token : TokenFields) × (token_at new name ≡ Some token)
     × ((history : List Attempt) (later k : ℕ) → IsMoment later → IsLegal token history
-    → (IsCandidate token history later k ⊎ IsPairCandidate token history k) → IsAbove (used_in_reply sent (Pass c)) k)
+    → CanPass token history later k → IsAbove (used_in_reply sent (Pass c)) k)
 pass_leaves_higher_candidates join fresh old new name moment sent c start has after =
     let t = logged_reply_of name moment sent (Some (Pass c)) in
     let a = attempt_of moment sent (Pass c) in

@@ -1,5 +1,5 @@
 -- What is spent stays spent where a token is unlocked, and where an account is added.
-use Rattle.std.proofs.Common.{◌≡◌, ◌<◌, ◌⊎◌, ℕ, List, [], ◌∷◌, Option, inl, inr, refl, sym, ap, subst, arith, ◌∙◌}
+use Rattle.std.proofs.Common.{◌≡◌, ◌<◌, ℕ, List, [], ◌∷◌, Option, inl, inr, refl, sym, ap, subst, arith, ◌∙◌}
 use Rattle.std.specs.Prelude.{option_and_then}
 use Rattle.std.specs.Str.{bytes_eq}
 use Rattle.std.specs.declared.option.Option.TheVariants.{None, Some}
@@ -8,7 +8,6 @@ use Rattle.std.proofs.lemmas.Slice.Eq.{bytes_eq-Decides}
 use Rattle.std.proofs.lemmas.Option.{same_Some}
 use Rattle.otp_core.specs.Attempt.{Attempt, CodeTexts, OneText, TwoTexts, attempt_of}
 use Rattle.otp_core.specs.Ranges.{IsMoment}
-use Rattle.otp_core.specs.Window.{IsCandidate, IsPairCandidate}
 use Rattle.otp_core.specs.Reply.{IsDueReply}
 use Rattle.otp_core.specs.History.{IsLegal}
 use Rattle.otp_core.specs.Laws.{CandidatesAreNew}
@@ -22,12 +21,8 @@ use Rattle.book_format.specs.Book.{BookFields}
 use Rattle.account_book.specs.Accounts.{account_at, with_account, with_changed, IsAdded}
 use Rattle.account_book.specs.Laws.{TokensAreApart, AddedIsApart}
 use Rattle.account_book.specs.Tokens.{token_at, with_token, IsUnlocked}
-use Rattle.sasl_desk.specs.Spent.{IsCounterSpent, AreSpent}
-use Rattle.sasl_desk.proofs.lemmas.runs.Spent.{IsBelow, each_follows}
-
--- a counter can pass after a history, alone or as the first of a pair
-abbrev CanPass : TokenFields → List Attempt → ℕ → ℕ → Type 0
-CanPass token history moment c = IsCandidate token history moment c ⊎ IsPairCandidate token history c
+use Rattle.sasl_desk.specs.Spent.{CanPass, IsBelow, IsCounterSpent, AreSpent}
+use Rattle.sasl_desk.proofs.lemmas.Lists.{each_follows}
 
 -- a counter is below each that can pass after a history
 abbrev IsBelowAfter : TokenFields → List Attempt → ℕ → Type 0
@@ -62,13 +57,13 @@ attempt_keeps_below fresh token counter before at (TwoTexts first second) (Pass 
     let apart = (fresh token (attempt_of at (TwoTexts first second) (Pass w) ∷ before) moment c can).0 in omega (arith, passed, next, apart)
 
 -- a counter below each that can pass now is below each that can pass ever
-below_ever : CandidatesAreNew → (token : TokenFields) (counter : ℕ) → IsBelowAfter token [] counter → (history : List Attempt)
+history_keeps_below : CandidatesAreNew → (token : TokenFields) (counter : ℕ) → IsBelowAfter token [] counter → (history : List Attempt)
     → IsLegal token history
     → IsBelowAfter token history counter
-below_ever fresh token counter below [] legal = below
-below_ever fresh token counter below (a ∷ before) legal =
+history_keeps_below fresh token counter below [] legal = below
+history_keeps_below fresh token counter below (a ∷ before) legal =
     attempt_keeps_below fresh token counter before a.moment a.sent a.reply legal.0 legal.1
-    (below_ever fresh token counter below before legal.2)
+    (history_keeps_below fresh token counter below before legal.2)
 
 -- what can pass in an unlocked token could pass before: failures have no part in it
 unlocked_admits_no_more : (token : TokenFields) (moment c : ℕ) → CanPass (unlocked token) [] moment c → CanPass token [] moment c
@@ -79,8 +74,8 @@ unlocked_admits_no_more (Totp t) moment c can = can
 unlocked_token_keeps_below : CandidatesAreNew → (token : TokenFields) (counter : ℕ) → IsBelow token counter
     → IsBelow (unlocked token) counter
 unlocked_token_keeps_below fresh token counter below history moment c is legal can =
-    below_ever fresh (unlocked token) counter (λ m k at now. below [] m k at tt (unlocked_admits_no_more token m k now)) history legal
-    moment c is can
+    history_keeps_below fresh (unlocked token) counter (λ m k at now. below [] m k at tt (unlocked_admits_no_more token m k now))
+    history legal moment c is can
 
 -- where the token of one account is unlocked, a counter that is spent stays so
 unlocked_token_keeps_spent_counter : TokensAreApart → CandidatesAreNew → (old : BookFields) (name : List ℕ) (token : TokenFields)

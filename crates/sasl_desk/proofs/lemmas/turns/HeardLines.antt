@@ -1,8 +1,5 @@
 -- What is recorded of a line, and what came of it, is recorded of the event by which the line was sent, and came of that event.
 use Rattle.std.proofs.Common.{◌≡◌, true, false, ℕ, List, refl, sym, subst}
-use Rattle.std.specs.Prelude.{IfOk}
-use Rattle.std.specs.declared.result.Result.{Result}
-use Rattle.std.specs.declared.result.Result.TheVariants.{Ok, Err}
 use Rattle.log_grammar.specs.laws.LineLaws.{EachTextIsAtMostOneLine}
 use Rattle.otp_core.specs.Attempt.{CodeTexts, OneText, TwoTexts}
 use Rattle.log_grammar.specs.Lines.{LogLine, heard, bad, ClientLine, code_line, from_client, IsLine}
@@ -14,7 +11,6 @@ use Rattle.sasl_desk.specs.DueLines.{is_due}
 use Rattle.sasl_desk.specs.Sessions.{IsLineOf, IsRecord, IsRecordOfLine, ComesOfEvent, ComesOfLine, TakesMemory}
 use Rattle.sasl_desk.specs.Sessions.{JudgesOnlyLine, JudgesOnlyWhatWasSent}
 use Rattle.sasl_desk.specs.Sessions.{SentWhatTakesMemory}
-use Rattle.sasl_desk.specs.declared.session.Session.{Session}
 use Rattle.sasl_desk.specs.declared.session.event.HearResult.{HearResult}
 use Rattle.sasl_desk.specs.declared.session.event.HearResult.TheVariants.{Answered, ToJudge}
 
@@ -37,7 +33,7 @@ line_record_is_event_record once (sends text) line at bad is kept = λ other als
 line_record_is_event_record once (sends text) line at recorded is kept = absurd kept
 
 -- what came of a line of the client came of the event that was this line
-line_result_is_event_result : EachTextIsAtMostOneLine
+pub line_result_is_event_result : EachTextIsAtMostOneLine
     → (accounts : Accounts) (server_nonce : List ℕ) (event : ClientEvent) (line : ClientLine)
     (at : Place)
     (h : HearResult) (message : List ℕ)
@@ -47,17 +43,6 @@ line_result_is_event_result once accounts server_nonce event line at (Answered t
 line_result_is_event_result once accounts server_nonce event line at (ToJudge name sent) message is came =
     record { place = came.0; is_record = line_record_is_event_record once event line at (heard (code_line (texts_of sent))) is came.1 }
 
--- what came of a line of the client, unless the call failed, came of the event that was this line
-pub ok_result_is_event_result : EachTextIsAtMostOneLine
-    → (accounts : Accounts) (server_nonce : List ℕ) (event : ClientEvent) (line : ClientLine) (at : Place) (r : Result HearResult Session)
-    (message : List ℕ)
-    → IsLineOf event line → IfOk r (λ h. ComesOfLine accounts server_nonce line at h message)
-    → IfOk r (λ h. ComesOfEvent accounts server_nonce event at h message)
-ok_result_is_event_result once accounts server_nonce event line at (Ok h) message is came =
-    line_result_is_event_result once accounts server_nonce event line at
-    h message is came
-ok_result_is_event_result once accounts server_nonce event line at (Err back) message is came = tt
-
 -- a text that is no line of a client is recorded as `C BAD`
 pub no_line_is_recorded_bad : (event : ClientEvent) (at : Place) → ((line : ClientLine) → IsLineOf event line → ⊥) → (event ≡ goes_away → ⊥)
     → IsRecord event at bad
@@ -65,17 +50,10 @@ no_line_is_recorded_bad goes_away at no_line sent = absurd (sent refl)
 no_line_is_recorded_bad (sends text) at no_line sent = λ line is. absurd (no_line line is)
 
 -- a code that is to be judged is that of the event, where it is that of the line that the event was
-judged_code_was_sent : (event : ClientEvent) (line : ClientLine) (h : HearResult) → IsLineOf event line → JudgesOnlyLine h line
+pub judged_code_was_sent : (event : ClientEvent) (line : ClientLine) (h : HearResult) → IsLineOf event line → JudgesOnlyLine h line
     → JudgesOnlyWhatWasSent h event
 judged_code_was_sent event line (Answered turn) is same = tt
 judged_code_was_sent event line (ToJudge name sent) is same = subst (λ (l : ClientLine). IsLineOf event l) same is
-
--- unless the call failed, a code that is to be judged is that of the event, where it is that of the line that the event was
-pub ok_judged_code_was_sent : (event : ClientEvent) (line : ClientLine) (r : Result HearResult Session) → IsLineOf event line
-    → IfOk r (λ h. JudgesOnlyLine h line)
-    → IfOk r (λ h. JudgesOnlyWhatWasSent h event)
-ok_judged_code_was_sent event line (Ok h) is same = judged_code_was_sent event line h is same
-ok_judged_code_was_sent event line (Err back) is same = tt
 
 -- a line with a code, or with two in a row, takes memory to answer
 code_takes_memory : (sent : CodeTexts) → TakesMemory (code_line sent)

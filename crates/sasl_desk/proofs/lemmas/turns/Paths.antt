@@ -1,24 +1,24 @@
--- The lines of a turn are a path from the place where the session stands, and a log goes on by them.
+-- The lines of a turn are a path from the place where the session stands to one where all is said, and a log goes on by them.
 use Rattle.std.proofs.Common.{◌≡◌, true, ℕ, List, [], ◌∷◌, ◌++◌, reverse, refl, sym, subst, append_assoc, append-nil}
 use Rattle.std.specs.List.{AllByRecursion}
-use Rattle.std.specs.declared.option.Option.{Option}
-use Rattle.std.specs.declared.option.Option.TheVariants.{None, Some}
 use Rattle.log_grammar.specs.laws.LogLaws.{GoesOnByALine}
 use Rattle.log_grammar.specs.Lines.{LogLine, said, heard, bad, gone, replies}
 use Rattle.log_grammar.specs.LoggedReply.{LoggedReply}
-use Rattle.log_grammar.specs.Places.{Place, got_code}
+use Rattle.log_grammar.specs.Places.{Place, got_code, between, offered, waits_first, waits_final, waits_code, halted}
 use Rattle.log_grammar.specs.Demands.{Accounts, Demands, demands, AreReplies}
 use Rattle.log_grammar.specs.state_machine.Steps.{IsTransition, told_at}
 use Rattle.log_grammar.specs.Begins.{Begins}
 use Rattle.sasl_desk.specs.Events.{ClientEvent, sends, goes_away}
 use Rattle.sasl_desk.specs.DueLines.{is_client_turn, record_place, IsPath}
-use Rattle.sasl_desk.specs.Sessions.{IsSessionAt, IsRecord, IsTurnOnEvent, recorded_shown, turn_lines, said_lines, end_lines}
+use Rattle.sasl_desk.specs.Sessions.{IsSessionAt, IsRecord, IsTurnOnEvent, recorded_shown, turn_lines, IsLeftAt}
 use Rattle.sasl_desk.specs.declared.session.Session.{Session}
 use Rattle.sasl_desk.specs.declared.session.Session.TheVariants.{WaitAuth, WaitFirst, WaitFinal, WaitCode}
-use Rattle.sasl_desk.specs.declared.session.event.Saying.{Saying}
-use Rattle.sasl_desk.specs.declared.session.event.Saying.TheVariants.{Nothing, Continues, Accepts, Refuses}
 use Rattle.sasl_desk.specs.declared.session.event.Turn.{Turn}
+use Rattle.sasl_desk.proofs.lemmas.turns.AnswerLines.{answer_lines_have}
 use Rattle.sasl_desk.proofs.lemmas.turns.DueRecords.{due_line_may_stand, bad_may_stand, gone_may_stand}
+use Rattle.std.specs.declared.option.Option.{Option}
+use Rattle.std.specs.declared.option.Option.TheVariants.{None, Some}
+use Rattle.sasl_desk.specs.Runs.{IsAtRest}
 
 -- the place where a session stands is its client's turn
 pub session_has_client_turn : (accounts : Accounts) (at : Place) (going : Session) → IsSessionAt accounts at going
@@ -27,6 +27,21 @@ session_has_client_turn accounts at WaitAuth is = rw is refl
 session_has_client_turn accounts at (WaitFirst mechanism) is = rw is refl
 session_has_client_turn accounts at (WaitFinal waiting) (client_first, server_first, place, stands) = rw place refl
 session_has_client_turn accounts at (WaitCode name) is = rw is refl
+
+-- at a client's turn nothing is left to be said
+pub client_turn_rests : (at : Place) → is_client_turn at ≡ true → IsAtRest at
+client_turn_rests between turn = tt
+client_turn_rests halted turn = tt
+client_turn_rests offered turn = refl
+client_turn_rests (waits_first mechanism) turn = refl
+client_turn_rests (waits_final mechanism account first challenge) turn = refl
+client_turn_rests (waits_code account) turn = refl
+client_turn_rests at turn = absurd (cc turn)
+
+-- where a session is left, whether it goes on or is over, nothing is left to be said
+pub left_session_rests : (accounts : Accounts) (at : Place) (going : Option Session) → IsLeftAt accounts at going → IsAtRest at
+left_session_rests accounts at None is = rw is tt
+left_session_rests accounts at (Some going) is = client_turn_rests at (session_has_client_turn accounts at going is)
 
 -- what is recorded of an event may stand at a client's turn
 pub record_may_stand : (d : Demands) (at : Place) (event : ClientEvent) (recorded : LogLine) → is_client_turn at ≡ true
@@ -61,26 +76,13 @@ record_is_no_reply (sends text) at bad is = tt
 record_is_no_reply goes_away at gone is = tt
 record_is_no_reply event at recorded is = absurd is
 
--- the end of a session and the lines of its answer are no replies:
-end_has_no_reply : (going : Option Session) → AllByRecursion IsNoReply (end_lines going)
-end_has_no_reply (Some going) = tt
-end_has_no_reply None = (tt, tt)
-
-answer_has_no_reply : (says : Saying) (going : Option Session) (message : List ℕ)
-    → AllByRecursion IsNoReply (said_lines says message ++ end_lines going)
-answer_has_no_reply Nothing going message = end_has_no_reply going
-answer_has_no_reply Continues going message = (tt, end_has_no_reply going)
-answer_has_no_reply Accepts going message = (tt, end_has_no_reply going)
-answer_has_no_reply Refuses going message = (tt, end_has_no_reply going)
-
 -- no line of a turn is a reply
 pub turn_has_no_reply : (accounts : Accounts) (server_nonce : List ℕ) (event : ClientEvent) (at : Place) (turn : Turn) (message : List ℕ)
     → IsTurnOnEvent accounts server_nonce event at turn message
     → AllByRecursion IsNoReply (turn_lines turn message)
 turn_has_no_reply accounts server_nonce event at turn message t = (
   record_is_no_reply event at (recorded_shown turn.recorded) t.is_record,
-  answer_has_no_reply turn.answer.says turn.answer.session
-      message,
+  answer_lines_have IsNoReply (λ text. tt) (λ text. tt) (λ text. tt) tt turn.answer.says turn.answer.session message,
 )
 
 -- a line that is no reply tells nothing
@@ -90,18 +92,18 @@ no_reply_tells_nothing (got_code account sent) line no_reply = refl
 no_reply_tells_nothing at line no_reply = refl
 
 -- a log goes on by a path without replies, and tells nothing new
-pub goes_on_by_path : GoesOnByALine → (accounts : Accounts) (log : List LogLine) (at : Place) (told : List LoggedReply)
+pub log_goes_on_by_path : GoesOnByALine → (accounts : Accounts) (log : List LogLine) (at : Place) (told : List LoggedReply)
     (lines : List LogLine) (next : Place)
     → Begins (demands accounts) log at told → IsPath (demands accounts) at lines next → AllByRecursion IsNoReply lines
     → Begins (demands accounts) (log ++ lines) next told
-goes_on_by_path law accounts log at told [] next begins path no_replies =
+log_goes_on_by_path law accounts log at told [] next begins path no_replies =
     let here = subst (λ (p : Place). Begins (demands accounts) log p told) (sym path) begins in
     subst (λ (l : List LogLine). Begins (demands accounts) l next told) (sym (append-nil log)) here
-goes_on_by_path law accounts log at told (line ∷ lines) next begins (middle, goes, path) no_replies =
+log_goes_on_by_path law accounts log at told (line ∷ lines) next begins (middle, goes, path) no_replies =
     let quiet = no_reply_tells_nothing at line no_replies.0 in
     let due = subst (λ (t : List LoggedReply). AreReplies (demands accounts) (reverse told) t) (sym quiet) tt in
     let step = law accounts log at told line middle begins goes due in
     let told_here = subst (λ (t : List LoggedReply). Begins (demands accounts) (log ++ line ∷ []) middle (told ++ t)) quiet step in
     let here = subst (λ (t : List LoggedReply). Begins (demands accounts) (log ++ line ∷ []) middle t) (append-nil told) told_here in
     subst (λ (l : List LogLine). Begins (demands accounts) l next told) (append_assoc log (line ∷ []) lines)
-    (goes_on_by_path law accounts (log ++ line ∷ []) middle told lines next here path no_replies.1)
+    (log_goes_on_by_path law accounts (log ++ line ∷ []) middle told lines next here path no_replies.1)

@@ -1,4 +1,4 @@
-use Rattle.sasl_desk.proofs.lemmas.halls.Laws.{hall_bytes_next, of_number_lines, wire_bytes_next}
+use Rattle.sasl_desk.proofs.lemmas.halls.Logs.{hall_bytes_next, of_number_lines, wire_bytes_next}
 use Rattle.sasl_desk.proofs.laws.hall.bytes_are_those_of_calls.Goals as goal
 
 pub returns-clause-log : goal.returns-clause-log

@@ -1,4 +1,4 @@
-use Rattle.sasl_desk.proofs.lemmas.halls.Laws.{hall_log_is_front}
+use Rattle.sasl_desk.proofs.lemmas.halls.Logs.{hall_log_is_front}
 use Rattle.sasl_desk.proofs.laws.hall.log_is_a_front.Goals as goal
 
 pub returns : goal.returns

@@ -1,4 +1,4 @@
-use Rattle.sasl_desk.proofs.lemmas.halls.Laws.{closed_hall_log_is_clean, failed_hall_log_is_clean, halted_hall_log_is_clean}
+use Rattle.sasl_desk.proofs.lemmas.halls.Logs.{closed_hall_log_is_clean, failed_hall_log_is_clean, halted_hall_log_is_clean}
 use Rattle.sasl_desk.proofs.laws.hall.log_is_clean.Goals as goal
 
 pub returns-clause-closed : goal.returns-clause-closed

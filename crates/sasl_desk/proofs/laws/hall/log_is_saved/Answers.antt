@@ -1,4 +1,4 @@
-use Rattle.sasl_desk.proofs.lemmas.halls.Laws.{log_is_saved}
+use Rattle.sasl_desk.proofs.lemmas.halls.Stores.{log_is_saved}
 use Rattle.sasl_desk.proofs.laws.hall.log_is_saved.Goals as goal
 
 pub returns : goal.returns

@@ -1,4 +1,4 @@
-use Rattle.sasl_desk.proofs.lemmas.halls.Laws.{hall_phase_fits_place}
+use Rattle.sasl_desk.proofs.lemmas.halls.Phases.{hall_phase_fits_place}
 use Rattle.sasl_desk.proofs.laws.hall.phases_are_those_of_places.Goals as goal
 
 pub returns : goal.returns

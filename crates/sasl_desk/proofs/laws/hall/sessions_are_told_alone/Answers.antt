@@ -1,4 +1,4 @@
-use Rattle.sasl_desk.proofs.lemmas.runs.SameRequests.{sessions_tell_same}
+use Rattle.sasl_desk.proofs.lemmas.halls.Alone.{sessions_tell_same}
 use Rattle.sasl_desk.proofs.laws.hall.sessions_are_told_alone.Goals as goal
 
 pub returns : goal.returns

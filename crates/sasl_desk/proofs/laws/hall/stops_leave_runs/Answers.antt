@@ -1,4 +1,4 @@
-use Rattle.sasl_desk.proofs.lemmas.halls.Laws.{stopped_hall_leaves_attempt}
+use Rattle.sasl_desk.proofs.lemmas.halls.Stores.{stopped_hall_leaves_attempt}
 use Rattle.sasl_desk.proofs.laws.hall.stops_leave_runs.Goals as goal
 
 pub returns : goal.returns

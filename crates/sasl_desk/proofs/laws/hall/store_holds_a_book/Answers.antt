@@ -1,4 +1,4 @@
-use Rattle.sasl_desk.proofs.lemmas.halls.Laws.{hall_store_holds_left_book}
+use Rattle.sasl_desk.proofs.lemmas.halls.Stores.{hall_store_holds_left_book}
 use Rattle.sasl_desk.proofs.laws.hall.store_holds_a_book.Goals as goal
 
 pub returns : goal.returns

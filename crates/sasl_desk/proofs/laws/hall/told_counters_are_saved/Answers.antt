@@ -1,4 +1,4 @@
-use Rattle.sasl_desk.proofs.lemmas.halls.Laws.{hall_store_keeps_spent_counters, stopped_hall_keeps_spent_counters}
+use Rattle.sasl_desk.proofs.lemmas.halls.Stores.{hall_store_keeps_spent_counters, stopped_hall_keeps_spent_counters}
 use Rattle.sasl_desk.proofs.laws.hall.told_counters_are_saved.Goals as goal
 
 pub returns-clause-ended : goal.returns-clause-ended

@@ -1,7 +1,7 @@
-use Rattle.std.proofs.lemmas.Result.{on_err_weaker}
+use Rattle.std.proofs.lemmas.Result.{IfOk-weaker, on_err_weaker}
 use Rattle.sasl_log.specs.Shown.{client_shown}
 use Rattle.sasl_desk.specs.Events.{sends, goes_away}
-use Rattle.sasl_desk.proofs.lemmas.turns.HeardLines.{ok_result_is_event_result, no_line_is_recorded_bad, ok_judged_code_was_sent}
+use Rattle.sasl_desk.proofs.lemmas.turns.HeardLines.{line_result_is_event_result, no_line_is_recorded_bad, judged_code_was_sent}
 use Rattle.sasl_desk.proofs.session.Session.hear.Goals as goal
 
 pub returns-in-Gone-clause-heard : goal.returns-in-Gone-clause-heard
@@ -11,9 +11,10 @@ returns-in-Gone-clause-heard g c = λ accounts at keeps is. rw (c.in-Gone.is, c.
 pub returns-in-Some-clause-heard : goal.returns-in-Some-clause-heard
 returns-in-Some-clause-heard g c = λ accounts at keeps is.
     rw c.in-Line.is
-    (ok_result_is_event_result c.each_text_is_at_most_one_line.ensures accounts c.args.server_nonce.now (sends c.in-Line.text.now)
-    (client_shown c.in-Some.line) at c.hear_line.result
-    c.hear_line.new.message.items c.in-Some.ensures.some (c.hear_line.ensures.heard accounts at keeps is))
+    (IfOk-weaker c.hear_line.result _ _
+    (λ heard came. line_result_is_event_result c.each_text_is_at_most_one_line.ensures accounts c.args.server_nonce.now
+    (sends c.in-Line.text.now) (client_shown c.in-Some.line) at heard c.hear_line.new.message.items c.in-Some.ensures.some came)
+    (c.hear_line.ensures.heard accounts at keeps is))
 
 pub returns-in-None-clause-heard : goal.returns-in-None-clause-heard
 returns-in-None-clause-heard g c = λ accounts at keeps is.
@@ -24,8 +25,9 @@ returns-in-None-clause-heard g c = λ accounts at keeps is.
 pub returns-in-Some-clause-sent : goal.returns-in-Some-clause-sent
 returns-in-Some-clause-sent g c =
     rw c.in-Line.is
-    (ok_judged_code_was_sent (sends c.in-Line.text.now)
-    (client_shown c.in-Some.line) c.hear_line.result c.in-Some.ensures.some c.hear_line.ensures.sent)
+    (IfOk-weaker c.hear_line.result _ _
+    (λ heard judges. judged_code_was_sent (sends c.in-Line.text.now) (client_shown c.in-Some.line) heard c.in-Some.ensures.some judges)
+    c.hear_line.ensures.sent)
 
 pub returns-in-Some-clause-memory : goal.returns-in-Some-clause-memory
 returns-in-Some-clause-memory g c =

@@ -3,7 +3,7 @@ use Rattle.std.specs.declared.option.Option.TheVariants.{Some}
 use Rattle.std.proofs.lemmas.List.Quantifiers.{position-Some}
 use Rattle.std.proofs.lemmas.Option.{slice_get-get_or}
 use Rattle.sasl_desk.specs.Guests.{is_of}
-use Rattle.sasl_desk.proofs.lemmas.halls.Guests.{found_is_at_position, no_position_finds_none}
+use Rattle.sasl_desk.proofs.lemmas.Lists.{found_is_at_position, no_position_finds_none}
 use Rattle.sasl_desk.proofs.hall.seats.Seats.session.Goals as goal
 
 pub returns-in-Some-clause-some : goal.returns-in-Some-clause-some
