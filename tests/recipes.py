@@ -295,7 +295,7 @@ def an_account(folder):
     does(folder, other + FORGOTTEN, "pencil\n", "enrolled other\n")
     after = book_of(folder)
     equal((after["accounts"][NAME], set(after["accounts"])), (before["accounts"][NAME], {NAME, "other"}))
-    line, acts = re.findall(r"`(act_as = \[.*\])`", DOCUMENT.read_text(encoding="utf-8"))
+    line, acts = re.findall(r"`(act_as = \[[^`]*\])`", DOCUMENT.read_text(encoding="utf-8"))
     holds(f"\n{line}\n" in Path(folder, "book.toml").read_text(), line, Path(folder, "book.toml").read_text())
     does(folder, f"tools/edit-book book.toml sed '/^.accounts.other.$/,$ s/^act_as = .*/{acts}/'")
     equal(book_of(folder)["accounts"]["other"]["act_as"], ["postmaster", "list"])
