@@ -1,5 +1,7 @@
 """What several scripts share: the account `user` with RFC 4226's secret, a folder with a book, the program on the PATH, the user nobody, a
 limit, what is asked of books, locks and logs, and the run of all tests."""
+import contextlib
+import expected
 import fcntl
 import functools
 import os
@@ -14,8 +16,6 @@ import tempfile
 import time
 import tomllib
 import traceback
-
-import expected
 from checks import equal, fail
 
 if len(sys.argv) < 2:
@@ -128,7 +128,8 @@ def program_on_path(folder, **more):
     """The environment of a run that finds the program on the PATH, by a link in the folder `bin` of this folder; with these variables."""
     commands = pathlib.Path(folder, "bin")
     commands.mkdir(exist_ok=True)
-    if not os.path.lexists(commands / "scramotp"):
+    # Runs that begin at the same time share the link.
+    with contextlib.suppress(FileExistsError):
         os.symlink(PROGRAM, commands / "scramotp")
     return {**os.environ, "PATH": f"{commands}:{os.environ['PATH']}", **more}
 
