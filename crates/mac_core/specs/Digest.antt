@@ -1,5 +1,5 @@
--- The length of a SHA-1 digest, which `digest_len` of `HashFn` cites. It stands here and not in proofs/, since the law of a trait
--- may cite no lemma of its own crate's proofs/.
+-- The length of a SHA-1 digest, which `digest_len` of `HashFn` cites. It is here and not in proofs/ because the law of a trait
+-- cannot cite a lemma of its own crate's proofs/.
 use Rattle.std.proofs.Common.{◌≡◌, ◌*◌, ℕ, zero, suc, List, arith, length, length-append, refl}
 use Rattle.std.specs.Prelude.{slice_index}
 use Rattle.std.specs.Int.{to_be_bytes, w32}

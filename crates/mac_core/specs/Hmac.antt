@@ -1,24 +1,24 @@
--- HMAC (RFC 2104, section 2; FIPS 198-1, whose name K0 is used here) over any hash function H. `hash` is H on whole
--- messages, and `block` is the length of its blocks in bytes.
+-- HMAC (RFC 2104, section 2; FIPS 198-1, whose name K0 is used here) over any hash function H. `hash` is H on whole messages, and
+-- `block` is the length of its blocks in bytes.
 use Rattle.std.specs.Prelude.{ℕ, ◌-◌, List, [], ◌++◌, length, map, replicate, bit_xor, nat_lt, if◌then◌else◌}
 use Rattle.mac_core.specs.declared.hmac.Mac.{Mac}
 use Rattle.mac_core.specs.declared.hmac.PreparedKey.{PreparedKey}
 
--- K0: the key, or its digest where it is longer than a block, with zeros after it up to a block
+-- K0: the key, or its digest if the key is longer than a block, padded with zeros to the length of a block
 abbrev pub padded_key : (hash : List ℕ → List ℕ) → (block : ℕ) → (key : List ℕ) → List ℕ
 padded_key hash block key =
     let short = if nat_lt block (length key) then hash key else key in
     short ++ replicate (block - length short) 0
 
--- each byte of a block xor one byte, as K0 xor ipad and K0 xor opad are
+-- each byte of a block XORed with one byte, as in K0 xor ipad and K0 xor opad
 abbrev pub xor_each : (byte : ℕ) → (bytes : List ℕ) → List ℕ
 xor_each byte bytes = map (λ x. bit_xor x byte) bytes
 
--- K0 xor ipad, what the inner hash takes in before the text
+-- K0 xor ipad, which the inner hash reads before the text
 abbrev pub inner_block : (hash : List ℕ → List ℕ) → (block : ℕ) → (key : List ℕ) → List ℕ
 inner_block hash block key = xor_each 0x36 (padded_key hash block key)
 
--- K0 xor opad, what the outer hash takes in before the inner digest
+-- K0 xor opad, which the outer hash reads before the inner digest
 abbrev pub outer_block : (hash : List ℕ → List ℕ) → (block : ℕ) → (key : List ℕ) → List ℕ
 outer_block hash block key = xor_each 0x5C (padded_key hash block key)
 
@@ -27,14 +27,14 @@ unfoldable pub hmac : (hash : List ℕ → List ℕ) → (block : ℕ) → (key 
 hmac hash block key text =
     hash (outer_block hash block key ++ hash (inner_block hash block key ++ text))
 
--- a running MAC stands for a key and the text so far: its two hashes, whose messages `holds` gives, have
--- taken in what HMAC hashes, except the inner digest
+-- the running MAC is HMAC's state for this key after this text: its inner hash has read K0 xor ipad and the text, its outer hash K0
+-- xor opad. `holds` says which message a hasher has read.
 pub record IsMacOf {H : Type 0} (holds : H → List ℕ → Type 0) (hash : List ℕ → List ℕ) (block : ℕ) (mac : Mac H)
     (key text : List ℕ) : Type 0 where
   pub inner : holds mac.inner (inner_block hash block key ++ text)
   pub outer : holds mac.outer (outer_block hash block key)
 
--- a prepared key is a running MAC of that key that has taken in no text
+-- the prepared key is a running MAC of that key that has read no text
 abbrev pub IsPreparedFor : {H : Type 0} → (holds : H → List ℕ → Type 0) → (hash : List ℕ → List ℕ) → (block : ℕ) → PreparedKey H
     → (key : List ℕ) → Type 0
 IsPreparedFor holds hash block prepared key = IsMacOf holds hash block prepared.empty key []

@@ -2,7 +2,7 @@
 use Rattle.std.specs.Prelude.{ℕ, zero, suc, List, [], ◌∷◌, ◌++◌, bit_xor, codes}
 use Rattle.mac_core.specs.Hmac.{hmac}
 
--- the xor of two lists of bytes place by place, up to the end of the shorter one
+-- the XOR of two lists of bytes, byte by byte, up to the end of the shorter one
 unfoldable pub xor_bytes : List ℕ → List ℕ → List ℕ
 xor_bytes [] ys = []
 xor_bytes (x ∷ xs) [] = []
@@ -12,13 +12,13 @@ xor_bytes (x ∷ xs) (y ∷ ys) = bit_xor x y ∷ xor_bytes xs ys
 abbrev pub int_one : List ℕ
 int_one = 0 ∷ 0 ∷ 0 ∷ 1 ∷ []
 
--- U k of Hi under a MAC: U 1 is the MAC of the salt and INT(1), and each later one the MAC of the
--- one before it. U 0 is the salt and INT(1), of which U 1 is the MAC.
+-- Uk of Hi under a MAC: U1 is the MAC of the salt followed by INT(1), and each later one is the MAC of the one before it. U0, which
+-- the RFC does not name, is the salt followed by INT(1).
 unfoldable pub iterated : (mac : List ℕ → List ℕ) → (salt : List ℕ) → (k : ℕ) → List ℕ
 iterated mac salt zero = salt ++ int_one
 iterated mac salt (suc k) = mac (iterated mac salt k)
 
--- U 1 xor U 2 xor .. xor U n, for n from 1
+-- U1 XOR U2 XOR ... XOR Un, for n of at least 1
 unfoldable pub xor_of_iterated : (mac : List ℕ → List ℕ) → (salt : List ℕ) → (n : ℕ) → List ℕ
 xor_of_iterated mac salt zero = []
 xor_of_iterated mac salt (suc zero) = iterated mac salt 1
@@ -29,8 +29,8 @@ xor_of_iterated mac salt (suc (suc n)) =
 abbrev pub hi : (hash : List ℕ → List ℕ) → (block : ℕ) → (str salt : List ℕ) → (i : ℕ) → List ℕ
 hi hash block str salt i = xor_of_iterated (hmac hash block str) salt i
 
--- SaltedPassword = Hi(Normalize(password), salt, i). The password is given normalised: `Password` of scram_text admits only
--- those that SASLprep leaves as they are.
+-- SaltedPassword = Hi(Normalize(password), salt, i). The password is already normalized here: `Password` of scram_text holds only
+-- passwords that SASLprep leaves unchanged.
 abbrev pub salted_password : (hash : List ℕ → List ℕ) → (block : ℕ) → (password salt : List ℕ) → (i : ℕ) → List ℕ
 salted_password hash block password salt i = hi hash block password salt i
 
@@ -46,11 +46,11 @@ stored_key hash client = hash client
 abbrev pub server_key : (hash : List ℕ → List ℕ) → (block : ℕ) → (salted : List ℕ) → List ℕ
 server_key hash block salted = hmac hash block salted (codes "Server Key")
 
--- StoredKey of a password: that of the ClientKey of its SaltedPassword
+-- StoredKey of a password, by way of its SaltedPassword and ClientKey
 abbrev pub password_stored_key : (hash : List ℕ → List ℕ) → (block : ℕ) → (password salt : List ℕ) → (i : ℕ) → List ℕ
 password_stored_key hash block password salt i =
     stored_key hash (client_key hash block (salted_password hash block password salt i))
 
--- ServerKey of a password: that of its SaltedPassword
+-- ServerKey of a password, by way of its SaltedPassword
 abbrev pub password_server_key : (hash : List ℕ → List ℕ) → (block : ℕ) → (password salt : List ℕ) → (i : ℕ) → List ℕ
 password_server_key hash block password salt i = server_key hash block (salted_password hash block password salt i)

@@ -1,3 +1,4 @@
+-- HMAC, the keys of SCRAM, and both for each mechanism, in the order in which to read them.
 pub mod Digest
 pub mod Hmac
 pub mod Keys

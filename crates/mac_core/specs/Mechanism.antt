@@ -1,4 +1,4 @@
--- The formulas by SCRAM mechanism: SHA-1 for SCRAM-SHA-1 (RFC 5802), SHA-256 for SCRAM-SHA-256 (RFC 7677).
+-- The formulas for each SCRAM mechanism: with SHA-1 for SCRAM-SHA-1 (RFC 5802), with SHA-256 for SCRAM-SHA-256 (RFC 7677).
 use Rattle.std.specs.Prelude.{ℕ, ◌==◌, List, codes}
 use Rattle.std.specs.List.{slice_split, Contains}
 use Rattle.std.specs.Str.{byte}
@@ -19,7 +19,7 @@ abbrev pub name_of : Mechanism → List ℕ
 name_of ScramSha1 = codes "SCRAM-SHA-1"
 name_of ScramSha256 = codes "SCRAM-SHA-256"
 
--- the mechanism's name is one of the pieces into which its spaces cut the text, as in "SCRAM-SHA-1 SCRAM-SHA-256"
+-- the mechanism's name is one of the names that the text lists between spaces, as in "SCRAM-SHA-1 SCRAM-SHA-256"
 abbrev pub IsOffered : Mechanism → (names : List ℕ) → Type 0
 IsOffered mechanism names = Contains (slice_split (λ c. c == byte " ") names) (name_of mechanism)
 
@@ -33,7 +33,7 @@ abbrev pub block_by : Mechanism → ℕ
 block_by ScramSha1 = 64
 block_by ScramSha256 = 64
 
--- the length in bytes of a digest, a MAC and a key of the mechanism
+-- the length in bytes of the mechanism's digests, MACs and keys
 abbrev pub length_by : Mechanism → ℕ
 length_by ScramSha1 = 20
 length_by ScramSha256 = 32
@@ -42,7 +42,7 @@ length_by ScramSha256 = 32
 abbrev pub hmac_by : Mechanism → (key text : List ℕ) → List ℕ
 hmac_by mechanism = hmac (hash_by mechanism) (block_by mechanism)
 
--- Hi of the mechanism; that of a password is its SaltedPassword
+-- Hi of the mechanism; Hi of a password is its SaltedPassword
 abbrev pub hi_by : Mechanism → (str salt : List ℕ) → (i : ℕ) → List ℕ
 hi_by mechanism = hi (hash_by mechanism) (block_by mechanism)
 
@@ -66,7 +66,7 @@ password_stored_key_by mechanism = password_stored_key (hash_by mechanism) (bloc
 abbrev pub password_server_key_by : Mechanism → (password salt : List ℕ) → (count : ℕ) → List ℕ
 password_server_key_by mechanism = password_server_key (hash_by mechanism) (block_by mechanism)
 
--- the running MAC stands for this key and text under the mechanism
+-- the running MAC is that of this key and text, with the mechanism's hash function
 abbrev pub IsScramMac : Mechanism → ScramMac → (key text : List ℕ) → Type 0
 IsScramMac ScramSha1 (BySha1 mac) key text =
     IsMacOf (λ (h : HSha1) (m : List ℕ). Holds h.hasher m) sha1 (block_by ScramSha1) mac key text

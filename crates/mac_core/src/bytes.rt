@@ -1,4 +1,4 @@
-//! Bytes in fixed buffers.
+//! Copies of bytes in fixed buffers.
 ghost use Rattle.std.specs.Prelude.{◌≡◌, ◌≤◌, length};
 
 use arrayvec::ArrayVec;

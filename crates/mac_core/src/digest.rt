@@ -17,11 +17,10 @@ use sha2::{Digest, Sha256, Sha512};
 /// A digest, a MAC or a key: at most 64 bytes, in a fixed buffer.
 pub type Tag = ArrayVec<u8, 64>;
 
-/// A hash function. A value of the type has taken in a message, piece by piece.
+/// A hash function. A value of the type is a running hash of a message that is added piece by piece.
 ///
-/// A value does not keep its message, so its contracts say which messages it stands for: `start`
-/// stands for the empty one, `add` extends each by the piece, and `done` returns the digest of
-/// each.
+/// A value does not keep its message, so its contracts say which messages it stands for: `start` stands for the empty one, `add`
+/// appends the piece to each, and `done` returns the digest of each.
 pub trait HashFn: Drop {
     // The digest of a message.
     ghost digest_of: { List ℕ → List ℕ };

@@ -1,4 +1,4 @@
-//! HMAC (RFC 2104), in pieces and over a key that is prepared once.
+//! HMAC (RFC 2104), over a text that is added piece by piece, or with a key that is prepared once.
 ghost use Rattle.std.specs.Prelude.{◌≡◌, ◌-◌, ◌≤◌, ℕ, List, [], ◌++◌, length, replicate};
 ghost use Rattle.mac_core.specs.Hmac.{xor_each, padded_key, hmac, IsMacOf, IsPreparedFor};
 
@@ -6,8 +6,10 @@ use crate::bytes::copy_of;
 use crate::digest::{HashFn, Tag};
 use arrayvec::ArrayVec;
 
+// The byte of the inner pad, ipad (RFC 2104, section 2).
 const IPAD: u8 = 0x36;
 
+// The byte of the outer pad, opad (RFC 2104, section 2).
 const OPAD: u8 = 0x5C;
 
 // The longest block of the hash functions here, that of SHA-512.
@@ -16,7 +18,7 @@ const MOST_BLOCK: usize = 128;
 // A padded key: K0 of FIPS 198-1, section 4.
 type Block = ArrayVec<u8, MOST_BLOCK>;
 
-// The key, filled up with zeros to the length of a block. It is no longer than that.
+// The key, padded with zeros to the length of a block. It must not be longer than a block.
 fn zero_filled(key: &[u8], block: usize) -> Block
     requires fits { length key.now ≤ block }
     requires most { block ≤ MOST_BLOCK }
@@ -29,7 +31,7 @@ fn zero_filled(key: &[u8], block: usize) -> Block
     filled
 }
 
-// K0 of FIPS 198-1, section 4: the key, filled up with zeros to a block. A key longer than a block is hashed first.
+// K0 of FIPS 198-1, section 4: the key, padded with zeros to a block. A key longer than a block is hashed first.
 fn padded_key<H: HashFn>(key: &[u8]) -> Block
     ensures { result.items ≡ padded_key H.digest_of H.BLOCK key.now }
 {
@@ -42,7 +44,7 @@ fn padded_key<H: HashFn>(key: &[u8]) -> Block
     }
 }
 
-// Each byte of the block xor `byte`.
+// The block, with each byte xored with `byte`.
 fn xor_each(block: &Block, byte: u8) -> Block
     ensures { result.items ≡ xor_each byte block.now.items }
 {
@@ -53,7 +55,7 @@ fn xor_each(block: &Block, byte: u8) -> Block
     all
 }
 
-/// A running HMAC. It stands for a key and the text that it has taken in so far.
+/// A running HMAC. It stands for a key and the text added so far.
 #[derive(Drop)]
 pub struct Mac<H> {
     inner: H,
@@ -61,8 +63,8 @@ pub struct Mac<H> {
 }
 
 impl<H: HashFn> Mac<H> {
-    /// A MAC of the empty text under `key`, which may have any length: one longer than a block is
-    /// replaced by its digest (RFC 2104, section 2).
+    /// A MAC of the empty text under `key`, which may have any length: one longer than a block is replaced by its digest (RFC 2104,
+    /// section 2).
     pub fn new(key: &[u8]) -> Self
         ensures { IsMacOf H.holds H.digest_of H.BLOCK result key.now [] }
     {
@@ -93,7 +95,7 @@ impl<H: HashFn> Mac<H> {
         }
     }
 
-    /// The HMAC of the key and the text, of `H::LEN` bytes.
+    /// The HMAC of the text under the key, of `H::LEN` bytes.
     pub fn done(self) -> Tag
         ensures value { (key text : List ℕ) → IsMacOf H.holds H.digest_of H.BLOCK self key text
             → result.items ≡ hmac H.digest_of H.BLOCK key text }
@@ -105,8 +107,7 @@ impl<H: HashFn> Mac<H> {
     }
 }
 
-/// A key for HMAC whose two padded blocks are hashed already, so that a MAC of a short text takes
-/// two compressions instead of four.
+/// An HMAC key whose two padded blocks are already hashed, so that a MAC of a short text takes two compressions instead of four.
 #[derive(Drop)]
 pub struct PreparedKey<H> {
     empty: Mac<H>,
@@ -130,7 +131,7 @@ impl<H: HashFn> PreparedKey<H> {
         self.empty.copy()
     }
 
-    /// The HMAC of the key and `text`, of `H::LEN` bytes.
+    /// The HMAC of `text` under the key, of `H::LEN` bytes.
     pub fn mac(&self, text: &[u8]) -> Tag
         ensures value { (key : List ℕ) → IsPreparedFor H.holds H.digest_of H.BLOCK self.now key
             → result.items ≡ hmac H.digest_of H.BLOCK key text.now }

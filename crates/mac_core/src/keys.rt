@@ -9,7 +9,7 @@ use crate::digest::{HashFn, Tag};
 use crate::hmac::PreparedKey;
 use crate::mac;
 
-/// The xor of `a` and `b`, byte by byte. They have the same length, and so has the result.
+/// The xor of `a` and `b`, byte by byte. They must have the same length; the result has it too.
 pub fn xor(a: &Tag, b: &Tag) -> Tag
     requires { length a.now.items ≡ length b.now.items }
     ensures value { result.items ≡ xor_bytes a.now.items b.now.items }
@@ -35,8 +35,8 @@ fn first_round<H: HashFn>(key: &PreparedKey<H>, salt: &[u8]) -> Tag
     mac.done()
 }
 
-/// Hi(password, salt, count) of RFC 5802, section 2.2, of `H::LEN` bytes: PBKDF2 with HMAC and one
-/// block of output. It takes time in proportion to `count`, which is at least 1.
+/// Hi(password, salt, count) of RFC 5802, section 2.2, of `H::LEN` bytes: PBKDF2 with HMAC and one block of output. It takes time
+/// in proportion to `count`, which is at least 1.
 pub fn hi<H: HashFn>(password: &[u8], salt: &[u8], count: u32) -> Tag
     requires { 1 ≤ count }
     ensures value { result.items ≡ hi H.digest_of H.BLOCK password.now salt.now count }
@@ -78,13 +78,13 @@ pub fn server_key<H: HashFn>(salted: &Tag) -> Tag
     mac::<H>(salted.as_slice(), b"Server Key")
 }
 
-/// What a server stores in place of a password (RFC 5802, section 3).
+/// What a server stores instead of a password (RFC 5802, section 3).
 #[derive(Drop)]
 pub struct ScramKeys {
-    /// StoredKey, by which a client's proof is checked.
+    /// StoredKey, with which the server checks a client's proof.
     pub stored: Tag,
 
-    /// ServerKey, by which the server signs.
+    /// ServerKey, with which the server signs.
     pub server: Tag,
 }
 
@@ -100,8 +100,8 @@ impl ScramKeys {
     }
 }
 
-/// The keys of `password` under `salt` and `count`, each of `H::LEN` bytes (RFC 5802, section 3). It
-/// takes time in proportion to `count`, which is at least 1.
+/// The keys of `password` under `salt` and `count`, each of `H::LEN` bytes (RFC 5802, section 3). It takes time in proportion to
+/// `count`, which is at least 1.
 pub fn scram_keys<H: HashFn>(password: &[u8], salt: &[u8], count: u32) -> ScramKeys
     requires { 1 ≤ count }
     ensures stored { result.stored.items ≡ password_stored_key H.digest_of H.BLOCK password.now salt.now count }

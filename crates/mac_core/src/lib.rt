@@ -1,7 +1,6 @@
 //! HMAC (RFC 2104), Hi and the SCRAM keys (RFC 5802), over SHA-1, SHA-256 and SHA-512.
 //!
-//! Each function's contract says that its result is the RFC's formula of its arguments. No call
-//! takes memory or fails.
+//! Each function's contract says that its result is the RFC's formula applied to its arguments. No call allocates or fails.
 //!
 //! ```rust
 //! use mac_core::{HSha256, hi, scram_keys};
@@ -26,8 +25,8 @@ pub use hmac::PreparedKey;
 pub use keys::{ScramKeys, client_key, hi, scram_keys, server_key, stored_key, xor};
 pub use mechanism::{Mechanism, ScramMac};
 
-/// The HMAC of `key` and `text`, of `H::LEN` bytes. The key may have any length: one longer than a
-/// block is replaced by its digest (RFC 2104, section 2).
+/// The HMAC of `text` under `key`, of `H::LEN` bytes. The key may have any length: one longer than a block is replaced by its
+/// digest (RFC 2104, section 2).
 pub fn mac<H: HashFn>(key: &[u8], text: &[u8]) -> Tag
     ensures value { result.items ≡ hmac H.digest_of H.BLOCK key.now text.now }
     ensures len { length result.items ≡ H.LEN }

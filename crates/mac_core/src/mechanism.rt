@@ -1,5 +1,4 @@
-//! The formulas of `keys` and `hmac` with a hash function that is chosen at run time, by the name of
-//! a SCRAM mechanism.
+//! The formulas of `keys` and `hmac` with a hash function chosen at run time, by the name of a SCRAM mechanism.
 ghost use Rattle.std.specs.Prelude.{◌≡◌, ◌≢◌, ◌≤◌, ◌↔◌, IsTrue, ℕ, List, [], ◌++◌, length, IfSome, IfNone};
 ghost use Rattle.mac_core.specs.Mechanism.{name_of, IsOffered, length_by, hmac_by, hi_by, client_key_by, stored_key_by, server_key_by};
 ghost use Rattle.mac_core.specs.Mechanism.{IsScramMac, password_stored_key_by, password_server_key_by};
@@ -20,8 +19,8 @@ pub enum Mechanism {
 }
 
 impl Mechanism {
-    /// The mechanism of this name, or None where there is none. Names are in upper case (RFC 4422,
-    /// section 3.1), and no other spelling is taken.
+    /// The mechanism with this name, or None if there is none. Names are in upper case (RFC 4422, section 3.1), and no other
+    /// spelling is accepted.
     pub fn of_name(name: &[u8]) -> Option<Mechanism>
         ensures some { IfSome result (λ mechanism. name.now ≡ name_of mechanism) }
         ensures none { IfNone result ((mechanism : Mechanism) → name.now ≢ name_of mechanism) }
@@ -45,8 +44,8 @@ impl Mechanism {
         }
     }
 
-    /// The mechanism to take from the names that a server offers, with one space between each two:
-    /// SCRAM-SHA-256 where it is among them, else SCRAM-SHA-1 where it is, else None.
+    /// The mechanism to use out of the names that a server offers, separated by single spaces: SCRAM-SHA-256 if it is among them,
+    /// else SCRAM-SHA-1 if it is, else None.
     pub fn choose(names: &[u8]) -> Option<Mechanism>
         ensures some { IfSome result (λ mechanism. IsOffered mechanism names.now) }
         ensures best { IsOffered Mechanism.ScramSha256 names.now → result ≡ Some Mechanism.ScramSha256 }
@@ -61,6 +60,7 @@ impl Mechanism {
         }
     }
 
+    // Whether the mechanism's name is among these, which single spaces separate.
     fn is_offered(self, names: &[u8]) -> bool
         ensures { IsTrue result ↔ IsOffered self names.now }
     {
@@ -68,8 +68,8 @@ impl Mechanism {
         names.split(|byte| *byte == b' ').any(|name| name == wanted)
     }
 
-    /// Hi(password, salt, count) with the mechanism's hash function (RFC 5802, section 2.2). It
-    /// takes time in proportion to `count`, which is at least 1.
+    /// Hi(password, salt, count) with the mechanism's hash function (RFC 5802, section 2.2). It takes time in proportion to
+    /// `count`, which is at least 1.
     pub fn hi(self, password: &[u8], salt: &[u8], count: u32) -> Tag
         requires { 1 ≤ count }
         ensures value { result.items ≡ hi_by self password.now salt.now count }
@@ -130,8 +130,7 @@ impl Mechanism {
     }
 }
 
-/// A running HMAC whose hash function is the mechanism's. It stands for a mechanism, a key and the
-/// text that it has taken in so far.
+/// A running HMAC with a mechanism's hash function. It stands for a mechanism, a key and the text added so far.
 #[derive(Drop)]
 pub enum ScramMac {
     /// A MAC of SCRAM-SHA-1.
@@ -174,7 +173,7 @@ impl ScramMac {
         }
     }
 
-    /// The HMAC of the key and the text: 20 bytes in SCRAM-SHA-1, 32 in SCRAM-SHA-256.
+    /// The HMAC of the text under the key: 20 bytes in SCRAM-SHA-1, 32 in SCRAM-SHA-256.
     pub fn done(self) -> Tag
         ensures value { (mechanism : Mechanism) (key text : List ℕ) → IsScramMac mechanism self key text
             → result.items ≡ hmac_by mechanism key text }

@@ -1,6 +1,6 @@
-//! Values from outside: RFC 2202, RFC 4231 and NIST's examples for HMAC, RFC 6070 and RFC 7914 for Hi,
-//! the proof and the signature of RFC 5802's example, and the keys of the users of RFC 5802 and RFC 7677 by Python's
-//! hashlib.
+//! Expected values from outside: RFC 2202, RFC 4231 and NIST's examples for HMAC, RFC 6070 and RFC 7914 for Hi,
+//! the proof and the signature of RFC 5802's example, and the keys of the users of RFC 5802 and RFC 7677, computed
+//! with Python's hashlib.
 use mac_core::hmac::Mac;
 use mac_core::{
     HSha1, HSha256, HSha512, HashFn, Mechanism, PreparedKey, ScramMac, Tag, client_key, hi, mac,
@@ -61,7 +61,7 @@ const SHA1_MACS: [(&[u8], &[u8], &str); 8] = [
     ),
 ];
 
-// Keys, texts and their MACs by SHA-256 and by SHA-512, in hexadecimal; the source cuts one off.
+// Keys, texts and their MACs by SHA-256 and by SHA-512, in hexadecimal; the RFC truncates one of each.
 const SHA2_MACS: [(&[u8], &[u8], &str, &str); 7] = [
     (
         &[0x0b; 20],
@@ -107,7 +107,7 @@ const SHA2_MACS: [(&[u8], &[u8], &str, &str); 7] = [
     ),
 ];
 
-// Passwords, salts, counts and the keys of 20 bytes by SHA-1, in hexadecimal; the source cuts the last off.
+// Passwords, salts, counts and the keys of 20 bytes by SHA-1, in hexadecimal; the RFC truncates the last.
 const SHA1_KEYS: [(&[u8], &[u8], u32, &str); 4] = [
     (
         b"password",
@@ -135,7 +135,7 @@ const SHA1_KEYS: [(&[u8], &[u8], u32, &str); 4] = [
     ),
 ];
 
-// Keys of 32 bytes by SHA-256.
+// Passwords, salts, counts and the first 32 bytes of the keys by SHA-256, in hexadecimal.
 const SHA256_KEYS: [(&[u8], &[u8], u32, &str); 2] = [
     (
         b"passwd",
@@ -171,8 +171,8 @@ fn hex_of(alloc: Global, tag: &Tag) -> Result<String, AllocError> {
     hex::encode(alloc, tag.as_slice())
 }
 
-// Checks one MAC, made in each way: at once, over a prepared key, and in every cut of its text into
-// two pieces. `want` is its hexadecimal text, or the beginning of it where the source cuts it off.
+// Checks one MAC, computed in each way: at once, with a prepared key, and with its text cut into two
+// pieces at each place. `want` is its hexadecimal text, or the beginning of it if the source truncates it.
 fn check_mac<H: HashFn>(
     rt: &(impl Abort + AllocGlobal),
     key: &[u8],
@@ -258,7 +258,7 @@ fn keys_of_one_block(rt: HostRuntime) -> Result<(), Fail> {
     Ok(())
 }
 
-// RFC 6070 without its case of two blocks, and without the longest, which stands below.
+// RFC 6070 without its case of two blocks, and without the longest case, which is tested below.
 #[test]
 fn hi_by_sha1(rt: HostRuntime) -> Result<(), Fail> {
     for (password, salt, count, want) in SHA1_KEYS {
@@ -295,8 +295,8 @@ fn hi_at_its_longest_case(rt: HostRuntime) -> Result<(), Fail> {
     Ok(())
 }
 
-// RFC 5802, section 5: the client's proof and the server's signature. The RFC prints no keys: those that lead to them are
-// by Python's hashlib.
+// RFC 5802, section 5: the client's proof and the server's signature. The RFC prints no keys: those from which they follow are
+// computed with Python's hashlib.
 #[test]
 fn keys_of_the_example(rt: HostRuntime) -> Result<(), Fail> {
     let alloc = rt.alloc();
@@ -374,7 +374,7 @@ fn a_client_takes_the_longer_hash_that_is_offered(rt: HostRuntime) {
     }
 }
 
-// Those keys, by a mechanism that is chosen at run time, and Hi of the first case of RFC 7914, section 11.
+// The same keys with a mechanism that is chosen at run time, and Hi of the first case of RFC 7914, section 11.
 #[test]
 fn keys_by_mechanism(rt: HostRuntime) -> Result<(), Fail> {
     let alloc = rt.alloc();
@@ -406,7 +406,7 @@ fn keys_by_mechanism(rt: HostRuntime) -> Result<(), Fail> {
     Ok(())
 }
 
-// The salt of RFC 7677, section 3; the keys of its user, whose password is `pencil`, are by Python's hashlib.
+// The salt of RFC 7677, section 3; the keys of its user, whose password is `pencil`, are computed with Python's hashlib.
 #[test]
 fn keys_by_the_longer_hash(rt: HostRuntime) -> Result<(), Fail> {
     let alloc = rt.alloc();
@@ -440,7 +440,7 @@ fn keys_by_the_longer_hash(rt: HostRuntime) -> Result<(), Fail> {
     Ok(())
 }
 
-// RFC 2202, section 2, case 2, and RFC 4231, section 4.3.
+// RFC 2202, section 3, case 2, and RFC 4231, section 4.3.
 #[test]
 fn running_mac_by_mechanism(rt: HostRuntime) -> Result<(), Fail> {
     let alloc = rt.alloc();

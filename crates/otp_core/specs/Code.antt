@@ -10,8 +10,7 @@ use Rattle.otp_core.specs.Ranges.{IsDigitCount}
 abbrev pub offset : List ℕ → ℕ
 offset tag = slice_index tag (length tag - 1) % 16
 
--- the dynamic truncation: the four bytes from the offset on as a number, most significant first, without
--- its top bit
+-- dynamic truncation: the four bytes from the offset on as a number, most significant first, without its top bit
 abbrev pub truncated : List ℕ → ℕ
 truncated tag =
     let at = offset tag in
@@ -22,11 +21,11 @@ unfoldable pub last_digits : (count number : ℕ) → List ℕ
 last_digits zero number = []
 last_digits (suc count) number = last_digits count (number / 10) ++ (byte "0" + number % 10) ∷ []
 
--- Truncate of a tag: its truncation modulo 10 ^ digits, in that many digits
+-- Truncate of a tag: the dynamic truncation modulo 10 ^ digits, written with that many digits
 abbrev pub code_of : (digits : ℕ) → (tag : List ℕ) → List ℕ
 code_of digits tag = last_digits digits (truncated tag % 10 ^ digits)
 
--- HOTP(K, C) = Truncate(HMAC(K, C)), the counter in 8 bytes, most significant first
+-- HOTP(K, C) = Truncate(HMAC(K, C)), with the counter as 8 bytes, most significant first
 abbrev pub hotp_text : (hash : List ℕ → List ℕ) → (block digits : ℕ) → (key : List ℕ) → (counter : ℕ) → List ℕ
 hotp_text hash block digits key counter = code_of digits (hmac hash block key (to_be_bytes w64 counter))
 
@@ -35,6 +34,6 @@ pub record IsCodeText (text : List ℕ) : Type 0 where
   pub count : IsDigitCount (length text)
   pub digits : All IsAsciiDigit text
 
--- T, the number of whole steps of x seconds from t0 to a moment
+-- T = (moment - T0) / X: the number of whole steps of x seconds from t0 to a moment
 abbrev pub steps_from : (t0 x moment : ℕ) → ℕ
 steps_from t0 x moment = (moment - t0) / x

@@ -12,7 +12,7 @@ otp_fault_number SecretLength = 40
 otp_fault_number DigitCount = 41
 otp_fault_number (Setting setting) = 42
 
--- the name of a setting, that of its field
+-- the name of a setting, which is that of its field
 abbrev pub setting_name : setting.Setting → List ℕ
 setting_name Next = codes "next"
 setting_name LookAhead = codes "look_ahead"

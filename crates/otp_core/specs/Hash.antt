@@ -1,4 +1,4 @@
--- The hash functions that codes are made with: their names, in books and as options, and HOTP with each.
+-- The hash functions that codes can be made with: their names, in books and as options, and HOTP with each.
 use Rattle.std.specs.Prelude.{ℕ, List, codes, if◌then◌else◌, Option, Some, None}
 use Rattle.std.specs.Str.{bytes_eq}
 use Rattle.sha1.specs.Sha1.{sha1}
@@ -14,7 +14,7 @@ hash_name Sha1 = codes "sha1"
 hash_name Sha256 = codes "sha256"
 hash_name Sha512 = codes "sha512"
 
--- the hash function of this name, where there is one
+-- the hash function with this name, if there is one
 abbrev pub hash_named : List ℕ → Option OtpHash
 hash_named name =
     if bytes_eq name (hash_name Sha1) then Some Sha1
@@ -22,7 +22,7 @@ hash_named name =
     else if bytes_eq name (hash_name Sha512) then Some Sha512
     else None
 
--- the function itself, from a message to its digest
+-- the hash function itself, from a message to its digest
 abbrev pub otp_hash_by : OtpHash → List ℕ → List ℕ
 otp_hash_by Sha1 = sha1
 otp_hash_by Sha256 = sha256

@@ -1,4 +1,4 @@
--- Legal histories, and tokens that are where a start and a history lead.
+-- Legal histories, and the tokens to which they lead.
 use Rattle.std.specs.Prelude.{ℕ, pos, ◌≡◌, ◌↔◌, List, [], ◌∷◌, None}
 use Rattle.otp_core.specs.Ranges.{IsMoment}
 use Rattle.otp_core.specs.Attempt.{Attempt}
@@ -17,15 +17,15 @@ abbrev pub settings_of : TokenFields → TokenFields
 settings_of (Hotp t) = Hotp (record t { next = 0; failures = 0 })
 settings_of (Totp t) = Totp (record t { last = None; drift = pos 0; failures = 0 })
 
--- two starts with their histories have equal settings and failures, and at every moment the same
--- counters can pass, alone and in pairs
+-- two starts with their histories have equal settings and equal failures, and at every moment the same counters can pass, by
+-- themselves and as the first of a pair
 pub record AreAlike (start : TokenFields) (history : List Attempt) (other : TokenFields) (since : List Attempt) : Type 0 where
   pub settings : settings_of start ≡ settings_of other
   pub failures : failures_after start history ≡ failures_after other since
   pub candidates : (moment c : ℕ) → IsMoment moment → IsCandidate start history moment c ↔ IsCandidate other since moment c
   pub pairs : (w : ℕ) → IsPairCandidate start history w ↔ IsPairCandidate other since w
 
--- a token is where a start and a legal history lead
+-- a legal history leads from a start to this token: the start with the history and the token without one are alike
 pub record IsAfter (start : TokenFields) (history : List Attempt) (token : TokenFields) : Type 0 where
   pub legal : IsLegal start history
   pub alike : AreAlike start history token []

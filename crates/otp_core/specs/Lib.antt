@@ -1,3 +1,4 @@
+-- Codes and their ranges; attempts, the window and the reply due; how a token changes; laws.
 pub mod Attempt
 pub mod Code
 pub mod Fault

@@ -9,7 +9,7 @@ least_secret = 10
 abbrev pub most_secret : ℕ
 most_secret = 64
 
--- a secret has 10 to 64 bytes; RFC 4226, section 4, requires 16
+-- a secret has 10 to 64 bytes; RFC 4226, section 4, requires at least 16
 abbrev pub IsSecretLength : ℕ → Type 0
 IsSecretLength length = (least_secret ≤ length) × (length ≤ most_secret)
 
@@ -33,15 +33,15 @@ last_moment = 253402300799
 abbrev pub IsMoment : ℕ → Type 0
 IsMoment seconds = seconds ≤ last_moment
 
--- the greatest counter that can pass: the one after it is still a number that a book's text can have
+-- the greatest counter that can pass: the next one, 2 ^ 63 - 1, is still an integer that a book's TOML can hold
 abbrev pub most_counter : ℕ
 most_counter = 2 ^ 63 - 2
 
--- the most counters after the first that HOTP looks ahead for one code
+-- the greatest look_ahead: how many counters after the first HOTP tries for one code
 abbrev pub most_look_ahead : ℕ
 most_look_ahead = 100
 
--- the most counters after the first that HOTP looks ahead for two codes in a row
+-- the greatest sync_ahead: how many counters after the first HOTP tries for two codes in a row
 abbrev pub most_sync_ahead : ℕ
 most_sync_ahead = 1000
 
@@ -49,7 +49,7 @@ most_sync_ahead = 1000
 abbrev pub longest_step : ℕ
 longest_step = 3600
 
--- the most steps that TOTP looks back, and the most that it looks ahead
+-- the greatest `back` and the greatest `ahead` of TOTP, in steps
 abbrev pub most_steps_aside : ℕ
 most_steps_aside = 10
 
@@ -57,6 +57,6 @@ most_steps_aside = 10
 abbrev pub most_drift : ℕ
 most_drift = 100
 
--- the greatest number of failures that locks a token
+-- the greatest limit, the number of failures that locks a token
 abbrev pub most_limit : ℕ
 most_limit = 100

@@ -1,4 +1,5 @@
--- The reply due to an attempt, given the start of a token and the history since.
+-- The reply due to an attempt (RFC 4226, sections 7.2 to 7.4; RFC 6238, sections 5.2 and 6), given the start of a token and the history
+-- since.
 use Rattle.std.specs.Prelude.{ℕ, ◌+◌, ◌≤◌, ◌<◌, ◌≡◌, List, [], ◌∷◌}
 use Rattle.otp_core.specs.Hash.{hotp_text_by}
 use Rattle.otp_core.specs.Attempt.{Attempt, CodeTexts}
@@ -14,7 +15,7 @@ abbrev pub code_text : TokenFields → (c : ℕ) → List ℕ
 code_text (Hotp t) c = hotp_text_by Sha1 t.digits t.secret c
 code_text (Totp t) c = hotp_text_by t.hash t.digits t.secret c
 
--- the number of failures that locks the token
+-- the number of failures that locks the token (T of RFC 4226, section 7.3)
 abbrev pub limit_of : TokenFields → ℕ
 limit_of (Hotp t) = t.limit
 limit_of (Totp t) = t.limit
@@ -30,20 +31,20 @@ failures_after_reply (Pass c) before = 0
 failures_after_reply Fail before = before + 1
 failures_after_reply Locked before = before
 
--- the failures after a history: those since the last pass; without a pass, all of them and the start's
+-- the failures after a history: those since the last pass; without a pass, the start's and all that followed
 abbrev pub failures_after : (start : TokenFields) → (history : List Attempt) → ℕ
 failures_after start [] = failures_of start
 failures_after start (a ∷ before) = failures_after_reply a.reply (failures_after start before)
 
--- the text that was sent is the code of a counter that can pass; or the texts are the codes of a counter and the one
--- after it, which is the one that passes
+-- what was sent fits this counter: one text that is its code, if the counter can pass; or two texts that are the codes of the
+-- counter before it and of this one, if the two can pass as a pair
 abbrev pub IsFitting : (start : TokenFields) → (history : List Attempt) → (moment : ℕ) → CodeTexts → (c : ℕ) → Type 0
 IsFitting start history moment (CodeTexts.OneText text) c = IsCandidate start history moment c × (code_text start c ≡ text)
 IsFitting start history moment (CodeTexts.TwoTexts first second) c =
     (w : ℕ) × (c ≡ w + 1) × IsPairCandidate start history w × (code_text start w ≡ first) × (code_text start (w + 1) ≡ second)
 
--- the reply that is due: Locked where the failures have reached the limit, else Pass of the least
--- counter that fits, else Fail
+-- the reply that is due: Locked if the failures have reached the limit; else Pass of the least counter that fits, if there is one;
+-- else Fail
 abbrev pub IsDueReply : (start : TokenFields) → (history : List Attempt) → (moment : ℕ) → CodeTexts → Reply → Type 0
 IsDueReply start history moment sent Locked = limit_of start ≤ failures_after start history
 IsDueReply start history moment sent (Pass c) =

@@ -1,4 +1,4 @@
--- How a reply and an unlock change a token's state.
+-- How a reply (RFC 4226, section 7.2; for the drift, RFC 6238, section 6) and an unlock change a token's state.
 use Rattle.std.specs.Prelude.{ℕ, ◌+◌, pos, ◌-ℤ◌, Some}
 use Rattle.otp_core.specs.Window.{step_at}
 use Rattle.otp_core.specs.declared.token.reply.Reply.{Reply}

@@ -12,7 +12,7 @@ use Rattle.otp_core.specs.declared.token.kinds.TotpFields.{TotpFields}
 use Rattle.otp_core.specs.declared.token.kinds.TokenFields.{TokenFields}
 use Rattle.otp_core.specs.declared.token.kinds.TokenFields.TheVariants.{Hotp, Totp}
 
--- a field that has a range, and what the range asks of it
+-- a setting, and the condition that it is in its range
 pub record Ranged : Type 1 where
   pub setting : Setting
   pub IsIn : Type 0
@@ -27,11 +27,11 @@ abbrev pub IsFirstOutside : List Ranged → Setting → Type 0
 IsFirstOutside [] found = ⊥
 IsFirstOutside (r ∷ rest) found = ((r.IsIn → ⊥) × (found ≡ r.setting)) ⊎ (r.IsIn × IsFirstOutside rest found)
 
--- a field with its range
+-- a setting with its condition
 abbrev pub range : Setting → Type 0 → Ranged
 range setting IsIn = record { setting = setting; IsIn = IsIn }
 
--- the fields of a HOTP token that have a range, in their order
+-- the settings of a HOTP token that have a range, in the order in which they are checked
 abbrev pub hotp_ranges : HotpFields → List Ranged
 hotp_ranges t =
     range Next (t.next ≤ most_counter + 1)
@@ -41,7 +41,7 @@ hotp_ranges t =
     ∷ range Failures (t.failures ≤ t.limit)
     ∷ []
 
--- the fields of a TOTP token that have a range, in their order
+-- the settings of a TOTP token that have a range, in the order in which they are checked
 abbrev pub totp_ranges : TotpFields → List Ranged
 totp_ranges t =
     range Step ((1 ≤ t.step) × (t.step ≤ longest_step))
@@ -54,15 +54,15 @@ totp_ranges t =
     ∷ range Failures (t.failures ≤ t.limit)
     ∷ []
 
--- the fields of a HOTP token are in their ranges
+-- each field of a HOTP token is in its range
 abbrev pub IsHotpInRange : HotpFields → Type 0
 IsHotpInRange t = AreInRange (hotp_ranges t)
 
--- the fields of a TOTP token are in their ranges
+-- each field of a TOTP token is in its range
 abbrev pub IsTotpInRange : TotpFields → Type 0
 IsTotpInRange t = AreInRange (totp_ranges t)
 
--- the fields of a token are in their ranges
+-- each field of a token is in its range
 abbrev pub IsInRange : TokenFields → Type 0
 IsInRange (Hotp t) = IsHotpInRange t
 IsInRange (Totp t) = IsTotpInRange t

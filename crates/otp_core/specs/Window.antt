@@ -11,16 +11,16 @@ use Rattle.otp_core.specs.declared.token.kinds.TotpFields.{TotpFields}
 use Rattle.otp_core.specs.declared.token.kinds.TokenFields.{TokenFields}
 use Rattle.otp_core.specs.declared.token.kinds.TokenFields.TheVariants.{Hotp, Totp}
 
--- the greatest of some counters
+-- the greatest of these counters, if there are any
 abbrev pub greatest : List ℕ → Option ℕ
 greatest [] = None
 greatest (c ∷ counters) = Some (option_map_or (λ most. max c most) (greatest counters) c)
 
--- the first counter of HOTP's window: one more than the greatest that passed, or the start's next where none did
+-- the first counter of HOTP's window: one more than the greatest that was used, or the start's next if none was
 abbrev pub first_in_window : (next : ℕ) → (counters : List ℕ) → ℕ
 first_in_window next counters = option_map_or (λ most. most + 1) (greatest counters) next
 
--- a counter of HOTP's window (RFC 4226, section 7.4)
+-- a counter of HOTP's window (RFC 4226, section 7.4): the first counter, or one of the `ahead` counters after it
 pub record IsInHotpWindow (first ahead c : ℕ) : Type 0 where
   pub not_before : first ≤ c
   pub within : c ≤ first + ahead
@@ -30,37 +30,37 @@ pub record IsInHotpWindow (first ahead c : ℕ) : Type 0 where
 abbrev pub step_at : TotpFields → (moment : ℕ) → ℕ
 step_at t moment = steps_from t.t0 t.step moment
 
--- the drift after a reply: by how many steps the step that passed was ahead of the present step
+-- the drift after a reply: after a pass, by how many steps the step that passed was ahead of the present step; else as before
 abbrev pub drift_after_reply : Reply → (now before : ℤ) → ℤ
 drift_after_reply (Pass w) now before = pos w -ℤ now
 drift_after_reply Fail now before = before
 drift_after_reply Locked now before = before
 
--- the drift after a history: that of the last pass, or the start's where there is none
+-- the drift after a history: that of the last pass, or the start's if there was none
 abbrev pub drift_after : (start : TotpFields) → (history : List Attempt) → ℤ
 drift_after t [] = t.drift
 drift_after t (a ∷ before) = drift_after_reply a.reply (pos (step_at t a.moment)) (drift_after t before)
 
--- a step of TOTP's window (RFC 6238, sections 5.2 and 6): the present step moved by the drift, from
--- `back` steps before it to `ahead` steps after it, and at most max_drift from the present step
+-- a step of TOTP's window (RFC 6238, sections 5.2 and 6): at most `back` steps before and `ahead` steps after the present step plus
+-- the drift, and at most max_drift steps from the present step itself
 pub record IsInTotpWindow (now : ℕ) (drift : ℤ) (back ahead max_drift w : ℕ) : Type 0 where
   pub not_before : ((pos now +ℤ drift) -ℤ pos back) ≤ℤ pos w
   pub not_after : pos w ≤ℤ ((pos now +ℤ drift) +ℤ pos ahead)
   pub not_early : now ≤ w + max_drift
   pub not_late : w ≤ now + max_drift
 
--- a counter above each of these
+-- the counter is above each of these
 abbrev pub IsAbove : List ℕ → ℕ → Type 0
-IsAbove counters w = AllByRecursion (λ c. c < w) counters
+IsAbove counters c = AllByRecursion (λ used. used < c) counters
 
--- two codes in a row can pass, the first of them that of this counter. It is among HOTP's first counter and the sync_ahead
--- counters after it (RFC 4226, section 7.4). With a TOTP token two codes in a row never pass.
+-- two codes in a row can pass, and this is the counter of the first. With HOTP it is the first counter of the window or one of the
+-- sync_ahead counters after it (RFC 4226, section 7.4). With TOTP two codes in a row never pass.
 abbrev pub IsPairCandidate : (start : TokenFields) → (history : List Attempt) → (c : ℕ) → Type 0
-IsPairCandidate (Hotp t) history w = IsInHotpWindow (first_in_window t.next (used_in history)) t.sync_ahead w × (w + 1 ≤ most_counter)
-IsPairCandidate (Totp t) history w = ⊥
+IsPairCandidate (Hotp t) history c = IsInHotpWindow (first_in_window t.next (used_in history)) t.sync_ahead c × (c + 1 ≤ most_counter)
+IsPairCandidate (Totp t) history c = ⊥
 
--- the counter can pass at a moment, after a history from a start. A step of TOTP passes once, and
--- after it no earlier one (RFC 6238, section 5.2).
+-- the counter can pass at a moment, after a history from a start. A step of TOTP passes at most once, and no earlier step passes
+-- after it (RFC 6238, section 5.2).
 abbrev pub IsCandidate : (start : TokenFields) → (history : List Attempt) → (moment c : ℕ) → Type 0
 IsCandidate (Hotp t) history moment c = IsInHotpWindow (first_in_window t.next (used_in history)) t.look_ahead c
 IsCandidate (Totp t) history moment w =

@@ -38,7 +38,7 @@ impl Code {
     }
 }
 
-// The dynamic truncation of a tag (RFC 4226, section 5.3): the four bytes from its offset on, as a number without the top bit.
+// The dynamic truncation of a tag (RFC 4226, section 5.3): the four bytes at its offset, as a number without the top bit.
 fn truncated_number(tag: &[u8]) -> u32
     requires { 20 ≤ length tag.now }
     ensures { result ≡ truncated tag.now }
@@ -60,8 +60,8 @@ fn digits_of(mut number: u32, count: usize) -> ArrayVec<u8, 8>
     digits
 }
 
-/// The code of a tag (RFC 4226, section 5.3): its dynamic truncation modulo 10 ^ `digits`, in that
-/// many digits, with leading zeros. The tag has at least 20 bytes; the offset is in its last byte.
+/// The code of a tag (RFC 4226, section 5.3): its dynamic truncation modulo 10 ^ `digits`, written in that many digits, with
+/// leading zeros. The tag has at least 20 bytes; the offset is in its last byte.
 pub fn truncate(tag: &Tag, digits: Digits) -> Code
     requires { 20 ≤ length tag.now.items }
     ensures { result ≡ code_of digits tag.now.items }
@@ -73,9 +73,8 @@ pub fn truncate(tag: &Tag, digits: Digits) -> Code
     }
 }
 
-/// The HOTP value of `counter` under a key that was prepared once (RFC 4226, section 5.3). Where
-/// `counter` is made by `step`, it is the TOTP value (RFC 6238, section 4.2), and `H` is then the
-/// token's hash function.
+/// The HOTP value of `counter` under a key that was prepared once (RFC 4226, section 5.3). If `counter` is a result of `step` and
+/// `H` is the token's hash function, it is the TOTP value (RFC 6238, section 4.2).
 pub fn hotp_with<H: HashFn>(prepared: &PreparedKey<H>, counter: u64, digits: Digits) -> Code
     ensures { (key : List ℕ) → IsPreparedFor H.holds H.digest_of H.BLOCK prepared.now key
         → result ≡ hotp_text H.digest_of H.BLOCK digits key counter }
@@ -90,8 +89,8 @@ pub fn hotp<H: HashFn>(secret: &Secret, counter: u64, digits: Digits) -> Code
     hotp_with(&PreparedKey::<H>::new(secret.bytes()), counter, digits)
 }
 
-/// The TOTP counter of a moment (RFC 6238, section 4.2): the number of whole steps of `x` seconds
-/// since `t0`, or None exactly where the moment is before `t0`. `x` is at least 1.
+/// The TOTP counter of a moment (RFC 6238, section 4.2): the number of whole steps of `x` seconds since `t0`, or None if and only
+/// if the moment is before `t0`. `x` must be at least 1.
 pub fn step(moment: Moment, t0: Moment, x: u64) -> Option<u64>
     requires { 1 ≤ x }
     ensures { MatchOption result

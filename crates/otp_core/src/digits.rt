@@ -9,7 +9,7 @@ use std::marker::Model;
 /// The least number of digits of a code (RFC 4226, section 5.3).
 pub const LEAST_DIGITS: u8 = 6;
 
-/// The greatest number of digits of a code.
+/// The greatest number of digits of a code (RFC 4226, section 5.3).
 pub const MOST_DIGITS: u8 = 8;
 
 /// The number of digits of a code: 6 to 8 (RFC 4226, section 5.3). Contracts see it as that number.
@@ -29,7 +29,7 @@ impl Model for Digits {
 }
 
 impl Digits {
-    /// The number `count` of digits. Answers 41 DigitCount exactly where it is below 6 or above 8.
+    /// `count` as a number of digits. Errors: 41 DigitCount if and only if it is below 6 or above 8.
     pub fn new(count: u8) -> Result<Digits, OtpFault>
         ensures { MatchResult result
             (λ digits. (digits ≡ count) × IsDigitCount count)
@@ -42,7 +42,7 @@ impl Digits {
         }
     }
 
-    /// The number of digits.
+    /// The number of digits, 6 to 8.
     pub fn count(self) -> u8
         ensures value { result ≡ self }
         ensures range { IsDigitCount self }

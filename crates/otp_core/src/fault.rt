@@ -1,4 +1,4 @@
-//! Refusals of this crate, each with its number.
+//! The errors of this crate, each with its number.
 ghost use Rattle.std.specs.Prelude.{◌≡◌};
 ghost use Rattle.otp_core.specs.Fault.{otp_fault_number, setting_name};
 
@@ -8,22 +8,21 @@ use thiserror::Error;
 /// Why a secret, a number of digits or a token's setting is refused.
 #[derive(Clone, Copy, Debug, PartialEq, Eq, Error)]
 pub enum OtpFault {
-    /// 40: a secret has fewer than 10 or more than 64 bytes.
+    /// 40: the secret has fewer than 10 or more than 64 bytes.
     #[error("a secret has 10 to 64 bytes")]
     SecretLength,
 
-    /// 41: a code is to have fewer than 6 or more than 8 digits.
+    /// 41: the number of digits is below 6 or above 8.
     #[error("a code has 6 to 8 digits")]
     DigitCount,
 
-    /// 42: this setting of a token is out of its range.
+    /// 42: this setting of the token is out of its range.
     #[error("{0} is out of range")]
     Setting(Setting),
 }
 
 impl OtpFault {
-    /// The number of the refusal: 40 for a secret's length, 41 for a number of digits, 42 for a
-    /// token's setting.
+    /// The number of the error: 40 for a secret's length, 41 for a number of digits, 42 for a token's setting.
     pub fn number(&self) -> u16
         ensures { result ≡ otp_fault_number self.now }
     {
@@ -35,14 +34,14 @@ impl OtpFault {
     }
 }
 
-/// A field of a token that has a range of its own: one of its settings or of its state. The book's text and refusal 42 call both
-/// settings.
+/// A field of a token that has a range of its own, whether one of its settings or a part of its state. Both are called settings
+/// here.
 #[derive(Clone, Copy, Debug, PartialEq, Eq)]
 pub enum Setting {
-    /// HOTP's next counter.
+    /// The least HOTP counter that can pass.
     Next,
 
-    /// How many counters after HOTP's next one can pass.
+    /// How many counters after HOTP's next one can also pass.
     LookAhead,
 
     /// How many counters after HOTP's next one can be the first of a pair that passes.
@@ -51,10 +50,10 @@ pub enum Setting {
     /// The length of a TOTP step in seconds.
     Step,
 
-    /// How many steps TOTP looks back from the present step, moved by the drift.
+    /// How many steps before the present one, moved by the drift, can pass.
     Back,
 
-    /// How many steps TOTP looks ahead of the present step, moved by the drift.
+    /// How many steps after the present one, moved by the drift, can pass.
     Ahead,
 
     /// How far, in steps, a step that passes may be from the present one.
@@ -74,7 +73,7 @@ pub enum Setting {
 }
 
 impl Setting {
-    /// The setting's name, that of its field.
+    /// The setting's name, which is that of its field: `look_ahead`, for example.
     pub fn name(&self) -> &'static str
         ensures { result.now ≡ setting_name self.now }
     {

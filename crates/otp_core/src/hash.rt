@@ -32,7 +32,7 @@ impl OtpHash {
         }
     }
 
-    /// The hash function of this name, or None where there is none.
+    /// The hash function with this name, or None if there is none.
     pub fn of_name(name: &str) -> Option<OtpHash>
         ensures value { result ≡ hash_named name.now }
         ensures some { IfSome result (λ hash. name.now ≡ hash_name hash) }

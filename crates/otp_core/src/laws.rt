@@ -1,43 +1,42 @@
-//! Laws of histories of attempts, for crates that use tokens. Each is the contract of a function
-//! that does nothing.
+//! Laws about histories of attempts, for crates that use tokens. Each is the contract of a function that does nothing.
 ghost use Rattle.otp_core.specs.Laws.{BeginsWithItself, CandidatesAreNew, UsedStaysUsed, HistoriesJoin, LegalHistoriesJoin};
 ghost use Rattle.otp_core.specs.Laws.{OnlyOneReplyIsDue, SomeReplyIsDue};
 
-/// Each token is where it and the empty history lead, so a run may begin with any token.
+/// A token and the empty history lead to that token, so a run may begin with any token.
 pub fn begins_with_itself()
     ensures { BeginsWithItself }
 {}
 
-/// A counter that can pass, alone or as the first of a pair, is above each that the history before it has used, so none is used
-/// twice.
+/// A counter that can pass, by itself or as the first of a pair, is above every counter that the history so far has used. So no
+/// counter is used twice.
 pub fn candidates_are_new()
     ensures { CandidatesAreNew }
 {}
 
-/// A counter that a token has used can pass after no legal history from it, alone or in a pair. Which counters are used does not
-/// depend on the failures, so the law holds of the token after an unlock too.
+/// A counter that a token has used can't pass again after any legal history from that token, by itself or as the first of a pair.
+/// Which counters are used does not depend on the failures, so the law also holds for the token after an unlock.
 pub fn used_stays_used()
     ensures { UsedStaysUsed }
 {}
 
-/// Where one history leads from a start to a token, and another leads on from there, both together
-/// lead from the start to where the second leads.
+/// If one history leads from a start to a token, and a later one leads from there to another token, then both together lead from
+/// the start to that other token.
 pub fn histories_join()
     ensures { HistoriesJoin }
 {}
 
-/// A legal history that goes on from where another one led is legal from the start on, since after both pasts the failures, and the
-/// counters that can pass, are the same.
+/// If one history leads from a start to a token, and a later one is legal from there, then both together are legal from the start,
+/// and the failures and the counters that can pass are the same after both together as after the later one from there.
 pub fn legal_histories_join()
     ensures { LegalHistoriesJoin }
 {}
 
-/// No two replies are due to one attempt. So the start and the history decide whether a recorded reply is right.
+/// At most one reply is due to an attempt. So the start and the history decide whether a recorded reply is right.
 pub fn only_one_reply_is_due()
     ensures { OnlyOneReplyIsDue }
 {}
 
-/// Some reply is due to every attempt, after any start and history.
+/// At least one reply is due to every attempt, after any start and history.
 pub fn some_reply_is_due()
     ensures { SomeReplyIsDue }
 {}

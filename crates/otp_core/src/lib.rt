@@ -1,8 +1,7 @@
 //! HOTP (RFC 4226) and TOTP (RFC 6238) codes, and tokens that judge them.
 //!
-//! A code's contract says that it is the RFC's formula of its arguments. A token's contract says
-//! that each reply is the one due after all earlier attempts (`Token::attempt`, `Token::sync` for two
-//! codes in a row, and `Token::judge` for either). No call takes memory.
+//! Contracts say that a code is the RFC's formula applied to the arguments, and that each reply of a token is the one due after all
+//! earlier attempts (`Token::attempt`, `Token::sync` for two codes in a row, and `Token::judge` for either). No call allocates.
 //!
 //! ```rust
 //! use mac_core::HSha1;

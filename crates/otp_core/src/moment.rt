@@ -7,8 +7,8 @@ use std::marker::Model;
 /// The last moment, in seconds since 1970-01-01 00:00 UTC: the last second of the year 9999.
 pub const LAST_MOMENT: u64 = 253_402_300_799;
 
-/// A moment: whole seconds since 1970-01-01 00:00 UTC, at most 253402300799, the last second of
-/// the year 9999. Contracts see it as that number.
+/// A moment: whole seconds since 1970-01-01 00:00 UTC, at most 253402300799, the last second of the year 9999. Contracts see it as
+/// that number.
 #[derive(Clone, Copy, Debug, PartialEq, Eq)]
 pub struct Moment {
     seconds: u64,
@@ -25,8 +25,7 @@ impl Model for Moment {
 }
 
 impl Moment {
-    /// The moment `seconds` after the start of 1970 (UTC), or None exactly where they are more than
-    /// 253402300799.
+    /// The moment `seconds` after the start of 1970 (UTC), or None if and only if `seconds` is more than 253402300799.
     pub fn new(seconds: u64) -> Option<Moment>
         ensures { MatchOption result
             (IsMoment seconds → ⊥)
@@ -39,7 +38,7 @@ impl Moment {
         }
     }
 
-    /// The seconds since the start of 1970 (UTC).
+    /// The seconds since the start of 1970 (UTC), at most 253402300799.
     pub fn seconds(self) -> u64
         ensures value { result ≡ self }
         ensures range { IsMoment self }

@@ -8,10 +8,10 @@ use arrayvec::ArrayVec;
 use mac_core::copy_of;
 use std::marker::Model;
 
-/// The least number of bytes of a secret.
+/// The least length of a secret, in bytes.
 pub const LEAST_SECRET: usize = 10;
 
-/// The greatest number of bytes of a secret.
+/// The greatest length of a secret, in bytes.
 pub const MOST_SECRET: usize = 64;
 
 /// The key of a token's HMAC: 10 to 64 bytes. Contracts see it as the list of its bytes.
@@ -29,8 +29,7 @@ impl Model for Secret {
 }
 
 impl Secret {
-    /// The secret of these bytes. Answers 40 SecretLength exactly where there are fewer than 10 or
-    /// more than 64.
+    /// The secret with these bytes. Errors: 40 SecretLength if and only if there are fewer than 10 or more than 64.
     pub fn new(bytes: &[u8]) -> Result<Secret, OtpFault>
         ensures { MatchResult result
             (λ secret. (secret ≡ bytes.now) × IsSecretLength (length bytes.now))
@@ -45,7 +44,7 @@ impl Secret {
         }
     }
 
-    /// The secret's bytes.
+    /// The secret's bytes, 10 to 64.
     pub fn bytes(&self) -> &[u8]
         ensures value { result.now ≡ self.now }
         ensures length { IsSecretLength (length self.now) }

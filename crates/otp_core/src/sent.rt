@@ -1,11 +1,11 @@
-//! What a client sends to pass with a code.
+//! What a client sends to be judged: one code, or two in a row.
 
-/// The text of one code, or those of two in a row (RFC 4226, section 7.4).
+/// The text of one code, or the texts of two codes in a row (RFC 4226, section 7.4).
 #[derive(Clone, Copy)]
 pub enum Sent<'a> {
-    /// One text.
+    /// The text of one code.
     One(&'a [u8]),
 
-    /// Two texts.
+    /// The texts of two codes, the earlier one first.
     Two(&'a [u8], &'a [u8]),
 }

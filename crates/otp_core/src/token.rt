@@ -1,4 +1,4 @@
-//! Tokens of either kind, each setting within its range.
+//! Tokens of either kind, with each field within its range.
 ghost use Rattle.std.specs.Prelude.{◌≡◌, MatchResult};
 ghost use Rattle.otp_core.specs.TokenRanges.{IsHotpInRange, IsTotpInRange, IsInRange, IsRefusalOf, hotp_ranges, totp_ranges};
 ghost use Rattle.otp_core.specs.Attempt.CodeTexts.{OneText, TwoTexts};
@@ -22,8 +22,7 @@ pub use reply::Reply;
 use reply::{judge_one, judge_pair};
 use std::marker::Model;
 
-/// A token: settings and state of one kind, each within its range. Contracts see it as its
-/// `TokenFields`.
+/// A HOTP or a TOTP token: its settings and its state, each within its range. Contracts see it as its `TokenFields`.
 #[derive(Drop)]
 pub struct Token {
     fields: TokenFields,
@@ -42,8 +41,8 @@ impl Model for Token {
 }
 
 impl Token {
-    /// The HOTP token of these fields. Answers 42 Setting with the first field that is out of its
-    /// range, exactly where there is one.
+    /// The HOTP token with these fields. Errors: 42 Setting with the first field that is out of its range, if and only if there is
+    /// one.
     pub fn hotp(fields: HotpFields) -> Result<Token, OtpFault>
         ensures { MatchResult result
             (λ token. (token ≡ Hotp fields) × IsHotpInRange fields)
@@ -57,8 +56,8 @@ impl Token {
         }
     }
 
-    /// The TOTP token of these fields. Answers 42 Setting with the first field that is out of its
-    /// range, exactly where there is one.
+    /// The TOTP token with these fields. Errors: 42 Setting with the first field that is out of its range, if and only if there is
+    /// one.
     pub fn totp(fields: TotpFields) -> Result<Token, OtpFault>
         ensures { MatchResult result
             (λ token. (token ≡ Totp fields) × IsTotpInRange fields)
@@ -91,38 +90,36 @@ impl Token {
         Token { fields }
     }
 
-    /// Judges `text` as a code at `moment` (RFC 4226, section 7, and RFC 6238, sections 5.2 and 6):
-    /// `Locked` where the failures have reached the limit; else `Pass` with the least counter that
-    /// can pass and whose code is the text; else `Fail`. So no counter passes twice. For every start
-    /// and history that lead to this token, the reply is the one due after them, and with this
-    /// attempt added they lead to the token as it is afterwards.
+    /// Judges `text` as a code at `moment` (RFC 4226, section 7, and RFC 6238, sections 5.2 and 6): `Locked` if the failures have
+    /// reached the limit; else `Pass` with the least counter that can pass and whose code is the text; else `Fail`. So no counter
+    /// passes twice. For every start and history that lead to this token, the reply is the one due after them; with this attempt
+    /// added to the history, they lead to the token after the call.
     ///
-    /// The fields change by the reply. A pass of HOTP moves `next` to the counter after it; a pass
-    /// of TOTP sets `last` to its step, and `drift` to the steps by which that is ahead of the
-    /// present one; both set the failures to 0. `Fail` adds one to the failures; `Locked` changes
-    /// nothing. A counter that passes is at most 2^63 - 2.
+    /// The reply decides how the fields change. A HOTP pass moves `next` to the counter after the one that passed. A TOTP pass sets
+    /// `last` to the step that passed, and `drift` to the number of steps by which it is ahead of the present step. Both set the
+    /// failures to 0. `Fail` adds one to the failures; `Locked` changes nothing. A counter that passes is at most 2^63 - 2.
     pub fn attempt(&mut self, moment: Moment, text: &[u8]) -> Reply
         ensures { IsTokenAttempt self.old moment (OneText text.now) result self.new }
     {
         self.judge(moment, Sent::One(text))
     }
 
-    /// Judges two texts as codes in a row at `moment`, so that a HOTP counter that ran far ahead is found again (RFC 4226,
-    /// section 7.4): `Locked` where the failures have reached the limit; else `Pass` with the counter of the second text,
-    /// where the texts are the codes of two counters in a row, the first of them among `next` and the `sync_ahead` counters
-    /// after it, by the least such pair; else `Fail`. With a TOTP token two codes never pass. For every start and history that
-    /// lead to this token, the reply is the one due after them, and with this attempt added they lead to the token as it is
-    /// afterwards: both counters of a pair that passed are used.
+    /// Judges two texts as codes in a row at `moment`, to find a HOTP counter that has run far ahead (RFC 4226, section 7.4):
+    /// `Locked` if the failures have reached the limit; else `Pass` if the texts are the codes of two counters in a row, the first
+    /// of which is `next` or one of the `sync_ahead` counters after it; else `Fail`. `Pass` contains the second counter of the
+    /// least such pair. Two codes never pass with a TOTP token. For every start and history that lead to this token, the reply is
+    /// the one due after them; with this attempt added to the history, they lead to the token after the call. Both counters of a
+    /// pair that passed are used.
     ///
-    /// The fields change as by `attempt`, and a counter that passes is at most 2^63 - 2. At most two codes more than
-    /// `sync_ahead` are made, which no clause says.
+    /// The fields change as in `attempt`, and a counter that passes is at most 2^63 - 2. The call computes at most `sync_ahead` + 2
+    /// codes (no clause says so).
     pub fn sync(&mut self, moment: Moment, first: &[u8], second: &[u8]) -> Reply
         ensures { IsTokenAttempt self.old moment (TwoTexts first.now second.now) result self.new }
     {
         self.judge(moment, Sent::Two(first, second))
     }
 
-    /// Judges what was sent at `moment`: one text as `attempt` does, and two as `sync` does.
+    /// Judges what was sent, at `moment`: one text as `attempt` does, two as `sync` does.
     pub fn judge(&mut self, moment: Moment, sent: Sent<'_>) -> Reply
         ensures { IsTokenAttempt self.old moment (texts_of sent.entry) result self.new }
     {
@@ -133,7 +130,7 @@ impl Token {
         }
     }
 
-    /// Sets the failures to 0, and changes nothing else.
+    /// Sets the failures to 0 and changes nothing else.
     pub fn unlock(&mut self)
         ensures { self.new ≡ unlocked self.old }
     {

@@ -1,5 +1,5 @@
-//! Values from outside: RFC 4226, section 5.4 and appendix D, and RFC 6238, appendix B; the codes of a
-//! few other counters are from Python's hmac.
+//! Expected values from outside: RFC 4226, section 5.4 and appendix D, and RFC 6238, appendix B; the codes
+//! of a few other counters are computed with Python's hmac.
 use mac_core::{HSha1, HSha256, HSha512, HashFn, PreparedKey, Tag};
 use otp_core::{
     Code, Digits, HotpFields, Moment, OtpFault, OtpHash, Reply, Secret, Sent, Setting, Token,
@@ -11,14 +11,14 @@ use std::test::Fail;
 mod pairs;
 
 // The longest seed of the program in RFC 6238, appendix A. Its first 20 and 32 bytes are the other two; the codes of
-// all three are in appendix B. The 20 bytes are the secret of RFC 4226, appendix D, too.
+// all three are in appendix B. The 20 bytes are also the secret of RFC 4226, appendix D.
 const SECRET: &[u8; 64] = b"1234567890123456789012345678901234567890123456789012345678901234";
 
 fn moment(rt: &impl Abort, seconds: u64) -> Moment {
     Moment::new(seconds).expect(rt, "a moment")
 }
 
-// Checks one code, made in each way: of the secret, and of a prepared key.
+// Checks one code, computed in each way: from the secret, and from a prepared key.
 fn check_code<H: HashFn>(
     rt: &impl Abort,
     hash: OtpHash,
@@ -78,7 +78,7 @@ fn totp_values(rt: HostRuntime) -> Result<(), Fail> {
     Ok(())
 }
 
-// The code of the tag of these bytes, with `count` digits.
+// The code of the tag with these bytes, in `count` digits.
 fn code_of_bytes(rt: &impl Abort, bytes: &[u8], count: u8) -> Code {
     let tag = Tag::try_from(bytes).ok().expect(rt, "at most 64 bytes");
     assert!(rt; tag.len() >= 20, "at least 20 bytes");
@@ -101,8 +101,8 @@ fn truncation_of_rfc(rt: HostRuntime) {
     }
 }
 
-// The offset is in the last of 32 bytes and not in the twentieth; the top bit is dropped. By hand: 7F000000 in hexadecimal
-// is 2130706432.
+// The offset is in the last of 32 bytes and not in the twentieth; the top bit is dropped. Worked out by hand: 7F000000 in
+// hexadecimal is 2130706432.
 #[test]
 fn truncation_of_long_tag(rt: HostRuntime) {
     let mut tag = [0; 32];
@@ -329,7 +329,7 @@ fn unlock_of_a_totp_token(rt: HostRuntime) {
     }
 }
 
-// Makes attempts one after the other, each a moment and a text, and compares the replies.
+// Makes these attempts in turn, each a moment and a text, and compares the replies.
 fn check_attempts(
     rt: &impl Abort,
     token: Result<Token, OtpFault>,
@@ -386,7 +386,7 @@ fn texts_that_fail(rt: HostRuntime) {
     }
 }
 
-// The codes of the last counters and of two counters that share one are from Python's hmac.
+// The codes of the last counters, and of two counters that share a code, are computed with Python's hmac.
 #[test]
 fn hotp_edges(rt: HostRuntime) {
     let top = 0x7fff_ffff_ffff_ffff;
@@ -413,7 +413,7 @@ fn hotp_edges(rt: HostRuntime) {
     );
 }
 
-// The codes are those of RFC 6238, appendix B. A code of another hash function's row does not pass.
+// The codes are those of RFC 6238, appendix B. A code for another hash function does not pass.
 #[test]
 fn totp_attempts_of_each_hash(rt: HostRuntime) -> Result<(), Fail> {
     for (hash, len, other, code) in [
@@ -434,8 +434,8 @@ fn totp_attempts_of_each_hash(rt: HostRuntime) -> Result<(), Fail> {
     Ok(())
 }
 
-// A step of a minute that is counted from the tenth second. The codes are those of the steps 1 and 2 in RFC 6238, appendix
-// B, and by Python's hmac.
+// Steps of a minute, counted from the tenth second. The codes are those of steps 1 and 2: in RFC 6238, appendix B, and computed
+// with Python's hmac.
 #[test]
 fn totp_attempts_of_other_steps(rt: HostRuntime) {
     let mut fields = totp_fields(&rt, (60, 0, 0, 0), (None, 0, 3, 0));
@@ -449,7 +449,7 @@ fn totp_attempts_of_other_steps(rt: HostRuntime) {
     check_attempts(&rt, Token::totp(fields), &attempts);
 }
 
-// The codes are those of RFC 6238, appendix B, and of RFC 4226, appendix D, in eight digits.
+// The codes are those of RFC 6238, appendix B, and of RFC 4226, appendix D, with eight digits.
 #[test]
 fn totp_attempts(rt: HostRuntime) {
     let window = (30, 0, 1, 1);
@@ -464,7 +464,7 @@ fn totp_attempts(rt: HostRuntime) {
             (59, "94287082", Reply::Pass(1)),
             (59, "94287082", Reply::Fail),
         ],
-        // A moment that is before that of a pass.
+        // A moment before that of an earlier pass.
         [
             (1111111111, "14050471", Reply::Pass(37037037)),
             (59, "94287082", Reply::Fail),
@@ -483,7 +483,7 @@ fn totp_attempts(rt: HostRuntime) {
 #[test]
 fn totp_edges(rt: HostRuntime) {
     let rows = [
-        // Step 0 passes where there is no last step, and not after step 0.
+        // Step 0 passes if there is no last step, but not after step 0.
         (
             (30, 0, 0, 0),
             (None, 0, 3, 0),
@@ -498,7 +498,7 @@ fn totp_edges(rt: HostRuntime) {
             "84755224",
             Reply::Fail,
         ),
-        // The window ahead is cut by max_drift.
+        // `max_drift` cuts the window ahead.
         (
             (30, 0, 1, 1),
             (None, 0, 3, 0),
@@ -507,7 +507,7 @@ fn totp_edges(rt: HostRuntime) {
             Reply::Pass(1),
         ),
         ((30, 0, 1, 0), (None, 0, 3, 0), 29, "94287082", Reply::Fail),
-        // The window back is cut by max_drift too.
+        // `max_drift` also cuts the window back.
         (
             (30, 1, 0, 1),
             (None, 0, 3, 0),
@@ -543,7 +543,7 @@ fn totp_clocks(rt: HostRuntime) {
             "37359152",
             Reply::Pass(2),
         ),
-        // Locked counts before all else.
+        // `Locked` goes before any other reply.
         (
             (30, 0, 0, 0),
             (None, 0, 3, 3),

@@ -7,7 +7,7 @@ use Rattle.std.proofs.lemmas.List.Folds.{list_any-from_Any}
 use Rattle.std.proofs.lemmas.Map.Views.{Contains-from_any}
 use Rattle.std.proofs.lemmas.Slice.Eq.{bytes_eq-Decides}
 
--- a test for a name passes for one in the list exactly where the name is in it
+-- a test for a name passes for one in the list if and only if the name is in it
 pub found_iff_among : (names : List (List ℕ)) (wanted : List ℕ)
     → IsTrue (list_any (λ name. bytes_eq name wanted) names) ↔ Contains names wanted
 found_iff_among names wanted = (

@@ -1,26 +1,26 @@
--- Facts that are decided: it can be found out whether they hold.
+-- Decidable facts: it can be found out whether they are true.
 use Rattle.std.proofs.Common.{◌≡◌, ◌⊎◌, inl, inr, ℕ, ◌≤◌, ◌<◌, Bool, true, List, arith}
 use Rattle.std.specs.Str.{bytes_eq}
 use Rattle.std.proofs.lemmas.Bool.{cases_Bool, cases_lt, both_ways}
 use Rattle.std.proofs.lemmas.Bool.Decides.{eqb_tells}
 use Rattle.std.proofs.lemmas.Slice.Eq.{bytes_eq-Decides}
 
--- a fact holds, or it does not
+-- a fact is true, or it is not
 abbrev pub Decided : Type 0 → Type 0
 Decided P = P ⊎ (P → ⊥)
 
--- a fact that holds exactly where a decided one does is decided
+-- a fact that is true if and only if a decidable one is true is decidable
 pub decided_equivalent : (P Q : Type 0) → (P → Q) → (Q → P) → Decided P → Decided Q
 decided_equivalent P Q to from (inl p) = inl (to p)
 decided_equivalent P Q to from (inr other) = inr (λ q. other (from q))
 
--- whether two facts hold is decided
+-- it is decidable whether both of two facts are true
 pub decided_both : (P Q : Type 0) → Decided P → Decided Q → Decided (P × Q)
 decided_both P Q (inl p) (inl q) = inl (p, q)
 decided_both P Q (inl p) (inr other) = inr (λ both. other both.1)
 decided_both P Q (inr other) q = inr (λ both. other both.0)
 
--- whether a test passes is decided, and so is whether a number is at most, less than or equal to another:
+-- it is decidable whether a test passes, and whether a number is at most, less than or equal to another:
 pub decided_test : (test : Bool) → Decided (test ≡ true)
 decided_test test = elim (cases_Bool test) [ inl passes ↦ inl passes | inr fails ↦ inr (λ passes. both_ways test fails passes) ]
 
@@ -33,7 +33,7 @@ decided_lt m n = elim (cases_lt m n) [ inl under ↦ inl under | inr over ↦ in
 pub decided_same_number : (m n : ℕ) → Decided (m ≡ n)
 decided_same_number m n = elim (eqb_tells m n) [ inl same ↦ inl same.1 | inr other ↦ inr other.1 ]
 
--- whether two texts are the same is decided
+-- it is decidable whether two texts are the same
 pub decided_same_text : (xs ys : List ℕ) → Decided (xs ≡ ys)
 decided_same_text xs ys = elim (cases_Bool (bytes_eq xs ys)) [
   | inl is ↦ inl ((bytes_eq-Decides xs ys).0 is)

@@ -1,4 +1,4 @@
--- The length of a MAC by mechanism.
+-- The length of a MAC for each mechanism.
 use Rattle.std.proofs.Common.{◌≡◌, ℕ, List, length}
 use Rattle.sha2.proofs.Facts256.{length-sha256}
 use Rattle.mac_core.specs.Digest.{length-sha1}

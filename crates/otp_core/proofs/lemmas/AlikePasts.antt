@@ -15,54 +15,54 @@ settings_keep_limit : (s : TokenFields) → limit_of (settings_of s) ≡ limit_o
 settings_keep_limit (Hotp s) = refl
 settings_keep_limit (Totp s) = refl
 
--- a token's codes depend on its settings alone
+-- a token's codes depend only on its settings
 settings_keep_codes : (s : TokenFields) (c : ℕ) → code_text (settings_of s) c ≡ code_text s c
 settings_keep_codes (Hotp s) c = refl
 settings_keep_codes (Totp s) c = refl
 
 -- tokens with the same settings have the same limit, and the same codes:
-same_settings_same_limit : (s t : TokenFields) → settings_of s ≡ settings_of t → limit_of s ≡ limit_of t
-same_settings_same_limit s t e = sym (settings_keep_limit s) ∙ (ap limit_of e ∙ settings_keep_limit t)
+same_settings_give_same_limit : (s t : TokenFields) → settings_of s ≡ settings_of t → limit_of s ≡ limit_of t
+same_settings_give_same_limit s t e = sym (settings_keep_limit s) ∙ (ap limit_of e ∙ settings_keep_limit t)
 
-same_settings_same_codes : (s t : TokenFields) (c : ℕ) → settings_of s ≡ settings_of t → code_text s c ≡ code_text t c
-same_settings_same_codes s t c e = sym (settings_keep_codes s c) ∙ (ap (λ f. code_text f c) e ∙ settings_keep_codes t c)
+same_settings_give_same_codes : (s t : TokenFields) (c : ℕ) → settings_of s ≡ settings_of t → code_text s c ≡ code_text t c
+same_settings_give_same_codes s t c e = sym (settings_keep_codes s c) ∙ (ap (λ f. code_text f c) e ∙ settings_keep_codes t c)
 
--- an equivalence holds the other way round too, and two that follow one another make one:
-pub iff_symmetric : {A B : Type 0} → A ↔ B → B ↔ A
-iff_symmetric one = (one.1, one.0)
+-- an equivalence is also true the other way round, and two that follow one another make one:
+pub iff_is_symmetric : {A B : Type 0} → A ↔ B → B ↔ A
+iff_is_symmetric one = (one.1, one.0)
 
-pub iff_transitive : {A B C : Type 0} → A ↔ B → B ↔ C → A ↔ C
-iff_transitive one other = ((λ x. other.0 (one.0 x)), (λ x. one.1 (other.1 x)))
+pub iff_is_transitive : {A B C : Type 0} → A ↔ B → B ↔ C → A ↔ C
+iff_is_transitive one other = ((λ x. other.0 (one.0 x)), (λ x. one.1 (other.1 x)))
 
--- two pasts that are alike are so the other way round
-pub alike_symmetric : (s t : TokenFields) (h k : List Attempt) → AreAlike s h t k → AreAlike t k s h
-alike_symmetric s t h k alike = record {
+-- two pasts that are alike are alike the other way round
+pub alike_is_symmetric : (s t : TokenFields) (h k : List Attempt) → AreAlike s h t k → AreAlike t k s h
+alike_is_symmetric s t h k alike = record {
   settings = sym alike.settings;
   failures = sym alike.failures;
-  candidates = λ m c is. iff_symmetric (alike.candidates m c is);
-  pairs = λ w. iff_symmetric (alike.pairs w);
+  candidates = λ m c is. iff_is_symmetric (alike.candidates m c is);
+  pairs = λ w. iff_is_symmetric (alike.pairs w);
 }
 
--- a past that is alike to a second, which is alike to a third, is alike to the third
-pub alike_transitive : (s t u : TokenFields) (h k l : List Attempt) → AreAlike s h t k → AreAlike t k u l → AreAlike s h u l
-alike_transitive s t u h k l one other = record {
+-- if one past is alike to a second, and the second to a third, the first is alike to the third
+pub alike_is_transitive : (s t u : TokenFields) (h k l : List Attempt) → AreAlike s h t k → AreAlike t k u l → AreAlike s h u l
+alike_is_transitive s t u h k l one other = record {
   settings = one.settings ∙ other.settings;
   failures = one.failures ∙ other.failures;
-  candidates = λ m c is. iff_transitive (one.candidates m c is) (other.candidates m c is);
-  pairs = λ w. iff_transitive (one.pairs w) (other.pairs w);
+  candidates = λ m c is. iff_is_transitive (one.candidates m c is) (other.candidates m c is);
+  pairs = λ w. iff_is_transitive (one.pairs w) (other.pairs w);
 }
 
 -- a counter that fits after one of two alike pasts fits after the other
 pub alike_pasts_share_fitting : (s t : TokenFields) (h k : List Attempt) (m : ℕ) (sent : CodeTexts) (c : ℕ) → AreAlike s h t k → IsMoment m
     → IsFitting s h m sent c → IsFitting t k m sent c
 alike_pasts_share_fitting s t h k m (OneText text) c alike is fits =
-    ((alike.candidates m c is).0 fits.0, sym (same_settings_same_codes s t c alike.settings) ∙ fits.1)
+    ((alike.candidates m c is).0 fits.0, sym (same_settings_give_same_codes s t c alike.settings) ∙ fits.1)
 alike_pasts_share_fitting s t h k m (TwoTexts one other) c alike is (w, next, pair, first, second) = (
   w,
   next,
   (alike.pairs w).0 pair,
-  sym (same_settings_same_codes s t w alike.settings) ∙ first,
-  sym (same_settings_same_codes s t (w + 1) alike.settings) ∙ second,
+  sym (same_settings_give_same_codes s t w alike.settings) ∙ first,
+  sym (same_settings_give_same_codes s t (w + 1) alike.settings) ∙ second,
 )
 
 -- a reply that is due after one of two alike pasts is due after the other
@@ -70,18 +70,18 @@ pub alike_pasts_share_reply : (s t : TokenFields) (h k : List Attempt) (m : ℕ)
     → IsMoment m
     → IsDueReply t k m sent reply → IsDueReply s h m sent reply
 alike_pasts_share_reply s t h k m sent Locked alike is due =
-    let limit = same_settings_same_limit s t alike.settings in
+    let limit = same_settings_give_same_limit s t alike.settings in
     let failures = alike.failures in omega arith
 alike_pasts_share_reply s t h k m sent Fail alike is due =
-    let limit = same_settings_same_limit s t alike.settings in
+    let limit = same_settings_give_same_limit s t alike.settings in
     let failures = alike.failures in
     let below_limit : failures_after t k < limit_of t = due.0 in
     (omega arith, λ c fits. due.1 c (alike_pasts_share_fitting s t h k m sent c alike is fits))
 alike_pasts_share_reply s t h k m sent (Pass p) alike is due =
-    let limit = same_settings_same_limit s t alike.settings in
+    let limit = same_settings_give_same_limit s t alike.settings in
     let failures = alike.failures in
     let below_limit : failures_after t k < limit_of t = due.0 in (
       (omega arith),
-      alike_pasts_share_fitting t s k h m sent p (alike_symmetric s t h k alike) is due.1,
+      alike_pasts_share_fitting t s k h m sent p (alike_is_symmetric s t h k alike) is due.1,
       λ c fits. due.2 c (alike_pasts_share_fitting s t h k m sent c alike is fits),
     )

@@ -1,4 +1,4 @@
--- The last digits of a number: they are ASCII digits, as many as were asked for.
+-- The last digits of a number are ASCII digits, as many as were asked for.
 use Rattle.std.proofs.Common.{◌≡◌, ◌+◌, ◌/◌, ◌%◌, ℕ, zero, suc, List, [], ◌∷◌, ◌++◌, length, refl, arith, rules, add-one, append_assoc}
 use Rattle.std.proofs.Common.{length-append}
 use Rattle.std.specs.Prelude.{All}
@@ -24,7 +24,7 @@ last_digits_are_digits zero number = search rules
 last_digits_are_digits (suc count) number =
     All-push IsAsciiDigit _ _ (last_digits_are_digits count (number / 10)) (search (rules, arith))
 
--- the last of the digits that are left moves to the front of those that were found
+-- the last of the digits that are left moves in front of those that were found
 pub last_digits-more : (more number : ℕ) (rest : List ℕ)
     → last_digits (more + 1) number ++ rest ≡ last_digits more (number / 10) ++ ((byte "0" + number % 10) ∷ rest)
 unfolding last_digits

@@ -1,10 +1,10 @@
--- Histories that go on from where others led.
+-- Histories that continue where others led.
 use Rattle.std.proofs.Common.{◌++◌, [], ◌∷◌}
 use Rattle.otp_core.specs.Laws.{HistoriesJoin, LegalHistoriesJoin}
-use Rattle.otp_core.proofs.lemmas.AlikePasts.{alike_transitive, alike_pasts_share_reply}
+use Rattle.otp_core.proofs.lemmas.AlikePasts.{alike_is_transitive, alike_pasts_share_reply}
 use Rattle.otp_core.proofs.lemmas.Steps.{attempt_keeps_pasts_alike}
 
--- the laws: a history that goes on from where another led is legal from the start, and leads on as one history:
+-- the laws: a history that continues where another led is legal from the start, and both together are one history:
 pub legal_histories_join : LegalHistoriesJoin
 legal_histories_join start earlier middle [] after legal = (after.legal, after.alike)
 legal_histories_join start earlier middle (a ∷ later) after legal =
@@ -17,5 +17,5 @@ pub histories_join : HistoriesJoin
 histories_join start earlier middle later end after on =
     let front = legal_histories_join start earlier middle later after on.legal in record {
       legal = front.0;
-      alike = alike_transitive start middle end (later ++ earlier) later [] front.1 on.alike;
+      alike = alike_is_transitive start middle end (later ++ earlier) later [] front.1 on.alike;
     }

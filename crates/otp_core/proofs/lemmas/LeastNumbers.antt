@@ -1,9 +1,9 @@
--- The least number of a kind, where whether a number is of it is decided.
+-- The least number of a kind, if it is decidable whether a number is of that kind.
 use Rattle.std.proofs.Common.{◌≡◌, ◌<◌, ◌≤◌, ◌⊎◌, ℕ, zero, suc, arith, inl, inr, subst}
 use Rattle.std.proofs.lemmas.Bool.{cases_lt}
 use Rattle.mac_core.proofs.lemmas.Decided.{Decided}
 
--- below a number there is a least one for which a decided fact holds, or it holds for none
+-- below a number there is a least one for which a decidable fact is true, or it is true for none
 pub least_or_none : (P : ℕ → Type 0) → ((k : ℕ) → Decided (P k)) → (n : ℕ)
     → ((c : ℕ) × P c × ((k : ℕ) → P k → c ≤ k)) ⊎ ((k : ℕ) → k < n → P k → ⊥)
 least_or_none P decided zero = inr (λ k low p. absurd (omega arith))

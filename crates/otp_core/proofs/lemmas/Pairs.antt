@@ -1,4 +1,4 @@
--- Two codes in a row: what was found fits, and the reply by it is the one that is due.
+-- Two codes in a row: what was found fits, and the reply for it is the one that is due.
 use Rattle.std.proofs.Common.{◌≡◌, ◌≤◌, ◌<◌, ◌+◌, ◌↔◌, ℕ, List, [], Option, None, Some, sym, subst, arith}
 use Rattle.std.specs.Prelude.{IfSome, IfNone}
 use Rattle.otp_core.specs.Ranges.{most_counter}
@@ -13,11 +13,11 @@ use Rattle.otp_core.specs.declared.token.kinds.HotpFields.{HotpFields}
 use Rattle.otp_core.specs.declared.token.kinds.TokenFields.{TokenFields}
 use Rattle.otp_core.specs.declared.token.kinds.TokenFields.TheVariants.{Hotp, Totp}
 
--- these are the counters that can be the first of a pair: from the first on, and below the end
+-- these are the counters that can be the first of a pair: from `from` on and below `end`
 abbrev pub ArePairCandidates : HotpFields → ℕ → ℕ → Type 0
 ArePairCandidates t from end = (w : ℕ) → (IsInHotpWindow t.next t.sync_ahead w × (w + 1 ≤ most_counter)) ↔ ((from ≤ w) × (w < end))
 
--- where both texts were found at two counters in a row, the second fits them
+-- if both texts were found at two counters in a row, the second fits them
 pub found_pair_fits : (s : TokenFields) (t : HotpFields) (from end : ℕ) (first second : List ℕ) (o : Option ℕ) → s ≡ Hotp t
     → ArePairCandidates t from end
     → IfSome o (λ c. (w : ℕ) × (c ≡ w + 1) × (from ≤ w) × (w < end)
@@ -27,7 +27,7 @@ found_pair_fits s t from end first second None is firsts some = tt
 found_pair_fits s t from end first second (Some c) is firsts (w, next, low, below, one, other) = λ moment.
     subst (λ (f : TokenFields). IsFitting f [] moment (TwoTexts first second) c) (sym is) (w, next, (firsts w).1 (low, below), one, other)
 
--- where both texts were found at the least two counters in a row, the second is the least that fits them
+-- if both texts were found at the least two counters in a row, the second is the least that fits them
 pub found_pair_is_least : (s : TokenFields) (t : HotpFields) (from end : ℕ) (first second : List ℕ) (o : Option ℕ) → s ≡ Hotp t
     → ArePairCandidates t from end
     → IfSome o (λ c. (w : ℕ) → from ≤ w → w < end → hotp_text_by Sha1 t.digits t.secret w ≡ first
@@ -41,7 +41,7 @@ found_pair_is_least s t from end first second (Some c) is firsts least = λ mome
     by_fit moment k (w, next, pair, one, other) =
         let within = (firsts w).0 pair in omega (arith, next, least w within.0 within.1 one other)
 
--- where both texts are found at no two counters in a row, no counter fits them
+-- if both texts are found at no two counters in a row, no counter fits them
 pub no_pair_fits : (s : TokenFields) (t : HotpFields) (from end : ℕ) (first second : List ℕ) (o : Option ℕ) → s ≡ Hotp t
     → ArePairCandidates t from end
     → IfNone o ((w : ℕ) → from ≤ w → w < end → hotp_text_by Sha1 t.digits t.secret w ≡ first
@@ -65,7 +65,7 @@ pub found_pair_can_move : (s : TokenFields) (m : ℕ) (first second : List ℕ) 
 found_pair_can_move s m first second None fits = tt
 found_pair_can_move s m first second (Some c) fits = fitting_pair_can_move s m first second c (fits m)
 
--- the reply by the least counter that was found, or by none, is due
+-- the reply for the least counter that was found, or for none, is due
 pub found_pair_reply_is_due : (s : TokenFields) (m : ℕ) (first second : List ℕ) (o : Option ℕ) (reply : Reply) → reply ≡ reply_of o
     → failures_of s < limit_of s
     → IfSome o (λ c. (moment : ℕ) → IsFitting s [] moment (TwoTexts first second) c)

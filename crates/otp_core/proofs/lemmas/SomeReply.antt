@@ -1,5 +1,5 @@
--- Some reply is due to every attempt: whether a counter fits is decided, and those that fit are below a
--- bound, so there is a least one or none.
+-- Some reply is due to every attempt: it is decidable whether a counter fits, and those that fit are below a bound, so there is a
+-- least one or none.
 use Rattle.std.proofs.Common.{◌≡◌, ◌+◌, ◌<◌, ◌≤◌, ◌^◌, ℕ, zero, suc, List, [], ◌∷◌, Option, None, Some, ℤ, arith, inl, inr, refl, subst}
 use Rattle.std.proofs.lemmas.Bool.{cases_Bool, cases_lt}
 use Rattle.std.specs.Prelude.{◌≤ℤ◌, ◌+ℤ◌, ◌-ℤ◌, pos}
@@ -18,14 +18,14 @@ use Rattle.otp_core.specs.declared.token.kinds.TokenFields.TheVariants.{Hotp, To
 use Rattle.otp_core.proofs.lemmas.LeastNumbers.{least_or_none}
 use lib.Signed.{le_z}
 
--- whether a whole number is at most another is decided
+-- it is decidable whether an integer is at most another
 decided_leℤ : (a b : ℤ) → Decided (a ≤ℤ b)
 decided_leℤ a b = elim (cases_Bool (le_z a b)) [
   | inl is ↦ inl (record { le = rw is tt })
   | inr other ↦ inr (λ h. rw other at h.le)
 ]
 
--- whether a number is above each counter of a list, or above an optional one, is decided:
+-- it is decidable whether a number is above each counter of a list, or above an optional one:
 decided_above : (counters : List ℕ) (w : ℕ) → Decided (IsAbove counters w)
 decided_above [] w = inl tt
 decided_above (p ∷ counters) w = decided_both (p < w) (IsAbove counters w) (decided_lt p w) (decided_above counters w)
@@ -38,7 +38,7 @@ decided_above_last (Some last) w =
     (λ f. f last refl)
     (decided_lt last w)
 
--- whether a counter is in HOTP's window, and whether a step is in TOTP's, is decided:
+-- it is decidable whether a counter is in HOTP's window, and whether a step is in TOTP's:
 decided_hotp_window : (first look_ahead c : ℕ) → Decided (IsInHotpWindow first look_ahead c)
 decided_hotp_window first look_ahead c =
     decided_equivalent ((first ≤ c) × ((c ≤ first + look_ahead) × (c ≤ most_counter))) (IsInHotpWindow first look_ahead c)
@@ -58,7 +58,7 @@ decided_totp_window now drift back ahead max_drift w =
     (decided_both _ _ (decided_leℤ ((pos now +ℤ drift) -ℤ pos back) (pos w)) (decided_leℤ (pos w) ((pos now +ℤ drift) +ℤ pos ahead)))
     (decided_both _ _ (decided_le now (w + max_drift)) (decided_le w (now + max_drift))))
 
--- whether a counter can pass is decided
+-- it is decidable whether a counter can pass
 decided_candidate : (s : TokenFields) (h : List Attempt) (m c : ℕ) → Decided (IsCandidate s h m c)
 decided_candidate (Hotp t) h m c = decided_hotp_window (first_in_window t.next (used_in h)) t.look_ahead c
 decided_candidate (Totp t) h m w =
@@ -70,13 +70,13 @@ decided_candidate (Totp t) h m w =
     (decided_both _ _ (decided_totp_window (step_at t m) (drift_after t h) t.back t.ahead t.max_drift w)
     (decided_both _ _ (decided_above_last t.last w) (decided_above (used_in h) w))))
 
--- whether a counter can be the first of a pair is decided
+-- it is decidable whether a counter can be the first of a pair
 decided_pair_candidate : (s : TokenFields) (h : List Attempt) (w : ℕ) → Decided (IsPairCandidate s h w)
 decided_pair_candidate (Hotp t) h w = decided_both _ _ (decided_hotp_window (first_in_window t.next (used_in h)) t.sync_ahead w)
     (decided_le (w + 1) most_counter)
 decided_pair_candidate (Totp t) h w = inr (λ pair. pair)
 
--- whether a counter fits what was sent is decided
+-- it is decidable whether a counter fits what was sent
 decided_fitting : (s : TokenFields) (h : List Attempt) (m : ℕ) (sent : CodeTexts) (c : ℕ) → Decided (IsFitting s h m sent c)
 decided_fitting s h m (CodeTexts.OneText text) c =
     decided_both _ _ (decided_candidate s h m c) (decided_same_text (code_text s c) text)
@@ -93,7 +93,7 @@ decided_fitting s h m (CodeTexts.TwoTexts first second) (suc w) =
         → IsPairCandidate s h w × ((code_text s w ≡ first) × (code_text s (w + 1) ≡ second))
     by_first v same is = subst (λ (n : ℕ). IsPairCandidate s h n × ((code_text s n ≡ first) × (code_text s (n + 1) ≡ second))) same is
 
--- some reply is due, where the counters that fit are below a bound
+-- some reply is due, if the counters that fit are below a bound
 some_reply_under_bound : (s : TokenFields) (h : List Attempt) (m : ℕ) (sent : CodeTexts) (n : ℕ)
     → ((k : ℕ) → IsFitting s h m sent k → k < n) → (reply : Reply) × IsDueReply s h m sent reply
 some_reply_under_bound s h m sent n bound = elim (cases_lt (failures_after s h) (limit_of s)) [

@@ -1,4 +1,4 @@
--- One attempt more keeps two pasts alike, and leads on to the token that a due reply makes.
+-- One more attempt keeps two pasts alike, and leads to the token that a due reply makes.
 use Rattle.std.proofs.Common.{◌≡◌, ◌≤◌, ◌+◌, ℕ, List, [], ◌∷◌, refl, sym, ap, subst, arith, ◌∙◌}
 use Rattle.otp_core.specs.Ranges.{IsMoment, most_counter}
 use Rattle.otp_core.specs.TokenRanges.{IsInRange}
@@ -10,8 +10,8 @@ use Rattle.otp_core.specs.TokenAttempt.{IsTokenAttempt}
 use Rattle.otp_core.specs.declared.token.reply.Reply.{Reply}
 use Rattle.otp_core.specs.declared.token.kinds.TokenFields.{TokenFields}
 use Rattle.otp_core.specs.declared.token.kinds.TokenFields.TheVariants.{Hotp, Totp}
-use Rattle.otp_core.proofs.lemmas.AlikePasts.{alike_transitive, alike_pasts_share_reply}
-use Rattle.otp_core.proofs.lemmas.AfterReply.{settings_and_failures_after_reply, reply_keeps_candidates_alike, token_agrees_after_reply}
+use Rattle.otp_core.proofs.lemmas.AlikePasts.{alike_is_transitive, alike_pasts_share_reply}
+use Rattle.otp_core.proofs.lemmas.AfterReply.{reply_keeps_settings_and_counts_failures, reply_keeps_candidates_alike, token_agrees_after_reply}
 
 -- one more attempt keeps two pasts alike
 pub attempt_keeps_pasts_alike : (s t : TokenFields) (h k : List Attempt) (m : ℕ) (sent : CodeTexts) (reply : Reply) → AreAlike s h t k
@@ -31,21 +31,21 @@ due_reply_leads_on : (s t : TokenFields) (h : List Attempt) (m : ℕ) (sent : Co
 due_reply_leads_on s t h m sent reply is after due =
     let passing = token_agrees_after_reply t m sent reply due in record {
       legal = (is, alike_pasts_share_reply s t h [] m sent reply after.alike is due, after.legal);
-      alike = alike_transitive s t (after_reply t m reply) (attempt_of m sent reply ∷ h) (attempt_of m sent reply ∷ []) []
+      alike = alike_is_transitive s t (after_reply t m reply) (attempt_of m sent reply ∷ h) (attempt_of m sent reply ∷ []) []
           (attempt_keeps_pasts_alike s t h [] m sent reply after.alike is due) (record {
-            settings = (settings_and_failures_after_reply t m reply).0;
-            failures = (settings_and_failures_after_reply t m reply).1;
+            settings = (reply_keeps_settings_and_counts_failures t m reply).0;
+            failures = (reply_keeps_settings_and_counts_failures t m reply).1;
             candidates = passing.0;
             pairs = passing.1;
           });
     }
 
--- where the token after a pass is in its ranges, the counter that passed is at most the greatest that can pass
-passed_counter_in_range : (t : TokenFields) (m c : ℕ) → IsInRange (after_pass t m c) → c ≤ most_counter
-passed_counter_in_range (Hotp t) m c range = let next : c + 1 ≤ most_counter + 1 = range.0 in omega arith
-passed_counter_in_range (Totp t) m c range = range.1.1.1.1.0 c refl
+-- if the token after a pass is in its ranges, the counter that passed is at most the greatest that can pass
+passed_counter_is_in_range : (t : TokenFields) (m c : ℕ) → IsInRange (after_pass t m c) → c ≤ most_counter
+passed_counter_is_in_range (Hotp t) m c range = let next : c + 1 ≤ most_counter + 1 = range.0 in omega arith
+passed_counter_is_in_range (Totp t) m c range = range.1.1.1.1.0 c refl
 
--- a due reply, and the token after it in its ranges, are what an attempt gives
+-- a due reply, and the token after it if it is in its ranges, are what an attempt gives
 pub due_reply_is_attempt : (old : TokenFields) (m : ℕ) (sent : CodeTexts) (reply : Reply) (new : TokenFields) → IsMoment m
     → IsDueReply old [] m sent reply → new ≡ after_reply old m reply → IsInRange new → IsTokenAttempt old m sent reply new
 due_reply_is_attempt old m sent reply new is due state range = record {
@@ -53,5 +53,5 @@ due_reply_is_attempt old m sent reply new is due state range = record {
   after = λ start history after. subst (λ (t : TokenFields). IsAfter start (attempt_of m sent reply ∷ history) t) (sym state)
       (due_reply_leads_on start old history m sent reply is after due);
   state = state;
-  counter = λ c same. passed_counter_in_range old m c (subst IsInRange (state ∙ ap (after_reply old m) same) range);
+  counter = λ c same. passed_counter_is_in_range old m c (subst IsInRange (state ∙ ap (after_reply old m) same) range);
 }

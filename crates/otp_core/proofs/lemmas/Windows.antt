@@ -1,9 +1,9 @@
--- Where a token's window begins, by the last step that passed.
+-- Where a token's window begins, given the last step that passed.
 use Rattle.std.proofs.Common.{◌≡◌, ◌≤◌, ◌<◌, ◌+◌, ◌↔◌, ℕ, Option, Some, None, max, sym, ◌∙◌, arith}
 use Rattle.std.specs.Option.{ForSome}
 use Rattle.std.proofs.lemmas.Option.{same_Some, none-some}
 
--- where a step has passed, the window begins after it, or at its own first step if that is later
+-- if a step has passed, the window begins after it, or at its own first step if that is later
 pub last_step_cuts_window : {N : Type 0} (o : Option ℕ) (last first cut end w : ℕ) → o ≡ Some last → cut ≡ max first (last + 1)
     → (N ↔ ((first ≤ w) × (w < end))) → ((N × ForSome o (λ l. l < w)) ↔ ((cut ≤ w) × (w < end)))
 last_step_cuts_window o last first cut end w is value near = (
@@ -12,7 +12,7 @@ last_step_cuts_window o last first cut end w is value near = (
       (near.1 (begins, h.1), λ x at. let same : x ≡ last = same_Some x last (sym at ∙ is) in omega arith)),
 )
 
--- where no step has passed, the window is whole
+-- if no step has passed, the window is whole
 pub no_last_step_keeps_window : {N : Type 0} (o : Option ℕ) (first end w : ℕ) → o ≡ None
     → (N ↔ ((first ≤ w) × (w < end))) → ((N × ForSome o (λ l. l < w)) ↔ ((first ≤ w) × (w < end)))
 no_last_step_keeps_window o first end w is near = (

@@ -13,19 +13,19 @@ use crate::secret::Secret;
 /// The greatest `limit` of a token.
 pub const MOST_LIMIT: u64 = 100;
 
-/// The greatest counter that can pass, 2^63-2: the one after it is still a number that a book's text can have.
+/// The greatest counter that can pass, 2^63 - 2: the one after it still fits an `i64`, which is what a TOML number is.
 pub const MOST_COUNTER: u64 = 9_223_372_036_854_775_806;
 
-/// The most counters after the first that a HOTP token looks ahead for one code.
+/// The greatest `look_ahead` of a HOTP token.
 pub const MOST_LOOK_AHEAD: u64 = 100;
 
-/// The most counters after the first that a HOTP token looks ahead for two codes in a row.
+/// The greatest `sync_ahead` of a HOTP token.
 pub const MOST_SYNC_AHEAD: u64 = 1000;
 
-/// The longest step of a TOTP token, in seconds.
+/// The greatest `step` of a TOTP token, in seconds.
 pub const LONGEST_STEP: u64 = 3600;
 
-/// The most steps that a TOTP token looks back, and the most that it looks ahead.
+/// The greatest `back` and the greatest `ahead` of a TOTP token, in steps.
 pub const MOST_STEPS_ASIDE: u64 = 10;
 
 /// The greatest `max_drift` of a TOTP token, in steps.
@@ -40,10 +40,10 @@ pub struct HotpFields {
     /// The number of digits of the token's codes.
     pub digits: Digits,
 
-    /// The least counter that can pass, at most 2^63-1, at which none can.
+    /// The least counter that can pass, or 2^63 - 1 if none can.
     pub next: u64,
 
-    /// How many counters after `next` can pass too, at most 100 (RFC 4226, section 7.4).
+    /// How many counters after `next` can also pass, at most 100 (RFC 4226, section 7.4).
     pub look_ahead: u64,
 
     /// How many counters after `next` can be the first of a pair that passes, at most 1000 (RFC 4226, section 7.4).
@@ -57,7 +57,7 @@ pub struct HotpFields {
 }
 
 impl HotpFields {
-    /// The first field that is not in its range.
+    /// The first field that is not in its range, or None if each is.
     pub(crate) fn first_outside(&self) -> Option<Setting>
         ensures some { IfSome result (IsFirstOutside (hotp_ranges self.now)) }
         ensures none { IfNone result (IsHotpInRange self.now) }
@@ -120,11 +120,11 @@ pub struct TotpFields {
     /// How far a step that passes may be from the present one, at most 100 steps.
     pub max_drift: u64,
 
-    /// The greatest step that has passed, at most 2^63-2, or None where none has.
+    /// The greatest step that has passed, at most 2^63 - 2, or None if none has.
     pub last: Option<u64>,
 
-    /// By how many steps the token's clock is ahead, as the last pass showed: from -`max_drift` to
-    /// `max_drift` (RFC 6238, section 6).
+    /// By how many steps the token's clock is ahead, as the last pass showed: from -`max_drift` to `max_drift` (RFC 6238, section
+    /// 6).
     pub drift: i64,
 
     /// The number of failures that locks the token, 1 to 100.
@@ -135,7 +135,7 @@ pub struct TotpFields {
 }
 
 impl TotpFields {
-    /// The first field that is not in its range.
+    /// The first field that is not in its range, or None if each is.
     pub(crate) fn first_outside(&self) -> Option<Setting>
         ensures some { IfSome result (IsFirstOutside (totp_ranges self.now)) }
         ensures none { IfNone result (IsTotpInRange self.now) }
@@ -161,6 +161,7 @@ impl TotpFields {
         }
     }
 
+    // Whether `last`, if there is one, is at most `MOST_COUNTER`.
     fn is_last_in_range(&self) -> bool
         ensures { IsTrue result ↔ ForSome self.now.last (λ l. l ≤ most_counter) }
     {

@@ -31,6 +31,7 @@ pub(crate) fn candidates(token: &TokenFields, moment: Moment) -> Counters
     }
 }
 
+// The counters from `next` to `look_ahead` after it, up to the greatest that can pass.
 fn hotp_candidates(token: &HotpFields) -> Counters
     requires { IsHotpInRange token.now }
     ensures { (c : ℕ) → IsInHotpWindow token.now.next token.now.look_ahead c ↔ ((result.first ≤ c) × (c < result.end)) }
@@ -54,7 +55,7 @@ pub(crate) fn pair_candidates(token: &HotpFields) -> Counters
     }
 }
 
-// By how many steps a clock is fast, and by how many it is slow; one of them is 0.
+// By how many steps a clock is fast, and by how many it is slow; at least one of them is 0.
 fn fast_and_slow(drift: i64) -> (u64, u64)
     requires { nat_abs drift ≤ most_drift }
     ensures value { drift ≡ pos result.0 -ℤ pos result.1 }
@@ -68,6 +69,7 @@ fn fast_and_slow(drift: i64) -> (u64, u64)
     }
 }
 
+// The steps from `back` before to `ahead` after the present one, moved by the drift, but at most `max_drift` from the present one.
 fn totp_window(now: u64, drift: i64, back: u64, ahead: u64, max_drift: u64) -> Counters
     requires now { now ≤ last_moment }
     requires drift { nat_abs drift ≤ most_drift }
@@ -85,7 +87,7 @@ fn totp_window(now: u64, drift: i64, back: u64, ahead: u64, max_drift: u64) -> C
     }
 }
 
-// The steps near the present one that are above the last that passed.
+// The steps near the present one that are after the last one that passed.
 fn totp_candidates(token: &TotpFields, now: u64) -> Counters
     requires range { IsTotpInRange token.now }
     requires now { now ≤ last_moment }

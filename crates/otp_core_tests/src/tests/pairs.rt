@@ -1,7 +1,7 @@
-//! Two codes in a row. The codes are those of RFC 4226, appendix D; those of other counters are from Python's hmac.
+//! Two codes in a row. The codes are those of RFC 4226, appendix D; those of other counters are computed with Python's hmac.
 use super::*;
 
-// Sends one text, or two, after the other to a HOTP token with these fields, and compares the replies.
+// Makes these attempts in turn, each with one text or two, with a HOTP token that has these fields, and compares the replies.
 fn check_pairs(
     rt: &impl Abort,
     state: (u64, u64, u64, u64, u64),
@@ -21,7 +21,7 @@ fn check_pairs(
 
 #[test]
 fn far_ahead(rt: HostRuntime) {
-    // The code of counter 8 alone is too far ahead, and two codes have to follow one another.
+    // The code of counter 8 by itself is too far ahead, and two codes have to be of counters in a row.
     let attempts = [
         ("399871", None, Reply::Fail),
         ("338314", Some("969429"), Reply::Fail),
@@ -30,7 +30,7 @@ fn far_ahead(rt: HostRuntime) {
     check_pairs(&rt, (0, 3, 8, 3, 0), &attempts);
     let attempts = [("399871", Some("520489"), Reply::Fail)];
     check_pairs(&rt, (0, 3, 7, 3, 0), &attempts);
-    // With no counter to look ahead, those of the next two counters pass.
+    // Without any counter to look ahead, the codes of the next two counters pass.
     let attempts = [
         ("287082", Some("359152"), Reply::Fail),
         ("755224", Some("287082"), Reply::Pass(1)),
@@ -90,12 +90,12 @@ fn failures_of_pairs_lock(rt: HostRuntime) {
 
 #[test]
 fn codes_that_come_twice(rt: HostRuntime) {
-    // Counters 2386 and 2394 have one code.
+    // Counters 2386 and 2394 have the same code.
     for (second, counter) in [("319462", 2387), ("807018", 2395)] {
         let attempts = [("709847", Some(second), Reply::Pass(counter))];
         check_pairs(&rt, (2380, 0, 20, 3, 0), &attempts);
     }
-    // Counters 910737 and 910738 have one code.
+    // Counters 910737 and 910738 have the same code.
     for (first, second, counter) in [
         ("602850", "911617", 910737),
         ("911617", "911617", 910738),
@@ -123,7 +123,7 @@ fn last_pair(rt: HostRuntime) {
     check_pairs(&rt, (top - 1, 0, 0, 9, 0), &attempts);
 }
 
-// The codes of steps 1 and 2, as in RFC 6238, appendix B, and in RFC 4226, appendix D, in eight digits.
+// The codes of steps 1 and 2, as in RFC 6238, appendix B, and in RFC 4226, appendix D, with eight digits.
 #[test]
 fn steps_have_no_pairs(rt: HostRuntime) {
     let token = Token::totp(totp_fields(&rt, (30, 10, 10, 10), (None, 0, 2, 0)));

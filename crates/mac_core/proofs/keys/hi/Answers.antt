@@ -8,7 +8,7 @@ iterated-next : (mac : List ℕ → List ℕ) (salt : List ℕ) (n : ℕ) → it
 unfolding iterated
 iterated-next mac salt n = rw add-one refl
 
--- the xor up to the next number is the xor up to this one, xor U of the next
+-- the XOR up to the next number is the XOR up to this one, XORed with U of the next
 xor_of_iterated-next : (mac : List ℕ → List ℕ) (salt : List ℕ) (n : ℕ) → 1 ≤ n
     → xor_of_iterated mac salt (n + 1) ≡ xor_bytes (xor_of_iterated mac salt n) (iterated mac salt (n + 1))
 unfolding xor_of_iterated

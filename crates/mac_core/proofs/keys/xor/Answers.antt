@@ -5,7 +5,7 @@ use Rattle.std.specs.Prelude.{bit_xor}
 use Rattle.mac_core.specs.Keys.{xor_bytes}
 use Rattle.mac_core.proofs.keys.xor.Goals as goal
 
--- the front and the xor of what is left are still the whole xor after one more byte
+-- the front and the XOR of what is left are still the whole XOR after one more byte
 next_byte_keeps_xor : (front a b : List ℕ) (i : ℕ) → i < length a → i < length b
     → front ++ xor_bytes (drop i a) (drop i b) ≡ xor_bytes a b
     → (front ++ bit_xor (get_or a i 0) (get_or b i 0) ∷ []) ++ xor_bytes (drop (i + 1) a) (drop (i + 1) b) ≡ xor_bytes a b

@@ -4,7 +4,7 @@ use borrow.Author.Count.{below_more}
 use Rattle.otp_core.specs.Code.{hotp_text}
 use Rattle.otp_core.proofs.token.reply.find_with.Goals as goal
 
--- no counter up to i has the text, where none before i has it and i does not
+-- no counter up to i has the text, if none before i has it and i does not
 no_counter_has_text : (text_of : ℕ → List ℕ) (text : List ℕ) (first i : ℕ)
     → ((k : ℕ) → first ≤ k → k < i → text_of k ≡ text → ⊥) → (text_of i ≡ text → ⊥)
     → (k : ℕ) → first ≤ k → k < i + 1 → text_of k ≡ text → ⊥
