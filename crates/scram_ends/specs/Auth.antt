@@ -4,13 +4,13 @@ use Rattle.std.specs.Str.{byte}
 use Rattle.mac_core.specs.Mechanism.{length_by, hmac_by, hi_by, client_key_by, stored_key_by}
 use Rattle.mac_core.specs.Keys.{xor_bytes}
 use Rattle.mac_core.specs.declared.mechanism.Mechanism.{Mechanism}
-use Rattle.scram_text.specs.Messages.{ClientFirstParts, bare_text, ClientFinalParts, client_final_without_proof}
+use Rattle.scram_text.specs.Messages.{ClientFirstParts, client_first_bare, ClientFinalParts, client_final_without_proof}
 use Rattle.scram_ends.specs.Entry.{Keys, password_keys}
 
--- AuthMessage as far as the challenge: client-first-bare, comma, server-first, comma. The bare_text of client-first's parts is
--- the text that was sent.
+-- AuthMessage up to the challenge: client-first-bare, comma, server-first, comma. The client_first_bare of client-first's parts is the text
+-- that was sent.
 abbrev pub auth_to_challenge : ClientFirstParts → (server_first : List ℕ) → List ℕ
-auth_to_challenge first server_first = bare_text first ++ byte "," ∷ [] ++ server_first ++ byte "," ∷ []
+auth_to_challenge first server_first = client_first_bare first ++ byte "," ∷ [] ++ server_first ++ byte "," ∷ []
 
 -- AuthMessage = client-first-message-bare "," server-first-message "," client-final-message-without-proof
 abbrev pub auth_message : ClientFirstParts → (server_first : List ℕ) → ClientFinalParts → List ℕ
@@ -34,6 +34,6 @@ abbrev pub proof_of : Mechanism → (password salt : List ℕ) → (count : ℕ)
 proof_of m password salt count auth =
     xor_bytes (client_key_by m (hi_by m password salt count)) (client_signature m (password_keys m password salt count) auth)
 
--- the server signature that a client expects, for the server key of its password
+-- the ServerSignature that a client expects, with the ServerKey of its password
 abbrev pub expected_signature : Mechanism → (password salt : List ℕ) → (count : ℕ) → (auth : List ℕ) → List ℕ
 expected_signature m password salt count auth = server_signature m (password_keys m password salt count) auth

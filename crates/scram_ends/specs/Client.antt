@@ -1,9 +1,9 @@
--- What a client stands for after each of its steps, and why it ends a login (RFC 5802, section 5).
+-- What a client holds after each of its steps, and why it ends a login (RFC 5802, section 5).
 use Rattle.std.specs.Prelude.{ℕ, ◌≡◌, ◌≤◌, ◌<◌, false, List, [], ◌∷◌, ◌++◌, length}
 use Rattle.std.specs.List.{AllByRecursion}
 use Rattle.std.specs.declared.result.Result.{Result}
 use Rattle.std.specs.declared.result.Result.TheVariants.{Ok, Err}
-use Rattle.scram_text.specs.Messages.{ClientFirstParts, header_text, bare_text, ServerFirstParts, IsServerFirst, server_first_mandatory}
+use Rattle.scram_text.specs.Messages.{ClientFirstParts, gs2_header, client_first_bare, ServerFirstParts, IsServerFirst, server_first_mandatory}
 use Rattle.scram_text.specs.Messages.{verifier, ServerFinalParts, IsServerFinal, server_final_mandatory}
 use Rattle.scram_text.specs.FirstUnmet.{IsFirstUnmet}
 use Rattle.scram_text.specs.Faults.{IsServerFirstFault, IsServerFinalFault}
@@ -19,11 +19,11 @@ use Rattle.scram_ends.specs.declared.client.ClientFault.{ClientFault}
 use Rattle.scram_ends.specs.declared.client.ClientFault.TheVariants.{Text, Mandatory, NonceNotMine, NonceNotLonger, CountOutside}
 use Rattle.scram_ends.specs.declared.client.ClientFault.TheVariants.{ServerRefused, WrongSignature}
 
--- the least iteration count that a client usually accepts: what RFC 5802, section 5.1, asks servers for at least
+-- the least iteration count that a client usually accepts: the minimum that RFC 5802, section 5.1, recommends to servers
 abbrev pub usual_least : ℕ
 usual_least = 4096
 
--- the greatest iteration count that a client usually accepts: this library's own
+-- the greatest iteration count that a client usually accepts: this library's own choice
 abbrev pub usual_most : ℕ
 usual_most = 1000000
 
@@ -37,25 +37,25 @@ pub record IsStarted (w : ClientOne) (l : Started) : Type 0 where
   pub is_first : IsHonestFirst l.name l.authzid l.nonce l.client_first first
   pub mechanism : w.mechanism ≡ l.mechanism
   pub limits : w.limits ≡ l.limits
-  pub bare : w.bare.items ≡ bare_text first
-  pub header : w.header.items ≡ header_text first
+  pub bare : w.bare.items ≡ client_first_bare first
+  pub header : w.header.items ≡ gs2_header first
   pub nonce : w.nonce.items ≡ l.nonce
 
--- the client has sent client-final of this login, honestly, and expects this signature of the server
+-- the client has sent client-final of this login, honestly, and expects this signature from the server
 pub record IsExpecting (w : ClientTwo) (l : Answered) : Type 0 where
   pub honest : IsHonest l
   pub signature : List ℕ
   pub signed : signature ≡ honest_signature l honest
   pub expected : w.expected.items ≡ signature
 
--- the faults of a server-first message that asks a client for its proof, in the order in which they are judged. Text is none of
--- them: it is the fault of a text that is no server-first message.
+-- the faults of a server-first message that a client is to answer, in the order in which they are judged. Text is not among them:
+-- it is the fault of a text that is no server-first message.
 abbrev pub challenge_faults_in_order : List ClientFault
 challenge_faults_in_order = Mandatory ∷ NonceNotMine ∷ NonceNotLonger ∷ CountOutside ∷ []
 
--- what each of these rows asks of the parts of a challenge, for a client within these limits, with this nonce of its own: no
--- mandatory extension; a nonce that begins with the client's; one that is longer than it; a count within the limits. Another
--- fault is no row, and asks nothing.
+-- what each of these rows asks of the parts of a challenge, for a client with these limits and this nonce of its own: no mandatory
+-- extension; a nonce that begins with the client's; a nonce longer than the client's; a count within the limits. Any other fault is
+-- not a row, and asks nothing.
 abbrev pub AsksOfChallenge : ClientFault → Limits → (client_nonce : List ℕ) → ServerFirstParts → Type 0
 AsksOfChallenge Mandatory limits client_nonce challenge = server_first_mandatory challenge ≡ false
 AsksOfChallenge NonceNotMine limits client_nonce challenge = (more : List ℕ) × (challenge.nonce ≡ client_nonce ++ more)
@@ -63,52 +63,52 @@ AsksOfChallenge NonceNotLonger limits client_nonce challenge = length client_non
 AsksOfChallenge CountOutside limits client_nonce challenge = (limits.least ≤ challenge.count) × (challenge.count ≤ limits.most)
 AsksOfChallenge other limits client_nonce challenge = Unit {0}
 
--- a client within these limits, with this nonce of its own, answers the challenge: its parts meet every row
+-- a client with these limits and this nonce of its own answers the challenge: its parts meet every row
 pub record IsAnswerable (limits : Limits) (client_nonce server_first : List ℕ) (challenge : ServerFirstParts) : Type 0 where
   pub is_challenge : IsServerFirst server_first challenge
   pub asked : AllByRecursion (λ row. AsksOfChallenge row limits client_nonce challenge) challenge_faults_in_order
 
--- why a client with this nonce of its own does not answer a challenge: the text is no server-first message, with its first fault,
--- or the fault is the first row that its parts do not meet
+-- why a client with these limits and this nonce of its own does not answer a challenge: Text, if the text is no server-first
+-- message, with its first fault; else the first row that its parts do not meet
 abbrev pub IsChallengeFault : Limits → (client_nonce server_first : List ℕ) → ClientFault → Type 0
 IsChallengeFault limits client_nonce server_first (Text fault) = ((p : ServerFirstParts) → IsServerFirst server_first p → ⊥)
     × IsServerFirstFault server_first fault
 IsChallengeFault limits client_nonce server_first fault = (p : ServerFirstParts) × IsServerFirst server_first p
     × IsFirstUnmet (λ row. AsksOfChallenge row limits client_nonce p) challenge_faults_in_order fault
 
--- the client has not ended the login: it has answered the challenge, or comes back since its answer was not written
+-- the client has not ended the login: it has answered the challenge, or is handed back because its answer was not written
 abbrev pub IsUnspent : Result ClientTwo OneRefused → Type 0
 IsUnspent (Ok two) = Unit {0}
 IsUnspent (Err (Back client fault)) = Unit {0}
 IsUnspent (Err (Spent fault)) = ⊥
 
--- a fact of the fault, where the client has ended the login
+-- the fact is true of the fault, if the client has ended the login
 abbrev pub IfSpent : Result ClientTwo OneRefused → (ClientFault → Type 0) → Type 0
 IfSpent (Ok two) fact = Unit {0}
 IfSpent (Err (Back client fault)) fact = Unit {0}
 IfSpent (Err (Spent fault)) fact = fact fault
 
--- a fact of the client and the fault, where the client comes back
+-- the fact is true of the client and the fault, if the client is handed back
 abbrev pub IfBack : Result ClientTwo OneRefused → (ClientOne → WriteFault → Type 0) → Type 0
 IfBack (Ok two) fact = Unit {0}
 IfBack (Err (Back client fault)) fact = fact client fault
 IfBack (Err (Spent fault)) fact = Unit {0}
 
--- the faults of a server-final message, in the order in which they are judged. Text is none of them: it is the fault of a text
+-- the faults of a server-final message, in the order in which they are judged. Text is not among them: it is the fault of a text
 -- that is no server-final message.
 abbrev pub last_faults_in_order : List ClientFault
 last_faults_in_order = Mandatory ∷ ServerRefused ∷ WrongSignature ∷ []
 
--- what each of these rows asks of the parts of server-final, for a client that expects this signature: no mandatory extension;
--- a verifier, and no `e=`; this signature as verifier. Another fault is no row, and asks nothing.
+-- what each of these rows asks of the parts of server-final, for a client that expects this signature: no mandatory extension; a
+-- verifier, and no `e=`; this signature as the verifier. Any other fault is not a row, and asks nothing.
 abbrev pub AsksOfLast : ClientFault → (signature : List ℕ) → ServerFinalParts → Type 0
 AsksOfLast Mandatory signature last = server_final_mandatory last ≡ false
 AsksOfLast ServerRefused signature last = (sent : List ℕ) × (last.outcome ≡ verifier sent)
 AsksOfLast WrongSignature signature last = last.outcome ≡ verifier signature
 AsksOfLast other signature last = Unit {0}
 
--- why a client that expects this signature does not take the server for authentic: the text is no server-final message, with its
--- first fault, or the fault is the first row that its parts do not meet
+-- why a client that expects this signature does not accept the server as authentic: Text, if the text is no server-final message,
+-- with its first fault; else the first row that its parts do not meet
 abbrev pub IsLastFault : (signature server_final : List ℕ) → ClientFault → Type 0
 IsLastFault signature server_final (Text fault) = ((p : ServerFinalParts) → IsServerFinal server_final p → ⊥)
     × IsServerFinalFault server_final fault

@@ -11,12 +11,14 @@ pub record Keys : Type 0 where
   pub stored : List ℕ
   pub server : List ℕ
 
--- what a server keeps of a name for one mechanism: a salt, an iteration count, the keys of the account, and the other names that
--- it may act as; or a decoy, which stands in for a name without keys and has no keys. The other definitions call it the account.
+-- what a server keeps under a name for one mechanism: an account, or a decoy, which stands in for a name without keys. The other
+-- definitions call either the account.
 pub record Entry : Type 0 where
   pub salt : List ℕ
   pub count : ℕ
+  -- the keys of the account; a decoy has none
   pub keys : Option Keys
+  -- the other names that the account may act as
   pub act_as : List (List ℕ)
 
 -- the bytes of the keys

@@ -1,4 +1,4 @@
--- The server's answer to client-first: its challenge, or the first fault.
+-- The server's answer to client-first (RFC 5802, sections 3 and 5.1): its challenge, or the first fault.
 use Rattle.std.specs.Prelude.{ℕ, ◌≡◌, false, List, [], ◌∷◌, ◌++◌}
 use Rattle.std.specs.declared.option.Option.{Option}
 use Rattle.scram_text.specs.Messages.{ClientFirstParts, IsClientFirst, client_first_mandatory, IsServerFirst}
@@ -12,20 +12,20 @@ use Rattle.scram_ends.specs.declared.first.FirstFault.TheVariants.{Text, Mandato
 use Rattle.scram_ends.specs.declared.recorded.RecordedFault.{RecordedFault}
 use Rattle.scram_ends.specs.declared.recorded.RecordedFault.TheVariants.{First, NotThisChallenge}
 
--- the server's challenge to a client-first message: the client's nonce followed by the server's own
--- part, the account's salt and count, and no extensions
+-- the server's challenge to a client-first message: the client's nonce followed by the server's own part, the account's salt and count, and
+-- no extensions
 pub record IsChallengeTo (e : Entry) (client_first server_nonce server_first : List ℕ) : Type 0 where
   pub first : ClientFirstParts
   pub is_first : IsClientFirst client_first first
   pub is_challenge : IsServerFirst server_first (server_first_of (first.nonce ++ server_nonce) e.salt e.count [])
 
--- the faults of a client-first message, in the order in which they are judged. Text is none of them: it is the fault of a text
+-- the faults of a client-first message, in the order in which they are judged. Text is not among them: it is the fault of a text
 -- that is no client-first message.
 abbrev pub first_faults_in_order : List FirstFault
 first_faults_in_order = Mandatory ∷ BindingAsked ∷ OutsideProfile ∷ []
 
--- what each of these rows asks of the parts of client-first: no mandatory extension; a flag that asks for no channel binding;
--- plain names. Text is no row, and asks nothing.
+-- what each of these rows asks of the parts of client-first: no mandatory extension; a flag that asks for no channel binding; plain
+-- names. Text is not a row, and asks nothing.
 abbrev pub AsksOfFirst : FirstFault → ClientFirstParts → Type 0
 AsksOfFirst (Text fault) first = Unit {0}
 AsksOfFirst Mandatory first = client_first_mandatory first ≡ false
@@ -33,16 +33,16 @@ AsksOfFirst BindingAsked first = IsUnbound first.flag
 AsksOfFirst OutsideProfile first =
     (name : List ℕ) × (authzid : Option (List ℕ)) × IsNameOf name first.name × IsAuthzidOf authzid first.authzid
 
--- why a server takes up no login: the text is no client-first message, with its first fault, or the fault is the first row that
--- its parts do not meet
+-- why a server does not take up a login: Text, if the text is no client-first message, with its first fault; else the first row
+-- that its parts do not meet
 abbrev pub IsRefusedWith : (client_first : List ℕ) → FirstFault → Type 0
 IsRefusedWith client_first (Text fault) = ((p : ClientFirstParts) → IsClientFirst client_first p → ⊥)
     × IsClientFirstFault client_first fault
 IsRefusedWith client_first fault = (p : ClientFirstParts) × IsClientFirst client_first p
     × IsFirstUnmet (λ row. AsksOfFirst row p) first_faults_in_order fault
 
--- why two recorded texts open no login of this account, the first reason that holds: a server does not
--- take up the first text, or it does and the second is no challenge to it
+-- why two recorded texts open no login of this account: First, if a server does not take up the first text; NotThisChallenge, if it
+-- does and the second text is no challenge to it
 abbrev pub IsRecordedFault : Entry → (client_first server_first : List ℕ) → RecordedFault → Type 0
 IsRecordedFault e client_first server_first (First fault) = IsRefusedWith client_first fault
 IsRecordedFault e client_first server_first NotThisChallenge =

@@ -1,29 +1,30 @@
--- The messages of an honest client (RFC 5802, section 3): one that has the password and makes each
--- message as the RFC says.
+-- The messages of an honest client (RFC 5802, section 3): one that has the password and builds each message as the RFC says.
 use Rattle.std.specs.Prelude.{ℕ, ◌≡◌, List, [], IfSome}
 use Rattle.std.specs.declared.option.Option.{Option}
 use Rattle.scram_text.specs.Class.{IsPlainName}
-use Rattle.scram_text.specs.Messages.{ClientFirstParts, header_text, IsClientFirst, ServerFirstParts, IsServerFirst}
+use Rattle.scram_text.specs.Messages.{ClientFirstParts, gs2_header, IsClientFirst, ServerFirstParts, IsServerFirst}
 use Rattle.scram_text.specs.Messages.{ClientFinalParts, IsClientFinal}
 use Rattle.scram_text.specs.Written.{client_first_of}
 use Rattle.scram_text.specs.declared.client_first.Flag.TheVariants.{NoBinding}
 use Rattle.scram_ends.specs.Stages.{Answered}
 use Rattle.scram_ends.specs.Auth.{auth_message, proof_of, expected_signature}
 
--- client-first of this name, name to act as and nonce, with the flag `n` and no extensions
+-- client-first with this name, name to act as and nonce, the flag `n` and no extensions
 pub record IsHonestFirst (name : List ℕ) (authzid : Option (List ℕ)) (nonce client_first : List ℕ) (first : ClientFirstParts) : Type 0 where
   pub is_first : IsClientFirst client_first first
   pub parts : first ≡ client_first_of NoBinding authzid name nonce []
   pub plain : IsPlainName name
   pub plain_authzid : IfSome authzid IsPlainName
 
--- client-final of this login: the gs2-header of client-first as channel field, the challenge's nonce, no
--- extensions, and the proof of the password under the challenge's salt and count
+-- client-final of this login, as an honest client builds it
 pub record IsHonestFinal (l : Answered) (first : ClientFirstParts) (challenge : ServerFirstParts) (final : ClientFinalParts) : Type 0 where
   pub is_final : IsClientFinal l.client_final final
-  pub channel : final.channel ≡ header_text first
+  -- its channel binding is the gs2-header of client-first
+  pub channel : final.channel ≡ gs2_header first
+  -- its nonce is the challenge's, and it has no extensions
   pub sent_nonce : final.nonce ≡ challenge.nonce
   pub no_extensions : final.extensions ≡ []
+  -- its proof is made from the password with the challenge's salt and count
   pub proof : final.proof ≡ proof_of l.mechanism l.password challenge.salt challenge.count (auth_message first l.server_first final)
 
 -- both messages of the client, and the challenge between them
@@ -35,7 +36,7 @@ pub record IsHonest (l : Answered) : Type 0 where
   pub is_challenge : IsServerFirst l.server_first challenge
   pub is_final : IsHonestFinal l first challenge final
 
--- the server signature that an honest client expects, by its password's own server key
+-- the ServerSignature that an honest client expects, with the ServerKey of its password
 abbrev pub honest_signature : (l : Answered) → IsHonest l → List ℕ
 honest_signature l honest =
     expected_signature l.mechanism l.password honest.challenge.salt honest.challenge.count

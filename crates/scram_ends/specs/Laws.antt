@@ -1,5 +1,4 @@
--- The laws of logins: exactly one verdict is due, acceptance exactly to a valid login, and honest logins
--- succeed.
+-- The laws of logins: exactly one verdict is due, acceptance is due if and only if the login is valid, and honest logins succeed.
 use Rattle.std.specs.Prelude.{ℕ, ◌≡◌, ◌≤◌, ◌↔◌, List, length}
 use Rattle.std.specs.declared.option.Option.{Option}
 use Rattle.std.specs.declared.option.Option.TheVariants.{Some}
@@ -28,16 +27,16 @@ abbrev pub RefusedIsNotTakenUp : Type 0
 RefusedIsNotTakenUp = (client_first : List ℕ) (fault : FirstFault) (first : ClientFirstParts) (name : List ℕ) (authzid : Option (List ℕ))
     → IsRefusedWith client_first fault → IsClientFirst client_first first → IsTakenUp first name authzid → ⊥
 
--- a login is valid exactly where acceptance is due to its client-final message, and its server-final
--- message bears the signature
+-- a login is valid if and only if acceptance is due to its client-final message and its server-final message has the signature due
+-- as its verifier
 abbrev pub AcceptsExactlyValid : Type 0
 AcceptsExactlyValid = (l : Challenged) (client_final server_final : List ℕ)
     → ((signature : List ℕ) × IsDue l client_final (accept signature) × IsAuthentic server_final signature)
     ↔ IsValidLogin l client_final server_final
 
--- an honest client logs in where the account's keys are those of the password, the server challenges it
--- and the name to act as is allowed: acceptance is due, with the signature that the client expects, the
--- message due shows it, and the login is valid
+-- an honest client logs in if the account's keys are those of the password, the server challenges it and the name to act as is
+-- allowed: acceptance is due with the signature that the client expects, the message due contains that signature, and the login is
+-- valid
 abbrev pub HonestLogsIn : Type 0
 HonestLogsIn = (e : Entry) (server_nonce : List ℕ) (l : Answered) → e.keys ≡ Some (password_keys l.mechanism l.password e.salt e.count)
     → IsAllowed e l.name l.authzid → 1 ≤ length server_nonce → IsChallengeTo e l.client_first server_nonce l.server_first

@@ -14,7 +14,7 @@ pub record IsNameOf (name part : List ℕ) : Type 0 where
   pub plain : IsPlainName name
   pub spelled : SpellsName name part
 
--- the name to act as, of `a=`: there is none, or its saslname spells this plain name
+-- the name to act as, from `a=`: there is none, or its saslname spells this plain name
 abbrev pub IsAuthzidOf : (authzid part : Option (List ℕ)) → Type 0
 IsAuthzidOf None None = Unit {0}
 IsAuthzidOf (Some name) (Some part) = IsNameOf name part
@@ -25,14 +25,14 @@ IsAuthzidOf (Some name) None = ⊥
 abbrev pub IsUnbound : List ℕ → Type 0
 IsUnbound flag = (flag ≡ codes "n") ⊎ (flag ≡ codes "y")
 
--- a server takes up this client-first message, of this name and this name to act as
+-- a server takes up this client-first message, with this name and this name to act as (RFC 5802, section 5.1, `m`, `n` and `a`)
 pub record IsTakenUp (first : ClientFirstParts) (name : List ℕ) (authzid : Option (List ℕ)) : Type 0 where
   pub not_mandatory : client_first_mandatory first ≡ false
   pub unbound : IsUnbound first.flag
   pub is_name : IsNameOf name first.name
   pub is_authzid : IsAuthzidOf authzid first.authzid
 
--- the nonce is the client's own, followed by something of the server's
+-- the nonce is the client's own, followed by at least one byte from the server (RFC 5802, section 5.1, `r`)
 abbrev pub ExtendsNonce : (client_nonce nonce : List ℕ) → Type 0
 ExtendsNonce client_nonce nonce = (more : List ℕ) × (nonce ≡ client_nonce ++ more) × (1 ≤ length more)
 
@@ -43,18 +43,22 @@ pub record Opening : Type 0 where
   pub authzid : Option (List ℕ)
   pub challenge : ServerFirstParts
 
--- the texts open a login of this account: a client-first message that a server takes up, and a challenge
--- to it with a longer nonce, which begins with the client's, and with the account's salt and count
+-- the texts open a login of this account
 pub record IsOpening (e : Entry) (client_first server_first : List ℕ) (o : Opening) : Type 0 where
+  -- the first is a client-first message that a server takes up
   pub is_first : IsClientFirst client_first o.first
   pub taken_up : IsTakenUp o.first o.name o.authzid
+  -- the second is a server-first message without a mandatory extension
   pub is_challenge : IsServerFirst server_first o.challenge
   pub not_mandatory : server_first_mandatory o.challenge ≡ false
+  -- its nonce is the client's, followed by at least one byte from the server
   pub longer : ExtendsNonce o.first.nonce o.challenge.nonce
+  -- its salt and its iteration count are the account's
   pub salt : o.challenge.salt ≡ e.salt
   pub count : o.challenge.count ≡ e.count
 
--- the name to act as is allowed to the account of this name: it is that name, or one in the account's act_as
+-- the account of this name may act as the authzid (RFC 5802, section 5.1, `a`): there is none, or it is the name itself or one in the
+-- account's act_as
 abbrev pub IsAllowed : Entry → (name : List ℕ) → (authzid : Option (List ℕ)) → Type 0
 IsAllowed e name None = Unit {0}
 IsAllowed e name (Some authzid) = (authzid ≡ name) ⊎ Contains e.act_as authzid

@@ -13,7 +13,7 @@ pub record Started : Type 0 where
   pub limits : Limits
   -- the user's name, in plain bytes
   pub name : List ℕ
-  -- the name that the user asks to act as, in plain bytes, where there is one
+  -- the name that the user asks to act as, in plain bytes, if any
   pub authzid : Option (List ℕ)
   -- the client's own nonce
   pub nonce : List ℕ
@@ -39,7 +39,7 @@ pub record Answered : Type 0 where
   pub password : List ℕ
   -- the user's name, in plain bytes
   pub name : List ℕ
-  -- the name that the user asks to act as, in plain bytes, where there is one
+  -- the name that the user asks to act as, in plain bytes, if any
   pub authzid : Option (List ℕ)
   -- the client's own nonce
   pub nonce : List ℕ

@@ -1,9 +1,9 @@
--- The verdict on a client-final message: the first row of the table whose demand the messages do not
--- meet, or acceptance where they meet all.
+-- The verdict on a client-final message (RFC 5802, sections 3, 5.1 and 7): the refusal of the first row of a table that the messages do not
+-- meet, or acceptance if they meet every row.
 use Rattle.std.specs.Prelude.{ℕ, ◌≡◌, ◌⊎◌, false, List, [], ◌∷◌, codes}
 use Rattle.std.specs.List.{AllByRecursion}
 use Rattle.std.specs.declared.option.Option.TheVariants.{Some}
-use Rattle.scram_text.specs.Messages.{header_text, ClientFinalParts, IsClientFinal, client_final_mandatory, VerifierOrError, verifier}
+use Rattle.scram_text.specs.Messages.{gs2_header, ClientFinalParts, IsClientFinal, client_final_mandatory, VerifierOrError, verifier}
 use Rattle.scram_text.specs.Messages.{server_error, ServerFinalParts, server_final_text}
 use Rattle.scram_text.specs.FirstUnmet.{IsFirstUnmet}
 use Rattle.scram_ends.specs.Entry.{Keys}
@@ -18,30 +18,30 @@ use Rattle.scram_ends.specs.declared.verdict.Verdict.TheVariants as verdict
 use Rattle.scram_ends.specs.declared.verdict.Judged.{Judged}
 use Rattle.scram_ends.specs.declared.verdict.Judged.TheVariants as judged
 
--- the refusals that come from the parts of client-final, in the order in which they are judged. InvalidEncoding is none of
--- them: it is the answer to a text that is no client-final message.
+-- the refusals that come from the parts of client-final, in the order in which they are judged. InvalidEncoding is not among them:
+-- it is the answer to a text that is no client-final message.
 abbrev pub refusals_in_order : List Refusal
 refusals_in_order = ExtensionsNotSupported ∷ OtherNonce ∷ Channel ∷ InvalidProof ∷ NotAuthorised ∷ []
 
--- what each row asks of the parts of client-final, given the opening: no mandatory extension; the nonce that was
--- sent; the gs2-header of client-first as channel field; a proof by keys that the account has; a name that it may act as.
--- InvalidEncoding is no row, and asks nothing.
+-- what each row asks of the parts of client-final, given the opening: no mandatory extension; the nonce that was sent; the
+-- gs2-header of client-first as channel binding; a proof for keys that the account has; a name to act as that is allowed.
+-- InvalidEncoding is not a row, and asks nothing.
 abbrev pub AsksOfFinal : Refusal → Challenged → Opening → ClientFinalParts → Type 0
 AsksOfFinal InvalidEncoding l o final = Unit {0}
 AsksOfFinal ExtensionsNotSupported l o final = client_final_mandatory final ≡ false
 AsksOfFinal OtherNonce l o final = final.nonce ≡ o.challenge.nonce
-AsksOfFinal Channel l o final = final.channel ≡ header_text o.first
+AsksOfFinal Channel l o final = final.channel ≡ gs2_header o.first
 AsksOfFinal InvalidProof l o final =
     (keys : Keys) × (l.entry.keys ≡ Some keys) × IsProof l.mechanism keys (auth_message o.first l.server_first final) final.proof
 AsksOfFinal NotAuthorised l o final = IsAllowed l.entry o.name o.authzid
 
--- what a server may answer to client-final
+-- what a server may answer to client-final: acceptance with its signature, or a refusal
 pub data Due : Type 0 where
   accept : (signature : List ℕ) → Due
   refuse : Refusal → Due
 
--- the verdict on the parts, given the opening: the refusal of the first row that they do not meet, or acceptance where they
--- meet all, with the server's signature by keys that the account has
+-- the verdict on the parts, given the opening: the refusal of the first row that they do not meet; or, if they meet every row,
+-- acceptance with the ServerSignature for the account's keys
 abbrev pub IsVerdictOn : Challenged → Opening → ClientFinalParts → Due → Type 0
 IsVerdictOn l o final (refuse r) = IsFirstUnmet (λ row. AsksOfFinal row l o final) refusals_in_order r
 IsVerdictOn l o final (accept signature) =
@@ -57,8 +57,7 @@ pub record IsDueToParts (l : Challenged) (client_final : List ℕ) (d : Due) : T
   pub is_final : IsClientFinal client_final final
   pub is_verdict : IsVerdictOn l opening final d
 
--- what is due to a text that comes as client-final: InvalidEncoding where it is no client-final message, else the verdict on
--- its parts
+-- what is due to a text received as client-final: InvalidEncoding if it is no client-final message, else the verdict on its parts
 abbrev pub IsDue : Challenged → (client_final : List ℕ) → Due → Type 0
 IsDue l client_final d =
     (((final : ClientFinalParts) → IsClientFinal client_final final → ⊥) × (d ≡ refuse InvalidEncoding))
@@ -73,12 +72,12 @@ error_value Channel = codes "channel-bindings-dont-match"
 error_value InvalidProof = codes "invalid-proof"
 error_value NotAuthorised = codes "other-error"
 
--- the outcome that server-final bears
+-- the outcome that server-final contains
 abbrev pub outcome_due : Due → VerifierOrError
 outcome_due (accept signature) = verifier signature
 outcome_due (refuse r) = server_error (error_value r)
 
--- server-final with no extensions
+-- the parts of server-final, with no extensions
 abbrev pub final_due : Due → ServerFinalParts
 final_due d = record { outcome = outcome_due d; extensions = [] }
 
@@ -86,12 +85,12 @@ final_due d = record { outcome = outcome_due d; extensions = [] }
 abbrev pub due_text : Due → List ℕ
 due_text d = server_final_text (final_due d)
 
--- the verdict that the server's caller is told: what is due, without the signature
+-- the verdict that the server's caller gets: what is due, without the signature
 abbrev pub verdict_of : Due → Verdict
 verdict_of (accept signature) = verdict.Accepted
 verdict_of (refuse r) = verdict.Refused r
 
--- what is due, by this judgement
+-- what is due according to this judgement
 abbrev pub due_of : Judged → Due
 due_of (judged.Accepted signature) = accept signature.items
 due_of (judged.Refused r) = refuse r

@@ -1,4 +1,4 @@
-//! Byte strings: two are joined in a fixed buffer, or compared. And a law: the elements of a slice are bytes.
+//! Joins and compares byte strings. Also a law: the elements of a slice are bytes.
 ghost use Rattle.std.specs.Prelude.{◌≡◌, ◌≤◌, ◌<◌, ◌+◌, ◌↔◌, ◌++◌, ℕ, length, slice_index, IsTrue};
 
 use arrayvec::ArrayVec;
@@ -16,7 +16,7 @@ pub(crate) fn concatenated<const N: usize>(front: &[u8], back: &[u8]) -> ArrayVe
     bytes
 }
 
-/// Whether the bytes are the same: `==`, with a clause that a caller's proof can cite. Its time is not constant.
+/// Whether the bytes are the same: `==`, with a clause that a caller's proof can cite. Not in constant time.
 pub(crate) fn are_same(one: &[u8], other: &[u8]) -> bool
     ensures { IsTrue result ↔ (one.now ≡ other.now) }
 {

@@ -1,9 +1,9 @@
-//! The client's end of a login: `Client::start` makes client-first, `ClientOne::first` makes client-final,
-//! and `ClientTwo::last` says whether the server has the account's keys.
+//! The client's end of a login: `Client::start` writes client-first, `ClientOne::first` writes client-final, and `ClientTwo::last`
+//! checks that the server has the account's keys.
 //!
-//! A client sends the flag `n` and no extensions. It answers no challenge whose iteration count is outside
-//! its limits: under a small one its proof would be cheap to try passwords on, and a large one would keep
-//! it busy (RFC 5802, section 9, and RFC 7677, section 4).
+//! A client sends the flag `n` and no extensions. It does not answer a challenge whose iteration count is outside its limits: a
+//! small count would make it cheap to try passwords against its proof, and a large one would keep it busy (RFC 5802, section 9, and
+//! RFC 7677, section 4).
 ghost use Rattle.std.specs.Prelude.{◌≡◌};
 ghost use Rattle.scram_ends.specs.Client.{AreUsual};
 ghost use Rattle.scram_ends.specs.Faults.{client_fault_number};
@@ -18,13 +18,13 @@ use mac_core::{Mechanism, Tag};
 use scram_text::{LONGEST_CHANNEL, LONGEST_MESSAGE, LONGEST_NONCE_PART, TextFault, WriteFault};
 use thiserror::Error;
 
-/// The least iteration count that a client usually accepts: what servers should ask for at least (RFC 5802, section 5.1).
+/// The least iteration count that a client usually accepts: servers should ask for at least that (RFC 5802, section 5.1).
 const USUAL_LEAST: u32 = 4096;
 
-/// The greatest iteration count that a client usually accepts: a proof then takes it a second or two.
+/// The greatest iteration count that a client usually accepts: its proof then takes a second or two to compute.
 const USUAL_MOST: u32 = 1_000_000;
 
-/// The client's end of a login. It is only a name for `Client::start`, which begins one: nothing needs a value of it.
+/// The client's end of a login. The type is only there for `Client::start`, which begins a login: no value of it is needed.
 #[derive(Clone, Copy, Debug, PartialEq, Eq)]
 pub struct Client;
 
@@ -39,7 +39,7 @@ pub struct Limits {
 }
 
 impl Limits {
-    /// 4096 to 1000000. RFC 5802, section 5.1, asks servers for at least 4096; the most is this crate's own.
+    /// 4096 to 1000000. RFC 5802, section 5.1, asks servers for at least 4096; the greatest is this crate's own choice.
     pub fn usual() -> Limits
         ensures { AreUsual result }
     {
@@ -50,34 +50,34 @@ impl Limits {
     }
 }
 
-/// Why a client ends a login: the first of these that holds.
+/// Why a client ends a login: the first of these that applies.
 #[derive(Clone, Copy, Debug, PartialEq, Eq, Error)]
 pub enum ClientFault {
-    /// 24: the text is no message of the server, with its first fault.
-    #[error("no message of the server's: {0}")]
+    /// 24: the text is not the message that the server has to send; this is its first fault.
+    #[error("not a message of the server: {0}")]
     Text(TextFault),
 
     /// 25: the message begins with `m=` or an extension is named `m`.
-    #[error("the server asks for an extension that is not known here")]
+    #[error("the server demands an extension that is not supported")]
     Mandatory,
 
     /// 26: the nonce does not begin with the client's own.
     #[error("the nonce does not begin with the client's own: another login's challenge")]
     NonceNotMine,
 
-    /// 27: the nonce is the client's own, and the server added nothing.
-    #[error("the nonce has no part of the server's")]
+    /// 27: the nonce is the client's own: the server added nothing.
+    #[error("the nonce has no part from the server")]
     NonceNotLonger,
 
     /// 28: the iteration count is outside the client's limits.
     #[error("the iteration count is outside the client's limits")]
     CountOutside,
 
-    /// 29: the server has refused the login, by a message `e=`.
+    /// 29: the server refused the login, with a message `e=`.
     #[error("the server refuses the login")]
     ServerRefused,
 
-    /// 30: the signature is not the one that the password's own server key makes.
+    /// 30: the signature is not the one made with the server key of the client's password.
     #[error("the signature is wrong: the other end does not have the account's keys")]
     WrongSignature,
 }
@@ -109,7 +109,7 @@ impl From<TextFault> for ClientFault {
 
 /// A client that has sent its first message and waits for the challenge.
 ///
-/// It keeps the message as its gs2-header and its bare message, and its contracts say which login it stands for.
+/// It keeps the message's gs2-header and its bare message, and its contracts say which login it stands for.
 #[derive(Drop)]
 pub struct ClientOne {
     mechanism: Mechanism,
@@ -135,7 +135,7 @@ pub struct ClientTwo {
     expected: Tag,
 }
 
-/// What `ClientTwo::last` answers where the server has shown that it has the keys of the client's password
-/// (RFC 5802, section 3). The value is no proof of it: anyone can make one.
+/// What `ClientTwo::last` returns if the server has shown that it has the keys of the client's password (RFC 5802, section 3). The
+/// value by itself proves nothing: anyone can make one.
 #[derive(Clone, Copy, Debug, PartialEq, Eq)]
 pub struct Authenticated;

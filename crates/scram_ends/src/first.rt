@@ -1,8 +1,8 @@
-//! What a server takes from a client-first message: `n,a=root,n=user,r=abc` has the gs2-header
-//! `n,a=root,`, the bare message `n=user,r=abc`, the name `user` and the name to act as, `root`.
+//! What a server takes from a client-first message: `n,a=root,n=user,r=abc` has the gs2-header `n,a=root,`, the bare message
+//! `n=user,r=abc`, the name `user` and the name to act as, `root`.
 //!
-//! Names are 1 to 255 bytes from space to tilde, which SASLprep (RFC 4013) leaves as they are; others are
-//! refused. So is the flag `p=`, since no channel binding is offered.
+//! Names are 1 to 255 bytes of 20 to 7E hex, which SASLprep (RFC 4013) leaves as they are; others are refused. So is the flag `p=`,
+//! since no channel binding is offered.
 ghost use Rattle.std.specs.Prelude.{◌≡◌, ◌≤◌, ℕ, List, length, codes, IfOk, IfErr, IfSome, IfNone, ◌++◌};
 ghost use Rattle.std.specs.Bool.{OnTrue, OnFalse};
 ghost use Rattle.std.specs.declared.option.Option.{Option};
@@ -18,15 +18,15 @@ ghost use Rattle.scram_ends.specs.declared.first.FirstFault.TheVariants.{Text};
 use scram_text::{Flag, PlainName, SaslText, TextFault, read_client_first};
 use thiserror::Error;
 
-/// Why a client-first message is refused: the first of these that holds.
+/// Why a client-first message is refused: the first of these that applies.
 #[derive(Clone, Copy, Debug, PartialEq, Eq, Error)]
 pub enum FirstFault {
-    /// 20: the text is no client-first message, with its first fault.
-    #[error("no client-first message: {0}")]
+    /// 20: the text is not a client-first message; this is its first fault.
+    #[error("not a client-first message: {0}")]
     Text(TextFault),
 
     /// 21: the message begins with `m=` or an extension is named `m`.
-    #[error("the message asks for an extension that is not known here: send none named `m`")]
+    #[error("mandatory extensions are not supported: send none named `m`")]
     Mandatory,
 
     /// 22: the flag is `p=`: the client asks for a channel binding.
@@ -60,9 +60,12 @@ impl From<TextFault> for FirstFault {
     }
 }
 
-/// The name that a client-first message gives, in plain bytes: a server looks its account up. Answers the first of these faults:
-/// 20 where the text is no client-first message, 21 where it asks for a mandatory extension, 22 where its flag is `p=`, and 23
-/// where the name or the name to act as is outside its limits.
+/// The name in a client-first message, in plain bytes: the server looks up the account of this name. Errors: the first of these
+/// that applies:
+/// - 20 if the text is not a client-first message;
+/// - 21 if it asks for a mandatory extension;
+/// - 22 if its flag is `p=`;
+/// - 23 if the name or the name to act as is not 1 to 255 bytes of 20 to 7E hex.
 pub fn first_name(client_first: &[u8]) -> Result<PlainName, FirstFault>
     ensures ok { IfOk result (λ name. (first : ClientFirstParts) × (authzid : Option (List ℕ))
         × IsClientFirst client_first.now first × IsTakenUp first name authzid) }
@@ -71,7 +74,7 @@ pub fn first_name(client_first: &[u8]) -> Result<PlainName, FirstFault>
     Ok(take_up(client_first)?.name)
 }
 
-/// What a server takes from a client-first message. Slices are slices of the message.
+/// What a server takes from a client-first message. Its slices are parts of the message.
 #[derive(Drop)]
 pub(crate) struct TakenFirst<'a> {
     pub(crate) header: &'a [u8],
@@ -81,7 +84,7 @@ pub(crate) struct TakenFirst<'a> {
     pub(crate) authzid: Option<PlainName>,
 }
 
-/// Reads the message, and refuses it as `first_name` does.
+/// Reads the message, with the errors of `first_name`.
 #[tactic(auto, using(scram_text::proofs::lemmas::FirstUnmet::found_is_first))]
 pub(crate) fn take_up(client_first: &[u8]) -> Result<TakenFirst<'_>, FirstFault>
     ensures ok { IfOk result (λ taken. (first : ClientFirstParts) × IsClientFirst client_first.now first
@@ -109,6 +112,7 @@ pub(crate) fn take_up(client_first: &[u8]) -> Result<TakenFirst<'_>, FirstFault>
     })
 }
 
+// Whether the flag is `n` or `y`.
 fn is_unbound(flag: &Flag<'_>) -> bool
     ensures unbound { OnTrue result (IsUnbound (flag_text flag.now)) }
     ensures bound { OnFalse result ((binding : List ℕ) × (flag_text flag.now ≡ codes "p=" ++ binding)) }
@@ -119,7 +123,7 @@ fn is_unbound(flag: &Flag<'_>) -> bool
     }
 }
 
-// The names that are spelled, or None where one is not plain.
+// The names that are spelled, or None if one is not plain.
 fn names_of(
     name: &SaslText<'_>,
     authzid: &Option<SaslText<'_>>,
@@ -135,7 +139,7 @@ fn names_of(
     }
 }
 
-// The name that is spelled, or None where it is not plain.
+// The name that is spelled, or None if it is not plain.
 fn plain_of(spelled: &SaslText<'_>) -> Option<PlainName>
     ensures some { IfSome result (λ name. IsNameOf name spelled.now) }
     ensures none { IfNone result ((name : List ℕ) → IsNameOf name spelled.now → ⊥) }

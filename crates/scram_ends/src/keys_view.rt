@@ -1,8 +1,8 @@
-//! What a server keeps of a name for one mechanism.
+//! What a server keeps for a name and one mechanism.
 use mac_core::ScramKeys;
 use scram_text::{PlainName, Salt};
 
-/// What a server keeps of a name for one mechanism: an account's keys, or a decoy. The definitions in `specs/` call it an entry.
+/// What a server keeps for a name and one mechanism: an account's keys, or a decoy. The definitions in `specs/` call it an entry.
 #[derive(Drop)]
 pub struct KeysView<'a> {
     /// The salt that the server sends.
@@ -11,8 +11,8 @@ pub struct KeysView<'a> {
     /// The iteration count that the server sends, at least 1.
     pub count: u32,
 
-    /// The keys, each as long as the mechanism's digests. None is a decoy: it gets a challenge as
-    /// every name does, and no proof passes.
+    /// The keys, each as long as the mechanism's digests. None makes it a decoy: its name gets a challenge like any other, but no
+    /// proof passes.
     pub keys: Option<ScramKeys>,
 
     /// The other names that the account may act as.

@@ -1,17 +1,17 @@
-//! Laws of logins, for proofs that rest on this crate. Each is the promise of a function that does nothing.
+//! Laws of logins, for proofs that build on this crate. Each is the contract of a function that does nothing.
 ghost use Rattle.scram_ends.specs.Laws.{AtMostOneVerdictIsDue, SomeVerdictIsDue, AcceptsExactlyValid, RefusedIsNotTakenUp};
 
-/// At most one verdict is due to a text that comes as client-final.
+/// At most one verdict is due to a text that is received as client-final.
 pub fn at_most_one_verdict_is_due()
     ensures { AtMostOneVerdictIsDue }
 {}
 
-/// Where the first two messages open a login, some verdict is due to every text that comes as client-final.
+/// If the first two messages open a login, some verdict is due to every text that is received as client-final.
 pub fn some_verdict_is_due()
     ensures { SomeVerdictIsDue }
 {}
 
-/// A login is valid exactly where acceptance is due to its client-final message and its server-final message bears the
+/// A login is valid if and only if acceptance is due to its client-final message and its server-final message contains the
 /// signature.
 pub fn accepts_exactly_valid()
     ensures { AcceptsExactlyValid }

@@ -1,13 +1,12 @@
 //! Both ends of a SCRAM login (RFC 5802, RFC 7677), without channel binding.
 //!
-//! A server finds the account by `first_name`, answers the client-first message by `server_first`, and the
-//! client-final message by `ServerWait::finish`, which accepts exactly the valid logins, and refuses every
-//! other for the first reason of a fixed order. `ServerWait::recorded` and `judge` give the same verdict on
-//! a login that was recorded, and take no memory.
+//! A server finds the account with `first_name`, answers the client-first message with `server_first`, and the client-final message
+//! with `ServerWait::finish`. That call accepts exactly the valid logins, and refuses every other one for the first reason in a
+//! fixed order. `ServerWait::recorded` and `judge` give the same verdict on a recorded login, and do not allocate.
 //!
-//! `specs/` defines a login by its whole messages: which verdict is due to it, when it is valid, and what
-//! an honest client sends. `laws` has what follows from these definitions: where the first two messages open a
-//! login, exactly one verdict is due to every text that comes as client-final, and acceptance exactly to valid logins.
+//! `specs/` defines a login by its whole messages: which verdict is due to it, when it is valid, and what an honest client sends.
+//! `laws` states what follows from these definitions: if the first two messages open a login, exactly one verdict is due to every
+//! text received as client-final, and acceptance is due exactly to valid logins.
 //!
 //! ```rust
 //! use scram_ends::first_name;

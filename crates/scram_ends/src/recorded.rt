@@ -1,5 +1,5 @@
-//! A server's place in a recorded login, for an audit. A recorded challenge may have extensions and a
-//! longer own part of the nonce, which `server_first` does not write, so it is taken as it is.
+//! A server's state in a recorded login, for an audit. A recorded challenge may have extensions, or a longer part of the nonce than
+//! `server_first` writes, so it is taken as it is.
 ghost use Rattle.std.specs.Prelude.{◌≡◌, ◌↔◌, ℕ, List, IsTrue, IfOk, IfErr};
 ghost use Rattle.std.specs.Bool.{OnTrue, OnFalse};
 ghost use Rattle.scram_text.specs.Messages.{ClientFirstParts, IsClientFirst, ServerFirstParts, IsServerFirst};
@@ -20,15 +20,15 @@ use mac_core::Mechanism;
 use scram_text::{ServerFirst, read_server_first};
 use thiserror::Error;
 
-/// Why two recorded messages do not open a login: the first of these that holds.
+/// Why two recorded messages do not open a login: the first of these that applies.
 #[derive(Clone, Copy, Debug, PartialEq, Eq, Error)]
 pub enum RecordedFault {
-    /// 20 to 23: a server refuses the client-first message.
+    /// 20 to 23: the client-first message is refused.
     #[error("{0}")]
     First(FirstFault),
 
-    /// 31: the second text is no challenge to the client-first message for this account.
-    #[error("the second text is no challenge for this account and client-first message")]
+    /// 31: the second text is not a challenge to the client-first message for this account.
+    #[error("the second text is not a challenge for this account and client-first message")]
     NotThisChallenge,
 }
 
@@ -53,10 +53,9 @@ impl From<FirstFault> for RecordedFault {
 }
 
 impl ServerWait {
-    /// A server after a recorded client-first message and challenge. Answers a fault of the client-first
-    /// message as `first_name` does, else 31 where the second text is no server-first message, or asks for a
-    /// mandatory extension, or its nonce does not begin with the client's or is the client's with nothing added, or its
-    /// salt or count is not the account's.
+    /// A server after a recorded client-first message and challenge. Errors: those of `first_name` for the client-first message,
+    /// else 31 if the second text is not a server-first message or asks for a mandatory extension, if its nonce does not begin with
+    /// the client's or adds nothing to it, or if its salt or count is not the account's.
     pub fn recorded(
         mechanism: Mechanism,
         view: &KeysView<'_>,
@@ -79,7 +78,7 @@ impl ServerWait {
     }
 }
 
-// Whether a challenge that was read is one to this nonce, for this account.
+// Whether a challenge that was read answers this client's nonce, with the salt and the count of this account.
 fn is_challenge_to(view: &KeysView<'_>, nonce: &[u8], challenge: &ServerFirst<'_>) -> bool
     ensures opens { OnTrue result ((client_first server_first : List ℕ) (o : Opening)
         → IsClientFirst client_first o.first → IsTakenUp o.first o.name o.authzid → IsServerFirst server_first o.challenge
@@ -97,7 +96,7 @@ fn is_challenge_to(view: &KeysView<'_>, nonce: &[u8], challenge: &ServerFirst<'_
         && challenge.count == view.count
 }
 
-// Whether the nonce begins with the client's and is longer.
+// Whether the nonce begins with the client's and is longer than it.
 fn is_longer(nonce: &[u8], client: &[u8]) -> bool
     ensures { IsTrue result ↔ ExtendsNonce client.now nonce.now }
 {

@@ -7,13 +7,13 @@
 //! server-final   v=.. or e=..                          ServerWait::finish, judge
 //! ```
 //!
-//! The RFC lets a server name the fault of a client-first message in an `e=`. This one returns the fault to
-//! its caller alone, who need not name it. Of the RFC's error values it sends five; it refuses a name that
-//! has no keys as it refuses a wrong proof.
+//! The RFC lets a server report the fault of a client-first message in an `e=`. This one only returns the fault to its caller, who
+//! need not report it. It sends five of the RFC's error values; it refuses a name that has no keys in the same way as a wrong
+//! proof.
 ghost use Rattle.std.specs.Prelude.{◌≡◌, ◌≢◌, ◌≤◌, ◌<◌, ◌+◌, ◌↔◌, ℕ, List, ◌++◌, length, IsTrue, IfOk, IfErr, IsErrAnd, Contains};
 ghost use Rattle.std.specs.declared.option.Option.{Option};
 ghost use Rattle.scram_text.specs.Limits.{longest_message, longest_nonce};
-ghost use Rattle.scram_text.specs.Messages.{ClientFirstParts, bare_text, IsClientFirst, ClientFinalParts, IsServerFinal};
+ghost use Rattle.scram_text.specs.Messages.{ClientFirstParts, client_first_bare, IsClientFirst, ClientFinalParts, IsServerFinal};
 ghost use Rattle.scram_text.specs.Shown.{ShowsClientFinal};
 ghost use Rattle.scram_text.specs.Appended.{UnchangedOnErr, KeepsRoom, LacksRoom};
 ghost use Rattle.scram_ends.specs.Entry.{entry_of};
@@ -49,7 +49,7 @@ pub enum FirstRefused {
     #[error("{0}")]
     First(FirstFault),
 
-    /// 16, 17 or 99: the challenge could not be written. `server_first` answers only 99.
+    /// 16, 17 or 99: the challenge could not be written. `server_first` returns only 99.
     #[error("{0}")]
     Write(WriteFault),
 }
@@ -68,8 +68,8 @@ impl FirstRefused {
 
 /// A server that has sent its challenge and waits for the client-final message.
 ///
-/// It does not keep the messages, so its contracts say which account, client-first message and
-/// challenge it stands for. No part of it grows.
+/// It does not keep the messages, so its contracts say which account, client-first message and challenge it stands for. Its size is
+/// fixed.
 #[derive(Drop)]
 pub struct ServerWait {
     nonce: ArrayVec<u8, LONGEST_NONCE>,
@@ -79,39 +79,39 @@ pub struct ServerWait {
     spent: Option<WriteFault>,
 }
 
-/// Appends the challenge to a client-first message to `out`: the client's nonce with `own` after it, the
-/// account's salt and its count. Answers a fault of the client-first message as `first_name` does, else 99
-/// NoMemory, only where `out` had no room reserved for the challenge. After each of these faults `out` is unchanged.
+/// Answers a client-first message: appends the challenge to `out`, with the client's nonce followed by `server_nonce`, the
+/// account's salt and its count. Errors: those of `first_name` for the client-first message, else 99 NoMemory, only if `out` had no
+/// room reserved for the challenge. After an error `out` is unchanged.
 pub fn server_first<A: Allocator>(
     mechanism: Mechanism,
     view: &KeysView<'_>,
     client_first: &[u8],
-    own: &NoncePart,
+    server_nonce: &NoncePart,
     out: &mut Vec<u8, A>,
 ) -> Result<ServerWait, FirstRefused>
     requires { 1 ≤ view.now.count }
     // The challenge is appended, and the value stands for it.
     ensures ok { IfOk result (λ wait. (server_first : List ℕ)
         × (out.new.items ≡ out.old.items ++ server_first)
-        × IsChallengeTo (entry_of view.now) client_first.now own.now server_first
+        × IsChallengeTo (entry_of view.now) client_first.now server_nonce.now server_first
         × StandsFor wait (challenged_login (entry_of view.now) mechanism client_first.now server_first)) }
     ensures unchanged { UnchangedOnErr result out.old out.new }
     ensures room { KeepsRoom out.old out.new }
     ensures first { IfErr result (λ r. (f : FirstFault) → r ≡ FirstRefused.First f
         → IsRefusedWith client_first.now f) }
-    // A fault of writing comes only after a client-first message that is taken up, and is only that memory ran out.
+    // A fault of writing comes only after a client-first message that is taken up, and it is always 99 NoMemory.
     ensures taken { IfErr result (λ r. (f : WriteFault) → r ≡ FirstRefused.Write f
         → (f ≡ WriteFault.NoMemory) × ((first : ClientFirstParts) × (name : List ℕ)
         × (authzid : Option (List ℕ)) × IsClientFirst client_first.now first × IsTakenUp first name authzid)) }
     ensures no_memory { IfErr result (λ r. r ≡ FirstRefused.Write WriteFault.NoMemory
-        → (server_first : List ℕ) × IsChallengeTo (entry_of view.now) client_first.now own.now server_first
+        → (server_first : List ℕ) × IsChallengeTo (entry_of view.now) client_first.now server_nonce.now server_first
         × LacksRoom out.old server_first) }
 {
     let taken = match take_up(client_first) {
         Ok(taken) => taken,
         Err(fault) => return Err(FirstRefused::First(fault)),
     };
-    let nonce: ArrayVec<u8, LONGEST_NONCE> = concatenated(taken.nonce, own.bytes());
+    let nonce: ArrayVec<u8, LONGEST_NONCE> = concatenated(taken.nonce, server_nonce.bytes());
     let nonce = nonce.as_slice();
     let start = out.len();
     match write_challenge(nonce, &view.salt, view.count, out) {
@@ -120,7 +120,7 @@ pub fn server_first<A: Allocator>(
     }
 }
 
-/// A server that waits after this challenge, which has this nonce.
+/// A server that waits for the client-final message after this challenge, which has this nonce.
 pub(crate) fn wait_for(
     mechanism: Mechanism,
     view: &KeysView<'_>,
@@ -143,6 +143,7 @@ pub(crate) fn wait_for(
     }
 }
 
+// Whether the account may act as the name `authzid`: there is none, or it is the account's own name or one of `act_as`.
 fn is_allowed(view: &KeysView<'_>, name: &PlainName, authzid: &Option<PlainName>) -> bool
     ensures { IsTrue result ↔ IsAllowed (entry_of view.now) name.now authzid.now }
 {
@@ -154,19 +155,21 @@ fn is_allowed(view: &KeysView<'_>, name: &PlainName, authzid: &Option<PlainName>
     }
 }
 
+// Whether the name is one of these.
 fn is_among(name: &[u8], names: &[PlainName]) -> bool
     ensures { IsTrue result ↔ Contains names.now name.now }
 {
     names.iter().any(|other| other.bytes() == name)
 }
 
+// The account's keys for a login with this bare client-first message and this challenge, or None if the account has no keys.
 fn signing_for(
     mechanism: Mechanism,
     view: &KeysView<'_>,
     bare: &[u8],
     challenge: &[u8],
 ) -> Option<Signing>
-    ensures { (first : ClientFirstParts) → bare.now ≡ bare_text first
+    ensures { (first : ClientFirstParts) → bare.now ≡ client_first_bare first
         → IsSigningFor result mechanism (entry_of view.now).keys (auth_to_challenge first challenge.now) }
 {
     match &view.keys {
@@ -176,12 +179,17 @@ fn signing_for(
 }
 
 impl ServerWait {
-    /// The verdict on a client-final message, where no message is written (RFC 5802, section 5). The first of these
-    /// that holds decides: the text is no client-final message (InvalidEncoding), an extension is named `m`
-    /// (ExtensionsNotSupported), the nonce is not exactly the one that was sent (OtherNonce), the channel field is
-    /// not exactly the gs2-header of client-first (Channel), the account has no keys or the proof is not by them
-    /// (InvalidProof), the name to act as is not allowed to the account (NotAuthorised). Otherwise the login is
-    /// accepted, with the server's signature. A spent value refuses as InvalidProof. It takes no memory.
+    /// The verdict on a client-final message (RFC 5802, section 5), without writing a message. It is the first of these that
+    /// applies:
+    /// - InvalidEncoding: the text is not a client-final message;
+    /// - ExtensionsNotSupported: an extension is named `m`;
+    /// - OtherNonce: the nonce is not exactly the one that was sent;
+    /// - Channel: the channel field is not exactly the gs2-header of client-first;
+    /// - InvalidProof: the account has no keys, or the proof is not made with them;
+    /// - NotAuthorised: the account may not act as the name to act as;
+    /// - otherwise the login is accepted, with the server's signature.
+    ///
+    /// A spent value refuses with InvalidProof. This call does not allocate.
     pub fn judge(self, client_final: &[u8]) -> Judged
         ensures due { (l : Challenged) → StandsFor self l → IsDue l client_final.now (due_of result) }
         ensures spent { (fault : WriteFault) → IsSpentBy self fault
@@ -193,6 +201,7 @@ impl ServerWait {
         self.verdict_on(client_final)
     }
 
+    // As `judge`, for a value that is not spent.
     fn verdict_on(&self, client_final: &[u8]) -> Judged
         ensures { (l : Challenged) → StandsFor self.now l → IsDue l client_final.now (due_of result) }
     {
@@ -202,7 +211,7 @@ impl ServerWait {
         }
     }
 
-    // The verdict on the parts.
+    // The verdict on the parts of a client-final message.
     #[tactic(auto, using(scram_text::proofs::lemmas::FirstUnmet::found_is_first))]
     fn judge_final(&self, last: &ClientFinal<'_>) -> Judged
         ensures { (l : Challenged) (s : StandsFor self.now l) (p : ClientFinalParts)
@@ -229,33 +238,37 @@ impl ServerWait {
         Judged::Accepted(signing.signature(last.without_proof))
     }
 
-    /// Appends the server's final message to `out`, and returns the verdict that it bears: that the login
-    /// is accepted, or why not, as `judge` decides.
+    /// Appends the server's final message to `out` and returns its verdict: that the login is accepted, or why not, as `judge`
+    /// decides.
     ///
-    /// After a fault `out` is unchanged. 99 NoMemory comes only where `out` had no room reserved for the message, which has at
-    /// most 2048 bytes; the value that is handed back is then as before. After 16 or 17, which no value that stands for a login
-    /// meets, the value is spent: each later call of `finish` answers the same fault, and `judge` refuses as InvalidProof.
+    /// Errors: 99 NoMemory, only if `out` had no room reserved for the message, which has at most 2048 bytes; the value that is
+    /// handed back is then unchanged. 16 and 17 come only from a value that stands for no login; the value handed back is then
+    /// spent: each later call of `finish` returns the same fault, and `judge` refuses with InvalidProof. After an error `out` is
+    /// unchanged.
     pub fn finish<A: Allocator>(
         self,
         client_final: &[u8],
         out: &mut Vec<u8, A>,
     ) -> Result<Verdict, (ServerWait, WriteFault)>
-        // The message due, a server-final message, is appended, and the verdict is the one that it bears.
+        // The message due, a server-final message, is appended, and the verdict is the one that it contains.
         ensures ok { IfOk result (λ v. (l : Challenged) → StandsFor self l
             → (d : Due) × IsDue l client_final.now d × (v ≡ verdict_of d)
             × (out.new.items ≡ out.old.items ++ due_text d) × IsServerFinal (due_text d) (final_due d)) }
-        // A login is accepted exactly where it is valid: this follows from `ok` and the law
+        // A login is accepted if and only if it is valid: this follows from `ok` and the law
         // `accepts_exactly_valid`.
         ensures valid { IfOk result (λ v. (l : Challenged) → StandsFor self l
             → (server_final : List ℕ) × (out.new.items ≡ out.old.items ++ server_final)
             × ((v ≡ Verdict.Accepted) ↔ IsValidLogin l client_final.now server_final)) }
         ensures unchanged { UnchangedOnErr result out.old out.new }
         ensures room { KeepsRoom out.old out.new }
+        // If there was no room, the value is handed back unchanged.
         ensures back { IfErr result (λ r. r.1 ≡ WriteFault.NoMemory → r.0 ≡ self) }
+        // After any other fault, the value that is handed back is spent.
         ensures spent { IfErr result (λ r. r.1 ≢ WriteFault.NoMemory → IsSpentBy r.0 r.1) }
+        // A spent value returns the same fault again.
         ensures again { (fault : WriteFault) → IsSpentBy self fault
             → IsErrAnd result (λ r. (r.0 ≡ self) × (r.1 ≡ fault)) }
-        // Where the value stands for a login, the only fault is that memory ran out.
+        // If the value stands for a login, the only fault is 99 NoMemory.
         ensures no_memory { IfErr result (λ r. (l : Challenged) → StandsFor self l
             → (r.1 ≡ WriteFault.NoMemory) × ((d : Due) × IsDue l client_final.now d
             × (length (due_text d) ≤ longest_message) × LacksRoom out.old (due_text d))) }
@@ -271,6 +284,7 @@ impl ServerWait {
         }
     }
 
+    // The value, spent by this fault.
     fn spent_by(self, fault: WriteFault) -> ServerWait
         ensures { IsSpentBy result fault }
     {

@@ -1,9 +1,9 @@
-//! The keys of an account at work on one login: AuthMessage (RFC 5802, section 3) is never kept, but two
-//! MACs take it in as it comes: one by StoredKey checks the client's proof, one by ServerKey signs.
+//! The keys of an account, in use for one login. AuthMessage (RFC 5802, section 3) is never kept: its parts are added to two MACs
+//! as they come. The MAC under StoredKey checks the client's proof; the one under ServerKey signs.
 ghost use Rattle.std.specs.Prelude.{◌≡◌, ◌≤◌, ◌↔◌, ℕ, List, [], ◌∷◌, ◌++◌, length, IsTrue};
 ghost use Rattle.std.specs.Str.{byte};
 ghost use Rattle.mac_core.specs.Mechanism.{length_by, hmac_by, IsScramMac};
-ghost use Rattle.scram_text.specs.Messages.{ClientFirstParts, bare_text};
+ghost use Rattle.scram_text.specs.Messages.{ClientFirstParts, client_first_bare};
 ghost use Rattle.scram_ends.specs.Entry.{Keys, keys_of};
 ghost use Rattle.scram_ends.specs.Auth.{auth_to_challenge, server_signature, IsProof};
 ghost use Rattle.scram_ends.specs.Standing.{IsSigning};
@@ -11,7 +11,7 @@ ghost use Rattle.scram_ends.specs.Standing.{IsSigning};
 use crate::bytes::are_same;
 use mac_core::{Mechanism, ScramKeys, ScramMac, Tag, copy_of, xor};
 
-/// StoredKey, and the two MACs of AuthMessage as far as it is known.
+/// StoredKey, and the two MACs of AuthMessage up to its last part.
 #[derive(Drop)]
 pub(crate) struct Signing {
     mechanism: Mechanism,
@@ -21,14 +21,14 @@ pub(crate) struct Signing {
 }
 
 impl Signing {
-    /// The keys at work on a login of this client-first-bare and this challenge.
+    /// The keys for a login with this client-first-message-bare and this challenge.
     pub(crate) fn new(
         mechanism: Mechanism,
         keys: &ScramKeys,
         bare: &[u8],
         challenge: &[u8],
     ) -> Signing
-        ensures { (first : ClientFirstParts) → bare.now ≡ bare_text first
+        ensures { (first : ClientFirstParts) → bare.now ≡ client_first_bare first
             → IsSigning result mechanism (keys_of keys.now) (auth_to_challenge first challenge.now) }
     {
         Signing {
@@ -39,7 +39,7 @@ impl Signing {
         }
     }
 
-    /// Whether the proof is that of the account's keys, where AuthMessage ends with
+    /// Whether the proof is made with the account's keys, for the AuthMessage that ends with this
     /// client-final-message-without-proof.
     pub(crate) fn is_proof(&self, client_final_without_proof: &[u8], proof: &Tag) -> bool
         ensures { (m : Mechanism) (keys : Keys) (front : List ℕ) → IsSigning self.now m keys front
@@ -50,11 +50,11 @@ impl Signing {
             return false;
         }
         let stored = self.mechanism.stored_key(&xor(proof, &signature));
-        // Not in constant time: what is compared with StoredKey is a hash, whose bytes no client can choose one by one.
+        // Not in constant time: the value compared with StoredKey is a hash, whose bytes no client can choose one by one.
         are_same(stored.as_slice(), self.stored.as_slice())
     }
 
-    /// The server's signature, where AuthMessage ends with client-final-message-without-proof.
+    /// The server's signature of the AuthMessage that ends with this client-final-message-without-proof.
     pub(crate) fn signature(&self, client_final_without_proof: &[u8]) -> Tag
         ensures { (m : Mechanism) (keys : Keys) (front : List ℕ) → IsSigning self.now m keys front
             → result.items ≡ server_signature m keys (front ++ client_final_without_proof.now) }
@@ -63,7 +63,7 @@ impl Signing {
     }
 }
 
-/// A MAC that has taken in AuthMessage as far as client-final-message-without-proof.
+/// A running MAC of AuthMessage up to client-final-message-without-proof.
 pub(crate) fn running_mac(
     mechanism: Mechanism,
     key: &Tag,
@@ -81,7 +81,7 @@ pub(crate) fn running_mac(
     mac
 }
 
-// The MAC of the text that it has taken in, followed by `rest`.
+// The MAC of the text added so far, followed by `rest`.
 fn signed(mac: &ScramMac, rest: &[u8]) -> Tag
     ensures value { (m : Mechanism) (key front : List ℕ) → IsScramMac m mac.now key front
         → result.items ≡ hmac_by m key (front ++ rest.now) }

@@ -1,13 +1,13 @@
-//! The verdict of a server on a client-final message.
+//! A server's verdict on a client-final message.
 ghost use Rattle.std.specs.Prelude.{◌≡◌};
 ghost use Rattle.scram_ends.specs.Verdict.{error_value, due_of, verdict_of};
 
 use mac_core::Tag;
 
-/// Why a login is refused: the first of these that holds.
+/// Why a login is refused: the first of these that applies.
 #[derive(Clone, Copy, Debug, PartialEq, Eq)]
 pub enum Refusal {
-    /// The text is no client-final message.
+    /// The text is not a client-final message.
     InvalidEncoding,
 
     /// An extension is named `m`.
@@ -19,15 +19,15 @@ pub enum Refusal {
     /// The channel field is not exactly the gs2-header of client-first.
     Channel,
 
-    /// The proof is not that of the account's keys, or the account is a decoy.
+    /// The proof is not made with the account's keys, or the account is a decoy.
     InvalidProof,
 
-    /// The name to act as is not allowed to the account.
+    /// The account may not act as the name to act as.
     NotAuthorised,
 }
 
 impl Refusal {
-    /// The value of `e=` that is sent for the refusal (RFC 5802, section 7).
+    /// The value of `e=` that reports the refusal (RFC 5802, section 7).
     pub fn error_value(&self) -> &'static str
         ensures { result.now ≡ error_value self.now }
     {
@@ -41,23 +41,23 @@ impl Refusal {
     }
 }
 
-/// A server's verdict, without what it signed.
+/// A server's verdict, without its signature.
 #[derive(Clone, Copy, Debug, PartialEq, Eq)]
 pub enum Verdict {
     /// The login is valid.
     Accepted,
 
-    /// It is refused.
+    /// The login is refused.
     Refused(Refusal),
 }
 
-/// A server's verdict, with the signature of an acceptance.
+/// A server's verdict, with its signature if it accepts.
 #[derive(Drop)]
 pub enum Judged {
     /// The login is valid, and this is the server's signature.
     Accepted(Tag),
 
-    /// It is refused.
+    /// The login is refused.
     Refused(Refusal),
 }
 

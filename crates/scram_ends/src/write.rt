@@ -1,5 +1,4 @@
-//! The server's two messages as they are written. Their fields are within the limits, so the only
-//! fault is that memory runs out.
+//! Writes the server's two messages. Their fields are within the limits, so the only fault is that there is no memory for them.
 ghost use Rattle.std.specs.Prelude.{◌≡◌, ◌≤◌, ◌<◌, ℕ, List, [], length, OnOk, IsErrOf};
 ghost use Rattle.scram_text.specs.Limits.{longest_message, longest_nonce};
 ghost use Rattle.scram_text.specs.Class.{IsNonce};
@@ -32,12 +31,12 @@ pub(crate) fn write_challenge<A: Allocator>(
         IsErrOf result WriteFault.NoMemory → IsServerFirst (server_first_text p) p
         × LacksRoom out.old (server_first_text p) }
 {
-    // For the proof: so the salt fits its field, and the writer has no other fault.
+    // For the proof: a salt's elements are bytes, so it fits its field, and the writer has no other fault.
     are_bytes(salt.bytes());
     write_server_first(nonce, salt, count, b"", out)
 }
 
-/// Appends the server's final message of this judgement.
+/// Appends the server's final message that reports this verdict.
 pub(crate) fn write_judgement<A: Allocator>(
     judged: &Judged,
     out: &mut Vec<u8, A>,
@@ -45,7 +44,7 @@ pub(crate) fn write_judgement<A: Allocator>(
     ensures appended { IsAppended result out.old out.new (due_text (due_of judged.now)) }
     ensures is_message { let d = due_of judged.now in
         OnOk result (IsServerFinal (due_text d) (final_due d)) }
-    // An empty signature could not be written, but no key makes one.
+    // An empty signature can't be written, but no key makes one.
     ensures unwritable { IsErrOf result WriteFault.Unwritable
         → (signature : List ℕ) × (due_of judged.now ≡ accept signature) × (length signature ≡ 0) }
     ensures over_limit { IsErrOf result WriteFault.OverLimit → ⊥ }
@@ -58,6 +57,7 @@ pub(crate) fn write_judgement<A: Allocator>(
     }
 }
 
+// Appends the server-final message whose verifier is this signature.
 fn write_signature<A: Allocator>(signature: &[u8], out: &mut Vec<u8, A>) -> Result<(), WriteFault>
     requires { length signature.now ≤ 64 }
     ensures appended { IsAppended result out.old out.new (due_text (accept signature.now)) }
@@ -71,6 +71,7 @@ fn write_signature<A: Allocator>(signature: &[u8], out: &mut Vec<u8, A>) -> Resu
     write_server_final(FinalResult::Verifier(copy_of(signature)), b"", out)
 }
 
+// Appends the server-final message with the error value of this refusal.
 fn write_refusal<A: Allocator>(refusal: Refusal, out: &mut Vec<u8, A>) -> Result<(), WriteFault>
     ensures appended { IsAppended result out.old out.new (due_text (refuse refusal)) }
     ensures is_message { let d = refuse refusal in

@@ -1,5 +1,5 @@
-//! What no contract shows: that the definitions are those of RFC 5802, by its login, that of RFC 7677 and
-//! those of other software, and that each call can succeed.
+//! What no contract shows: that the definitions are those of RFC 5802, checked with its login, that of RFC
+//! 7677 and those of other software, and that each call can succeed.
 ghost use Rattle.std.specs.Prelude.{◌≤◌, IfSome};
 
 use linked_list_allocator::LocalHeap;
@@ -42,17 +42,21 @@ const SHA256: [&str; 4] = [
     "v=6rriTRBi23WpRR/wtup+mMhUZUn/dB5nLTJRsjl95G4=",
 ];
 
-// Asserts that the value is the one wanted, and says at what it is not.
+// Asserts that the value is the expected one; `at` says what it is for.
 fn check<T: PartialEq + Debug>(rt: &impl Abort, got: &T, want: &T, at: &str) {
     assert_eq!(rt; got, want, "{at}");
 }
 
-// Asserts that the bytes are those of the text, and says at what they are not.
+// Asserts that the bytes are those of the text; `at` says what they are for. A failure shows both as texts, or both as bytes
+// if the first are no UTF-8.
 fn check_text(rt: &impl Abort, got: &[u8], want: &str, at: &str) {
-    assert_eq!(rt; got, want.as_bytes(), "{at}");
+    match str::from_utf8(got) {
+        Ok(text) => assert_eq!(rt; text, want, "{at}"),
+        Err(_) => assert_eq!(rt; got, want.as_bytes(), "{at}"),
+    }
 }
 
-// The account of a password, with the salt and count of a challenge.
+// The account with this password, and with the salt and count of a challenge.
 fn view_of<'a>(
     mechanism: Mechanism,
     password: &[u8],
@@ -78,7 +82,7 @@ fn pencil(act_as: &[PlainName]) -> Option<KeysView<'_>>
     view_of(Mechanism::ScramSha1, b"pencil", SHA1[1].as_bytes(), act_as)
 }
 
-// Asserts what is printed of a fault.
+// Asserts that a fault is printed as `want`.
 fn check_words(
     rt: &impl Abort,
     alloc: Global,
@@ -90,7 +94,7 @@ fn check_words(
     Ok(())
 }
 
-// The server's final message with this judgement.
+// The server's final message that reports this verdict.
 fn text_of(alloc: Global, judged: &Judged) -> Result<Vec<u8>, Fail> {
     let mut out = Vec::new(alloc);
     match judged {
@@ -106,8 +110,8 @@ fn text_of(alloc: Global, judged: &Judged) -> Result<Vec<u8>, Fail> {
     Ok(out)
 }
 
-// An honest client's answer to RFC 5802's challenge, where `signed` is the client-first-bare in
-// AuthMessage. It is worked out from the RFC's formulas, with none of this crate's calls.
+// An honest client's answer to this challenge, with RFC 5802's password; `signed` is the client-first-message-bare
+// in AuthMessage. It is computed from the RFC's formulas, without any call of the tested crate.
 fn answer(alloc: Global, header: &str, signed: &str, challenge: &str) -> Result<Vec<u8>, Fail> {
     let sha1 = Mechanism::ScramSha1;
     let Ok(read) = read_server_first(challenge.as_bytes()) else {

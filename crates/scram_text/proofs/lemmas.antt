@@ -1,4 +1,4 @@
--- Lemmas: what the proofs of this crate and of those above it cite.
+-- Lemmas that the proofs of this crate and of those above it cite.
 pub mod AttrVals
 pub mod Base64
 pub mod Base64Texts

@@ -5,11 +5,11 @@ use Rattle.base64.specs.declared.decode.DecodeError.{DecodeError}
 use Rattle.base64.specs.Engines.{standard}
 use Rattle.base64.specs.GeneralPurpose.{encode_of, decode_of, IsBytes}
 
--- the base64 of these bytes, padded and with no unused bits set: that of "n,," is "biws"
+-- the base64 of these bytes, padded and with no unused bits set: for "n,," it is "biws"
 unfoldable pub base64 : List ℕ → List ℕ
 base64 bytes = encode_of standard bytes
 
--- the bytes that a base64 text is decoded to, or the error
+-- the bytes that a base64 text decodes to, or the error
 unfoldable pub base64_decoded : List ℕ → Result (List ℕ) DecodeError
 base64_decoded text = decode_of standard text
 

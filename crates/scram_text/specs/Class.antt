@@ -1,11 +1,11 @@
--- The character classes of SCRAM messages (RFC 5802, section 7), as tests of one byte, and the runs of
--- them that have limits here.
+-- The character classes of SCRAM messages (RFC 5802, section 7), as tests of one byte, and runs of them, with this library's limits
+-- on their length.
 use Rattle.std.specs.Prelude.{ℕ, ◌≤◌, nat_le, ◌==◌, Bool, not, ◌&&◌, ◌||◌, IsTrue, List, length}
 use Rattle.std.specs.List.{list_all}
 use Rattle.std.specs.Str.{IsUtf8, byte}
 use Rattle.scram_text.specs.Limits.{longest_name, longest_nonce_part, longest_password, longest_salt}
 
--- the byte of a comma, which separates the parts of a message
+-- a comma, which separates the parts of a message
 abbrev pub is_comma : ℕ → Bool
 is_comma c = c == byte ","
 
@@ -17,7 +17,7 @@ is_vchar c = nat_le (byte "!") c && nat_le c (byte "~")
 abbrev pub is_printable : ℕ → Bool
 is_printable c = is_vchar c && not (is_comma c)
 
--- a byte of a plain name or a password: %x20-7E, from " " to "~", which SASLprep leaves as it is
+-- a byte of a plain name or a password: %x20-7E, from " " to "~", which SASLprep leaves unchanged
 abbrev pub is_plain : ℕ → Bool
 is_plain c = nat_le (byte " ") c && nat_le c (byte "~")
 
@@ -56,8 +56,7 @@ pub record IsSalt (salt : List ℕ) : Type 0 where
   pub at_least : 1 ≤ length salt
   pub at_most : length salt ≤ longest_salt
 
--- UTF-8 with no NUL in it. The value-chars of a message are the characters of such a text except the comma, and its
--- value-safe-chars those except `=` too.
+-- UTF-8 without NUL. In such a text, value-char is any character except the comma, and value-safe-char any except the comma and `=`.
 pub record IsUtf8Text (bytes : List ℕ) : Type 0 where
   pub utf8 : IsUtf8 bytes
   pub no_nul : IsTrue (list_all (λ c. not (c == byte "\0")) bytes)

@@ -3,12 +3,12 @@ use Rattle.std.specs.Prelude.{ℕ, ◌≡◌, ◌<◌, true, false, List, [], �
 use Rattle.std.specs.Str.{byte}
 use Rattle.scram_text.specs.declared.draft.Draft.{Draft}
 
--- the draft stands for this text: it holds it, or the text has more bytes than such a draft holds
+-- the draft is one of this text: it holds the text, or is marked as over, and then the text has more than `most` bytes
 pub record IsDraftOf {most : ℕ} (draft : Draft most) (text : List ℕ) : Type 0 where
   pub held : draft.over ≡ false → draft.text.items ≡ text
   pub over : draft.over ≡ true → most < length text
 
--- a comma and the text, or nothing where the text is empty
+-- a comma and the text, or nothing if the text is empty
 abbrev pub after_comma : List ℕ → List ℕ
 after_comma [] = []
 after_comma (c ∷ text) = byte "," ∷ c ∷ text

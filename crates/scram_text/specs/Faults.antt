@@ -1,5 +1,5 @@
--- What is wrong with a text that is no message: the first fault that it has. A fault is one of the
--- whole text or of its parts, and the four messages differ only in the places of their parts.
+-- What is wrong with a text that is no message: its first fault. A fault is one of the whole text or of one of its parts, and the
+-- four messages differ only in the places of their parts.
 use Rattle.std.specs.Prelude.{ℕ, ◌≡◌, ◌<◌, ◌≤◌, ◌+◌, ◌-◌, ◌⊎◌, List, [], ◌∷◌, ◌++◌, length, drop, replicate, IfSome, if◌then◌else◌, IsTrue}
 use Rattle.std.specs.List.{zip}
 use Rattle.std.specs.Str.{byte}
@@ -40,16 +40,16 @@ write_fault_number Unwritable = 16
 write_fault_number OverLimit = 17
 write_fault_number NoMemory = 99
 
--- a fault of this part, for this reason
+-- the fault of the part with this index, for this reason
 abbrev pub fault : (part : ℕ) → TextWhy → TextFault
 fault part why = record { part = part; why = why }
 
--- the part is nothing, or "a=" and a saslname
+-- the part is empty, or "a=" and a saslname
 abbrev pub IsAuthzid : List ℕ → Type 0
 IsAuthzid part = (authzid : Option (List ℕ)) × (part ≡ authzid_text authzid) × IfSome authzid IsSaslName
 
--- what a part has to be at the place that gives this fault, in a message whose nonce has at most `most`
--- characters
+-- what a part must be at the place that gives this fault, in a message whose nonce has at most `most` characters. TooLong, NotText
+-- and Missing are faults of no place.
 abbrev pub Fits : (most : ℕ) → TextWhy → (part : List ℕ) → Type 0
 Fits most TooLong part = Unit {0}
 Fits most NotText part = Unit {0}
@@ -67,13 +67,13 @@ Fits most Proof part = IsAttrVal (byte "p") (SpellsField longest_tag) part
 Fits most Verifier part = IsAttrVal (byte "v") (SpellsField longest_tag) part
 Fits most ErrorValue part = IsAttrVal (byte "e") IsValue part
 
--- the fault is of the first part that does not fit its place, with parts counted from k
+-- the fault is that of the first part that does not fit its place, with parts counted from k
 pub record IsFirstMisfit (most : ℕ) (places : List TextWhy) (k : ℕ) (pieces : List (List ℕ)) (f : TextFault) : Type 0 where
   pub part : List ℕ
   pub first : IsFirstUnmet (λ row. Fits most row.0 row.1) (zip places pieces) (f.why, part)
   pub number : f.part ≡ k + length first.before
 
--- the places of n parts: the fixed ones of the front and of the back, and extensions between them
+-- the places of n parts: the fixed ones at the front and at the back, and extensions between them
 abbrev pub places : (front back : List TextWhy) → (n : ℕ) → List TextWhy
 places front back n = front ++ (replicate (n - (length front + length back)) Extension ++ back)
 
@@ -96,12 +96,12 @@ IsFault most front back text f =
     IsWholeFault text f
     ⊎ ((length text ≤ longest_message) × IsUtf8Text text × IsPartFault most front back (parts text) f)
 
--- the first part, or nothing
+-- the first part, or the empty text if there is none
 abbrev pub first_of : List (List ℕ) → List ℕ
 first_of [] = []
 first_of (part ∷ pieces) = part
 
--- the place of a mandatory extension, where the first part begins with "m=", and then the later places
+-- the later places, and before them that of a mandatory extension if the first part begins with "m="
 abbrev pub places_with_mext : List (List ℕ) → List TextWhy → List TextWhy
 places_with_mext pieces later = if is_named (byte "m") (first_of pieces) then Mandatory ∷ later else later
 
@@ -125,7 +125,7 @@ IsServerFirstFault text f = IsFault longest_nonce (server_first_places (parts te
 abbrev pub IsClientFinalFault : List ℕ → TextFault → Type 0
 IsClientFinalFault text f = IsFault longest_nonce (Channel ∷ Nonce ∷ []) (Proof ∷ []) text f
 
--- the place of server-final's first part: ErrorValue, where it begins with "e=", else Verifier
+-- the place of server-final's first part: ErrorValue if it begins with "e=", else Verifier
 abbrev pub outcome_place : List ℕ → TextWhy
 outcome_place part = if is_named (byte "e") part then ErrorValue else Verifier
 

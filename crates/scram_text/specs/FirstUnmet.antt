@@ -1,4 +1,4 @@
--- The first of some demands that is not met. The demands stand in the rows of a table, in order.
+-- The first of some demands that is not met. The demands are the rows of a table, in order.
 use Rattle.std.specs.Prelude.{◌≡◌, List, ◌∷◌, ◌++◌}
 use Rattle.std.specs.List.{AllByRecursion}
 

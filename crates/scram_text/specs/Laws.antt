@@ -1,5 +1,5 @@
--- The laws of the grammar: that base64 has its usual form, that parts are UTF-8, that a text is a message in at most one way,
--- and that it is decided whether it is one.
+-- The laws of the grammar: base64 has its usual form, parts are UTF-8, a text is a message in at most one way, and it is decidable
+-- whether it is one.
 use Rattle.std.specs.Prelude.{ℕ, ◌≡◌, ◌≤◌, ◌⊎◌, ◌+◌, ◌*◌, ◌/◌, List, length}
 use Rattle.std.specs.List.{AllByRecursion}
 use Rattle.std.specs.Str.{IsUtf8}
@@ -13,7 +13,7 @@ use Rattle.scram_text.specs.Parts.{parts}
 use Rattle.scram_text.specs.Messages.{ClientFirstParts, IsClientFirst, ServerFirstParts, IsServerFirst, ClientFinalParts, IsClientFinal}
 use Rattle.scram_text.specs.Messages.{ServerFinalParts, IsServerFinal}
 
--- the base64 of these bytes is decoded to them, has no comma, and has four bytes for each three begun
+-- the base64 of these bytes decodes to them, has no comma, and has four characters for each three bytes or part of three
 pub record IsUsualBase64 (bytes : List ℕ) : Type 0 where
   pub decoded : base64_decoded (base64 bytes) ≡ Ok bytes
   pub no_comma : LacksComma (base64 bytes)
@@ -31,7 +31,7 @@ PartsAreUtf8 = (text : List ℕ) → IsUtf8 text → AllByRecursion IsUtf8 (part
 abbrev pub SpellsOneName : Type 0
 SpellsOneName = (one other spelled : List ℕ) → SpellsName one spelled → SpellsName other spelled → one ≡ other
 
--- whether a text spells a plain name is decided
+-- it is decidable whether a text spells a plain name
 abbrev pub NameIsDecided : Type 0
 NameIsDecided = (spelled : List ℕ) → ((name : List ℕ) × IsPlainName name × SpellsName name spelled)
     ⊎ ((name : List ℕ) → IsPlainName name → SpellsName name spelled → ⊥)
@@ -40,7 +40,7 @@ NameIsDecided = (spelled : List ℕ) → ((name : List ℕ) × IsPlainName name 
 abbrev pub HasOneClientFirst : Type 0
 HasOneClientFirst = (text : List ℕ) (p q : ClientFirstParts) → IsClientFirst text p → IsClientFirst text q → p ≡ q
 
--- whether a text is a client-first message is decided
+-- it is decidable whether a text is a client-first message
 abbrev pub ClientFirstIsDecided : Type 0
 ClientFirstIsDecided = (text : List ℕ) → ((p : ClientFirstParts) × IsClientFirst text p)
     ⊎ ((p : ClientFirstParts) → IsClientFirst text p → ⊥)
@@ -49,7 +49,7 @@ ClientFirstIsDecided = (text : List ℕ) → ((p : ClientFirstParts) × IsClient
 abbrev pub HasOneServerFirst : Type 0
 HasOneServerFirst = (text : List ℕ) (p q : ServerFirstParts) → IsServerFirst text p → IsServerFirst text q → p ≡ q
 
--- whether a text is a server-first message is decided
+-- it is decidable whether a text is a server-first message
 abbrev pub ServerFirstIsDecided : Type 0
 ServerFirstIsDecided = (text : List ℕ) → ((p : ServerFirstParts) × IsServerFirst text p)
     ⊎ ((p : ServerFirstParts) → IsServerFirst text p → ⊥)
@@ -58,7 +58,7 @@ ServerFirstIsDecided = (text : List ℕ) → ((p : ServerFirstParts) × IsServer
 abbrev pub HasOneClientFinal : Type 0
 HasOneClientFinal = (text : List ℕ) (p q : ClientFinalParts) → IsClientFinal text p → IsClientFinal text q → p ≡ q
 
--- whether a text is a client-final message is decided
+-- it is decidable whether a text is a client-final message
 abbrev pub ClientFinalIsDecided : Type 0
 ClientFinalIsDecided = (text : List ℕ) → ((p : ClientFinalParts) × IsClientFinal text p)
     ⊎ ((p : ClientFinalParts) → IsClientFinal text p → ⊥)
@@ -67,7 +67,7 @@ ClientFinalIsDecided = (text : List ℕ) → ((p : ClientFinalParts) × IsClient
 abbrev pub HasOneServerFinal : Type 0
 HasOneServerFinal = (text : List ℕ) (p q : ServerFinalParts) → IsServerFinal text p → IsServerFinal text q → p ≡ q
 
--- whether a text is a server-final message is decided
+-- it is decidable whether a text is a server-final message
 abbrev pub ServerFinalIsDecided : Type 0
 ServerFinalIsDecided = (text : List ℕ) → ((p : ServerFinalParts) × IsServerFinal text p)
     ⊎ ((p : ServerFinalParts) → IsServerFinal text p → ⊥)

@@ -1,3 +1,4 @@
+-- The four messages: limits, characters, parts, whole messages; the first fault of any other text; what is read and written; laws.
 pub mod Limits
 pub mod Class
 pub mod Name

@@ -1,5 +1,5 @@
--- How long the texts of a login and their parts may be, and how great an iteration count. RFC 5802 sets no limits: these are this
--- library's.
+-- How long the texts of a login and their parts may be, and how great an iteration count may be. RFC 5802 sets no limits: these are
+-- this library's.
 use Rattle.std.specs.Prelude.{ℕ}
 
 -- the most bytes of a message
@@ -10,7 +10,7 @@ longest_message = 2048
 abbrev pub longest_nonce_part : ℕ
 longest_nonce_part = 256
 
--- the most bytes of a nonce, to which both ends added their part
+-- the most bytes of a whole nonce, the client's part and the server's together
 abbrev pub longest_nonce : ℕ
 longest_nonce = 512
 

@@ -1,6 +1,6 @@
--- The four messages (RFC 5802, section 7), as relations between a text and its parts: the text is the
--- literals and the parts, joined, and each part is in its class. Fields are shown as bytes, names as
--- they are spelled, and extensions as the list of their attr-vals.
+-- The four messages (RFC 5802, section 7), as relations between a text and its parts: the text is the literals and the parts,
+-- joined, and each part is in its class. Base64 fields are shown decoded, names as they are spelled, and extensions as the list of
+-- their attr-vals.
 use Rattle.std.specs.Prelude.{ℕ, ◌≡◌, ◌≤◌, Bool, ◌||◌, IsTrue, List, [], ◌∷◌, ◌++◌, length, codes, decimal, IfSome, is_some}
 use Rattle.std.specs.Str.{byte}
 use Rattle.std.specs.declared.option.Option.{Option}
@@ -20,20 +20,20 @@ pub record ClientFirstParts : Type 0 where
   pub extensions : List (List ℕ)
 
 -- gs2-header = gs2-cbind-flag "," [ authzid ] ",", as "n,a=root,"
-unfoldable pub header_text : ClientFirstParts → List ℕ
-header_text p = p.flag ++ byte "," ∷ (authzid_text p.authzid ++ byte "," ∷ [])
+unfoldable pub gs2_header : ClientFirstParts → List ℕ
+gs2_header p = p.flag ++ byte "," ∷ (authzid_text p.authzid ++ byte "," ∷ [])
 
 -- the parts of client-first-message-bare
 abbrev pub bare_parts : ClientFirstParts → List (List ℕ)
 bare_parts p = mext_parts p.mext ++ ((codes "n=" ++ p.name) ∷ (codes "r=" ++ p.nonce) ∷ p.extensions)
 
 -- client-first-message-bare = [reserved-mext ","] username "," nonce ["," extensions], as "n=user,r=abc"
-unfoldable pub bare_text : ClientFirstParts → List ℕ
-bare_text p = joined (bare_parts p)
+unfoldable pub client_first_bare : ClientFirstParts → List ℕ
+client_first_bare p = joined (bare_parts p)
 
 -- client-first-message = gs2-header client-first-message-bare, as "n,,n=user,r=abc"
 unfoldable pub client_first_text : ClientFirstParts → List ℕ
-client_first_text p = header_text p ++ bare_text p
+client_first_text p = gs2_header p ++ client_first_bare p
 
 -- the message asks for a mandatory extension
 abbrev pub client_first_mandatory : ClientFirstParts → Bool

@@ -1,5 +1,5 @@
--- What commas cut a message into, and the classes of its parts (RFC 5802, section 7). No value has a
--- comma in it, so a message is cut in one way.
+-- The parts between the commas of a message, and the classes of these parts (RFC 5802, section 7). No value contains a comma, so
+-- there is only one way to cut a message.
 use Rattle.std.specs.Prelude.{ℕ, ◌≡◌, ◌≤◌, ◌==◌, nat_le, Bool, false, ◌&&◌, ◌||◌, IsTrue, List, [], ◌∷◌, ◌++◌, length, codes, decimal}
 use Rattle.std.specs.List.{list_all, list_any, slice_split, join_with_byte, AllByRecursion}
 use Rattle.std.specs.Str.{byte}
@@ -18,7 +18,7 @@ parts text = slice_split is_comma text
 abbrev pub joined : List (List ℕ) → List ℕ
 joined pieces = join_with_byte (byte ",") pieces
 
--- the parts of a text where there is one, else no parts
+-- the parts of a text if there is one, else none
 abbrev pub parts_of_some : Option (List ℕ) → List (List ℕ)
 parts_of_some None = []
 parts_of_some (Some text) = parts text
@@ -48,17 +48,17 @@ is_flag [] = false
 is_flag (c ∷ []) = (c == byte "n") || (c == byte "y")
 is_flag (a ∷ b ∷ name) = (a == byte "p") && (b == byte "=") && is_cb_name name
 
--- the part of a name to act as: "a=" and the saslname, or nothing
+-- the part that names whom to act as (authzid): "a=" and the saslname, or nothing
 abbrev pub authzid_text : Option (List ℕ) → List ℕ
 authzid_text None = []
 authzid_text (Some spelled) = codes "a=" ++ spelled
 
--- the part of a mandatory extension, "m=" and its value, where there is one
+-- the part of a mandatory extension, "m=" and its value, if there is one
 abbrev pub mext_parts : Option (List ℕ) → List (List ℕ)
 mext_parts None = []
 mext_parts (Some value) = (codes "m=" ++ value) ∷ []
 
--- an iteration count: %x31-39 *DIGIT, which is a number from 1 to the greatest that is taken
+-- an iteration count: posit-number = %x31-39 *DIGIT, here at most 4294967295
 pub record IsCount (count : ℕ) : Type 0 where
   pub at_least : 1 ≤ count
   pub at_most : count ≤ most_count

@@ -1,4 +1,4 @@
--- What the readers cut a message into before they read its parts. For private functions alone: no public contract cites this file.
+-- What the readers cut a message into before they read its parts. For private functions only: no public contract cites this file.
 use Rattle.std.specs.Prelude.{◌≡◌, ◌≤◌, ◌+◌, [], ◌∷◌, ◌++◌, List, ℕ, length, replicate, IfSome, is_some, Bool, false, ◌&&◌, ◌==◌}
 use Rattle.std.specs.Str.{byte}
 use Rattle.std.specs.Option.{option_copied}
@@ -22,7 +22,7 @@ use Rattle.scram_text.specs.declared.fault.TextWhy.TheVariants.{Name, Nonce, Ext
 abbrev pub most_parts : ℕ
 most_parts = longest_message + 1
 
--- the first part that is no extension, where all have to be, with parts counted from k
+-- the fault is that of the first part that is no extension, if all of them must be extensions, with parts counted from k
 abbrev pub IsExtensionMisfit : ℕ → List (List ℕ) → TextFault → Type 0
 IsExtensionMisfit k pieces f =
     (most : ℕ) → IsFirstMisfit most (replicate (length pieces) Extension) k pieces f
@@ -46,13 +46,13 @@ pub record IsCutClientFinal (message : List ℕ) (pieces : Pieces) : Type 0 wher
   pub few : length (parts message) ≤ most_parts
   pub channel_len : length pieces.channel.now ≤ longest_message
 
--- parts are a mandatory extension, where they begin with "m=", and the others
+-- the parts are a mandatory extension, if the first begins with "m=", and then the others
 pub record IsMextAndRest (pieces rest : List (List ℕ)) (mext : Option (List ℕ)) : Type 0 where
   pub cut : pieces ≡ mext_parts mext ++ rest
   pub value : IfSome mext IsValue
   pub headed : is_named (byte "m") (first_of pieces) ≡ is_some mext
 
--- the first part begins with "m=" and is no mandatory extension: it is the first misfit
+-- the fault is that of a first part that begins with "m=" and is no mandatory extension, whatever the later places are
 abbrev pub IsMextMisfit : ℕ → List (List ℕ) → TextFault → Type 0
 IsMextMisfit k pieces f =
     (most : ℕ) (later : List TextWhy) → IsFirstMisfit most (places (places_with_mext pieces later) [] (length pieces)) k pieces f
@@ -101,7 +101,7 @@ pub record ShowsBare (m : Bare) (p : ClientFirstParts) : Type 0 where
   pub nonce : m.nonce.now ≡ p.nonce
   pub extensions : m.extensions.now ≡ joined p.extensions
 
--- the first part of client-first-bare that does not fit, with parts counted from 2
+-- the fault is that of the first part of client-first-bare that does not fit its place, with parts counted from 2
 abbrev pub IsBareMisfit : List (List ℕ) → TextFault → Type 0
 IsBareMisfit pieces f =
     IsFirstMisfit longest_nonce_part (places (places_with_mext pieces (Name ∷ Nonce ∷ [])) [] (length pieces)) 2 pieces f

@@ -1,7 +1,7 @@
 -- What a reader returns shows the parts of the message: slices are the texts of the parts.
 use Rattle.std.specs.Prelude.{◌≡◌, ℕ, List, ◌++◌, codes}
 use Rattle.scram_text.specs.Parts.{joined}
-use Rattle.scram_text.specs.Messages.{ClientFirstParts, header_text, bare_text, client_first_mandatory, ServerFirstParts}
+use Rattle.scram_text.specs.Messages.{ClientFirstParts, gs2_header, client_first_bare, client_first_mandatory, ServerFirstParts}
 use Rattle.scram_text.specs.Messages.{server_first_mandatory, ClientFinalParts, client_final_without_proof, client_final_mandatory}
 use Rattle.scram_text.specs.Messages.{VerifierOrError, verifier, server_error, ServerFinalParts, server_final_mandatory}
 use Rattle.scram_text.specs.declared.client_first.Flag.{Flag}
@@ -21,8 +21,8 @@ flag_text (Binding name) = codes "p=" ++ name.now
 
 -- the message shows these parts of client-first, its gs2-header with the last comma, and its bare message
 pub record ShowsClientFirst (m : ClientFirst) (p : ClientFirstParts) : Type 0 where
-  pub header : m.header.now ≡ header_text p
-  pub bare : m.bare.now ≡ bare_text p
+  pub header : m.header.now ≡ gs2_header p
+  pub bare : m.bare.now ≡ client_first_bare p
   pub flag : flag_text m.flag ≡ p.flag
   pub authzid : m.authzid ≡ p.authzid
   pub mandatory : m.mandatory ≡ client_first_mandatory p

@@ -1,9 +1,10 @@
 -- What the writers write: the parts that their arguments make, and when the arguments are in their
 -- classes.
-use Rattle.std.specs.Prelude.{ℕ, ◌≡◌, List, [], ◌∷◌, IsTrue, option_map}
+use Rattle.std.specs.Prelude.{ℕ, ◌≡◌, ◌<◌, List, [], ◌∷◌, length, IsTrue, option_map, Result, OnOk, IsErrOf, Vec}
 use Rattle.std.specs.declared.option.Option.{Option}
 use Rattle.std.specs.declared.option.Option.TheVariants.{None}
-use Rattle.scram_text.specs.Limits.{longest_channel, longest_nonce, longest_salt, longest_tag}
+use Rattle.scram_text.specs.Limits.{longest_channel, longest_nonce, longest_salt, longest_tag, longest_message}
+use Rattle.scram_text.specs.Appended.{IsAppended, LacksRoom}
 use Rattle.scram_text.specs.Class.{IsNonce, IsUtf8Text}
 use Rattle.scram_text.specs.Name.{name_spelling}
 use Rattle.scram_text.specs.Base64Field.{IsField}
@@ -12,9 +13,10 @@ use Rattle.scram_text.specs.Messages.{ClientFirstParts, ServerFirstParts, Client
 use Rattle.scram_text.specs.Messages.{verifier, server_error, IsVerifierOrError, ServerFinalParts}
 use Rattle.scram_text.specs.Shown.{flag_text}
 use Rattle.scram_text.specs.declared.client_first.Flag.{Flag}
+use Rattle.scram_text.specs.declared.fault.WriteFault.{WriteFault}
 use Rattle.scram_text.specs.declared.client_final.ClientFinalWithoutProof.{ClientFinalWithoutProof}
 
--- the attr-vals of a text of extensions: none where it is empty
+-- the attr-vals of a text of extensions: none if it is empty
 abbrev pub extension_parts : List ℕ → List (List ℕ)
 extension_parts [] = []
 extension_parts (c ∷ text) = parts (c ∷ text)
@@ -89,7 +91,7 @@ pub record IsClientFinalWithoutProof (w : ClientFinalWithoutProof) (p : ClientFi
 abbrev pub server_final_of : VerifierOrError → (extensions : List ℕ) → ServerFinalParts
 server_final_of outcome extensions = record { outcome = outcome; extensions = extension_parts extensions }
 
--- an outcome is in its class: an error value is a text as well
+-- an outcome is in its class, and an error value is also UTF-8 without NUL
 abbrev pub CanBeVerifierOrError : VerifierOrError → Type 0
 CanBeVerifierOrError (verifier signature) = IsVerifierOrError (verifier signature)
 CanBeVerifierOrError (server_error value) = IsVerifierOrError (server_error value) × IsUtf8Text value
@@ -98,3 +100,14 @@ CanBeVerifierOrError (server_error value) = IsVerifierOrError (server_error valu
 pub record CanBeServerFinal (outcome : VerifierOrError) (extensions : List ℕ) : Type 0 where
   pub outcome_class : CanBeVerifierOrError outcome
   pub extensions_class : IsExtensionText extensions
+
+-- what the writer of a message answers: Ok if its text is appended, and then the text is such a message of these parts; 16 only if an
+-- argument is outside its class; 17 only if the arguments are in their classes and the message is too long; 99 only if it could be
+-- written and the vector has no room reserved for it. After each of these faults the vector is unchanged.
+pub record IsMessageWritten {T P Z : Type 0} (result : Result T WriteFault) (old new : Vec ℕ Z) (text : P → List ℕ)
+    (IsMessage : List ℕ → P → Type 0) (p : P) (CanBe : Type 0) : Type 0 where
+  pub appended : IsAppended result old new (text p)
+  pub is_message : OnOk result (IsMessage (text p) p)
+  pub unwritable : IsErrOf result WriteFault.Unwritable → CanBe → ⊥
+  pub over_limit : IsErrOf result WriteFault.OverLimit → CanBe × (longest_message < length (text p))
+  pub no_memory : IsErrOf result WriteFault.NoMemory → IsMessage (text p) p × LacksRoom old (text p)

@@ -1,4 +1,4 @@
-//! The character classes of SCRAM messages (RFC 5802, section 7), as tests.
+//! Predicates for the character classes of SCRAM messages (RFC 5802, section 7).
 ghost use Rattle.std.specs.Prelude.{◌≡◌, ◌==◌, ◌↔◌, IsTrue, not};
 ghost use Rattle.std.specs.List.{list_all};
 ghost use Rattle.std.specs.Str.{byte};
@@ -19,20 +19,21 @@ pub(crate) fn lacks_comma(bytes: &[u8]) -> bool
     bytes.iter().all(|byte| *byte != b',')
 }
 
-/// Whether the byte is one of %x20-7E.
+/// Whether the byte is one of 20 to 7E hex.
 pub(crate) fn is_plain(byte: u8) -> bool
     ensures { result ≡ is_plain byte }
 {
     (0x20..=0x7E).contains(&byte)
 }
 
-/// Whether these are 1 to `most` bytes of %x20-7E.
+/// Whether these are 1 to `most` bytes of 20 to 7E hex.
 pub(crate) fn is_plain_run(bytes: &[u8], most: usize) -> bool
     ensures { IsTrue result ↔ IsRunOf is_plain most bytes.now }
 {
     are_plain(bytes) && !bytes.is_empty() && bytes.len() <= most
 }
 
+// Whether each byte is one of 20 to 7E hex.
 fn are_plain(bytes: &[u8]) -> bool
     ensures { result ≡ list_all is_plain bytes.now }
 {
@@ -46,6 +47,7 @@ pub(crate) fn is_nonce(bytes: &[u8], most: usize) -> bool
     are_printable(bytes) && !bytes.is_empty() && bytes.len() <= most
 }
 
+// Whether each byte is printable.
 fn are_printable(bytes: &[u8]) -> bool
     ensures { result ≡ list_all is_printable bytes.now }
 {
@@ -66,12 +68,14 @@ pub(crate) fn is_cb_name(name: &[u8]) -> bool
     !name.is_empty() && are_cb_chars(name)
 }
 
+// Whether each byte may be in the name of a channel binding.
 fn are_cb_chars(name: &[u8]) -> bool
     ensures { result ≡ list_all is_cb_char name.now }
 {
     name.iter().all(|byte| is_cb_char(*byte))
 }
 
+// Whether the byte is ALPHA, DIGIT, `.` or `-`.
 fn is_cb_char(byte: u8) -> bool
     ensures { result ≡ is_cb_char byte }
 {
@@ -85,6 +89,7 @@ pub(crate) fn is_utf8_text(bytes: &[u8]) -> bool
     str::from_utf8(bytes).is_ok() && lacks_nul(bytes)
 }
 
+// Whether no byte is a NUL.
 fn lacks_nul(bytes: &[u8]) -> bool
     ensures { result ≡ list_all (λ c. not (c == byte "\0")) bytes.now }
 {

@@ -5,8 +5,7 @@
 //! client-final-message = client-final-message-without-proof "," proof
 //! ```
 //!
-//! as `c=biws,r=abcdef,p=v0X8v3Bz2T0CJGbJQyF0X+HI4Ts=`. The last part is the proof, even where an
-//! extension is named `p`.
+//! For example: `c=biws,r=abcdef,p=v0X8v3Bz2T0CJGbJQyF0X+HI4Ts=`. The last part is the proof, even if an extension is named `p`.
 ghost use Rattle.std.specs.Prelude.{◌≡◌, ◌≤◌, ◌<◌, ◌+◌, ◌↔◌, ℕ, List, [], ◌++◌, length, IsTrue, IfOk, IfErr, OnOk, IsOkAnd, IsErrOf};
 ghost use Rattle.scram_text.specs.Limits.{longest_message, longest_tag};
 ghost use Rattle.scram_text.specs.Class.{IsUtf8Text};
@@ -14,10 +13,11 @@ ghost use Rattle.scram_text.specs.Base64Field.{IsField};
 ghost use Rattle.scram_text.specs.Messages.{ClientFinalParts, client_final_without_proof, client_final_text, IsClientFinal};
 ghost use Rattle.scram_text.specs.Draft.{IsDraftOf};
 ghost use Rattle.scram_text.specs.Written.{client_final_of, CanBeClientFinal, CanBeClientFinalWithoutProof, IsClientFinalWithoutProof};
+ghost use Rattle.scram_text.specs.Written.{IsMessageWritten};
 ghost use Rattle.scram_text.specs.Faults.{IsClientFinalFault};
 ghost use Rattle.scram_text.specs.Shown.{ShowsClientFinal};
 ghost use Rattle.scram_text.specs.Pieces.{IsCutClientFinal};
-ghost use Rattle.scram_text.specs.Appended.{UnchangedOnErr, KeepsRoom, IsAppended, LacksRoom};
+ghost use Rattle.scram_text.specs.Appended.{UnchangedOnErr, KeepsRoom, LacksRoom};
 
 use crate::draft::MessageDraft;
 use crate::fault::{TextFault, TextWhy, WriteFault};
@@ -26,13 +26,13 @@ use arrayvec::ArrayVec;
 use mac_core::Tag;
 use std::alloc::Allocator;
 
-/// A client-final message that was read. Slices are slices of the message.
+/// A client-final message that was read. Its slices are parts of the message.
 #[derive(Drop)]
 pub struct ClientFinal<'a> {
     /// The text before the comma of the last part: client-final-message-without-proof.
     pub without_proof: &'a [u8],
 
-    /// Whether an extension is named `m`: the receiver has to fail.
+    /// Whether an extension is named `m`: if so, the login has to fail.
     pub mandatory: bool,
 
     /// The bytes of the channel field, 1 to 1536.
@@ -41,29 +41,30 @@ pub struct ClientFinal<'a> {
     /// The nonce, 1 to 512 printable characters.
     pub nonce: &'a [u8],
 
-    /// The attr-vals with the commas between them, or empty.
+    /// The extensions: attr-vals with commas between them, or empty.
     pub extensions: &'a [u8],
 
     /// The bytes of the proof, 1 to 64.
     pub proof: Tag,
 }
 
-/// Reads a client-final message (RFC 5802, section 7), or answers the first fault of the text: 1
-/// TooLong or 2 NotText for the whole text, else 3 Missing where it has too few parts, else the first part
-/// from the left that is not as it has to be: 11 Channel, 8 Nonce, 12 Extension or 13 Proof. It takes no memory.
+/// Reads a client-final message (RFC 5802, section 7). It does not allocate. Errors: the first of these that applies:
+/// - 1 TooLong or 2 NotText for the whole text;
+/// - 3 Missing if it has too few parts;
+/// - the fault of the first part from the left that does not have its form: 11 Channel, 8 Nonce, 12 Extension or 13 Proof.
 pub fn read_client_final(message: &[u8]) -> Result<ClientFinal<'_>, TextFault>
     // The text is a message with the parts that are returned.
     ensures found { IfOk result (λ m. (p : ClientFinalParts) × IsClientFinal message.now p
         × ShowsClientFinal m p) }
-    // Where the text is a message, its parts are returned.
-    ensures only { (p : ClientFinalParts) → IsClientFinal message.now p
+    // If the text is a message, its parts are returned.
+    ensures every { (p : ClientFinalParts) → IsClientFinal message.now p
         → IsOkAnd result (λ m. ShowsClientFinal m p) }
     ensures fault { IfErr result (λ f. IsClientFinalFault message.now f) }
 {
     read_parts(message)
 }
 
-// As the public reader, without `only`, which follows from `found` and `fault`, since a text has one list of parts.
+// As the public reader, but without `every`: it follows from `found` and `fault`, since a text has one list of parts.
 fn read_parts(message: &[u8]) -> Result<ClientFinal<'_>, TextFault>
     ensures found { IfOk result (λ m. (p : ClientFinalParts) × IsClientFinal message.now p
         × ShowsClientFinal m p) }
@@ -99,7 +100,7 @@ fn read_parts(message: &[u8]) -> Result<ClientFinal<'_>, TextFault>
     })
 }
 
-// The parts of a text with at least three: the first two, those between, and the last.
+// The parts of a text that has at least three: the first two, the last, and the ones between.
 #[derive(Drop)]
 struct Pieces<'a> {
     parts: usize,
@@ -110,6 +111,7 @@ struct Pieces<'a> {
     proof: &'a [u8],
 }
 
+// Cuts a message into these parts. Errors: 1 TooLong, 2 NotText, or 3 Missing if it has fewer than three parts.
 fn pieces_of(message: &[u8]) -> Result<Pieces<'_>, TextFault>
     ensures cut { IfOk result (λ pieces. IsCutClientFinal message.now pieces) }
     ensures fault { IfErr result (λ f. IsClientFinalFault message.now f) }
@@ -137,20 +139,19 @@ fn pieces_of(message: &[u8]) -> Result<Pieces<'_>, TextFault>
     })
 }
 
-/// A client-final message before its proof (RFC 5802, section 7): client-final-message-without-proof,
-/// for a client to sign and then to write with its proof.
+/// A client-final message before its proof (RFC 5802, section 7): client-final-message-without-proof, for a client to sign and then
+/// to write with its proof.
 ///
-/// It does not keep its parts, so its contracts say which ones it stands for.
+/// It does not keep its parts, so its contracts say which parts it stands for.
 #[derive(Drop)]
 pub struct ClientFinalWithoutProof {
     text: ArrayVec<u8, LONGEST_MESSAGE>,
 }
 
 impl ClientFinalWithoutProof {
-    /// Composes the text: the channel field of 1 to 1536 bytes, the nonce of 1 to 512 printable
-    /// characters, and the extensions as attr-vals with commas between them or empty. Answers 16
-    /// Unwritable where an argument is outside its class, else 17 OverLimit where the text would have
-    /// more than 2048 bytes. It takes no memory.
+    /// Composes the text: the channel field of 1 to 1536 bytes, the nonce of 1 to 512 printable characters, and the extensions,
+    /// which are attr-vals with commas between them, or empty. It does not allocate. Errors: 16 Unwritable if an argument is
+    /// outside its class, else 17 OverLimit if the text would have more than 2048 bytes.
     pub fn new(
         channel: &[u8],
         nonce: &[u8],
@@ -158,6 +159,7 @@ impl ClientFinalWithoutProof {
     ) -> Result<ClientFinalWithoutProof, WriteFault>
         ensures ok { IfOk result (λ w. (proof : List ℕ)
             → IsClientFinalWithoutProof w (client_final_of channel.now nonce.now extensions.now proof)) }
+        // On Ok the arguments are in their classes.
         ensures class { OnOk result (CanBeClientFinalWithoutProof channel.now nonce.now extensions.now) }
         ensures unwritable { IsErrOf result WriteFault.Unwritable
             → CanBeClientFinalWithoutProof channel.now nonce.now extensions.now → ⊥ }
@@ -181,10 +183,9 @@ impl ClientFinalWithoutProof {
         self.text.as_slice()
     }
 
-    /// Appends the client-final message to `out`: the text, and the proof of 1 to 64 bytes. Answers 16
-    /// Unwritable where the proof is outside its class, else 17 OverLimit where the message would have
-    /// more than 2048 bytes, else 99 NoMemory, only where `out` had no room reserved for the message.
-    /// After each of these faults `out` is unchanged.
+    /// Appends the client-final message to `out`: the text, and the proof of 1 to 64 bytes. Errors: 16 Unwritable if the proof is
+    /// outside its class, else 17 OverLimit if the message would have more than 2048 bytes, else 99 NoMemory, only if `out` had no
+    /// room reserved for the message. After an error `out` is unchanged.
     pub fn write_with_proof<A: Allocator>(
         self,
         proof: &Tag,
@@ -212,6 +213,7 @@ impl ClientFinalWithoutProof {
         self.with_proof(proof).append_to(out)
     }
 
+    // The whole message: the text, `,p=` and the base64 of the proof.
     fn with_proof(self, proof: &[u8]) -> MessageDraft
         requires { IsField longest_tag proof.now }
         ensures draft { (p : ClientFinalParts) → IsClientFinalWithoutProof self p → p.proof ≡ proof.now
@@ -226,6 +228,7 @@ impl ClientFinalWithoutProof {
     }
 }
 
+// Whether each argument is in its class.
 fn is_writable(channel: &[u8], nonce: &[u8], extensions: &[u8]) -> bool
     ensures { IsTrue result ↔ CanBeClientFinalWithoutProof channel.now nonce.now extensions.now }
 {
@@ -234,6 +237,7 @@ fn is_writable(channel: &[u8], nonce: &[u8], extensions: &[u8]) -> bool
         && cut::are_extensions(extensions)
 }
 
+// client-final-message-without-proof
 fn draft_of(channel: &[u8], nonce: &[u8], extensions: &[u8]) -> MessageDraft
     requires { CanBeClientFinalWithoutProof channel.now nonce.now extensions.now }
     ensures draft { (proof : List ℕ) → IsDraftOf result
@@ -250,12 +254,11 @@ fn draft_of(channel: &[u8], nonce: &[u8], extensions: &[u8]) -> MessageDraft
     draft
 }
 
-/// Appends a client-final message (RFC 5802, section 7) to `out`: the channel field of 1 to 1536
-/// bytes, the nonce of 1 to 512 printable characters, the extensions as attr-vals with commas
-/// between them or empty, and the proof of 1 to 64 bytes. Answers 16 Unwritable where an argument is
-/// outside its class, else 17 OverLimit where the message would have more than 2048 bytes, else 99
-/// NoMemory, only where `out` had no room reserved for the message. After each of these faults `out` is unchanged.
-#[tactic(auto, using(crate::proofs::lemmas::messages_composed::ClientFinal::with_proof_no_shorter))]
+/// Appends a client-final message (RFC 5802, section 7) to `out`: the channel field of 1 to 1536 bytes, the nonce of 1 to 512
+/// printable characters, the extensions, which are attr-vals with commas between them, or empty, and the proof of 1 to 64 bytes.
+/// Errors: 16 Unwritable if an argument is outside its class, else 17 OverLimit if the message would have more than 2048 bytes,
+/// else 99 NoMemory, only if `out` had no room reserved for the message. After an error `out` is unchanged.
+#[tactic(auto, using(crate::proofs::lemmas::messages_composed::ClientFinal::with_proof_is_no_shorter))]
 pub fn write_client_final<A: Allocator>(
     channel: &[u8],
     nonce: &[u8],
@@ -263,18 +266,9 @@ pub fn write_client_final<A: Allocator>(
     proof: &Tag,
     out: &mut Vec<u8, A>,
 ) -> Result<(), WriteFault>
-    ensures appended { IsAppended result out.old out.new
-        (client_final_text (client_final_of channel.now nonce.now extensions.now proof.now.items)) }
-    ensures is_message { let p = client_final_of channel.now nonce.now extensions.now proof.now.items in
-        OnOk result (IsClientFinal (client_final_text p) p) }
-    ensures unwritable { IsErrOf result WriteFault.Unwritable
-        → CanBeClientFinal channel.now nonce.now extensions.now proof.now.items → ⊥ }
-    ensures over_limit { IsErrOf result WriteFault.OverLimit
-        → CanBeClientFinal channel.now nonce.now extensions.now proof.now.items
-        × (longest_message < length (client_final_text (client_final_of channel.now nonce.now extensions.now proof.now.items))) }
-    ensures no_memory { let p = client_final_of channel.now nonce.now extensions.now proof.now.items in
-        IsErrOf result WriteFault.NoMemory → IsClientFinal (client_final_text p) p
-        × LacksRoom out.old (client_final_text p) }
+    ensures { IsMessageWritten result out.old out.new client_final_text IsClientFinal
+        (client_final_of channel.now nonce.now extensions.now proof.now.items)
+        (CanBeClientFinal channel.now nonce.now extensions.now proof.now.items) }
 {
     if !field::is_field(proof.as_slice(), LONGEST_TAG) {
         return Err(WriteFault::Unwritable);

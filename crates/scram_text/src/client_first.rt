@@ -6,8 +6,8 @@
 //! client-first-message = gs2-header client-first-message-bare
 //! ```
 //!
-//! as `n,,n=user,r=abc`.
-ghost use Rattle.std.specs.Prelude.{◌≡◌, ◌≤◌, ◌<◌, ◌+◌, [], length, IfOk, IfErr, IfSome, OnOk, IsTrue, IsOkAnd, IsErrOf, false};
+//! For example: `n,,n=user,r=abc`.
+ghost use Rattle.std.specs.Prelude.{◌≡◌, ◌≤◌, ◌+◌, [], length, IfOk, IfErr, IfSome, IsTrue, IsOkAnd, false};
 ghost use Rattle.std.specs.Prelude.{MatchOption};
 ghost use Rattle.std.specs.Option.{option_copied};
 ghost use Rattle.scram_text.specs.Limits.{longest_message};
@@ -18,9 +18,8 @@ ghost use Rattle.scram_text.specs.Messages.{ClientFirstParts, client_first_text,
 ghost use Rattle.scram_text.specs.Faults.{IsClientFirstFault, IsAuthzid, fault, places_with_mext};
 ghost use Rattle.scram_text.specs.Shown.{ShowsClientFirst, flag_text};
 ghost use Rattle.scram_text.specs.Draft.{IsDraftOf};
-ghost use Rattle.scram_text.specs.Written.{client_first_of, CanBeClientFirst};
+ghost use Rattle.scram_text.specs.Written.{client_first_of, CanBeClientFirst, IsMessageWritten};
 ghost use Rattle.scram_text.specs.Pieces.{IsCutClientFirst, IsCutBare, IsBare, ShowsBare, IsBareMisfit};
-ghost use Rattle.scram_text.specs.Appended.{IsAppended, LacksRoom};
 
 use crate::draft::MessageDraft;
 use crate::fault::{TextFault, TextWhy, WriteFault};
@@ -32,18 +31,17 @@ use std::alloc::Allocator;
 /// The flag of a gs2-header: whether the client binds a channel.
 #[derive(Clone, Copy, Debug, PartialEq, Eq)]
 pub enum Flag<'a> {
-    /// `n`: the client has no channel binding.
+    /// `n`: the client does not support channel binding.
     NoBinding,
 
-    /// `y`: the client has it, and thinks that the server does not.
+    /// `y`: the client supports channel binding, but thinks that the server does not.
     NotOffered,
 
-    /// `p=` and the name of the binding that the client asks for: one or more letters, digits, `.` or
-    /// `-`.
+    /// `p=` and the name of the channel binding that the client uses: one or more letters, digits, `.` or `-`.
     Binding(&'a [u8]),
 }
 
-/// A client-first message that was read. Slices are slices of the message.
+/// A client-first message that was read. Its slices are parts of the message.
 #[derive(Drop)]
 pub struct ClientFirst<'a> {
     /// The gs2-header with its last comma.
@@ -55,10 +53,10 @@ pub struct ClientFirst<'a> {
     /// The gs2-cbind-flag: whether the client binds a channel.
     pub flag: Flag<'a>,
 
-    /// The name to act as, of `a=`, where there is one.
+    /// The name to act as (authzid), of `a=`, if there is one.
     pub authzid: Option<SaslText<'a>>,
 
-    /// Whether the bare message begins with `m=` or an extension is named `m`: the receiver has to fail.
+    /// Whether the bare message begins with `m=` or an extension is named `m`: if so, the login has to fail.
     pub mandatory: bool,
 
     /// The name of `n=`.
@@ -67,27 +65,28 @@ pub struct ClientFirst<'a> {
     /// The nonce, 1 to 256 printable characters.
     pub nonce: &'a [u8],
 
-    /// The attr-vals with the commas between them, or empty.
+    /// The extensions: attr-vals with commas between them, or empty.
     pub extensions: &'a [u8],
 }
 
-/// Reads a client-first message (RFC 5802, section 7), or answers the first fault of the text: 1
-/// TooLong or 2 NotText for the whole text, else 3 Missing where it has too few parts, else the first part
-/// from the left that is not as it has to be: 4 Flag, 5 Authzid, 6 Mandatory, 7 Name, 8 Nonce or 12
-/// Extension. It takes no memory.
+/// Reads a client-first message (RFC 5802, section 7). It does not allocate. Errors: the first of these that applies:
+/// - 1 TooLong or 2 NotText for the whole text;
+/// - 3 Missing if it has too few parts;
+/// - the fault of the first part from the left that does not have its form: 4 Flag, 5 Authzid, 6 Mandatory, 7 Name, 8 Nonce or 12
+///   Extension.
 pub fn read_client_first(message: &[u8]) -> Result<ClientFirst<'_>, TextFault>
     // The text is a message with the parts that are returned.
     ensures found { IfOk result (λ m. (p : ClientFirstParts) × IsClientFirst message.now p
         × ShowsClientFirst m p) }
-    // Where the text is a message, its parts are returned.
-    ensures only { (p : ClientFirstParts) → IsClientFirst message.now p
+    // If the text is a message, its parts are returned.
+    ensures every { (p : ClientFirstParts) → IsClientFirst message.now p
         → IsOkAnd result (λ m. ShowsClientFirst m p) }
     ensures fault { IfErr result (λ f. IsClientFirstFault message.now f) }
 {
     read_parts(message)
 }
 
-// As the public reader, without `only`, which follows from `found` and `fault`, since a text has one list of parts.
+// As the public reader, but without `every`: it follows from `found` and `fault`, since a text has one list of parts.
 fn read_parts(message: &[u8]) -> Result<ClientFirst<'_>, TextFault>
     ensures found { IfOk result (λ m. (p : ClientFirstParts) × IsClientFirst message.now p
         × ShowsClientFirst m p) }
@@ -114,7 +113,7 @@ fn read_parts(message: &[u8]) -> Result<ClientFirst<'_>, TextFault>
     })
 }
 
-// The parts of a text with at least four, or five where the bare message begins with `m=`.
+// The parts of a text that has at least four, or at least five if the bare message begins with `m=`.
 #[derive(Drop)]
 struct Pieces<'a> {
     header: &'a [u8],
@@ -123,6 +122,7 @@ struct Pieces<'a> {
     bare: &'a [u8],
 }
 
+// Cuts a message into these parts. Errors: 1 TooLong, 2 NotText, or 3 Missing if it has too few parts.
 fn pieces_of(message: &[u8]) -> Result<Pieces<'_>, TextFault>
     ensures cut { IfOk result (λ pieces. IsCutClientFirst message.now pieces) }
     ensures fault { IfErr result (λ f. IsClientFirstFault message.now f) }
@@ -190,6 +190,8 @@ struct Bare<'a> {
     extensions: &'a [u8],
 }
 
+// Reads client-first-message-bare, whose first part has the index 2 in the message. Errors: the fault of the first part from the
+// left that does not have its form: 6 Mandatory, 7 Name, 8 Nonce or 12 Extension.
 fn read_bare(bare: &[u8]) -> Result<Bare<'_>, TextFault>
     requires enough { length (places_with_mext (parts bare.now) []) + 2 ≤ length (parts bare.now) }
     requires few { length (parts bare.now) ≤ most_parts }
@@ -229,6 +231,7 @@ struct BarePieces<'a> {
     rest: Option<&'a [u8]>,
 }
 
+// Cuts client-first-message-bare into these parts. Errors: 6 Mandatory if it begins with `m=` and the value after that is empty.
 fn bare_pieces_of(bare: &[u8]) -> Result<BarePieces<'_>, TextFault>
     requires { length (places_with_mext (parts bare.now) []) + 2 ≤ length (parts bare.now) }
     ensures cut { IfOk result (λ pieces. IsCutBare bare.now pieces) }
@@ -245,11 +248,10 @@ fn bare_pieces_of(bare: &[u8]) -> Result<BarePieces<'_>, TextFault>
     })
 }
 
-/// Appends a client-first message (RFC 5802, section 7) to `out`: the flag, the name to act as and
-/// the name in plain bytes, which are spelled, the nonce, and the extensions as attr-vals with commas
-/// between them or empty. Answers 16 Unwritable where the flag's name or the extensions are outside
-/// their class, else 17 OverLimit where the message would have more than 2048 bytes, else 99 NoMemory,
-/// only where `out` had no room reserved for the message. After each of these faults `out` is unchanged.
+/// Appends a client-first message (RFC 5802, section 7) to `out`: the flag, the spellings of the name to act as and of the name,
+/// the nonce, and the extensions, which are attr-vals with commas between them, or empty. Errors: 16 Unwritable if the flag's name
+/// or the extensions are outside their class, else 17 OverLimit if the message would have more than 2048 bytes, else 99 NoMemory,
+/// only if `out` had no room reserved for the message. After an error `out` is unchanged.
 pub fn write_client_first<A: Allocator>(
     flag: Flag<'_>,
     authzid: Option<&PlainName>,
@@ -258,19 +260,9 @@ pub fn write_client_first<A: Allocator>(
     extensions: &[u8],
     out: &mut Vec<u8, A>,
 ) -> Result<(), WriteFault>
-    ensures appended { IsAppended result out.old out.new (client_first_text
-        (client_first_of flag.entry (option_copied authzid.entry) name.now nonce.now extensions.now)) }
-    ensures is_message { let p = client_first_of flag.entry (option_copied authzid.entry) name.now nonce.now extensions.now in
-        OnOk result (IsClientFirst (client_first_text p) p) }
-    ensures unwritable { IsErrOf result WriteFault.Unwritable
-        → CanBeClientFirst flag.entry extensions.now → ⊥ }
-    ensures over_limit { IsErrOf result WriteFault.OverLimit
-        → CanBeClientFirst flag.entry extensions.now
-        × (longest_message < length (client_first_text
-        (client_first_of flag.entry (option_copied authzid.entry) name.now nonce.now extensions.now))) }
-    ensures no_memory { let p = client_first_of flag.entry (option_copied authzid.entry) name.now nonce.now extensions.now in
-        IsErrOf result WriteFault.NoMemory → IsClientFirst (client_first_text p) p
-        × LacksRoom out.old (client_first_text p) }
+    ensures { IsMessageWritten result out.old out.new client_first_text IsClientFirst
+        (client_first_of flag.entry (option_copied authzid.entry) name.now nonce.now extensions.now)
+        (CanBeClientFirst flag.entry extensions.now) }
 {
     if !is_flag(&flag) || !cut::are_extensions(extensions) {
         return Err(WriteFault::Unwritable);
@@ -278,6 +270,7 @@ pub fn write_client_first<A: Allocator>(
     draft_of(&flag, authzid, name, nonce, extensions).append_to(out)
 }
 
+// Whether this is a gs2-cbind-flag: a name that it has must be one of a channel binding.
 fn is_flag(flag: &Flag<'_>) -> bool
     ensures { result ≡ is_flag (flag_text flag.now) }
 {
@@ -287,6 +280,7 @@ fn is_flag(flag: &Flag<'_>) -> bool
     }
 }
 
+// The whole message.
 fn draft_of(
     flag: &Flag<'_>,
     authzid: Option<&PlainName>,
@@ -300,7 +294,7 @@ fn draft_of(
     ensures is_message { let p = client_first_of flag.now (option_copied authzid.entry) name.now nonce.now extensions.now in
         length (client_first_text p) ≤ longest_message → IsClientFirst (client_first_text p) p }
 {
-    let mut draft = flagged(flag);
+    let mut draft = flag_draft(flag);
     draft.add(b",");
     draft.add_authzid(authzid);
     draft.add(b",n=");
@@ -311,7 +305,8 @@ fn draft_of(
     draft
 }
 
-fn flagged(flag: &Flag<'_>) -> MessageDraft
+// gs2-cbind-flag
+fn flag_draft(flag: &Flag<'_>) -> MessageDraft
     ensures { IsDraftOf result (flag_text flag.now) }
 {
     let mut draft = MessageDraft::new();

@@ -16,7 +16,7 @@ ghost use Rattle.scram_text.specs.Pieces.{most_parts, is_attribute, IsExtensionM
 use crate::fault::{TextFault, TextWhy};
 use crate::{LONGEST_MESSAGE, class, field};
 
-/// The number of parts of a message. Answers 1 TooLong where it has more than 2048 bytes, else 2 NotText where it has a NUL or is
+/// The number of parts of a message. Errors: 1 TooLong if it has more than 2048 bytes, else 2 NotText if it contains a NUL or is
 /// not UTF-8.
 pub(crate) fn checked_part_count(message: &[u8]) -> Result<usize, TextFault>
     ensures short { IfOk result (λ _. length message.now ≤ longest_message) }
@@ -40,7 +40,8 @@ pub(crate) fn checked_part_count(message: &[u8]) -> Result<usize, TextFault>
     Ok(part_count(message))
 }
 
-#[tactic(auto, using(crate::proofs::lemmas::Parts::parts_count))]
+// The number of parts: one more than there are commas.
+#[tactic(auto, using(crate::proofs::lemmas::Parts::parts_exceed_commas_by_one))]
 fn part_count(text: &[u8]) -> usize
     requires { length text.now ≤ longest_message }
     ensures count { result ≡ length (parts text.now) }
@@ -49,6 +50,7 @@ fn part_count(text: &[u8]) -> usize
     comma_count(text) + 1
 }
 
+// The number of commas.
 fn comma_count(text: &[u8]) -> usize
     ensures count { result ≡ count_by is_comma text.now }
     ensures few { result ≤ length text.now }
@@ -56,7 +58,7 @@ fn comma_count(text: &[u8]) -> usize
     text.iter().filter(|byte| **byte == b',').count()
 }
 
-/// The first part, and the text after its comma where there is one.
+/// The first part, and the text after its comma if there is one.
 pub(crate) fn cut(text: &[u8]) -> (&[u8], Option<&[u8]>)
     ensures parts { parts text.now ≡ result.0.now ∷ parts_of_some (option_copied result.1) }
     ensures no_comma { LacksComma result.0.now }
@@ -70,13 +72,14 @@ pub(crate) fn cut(text: &[u8]) -> (&[u8], Option<&[u8]>)
     }
 }
 
+// The index of the first comma, or None if there is none.
 fn comma_index(text: &[u8]) -> Option<usize>
     ensures { result ≡ position is_comma text.now }
 {
     text.iter().position(|byte| *byte == b',')
 }
 
-/// The texts before and after the last comma, or None where there is none.
+/// The texts before and after the last comma, or None if there is none.
 pub(crate) fn cut_last(text: &[u8]) -> Option<(&[u8], &[u8])>
     ensures whole { MatchOption result (length (parts text.now) ≡ 1)
         (λ cut. text.now ≡ cut.0.now ++ byte "," ∷ cut.1.now) }
@@ -93,7 +96,7 @@ pub(crate) fn cut_last(text: &[u8]) -> Option<(&[u8], &[u8])>
     None
 }
 
-/// The value of a part with this letter, or None where the part has another form.
+/// The value of a part that is this letter, `=` and a value, or None if the part has another form.
 pub(crate) fn headed(part: &[u8], letter: u8) -> Option<&[u8]>
     ensures { MatchOption result (is_named letter part.now ≡ false)
         (λ value. part.now ≡ letter ∷ byte "=" ∷ value.now) }
@@ -104,14 +107,14 @@ pub(crate) fn headed(part: &[u8], letter: u8) -> Option<&[u8]>
     }
 }
 
-/// Whether the part is named `m`.
+/// Whether the part begins with `m=`.
 pub(crate) fn is_mext(part: &[u8]) -> bool
     ensures { result ≡ is_named (byte "m") part.now }
 {
     matches!(part, [b'm', b'=', ..])
 }
 
-// Whether the part, which has no comma, is attr-val = ALPHA "=" value: as `is_attribute`, but the clause speaks of the grammar.
+// Whether the part, which has no comma, is attr-val = ALPHA "=" value: as `is_attribute`, but the clause cites the grammar.
 fn is_extension(part: &[u8]) -> bool
     requires { LacksComma part.now }
     ensures { IsTrue result ↔ IsExtension part.now }
@@ -136,8 +139,8 @@ pub(crate) struct Extensions<'a> {
     pub(crate) mandatory: bool,
 }
 
-/// Reads the extensions at the end of a message: `text` is what follows its fixed parts, where anything does. Its first part has
-/// the index `first` in the message. Answers 12 Extension for the first part that is no attr-val.
+/// Reads the extensions at the end of a message: `text` is what follows its fixed parts, if anything does. Its first part has the
+/// index `first` in the message. Errors: 12 Extension for the first part that is not an attr-val.
 pub(crate) fn extensions_of(text: Option<&[u8]>, first: usize) -> Result<Extensions<'_>, TextFault>
     requires few { first + length (parts_of_some (option_copied text)) < 10000 }
     ensures found { OnOk result (AreExtensions (parts_of_some (option_copied text.entry))) }
@@ -157,7 +160,7 @@ pub(crate) fn extensions_of(text: Option<&[u8]>, first: usize) -> Result<Extensi
     Ok(Extensions { text, mandatory })
 }
 
-// Checks that each part is an attr-val, and returns whether one is named `m`.
+// Checks that each part is an attr-val and returns whether one is named `m`.
 fn check_extensions(text: &[u8], first: usize) -> Result<bool, TextFault>
     requires few { first + length (parts text.now) < 10000 }
     ensures found { OnOk result (AreExtensions (parts text.now)) }
@@ -182,7 +185,7 @@ fn check_extensions(text: &[u8], first: usize) -> Result<bool, TextFault>
     Ok(mandatory)
 }
 
-/// The first two parts, and the text after them where there is one.
+/// The first two parts, and the text after them if there is one.
 pub(crate) fn cut_two(text: &[u8]) -> (&[u8], &[u8], Option<&[u8]>)
     requires { 2 ≤ length (parts text.now) }
     ensures parts { parts text.now ≡ result.0.now ∷ result.1.now ∷ parts_of_some (option_copied result.2) }
@@ -197,15 +200,15 @@ pub(crate) fn cut_two(text: &[u8]) -> (&[u8], &[u8], Option<&[u8]>)
     (first, second, rest)
 }
 
-/// Whether the text begins with `m=`: as `is_mext`, but the clause speaks of the first part of the text.
+/// Whether the text begins with `m=`: as `is_mext`, but the clause is about the first part of the text.
 pub(crate) fn begins_with_mext(text: &[u8]) -> bool
     ensures { result ≡ is_named (byte "m") (first_of (parts text.now)) }
 {
     is_mext(text)
 }
 
-/// The least number of parts of a message that needs `fixed` parts besides reserved-mext: one more where it has a reserved-mext. `text`
-/// is the message from the place of reserved-mext on.
+/// The least number of parts of a message that needs `fixed` parts besides reserved-mext: one more if it has a reserved-mext.
+/// `text` is the message from the place of reserved-mext on.
 pub(crate) fn least_part_count(text: &[u8], fixed: usize) -> usize
     requires { fixed < 10 }
     ensures { result ≡ length (places_with_mext (parts text.now) []) + fixed }
@@ -220,7 +223,7 @@ pub(crate) fn least_part_count(text: &[u8], fixed: usize) -> usize
 /// What follows the place of reserved-mext.
 #[derive(Drop)]
 pub(crate) struct AfterMext<'a> {
-    // Whether a reserved-mext stood there.
+    // Whether there was a reserved-mext.
     pub(crate) has_mext: bool,
 
     // The text after it, or the whole text.
@@ -230,8 +233,8 @@ pub(crate) struct AfterMext<'a> {
     pub(crate) index: usize,
 }
 
-/// Reads reserved-mext, `m=` and a value, where there is one. The text's first part has this index in the message. Answers
-/// 6 Mandatory where the value is empty.
+/// Reads reserved-mext, `m=` and a value, if there is one. The text's first part has this index in the message. Errors: 6 Mandatory
+/// if the value is empty.
 pub(crate) fn mext_of(text: &[u8], index: usize) -> Result<AfterMext<'_>, TextFault>
     requires few { index < 10 }
     requires enough { is_named (byte "m") (first_of (parts text.now)) ≡ true
@@ -264,13 +267,14 @@ pub(crate) fn mext_of(text: &[u8], index: usize) -> Result<AfterMext<'_>, TextFa
     })
 }
 
-/// Whether the text is empty, or attr-vals with commas between them, in UTF-8 with no NUL.
+/// Whether the text is UTF-8 without a NUL, and is empty or attr-vals with commas between them.
 pub(crate) fn are_extensions(text: &[u8]) -> bool
     ensures { IsTrue result ↔ IsExtensionText text.now }
 {
     text.is_empty() || (class::is_utf8_text(text) && are_attributes(text))
 }
 
+// Whether each part of the text is an attr-val.
 fn are_attributes(text: &[u8]) -> bool
     ensures { IsTrue result ↔ AreExtensions (parts text.now) }
 {

@@ -1,4 +1,4 @@
-//! Why a text is no message, and why a message is not written.
+//! Why a text is not a message, and why a message is not written.
 ghost use Rattle.std.specs.Prelude.{◌≡◌};
 ghost use Rattle.scram_text.specs.Faults.{text_why_number, write_fault_number};
 
@@ -11,7 +11,7 @@ pub enum TextWhy {
     #[error("more than 2048 bytes: send a shorter message")]
     TooLong = 1,
 
-    /// It has a NUL, or is not UTF-8.
+    /// It contains a NUL, or is not UTF-8.
     #[error("a NUL or bytes that are not UTF-8: send a text")]
     NotText = 2,
 
@@ -77,13 +77,12 @@ impl TextWhy {
     }
 }
 
-/// Why a text is no message: the fault of the whole text, else that a part is missing, else the first part from the left that
-/// is not as it has to be.
+/// Why a text is not a message: a fault of the whole text, else a missing part, else the first part from the left that does not
+/// have its form.
 #[derive(Clone, Copy, Debug, PartialEq, Eq, Error)]
 #[error("part {part}: {why}")]
 pub struct TextFault {
-    /// The index of the part, from 0. It is 0 where the whole text is at fault, and the number of
-    /// parts where one is missing.
+    /// The index of the part, from 0. It is 0 if the whole text is at fault, and the number of parts if one is missing.
     pub part: usize,
 
     /// What is wrong there.
@@ -103,14 +102,14 @@ impl TextFault {
 #[derive(Clone, Copy, Debug, PartialEq, Eq, Error)]
 pub enum WriteFault {
     /// An argument is outside its class.
-    #[error("an argument is not what the message may hold: pass one within its limits")]
+    #[error("an argument is not allowed in the message: pass one within its limits")]
     Unwritable = 16,
 
     /// The message would have more than 2048 bytes, or a `Draft` more than it can hold.
     #[error("the message would have more than 2048 bytes: pass shorter extensions")]
     OverLimit = 17,
 
-    /// Memory ran out for the message.
+    /// There was no memory for the message.
     #[error("no memory for the message: reserve room for it first")]
     NoMemory = 99,
 }

@@ -1,4 +1,5 @@
-//! Reads the parts whose values are decoded or have a class of their own, each by its letter.
+//! Reads the parts whose values are decoded or have a class of their own. Each is known by its letter. A function that reads a part
+//! returns None for any other part.
 ghost use Rattle.std.specs.Prelude.{◌≡◌, ◌≤◌, ℕ, List, ◌∷◌, ◌++◌, length, take, decimal, codes, IfNone, IfSome, IsTrue, ◌↔◌};
 ghost use Rattle.std.specs.Str.{byte};
 ghost use Rattle.base64.specs.Decode.{decoded_estimate};
@@ -51,7 +52,7 @@ pub(crate) fn value_of(part: &[u8], letter: u8) -> Option<&[u8]>
     if value.is_empty() { None } else { Some(value) }
 }
 
-/// Whether this is one or more value-chars, where it is already known to be UTF-8 without a NUL.
+/// Whether this is one or more value-chars, given that it is known to be UTF-8 without a NUL.
 pub(crate) fn is_value(value: &[u8]) -> bool
     ensures { IsTrue result ↔ IsValue value.now }
 {
@@ -75,6 +76,7 @@ pub(crate) fn count_of(part: &[u8]) -> Option<u32>
     count(digits)
 }
 
+// The count that the digits spell, or None if they spell no number from 1 to 4294967295.
 fn count(digits: &[u8]) -> Option<u32>
     ensures none { IfNone result (SpellsCount digits.now → ⊥) }
     ensures spelled { IfSome result (λ count. digits.now ≡ decimal count) }
@@ -120,6 +122,7 @@ pub(crate) fn salt_of(part: &[u8]) -> Option<Salt>
     Salt::new(bytes.as_slice())
 }
 
+// The 1 to 1536 bytes whose base64 this is, or None if it is that of no such bytes.
 fn channel_bytes(text: &[u8]) -> Option<ArrayVec<u8, LONGEST_CHANNEL>>
     requires { length text.now ≤ longest_message }
     ensures none { IfNone result (SpellsField longest_channel text.now → ⊥) }
@@ -131,9 +134,9 @@ fn channel_bytes(text: &[u8]) -> Option<ArrayVec<u8, LONGEST_CHANNEL>>
     Some(copy_of(&buffer[..size]))
 }
 
-// The 1 to 64 bytes whose base64 this is. The base64 of 64 bytes has 88 characters, so a longer text is none. 88 characters
-// decode to 66 bytes at most.
-#[tactic(auto, using(crate::proofs::lemmas::Base64::base64_at_most_88))]
+// The 1 to 64 bytes whose base64 this is. The base64 of 64 bytes has 88 characters, so a longer text is refused; 88 characters
+// decode to at most 66 bytes.
+#[tactic(auto, using(crate::proofs::lemmas::Base64::base64_has_at_most_88_bytes))]
 fn short_bytes(text: &[u8]) -> Option<Tag>
     ensures none { IfNone result (SpellsField longest_tag text.now → ⊥) }
     ensures spelled { IfSome result (λ field. text.now ≡ base64 field.items) }
@@ -157,8 +160,8 @@ pub(crate) fn is_field(bytes: &[u8], most: usize) -> bool
     !bytes.is_empty() && bytes.len() <= most
 }
 
-// Decodes the base64 text to the front of `buffer`, and returns the number of bytes; None where the
-// text is not the base64 of 1 to as many bytes as `buffer` has.
+// Decodes the base64 text to the front of `buffer` and returns the number of bytes, or None if the text is not the base64 of at
+// least one byte and at most as many as `buffer` has.
 fn decode(text: &[u8], buffer: &mut [u8]) -> Option<usize>
     requires { decoded_estimate (length text.now) ≤ length buffer.old }
     ensures none { IfNone result (SpellsField (length buffer.old) text.now → ⊥) }

@@ -1,11 +1,11 @@
-//! Laws of the grammar, for proofs that rest on this crate. Each is the promise of a function that does nothing.
+//! Laws of the grammar, for proofs that build on this crate. Each is the contract of a function that does nothing.
 ghost use Rattle.scram_text.specs.Laws.{HasUsualBase64};
 ghost use Rattle.scram_text.specs.Laws.{PartsAreUtf8, SpellsOneName, NameIsDecided, HasOneClientFirst};
 ghost use Rattle.scram_text.specs.Laws.{ClientFirstIsDecided, HasOneServerFirst, ServerFirstIsDecided, HasOneClientFinal};
 ghost use Rattle.scram_text.specs.Laws.{ClientFinalIsDecided, HasOneServerFinal, ServerFinalIsDecided};
 
-/// Base64 (RFC 4648, section 4) has its usual form: the text of 1 to 1536 bytes has no comma, is
-/// decoded to them, and has four bytes for each three begun.
+/// Base64 (RFC 4648, section 4) has its usual form: the text of 1 to 1536 bytes has no comma, decodes to those bytes, and has four
+/// characters for every three bytes, rounded up.
 pub fn base64_is_usual()
     ensures { HasUsualBase64 }
 {}
@@ -20,7 +20,7 @@ pub fn spells_one_name()
     ensures { SpellsOneName }
 {}
 
-/// Every text spells a plain name, or spells none.
+/// It is decidable whether a text spells a plain name.
 pub fn name_is_decided()
     ensures { NameIsDecided }
 {}
@@ -30,7 +30,7 @@ pub fn has_one_client_first()
     ensures { HasOneClientFirst }
 {}
 
-/// Every text is a client-first message, or is none.
+/// It is decidable whether a text is a client-first message.
 pub fn client_first_is_decided()
     ensures { ClientFirstIsDecided }
 {}
@@ -40,7 +40,7 @@ pub fn has_one_server_first()
     ensures { HasOneServerFirst }
 {}
 
-/// Every text is a server-first message, or is none.
+/// It is decidable whether a text is a server-first message.
 pub fn server_first_is_decided()
     ensures { ServerFirstIsDecided }
 {}
@@ -50,7 +50,7 @@ pub fn has_one_client_final()
     ensures { HasOneClientFinal }
 {}
 
-/// Every text is a client-final message, or is none.
+/// It is decidable whether a text is a client-final message.
 pub fn client_final_is_decided()
     ensures { ClientFinalIsDecided }
 {}
@@ -60,7 +60,7 @@ pub fn has_one_server_final()
     ensures { HasOneServerFinal }
 {}
 
-/// Every text is a server-final message, or is none.
+/// It is decidable whether a text is a server-final message.
 pub fn server_final_is_decided()
     ensures { ServerFinalIsDecided }
 {}

@@ -1,17 +1,14 @@
-//! The four messages of a SCRAM login (RFC 5802, section 7). A reader takes exactly the texts of the grammar, each of which
-//! has its parts in one way only, and a writer writes them.
+//! Readers and writers of the four messages of a SCRAM login (RFC 5802, section 7). A reader accepts exactly the texts of the
+//! grammar; each of them splits into parts in one way only.
 //!
-//! Each reader's contract says that it returns the parts of a message, or the first fault of a text
-//! that is none. Readers take no memory: what they return are slices of the message and fixed
-//! buffers. Each writer's contract says which text it appends and when it refuses; after a refusal
-//! nothing was appended.
+//! Each reader's contract says that it returns the parts of a message, or the first fault of a text that is not one. Readers do not
+//! allocate: they return slices of the message and fixed buffers. Each writer's contract says which text it appends and when it
+//! fails; after an error nothing has been appended.
 //!
-//! Where the RFC leaves a choice or sets no limit, this crate has its own. Literals are matched with
-//! their case: `N=`, `=2c` and the flag `Y` are refused. A message has at most 2048 bytes, a nonce
-//! of client-first at most 256 characters and any other at most 512, a salt, a proof and a verifier
-//! at most 64 bytes, and a count is at most 4294967295. A base64 text is padded and has no unused
-//! bits set. An extension that is named `m` is mandatory: the message is read, and the receiver has to
-//! fail.
+//! When the RFC leaves a choice or sets no limit, this crate makes its own rule. Literals are case-sensitive: `N=`, `=2c` and the
+//! flag `Y` are refused. A message has at most 2048 bytes, a nonce of client-first at most 256 characters and any other at most
+//! 512, a salt, a proof and a verifier at most 64 bytes, and a count is at most 4294967295. A base64 text is padded and has no
+//! unused bits set. An extension named `m` is mandatory: the message is read, but the receiver has to end the login as failed.
 //!
 //! ```rust
 //! use scram_text::read_client_first;
@@ -47,29 +44,29 @@ pub use server_final::{FinalResult, ServerFinal, read_server_final, write_server
 pub use server_first::{ServerFirst, read_server_first, write_server_first};
 pub use values::{NoncePart, Password, Salt};
 
-/// The most bytes of a message.
+/// The greatest length of a message, in bytes.
 pub const LONGEST_MESSAGE: usize = 2048;
 
-/// The most characters that one end adds to the nonce.
+/// The greatest length of one end's part of the nonce, in characters.
 pub const LONGEST_NONCE_PART: usize = 256;
 
-/// The most characters of a nonce, to which both ends added their part.
+/// The greatest length of a whole nonce, with the parts of both ends, in characters.
 pub const LONGEST_NONCE: usize = 512;
 
-/// The most bytes that a channel field holds, decoded: the base64 of more is longer than a message.
+/// The greatest length of a decoded channel field, in bytes: the base64 of more is longer than a message.
 pub const LONGEST_CHANNEL: usize = 1536;
 
-/// The most bytes of a name.
+/// The greatest length of a name, in bytes.
 pub const LONGEST_NAME: usize = 255;
 
-/// The most bytes of a password.
+/// The greatest length of a password, in bytes.
 pub const LONGEST_PASSWORD: usize = 1024;
 
-/// The most bytes of a salt.
+/// The greatest length of a salt, in bytes.
 pub const LONGEST_SALT: usize = 64;
 
 /// The greatest iteration count.
 pub const MOST_COUNT: u32 = 4_294_967_295;
 
-/// The most bytes of a proof or a signature.
+/// The greatest length of a proof or a signature, in bytes.
 pub const LONGEST_TAG: usize = 64;

@@ -1,4 +1,4 @@
-//! User names: in plain bytes, and as a message spells them (RFC 5802, section 5.1).
+//! User names, in plain bytes and as a message spells them (RFC 5802, section 5.1).
 ghost use Rattle.std.specs.Prelude.{◌≡◌, ◌≤◌, ℕ, List, [], ◌++◌, length, ◌↔◌, IsTrue, ◌<◌, ◌+◌, IfSome, IfNone, IfErr, MatchOption};
 ghost use Rattle.std.specs.Option.{SomeIff};
 ghost use Rattle.scram_text.specs.Limits.{longest_name};
@@ -14,8 +14,8 @@ use mac_core::copy_of;
 use std::alloc::Allocator;
 use std::marker::Model;
 
-/// A name: 1 to 255 bytes of 20 to 7E hex, which SASLprep (RFC 4013) leaves as they are. Names are in
-/// order of their bytes, as `Z`, `a`, `a.`, `aa`. Contracts see a name as its bytes.
+/// A name: 1 to 255 bytes of 20 to 7E hex, which SASLprep (RFC 4013) leaves as they are. Names are ordered by their bytes: `Z`,
+/// `a`, `a.`, `aa`. Contracts see a name as its bytes.
 #[derive(PartialEq, Eq, PartialOrd, Ord, Drop)]
 pub struct PlainName {
     bytes: ArrayVec<u8, LONGEST_NAME>,
@@ -32,7 +32,7 @@ impl Model for PlainName {
 }
 
 impl PlainName {
-    /// The name of these bytes, or None where they are not 1 to 255 of 20 to 7E hex.
+    /// The name of these bytes, or None if they are not 1 to 255 bytes of 20 to 7E hex.
     pub fn new(bytes: &[u8]) -> Option<PlainName>
         ensures { SomeIff result (IsPlainName bytes.now) bytes.now }
     {
@@ -52,7 +52,7 @@ impl PlainName {
         self.bytes.as_slice()
     }
 
-    /// The bytes of the name as a text.
+    /// The name as a text: its bytes are ASCII.
     pub fn text(&self) -> &str
         ensures value { result.now ≡ self.now }
         ensures fits { IsPlainName self.now }
@@ -73,8 +73,8 @@ impl PlainName {
     }
 }
 
-/// A saslname as a message spells it: at least one byte, with `=2C` for each comma and `=3D` for
-/// each equals sign of the name. Contracts see it as its bytes.
+/// A saslname as a message spells it: at least one byte, with `=2C` for each comma and `=3D` for each equals sign of the name.
+/// Contracts see it as its bytes.
 #[derive(Drop)]
 pub struct SaslText<'a> {
     spelled: &'a [u8],
@@ -89,7 +89,7 @@ impl<'a> Model for SaslText<'a> {
 }
 
 impl<'a> SaslText<'a> {
-    /// The saslname of these bytes, or None where they are no saslname.
+    /// The saslname of these bytes, or None if they are not one.
     pub(crate) fn new(spelled: &'a [u8]) -> Option<SaslText<'a>>
         ensures { SomeIff result (IsSaslName spelled.now) spelled.now }
     {
@@ -108,7 +108,7 @@ impl<'a> SaslText<'a> {
         self.spelled
     }
 
-    /// The name that it spells, or None where that is not 1 to 255 bytes of 20 to 7E hex.
+    /// The name that it spells, or None if that is not 1 to 255 bytes of 20 to 7E hex.
     pub fn plain(&self) -> Option<PlainName>
         ensures some { IfSome result (λ name. SpellsName name self.now) }
         ensures none { IfNone result ((name : List ℕ) → IsPlainName name
@@ -118,7 +118,7 @@ impl<'a> SaslText<'a> {
     }
 }
 
-// The bytes of the name, or None where there are more than 255.
+// The bytes of the name that is spelled, or None if there are more than 255.
 fn unescaped(spelled: &[u8]) -> Option<ArrayVec<u8, LONGEST_NAME>>
     requires escaped { IsTrue (is_escaped spelled.now) }
     requires no_comma { LacksComma spelled.now }
@@ -154,7 +154,7 @@ fn unescape(text: &[u8]) -> Option<(u8, &[u8])>
     }
 }
 
-// Whether this is 1*(value-safe-char / "=2C" / "=3D"), where it is already known to be UTF-8 without a NUL.
+// Whether this is 1*(value-safe-char / "=2C" / "=3D"), once it is known to be UTF-8 without a NUL.
 fn is_saslname(spelled: &[u8]) -> bool
     ensures { IsTrue result ↔ IsSaslName spelled.now }
 {
@@ -182,9 +182,8 @@ fn begins_with_code(text: &[u8]) -> bool
     matches!(text, [b'2', b'C', ..] | [b'3', b'D', ..])
 }
 
-/// Appends the spelling of a name to `out`, with `=2C` for each comma and `=3D` for each equals sign
-/// (RFC 5802, section 5.1). Answers no fault but 99 NoMemory, and only where `out` had no room
-/// reserved for the spelling; `out` is then unchanged.
+/// Appends the spelling of a name to `out`, with `=2C` for each comma and `=3D` for each equals sign (RFC 5802, section 5.1).
+/// Errors: 99 NoMemory, only if `out` had no room reserved for the spelling. After an error `out` is unchanged.
 pub fn write_name<A: Allocator>(name: &PlainName, out: &mut Vec<u8, A>) -> Result<(), WriteFault>
     ensures appended { IsAppended result out.old out.new (name_spelling name.now) }
     ensures is_saslname { IsSaslName (name_spelling name.now) }

@@ -4,8 +4,8 @@
 //! server-final-message = (server-error / verifier) ["," extensions]
 //! ```
 //!
-//! as `v=rmF9pqV8S7suAoZWja4dJRkFsKQ=` or `e=invalid-proof`.
-ghost use Rattle.std.specs.Prelude.{◌≡◌, ◌≤◌, ◌<◌, ◌+◌, ◌↔◌, ◌++◌, length, codes, IsTrue, IfOk, IfErr, OnOk, IsOkAnd, IsErrOf};
+//! For example: `v=rmF9pqV8S7suAoZWja4dJRkFsKQ=` or `e=invalid-proof`.
+ghost use Rattle.std.specs.Prelude.{◌≡◌, ◌≤◌, ◌+◌, ◌↔◌, ◌++◌, length, codes, IsTrue, IfOk, IfErr, IsOkAnd};
 ghost use Rattle.std.specs.Str.{byte};
 ghost use Rattle.scram_text.specs.Limits.{longest_message, longest_nonce, longest_tag};
 ghost use Rattle.scram_text.specs.Class.{IsUtf8Text};
@@ -16,8 +16,7 @@ ghost use Rattle.scram_text.specs.Messages.{ServerFinalParts, IsServerFinal, IsV
 ghost use Rattle.scram_text.specs.Faults.{IsServerFinalFault, Fits, fault, outcome_place};
 ghost use Rattle.scram_text.specs.Shown.{ShowsServerFinal, verifier_or_error_of};
 ghost use Rattle.scram_text.specs.Draft.{IsDraftOf};
-ghost use Rattle.scram_text.specs.Written.{server_final_of, CanBeVerifierOrError, CanBeServerFinal};
-ghost use Rattle.scram_text.specs.Appended.{IsAppended, LacksRoom};
+ghost use Rattle.scram_text.specs.Written.{server_final_of, CanBeVerifierOrError, CanBeServerFinal, IsMessageWritten};
 
 use crate::draft::MessageDraft;
 use crate::fault::{TextFault, TextWhy, WriteFault};
@@ -25,7 +24,7 @@ use crate::{LONGEST_TAG, class, cut, field};
 use mac_core::Tag;
 use std::alloc::Allocator;
 
-/// What the server's final message says: the `v=` or `e=` of RFC 5802, section 7.
+/// The verifier (`v=`) or the error (`e=`) of the server's final message (RFC 5802, section 7).
 #[derive(Drop)]
 pub enum FinalResult<'a> {
     /// The bytes of the verifier `v=`, 1 to 64: the server's signature.
@@ -35,36 +34,36 @@ pub enum FinalResult<'a> {
     ErrorValue(&'a [u8]),
 }
 
-/// A server-final message that was read. Slices are slices of the message.
+/// A server-final message that was read. Its slices are parts of the message.
 #[derive(Drop)]
 pub struct ServerFinal<'a> {
-    /// Whether an extension is named `m`: the receiver has to fail.
+    /// Whether an extension is named `m`: if so, the login has to fail.
     pub mandatory: bool,
 
     /// The verifier or the error.
     pub result: FinalResult<'a>,
 
-    /// The attr-vals with the commas between them, or empty.
+    /// The extensions: attr-vals with commas between them, or empty.
     pub extensions: &'a [u8],
 }
 
-/// Reads a server-final message (RFC 5802, section 7), or answers the first fault of the text: 1
-/// TooLong or 2 NotText for the whole text, else the first part from the left that is not as it has
-/// to be: 15 ErrorValue where it begins with `e=` or 14 Verifier where it does not, or 12 Extension.
-/// It takes no memory.
+/// Reads a server-final message (RFC 5802, section 7). It does not allocate. Errors: the first of these that applies:
+/// - 1 TooLong or 2 NotText for the whole text;
+/// - the fault of the first part from the left that does not have its form: for part 0, 15 ErrorValue if it begins with `e=`,
+///   else 14 Verifier; for a later part, 12 Extension.
 pub fn read_server_final(message: &[u8]) -> Result<ServerFinal<'_>, TextFault>
     // The text is a message with the parts that are returned.
     ensures found { IfOk result (λ m. (p : ServerFinalParts) × IsServerFinal message.now p
         × ShowsServerFinal m p) }
-    // Where the text is a message, its parts are returned.
-    ensures only { (p : ServerFinalParts) → IsServerFinal message.now p
+    // If the text is a message, its parts are returned.
+    ensures every { (p : ServerFinalParts) → IsServerFinal message.now p
         → IsOkAnd result (λ m. ShowsServerFinal m p) }
     ensures fault { IfErr result (λ f. IsServerFinalFault message.now f) }
 {
     read_parts(message)
 }
 
-// As the public reader, without `only`, which follows from `found` and `fault`, since a text has one list of parts.
+// As the public reader, but without `every`: it follows from `found` and `fault`, since a text has one list of parts.
 fn read_parts(message: &[u8]) -> Result<ServerFinal<'_>, TextFault>
     ensures found { IfOk result (λ m. (p : ServerFinalParts) × IsServerFinal message.now p
         × ShowsServerFinal m p) }
@@ -72,7 +71,7 @@ fn read_parts(message: &[u8]) -> Result<ServerFinal<'_>, TextFault>
 {
     cut::checked_part_count(message)?;
     let (first, rest) = cut::cut(message);
-    let result = result_of(first)?;
+    let result = outcome_of(first)?;
     let extensions = cut::extensions_of(rest, 1)?;
     Ok(ServerFinal {
         mandatory: extensions.mandatory,
@@ -81,8 +80,8 @@ fn read_parts(message: &[u8]) -> Result<ServerFinal<'_>, TextFault>
     })
 }
 
-// The first part: an error where it begins with `e=`, else a verifier.
-fn result_of(part: &[u8]) -> Result<FinalResult<'_>, TextFault>
+// The result in the first part: an error if it begins with `e=`, else a verifier.
+fn outcome_of(part: &[u8]) -> Result<FinalResult<'_>, TextFault>
     requires { LacksComma part.now }
     ensures spelled { IfOk result (λ r. part.now ≡ verifier_or_error_text (verifier_or_error_of r)) }
     ensures class { IfOk result (λ r. IsVerifierOrError (verifier_or_error_of r)) }
@@ -108,34 +107,25 @@ fn result_of(part: &[u8]) -> Result<FinalResult<'_>, TextFault>
     }
 }
 
+// Whether the part begins with `e=`.
 fn is_error(part: &[u8]) -> bool
     ensures { result ≡ is_named (byte "e") part.now }
 {
     matches!(part, [b'e', b'=', ..])
 }
 
-/// Appends a server-final message (RFC 5802, section 7) to `out`: the verifier of 1 to 64 bytes or
-/// the error value of one or more value-chars, and the extensions as attr-vals with commas between
-/// them or empty. Answers 16 Unwritable where an argument is outside its class, else 17 OverLimit
-/// where the message would have more than 2048 bytes, else 99 NoMemory, only where `out` had no room
-/// reserved for the message. After each of these faults `out` is unchanged.
+/// Appends a server-final message (RFC 5802, section 7) to `out`: the verifier of 1 to 64 bytes or the error value of one or more
+/// value-chars, and the extensions, which are attr-vals with commas between them, or empty. Errors: 16 Unwritable if an argument is
+/// outside its class, else 17 OverLimit if the message would have more than 2048 bytes, else 99 NoMemory, only if `out` had no room
+/// reserved for the message. After an error `out` is unchanged.
 pub fn write_server_final<A: Allocator>(
     outcome: FinalResult<'_>,
     extensions: &[u8],
     out: &mut Vec<u8, A>,
 ) -> Result<(), WriteFault>
-    ensures appended { IsAppended result out.old out.new
-        (server_final_text (server_final_of (verifier_or_error_of outcome.entry) extensions.now)) }
-    ensures is_message { let p = server_final_of (verifier_or_error_of outcome.entry) extensions.now in
-        OnOk result (IsServerFinal (server_final_text p) p) }
-    ensures unwritable { IsErrOf result WriteFault.Unwritable
-        → CanBeServerFinal (verifier_or_error_of outcome.entry) extensions.now → ⊥ }
-    ensures over_limit { IsErrOf result WriteFault.OverLimit
-        → CanBeServerFinal (verifier_or_error_of outcome.entry) extensions.now
-        × (longest_message < length (server_final_text (server_final_of (verifier_or_error_of outcome.entry) extensions.now))) }
-    ensures no_memory { let p = server_final_of (verifier_or_error_of outcome.entry) extensions.now in
-        IsErrOf result WriteFault.NoMemory → IsServerFinal (server_final_text p) p
-        × LacksRoom out.old (server_final_text p) }
+    ensures { IsMessageWritten result out.old out.new server_final_text IsServerFinal
+        (server_final_of (verifier_or_error_of outcome.entry) extensions.now)
+        (CanBeServerFinal (verifier_or_error_of outcome.entry) extensions.now) }
 {
     if !is_writable(&outcome) || !cut::are_extensions(extensions) {
         return Err(WriteFault::Unwritable);
@@ -143,6 +133,7 @@ pub fn write_server_final<A: Allocator>(
     draft_of(&outcome, extensions).append_to(out)
 }
 
+// Whether the verifier has 1 to 64 bytes, or the error value is UTF-8 and one or more value-chars.
 fn is_writable(outcome: &FinalResult<'_>) -> bool
     ensures { IsTrue result ↔ CanBeVerifierOrError (verifier_or_error_of outcome.now) }
 {
@@ -152,6 +143,7 @@ fn is_writable(outcome: &FinalResult<'_>) -> bool
     }
 }
 
+// The whole message.
 fn draft_of(outcome: &FinalResult<'_>, extensions: &[u8]) -> MessageDraft
     requires { CanBeServerFinal (verifier_or_error_of outcome.now) extensions.now }
     ensures draft { IsDraftOf result (server_final_text (server_final_of (verifier_or_error_of outcome.now) extensions.now)) }
@@ -163,19 +155,20 @@ fn draft_of(outcome: &FinalResult<'_>, extensions: &[u8]) -> MessageDraft
     draft
 }
 
+// The first part: the verifier or the error.
 fn outcome_draft(outcome: &FinalResult<'_>) -> MessageDraft
     requires { CanBeVerifierOrError (verifier_or_error_of outcome.now) }
     ensures draft { IsDraftOf result (verifier_or_error_text (verifier_or_error_of outcome.now)) }
     ensures utf8_text { IsUtf8Text (verifier_or_error_text (verifier_or_error_of outcome.now)) }
 {
     match outcome {
-        FinalResult::Verifier(signature) => verifier(signature.as_slice()),
-        FinalResult::ErrorValue(value) => error(value),
+        FinalResult::Verifier(signature) => verifier_draft(signature.as_slice()),
+        FinalResult::ErrorValue(value) => error_draft(value),
     }
 }
 
 // "v=" base64
-fn verifier(signature: &[u8]) -> MessageDraft
+fn verifier_draft(signature: &[u8]) -> MessageDraft
     requires { length signature.now ≤ longest_tag }
     ensures draft { IsDraftOf result (codes "v=" ++ base64 signature.now) }
     ensures utf8_text { IsUtf8Text (codes "v=" ++ base64 signature.now) }
@@ -187,7 +180,7 @@ fn verifier(signature: &[u8]) -> MessageDraft
 }
 
 // "e=" server-error-value
-fn error(value: &[u8]) -> MessageDraft
+fn error_draft(value: &[u8]) -> MessageDraft
     requires { IsUtf8Text value.now }
     ensures draft { IsDraftOf result (codes "e=" ++ value.now) }
     ensures utf8_text { IsUtf8Text (codes "e=" ++ value.now) }

@@ -4,16 +4,15 @@
 //! server-first-message = [reserved-mext ","] nonce "," salt "," iteration-count ["," extensions]
 //! ```
 //!
-//! as `r=abcdef,s=QSXCR+Q6sek8bf92,i=4096`.
-ghost use Rattle.std.specs.Prelude.{◌≤◌, ◌<◌, ◌+◌, ◌↔◌, length, IsTrue, IfOk, IfErr, OnOk, IsOkAnd, IsErrOf};
+//! For example: `r=abcdef,s=QSXCR+Q6sek8bf92,i=4096`.
+ghost use Rattle.std.specs.Prelude.{◌≤◌, ◌+◌, ◌↔◌, length, IsTrue, IfOk, IfErr, IsOkAnd};
 ghost use Rattle.scram_text.specs.Limits.{longest_message};
 ghost use Rattle.scram_text.specs.Messages.{ServerFirstParts, server_first_text, IsServerFirst};
 ghost use Rattle.scram_text.specs.Draft.{IsDraftOf};
-ghost use Rattle.scram_text.specs.Written.{server_first_of, CanBeServerFirst};
+ghost use Rattle.scram_text.specs.Written.{server_first_of, CanBeServerFirst, IsMessageWritten};
 ghost use Rattle.scram_text.specs.Faults.{IsServerFirstFault};
 ghost use Rattle.scram_text.specs.Shown.{ShowsServerFirst};
 ghost use Rattle.scram_text.specs.Pieces.{IsCutServerFirst};
-ghost use Rattle.scram_text.specs.Appended.{IsAppended, LacksRoom};
 
 use crate::draft::MessageDraft;
 use crate::fault::{TextFault, TextWhy, WriteFault};
@@ -21,42 +20,43 @@ use crate::values::Salt;
 use crate::{LONGEST_NONCE, LONGEST_SALT, class, cut, field};
 use std::alloc::Allocator;
 
-/// A server-first message that was read. Slices are slices of the message.
+/// A server-first message that was read. Its slices are parts of the message.
 #[derive(Drop)]
 pub struct ServerFirst<'a> {
-    /// Whether the message begins with `m=` or an extension is named `m`: the receiver has to fail.
+    /// Whether the message begins with `m=` or an extension is named `m`: if so, the login has to fail.
     pub mandatory: bool,
 
     /// The nonce, 1 to 512 printable characters.
     pub nonce: &'a [u8],
 
-    /// The salt that the client makes its keys with, 1 to 64 bytes.
+    /// The salt that the client derives its keys with, 1 to 64 bytes.
     pub salt: Salt,
 
     /// The iteration count, 1 to 4294967295.
     pub count: u32,
 
-    /// The attr-vals with the commas between them, or empty.
+    /// The extensions: attr-vals with commas between them, or empty.
     pub extensions: &'a [u8],
 }
 
-/// Reads a server-first message (RFC 5802, section 7), or answers the first fault of the text: 1
-/// TooLong or 2 NotText for the whole text, else 3 Missing where it has too few parts, else the first part
-/// from the left that is not as it has to be: 6 Mandatory, 8 Nonce, 9 Salt, 10 Count or 12 Extension. It
-/// takes no memory.
+/// Reads a server-first message (RFC 5802, section 7). It does not allocate. Errors: the first of these that applies:
+/// - 1 TooLong or 2 NotText for the whole text;
+/// - 3 Missing if it has too few parts;
+/// - the fault of the first part from the left that does not have its form: 6 Mandatory, 8 Nonce, 9 Salt, 10 Count or 12
+///   Extension.
 pub fn read_server_first(message: &[u8]) -> Result<ServerFirst<'_>, TextFault>
     // The text is a message with the parts that are returned.
     ensures found { IfOk result (λ m. (p : ServerFirstParts) × IsServerFirst message.now p
         × ShowsServerFirst m p) }
-    // Where the text is a message, its parts are returned.
-    ensures only { (p : ServerFirstParts) → IsServerFirst message.now p
+    // If the text is a message, its parts are returned.
+    ensures every { (p : ServerFirstParts) → IsServerFirst message.now p
         → IsOkAnd result (λ m. ShowsServerFirst m p) }
     ensures fault { IfErr result (λ f. IsServerFirstFault message.now f) }
 {
     read_parts(message)
 }
 
-// As the public reader, without `only`, which follows from `found` and `fault`, since a text has one list of parts.
+// As the public reader, but without `every`: it follows from `found` and `fault`, since a text has one list of parts.
 fn read_parts(message: &[u8]) -> Result<ServerFirst<'_>, TextFault>
     ensures found { IfOk result (λ m. (p : ServerFirstParts) × IsServerFirst message.now p
         × ShowsServerFirst m p) }
@@ -102,6 +102,8 @@ struct Pieces<'a> {
     rest: Option<&'a [u8]>,
 }
 
+// Cuts a message into these parts. Errors: 1 TooLong, 2 NotText, 3 Missing if it has too few parts, or 6 Mandatory if it begins
+// with `m=` and the value after that is empty.
 fn pieces_of(message: &[u8]) -> Result<Pieces<'_>, TextFault>
     ensures cut { IfOk result (λ pieces. IsCutServerFirst message.now pieces) }
     ensures fault { IfErr result (λ f. IsServerFirstFault message.now f) }
@@ -127,11 +129,10 @@ fn pieces_of(message: &[u8]) -> Result<Pieces<'_>, TextFault>
     })
 }
 
-/// Appends a server-first message (RFC 5802, section 7) to `out`: the nonce of 1 to 512 printable
-/// characters, the salt, the count, which is at least 1, and the extensions as attr-vals with commas
-/// between them or empty. Answers 16 Unwritable where an argument is outside its class, else 17
-/// OverLimit where the message would have more than 2048 bytes, else 99 NoMemory, only where `out`
-/// had no room reserved for the message. After each of these faults `out` is unchanged.
+/// Appends a server-first message (RFC 5802, section 7) to `out`: the nonce of 1 to 512 printable characters, the salt, the count,
+/// which is at least 1, and the extensions, which are attr-vals with commas between them, or empty. Errors: 16 Unwritable if an
+/// argument is outside its class, else 17 OverLimit if the message would have more than 2048 bytes, else 99 NoMemory, only if `out`
+/// had no room reserved for the message. After an error `out` is unchanged.
 pub fn write_server_first<A: Allocator>(
     nonce: &[u8],
     salt: &Salt,
@@ -139,18 +140,9 @@ pub fn write_server_first<A: Allocator>(
     extensions: &[u8],
     out: &mut Vec<u8, A>,
 ) -> Result<(), WriteFault>
-    ensures appended { IsAppended result out.old out.new
-        (server_first_text (server_first_of nonce.now salt.now count extensions.now)) }
-    ensures is_message { let p = server_first_of nonce.now salt.now count extensions.now in
-        OnOk result (IsServerFirst (server_first_text p) p) }
-    ensures unwritable { IsErrOf result WriteFault.Unwritable
-        → CanBeServerFirst nonce.now salt.now count extensions.now → ⊥ }
-    ensures over_limit { IsErrOf result WriteFault.OverLimit
-        → CanBeServerFirst nonce.now salt.now count extensions.now
-        × (longest_message < length (server_first_text (server_first_of nonce.now salt.now count extensions.now))) }
-    ensures no_memory { let p = server_first_of nonce.now salt.now count extensions.now in
-        IsErrOf result WriteFault.NoMemory → IsServerFirst (server_first_text p) p
-        × LacksRoom out.old (server_first_text p) }
+    ensures { IsMessageWritten result out.old out.new server_first_text IsServerFirst
+        (server_first_of nonce.now salt.now count extensions.now)
+        (CanBeServerFirst nonce.now salt.now count extensions.now) }
 {
     let salt = salt.bytes();
     if !is_writable(nonce, salt, count, extensions) {
@@ -159,6 +151,7 @@ pub fn write_server_first<A: Allocator>(
     draft_of(nonce, salt, count, extensions).append_to(out)
 }
 
+// Whether each argument is in its class.
 fn is_writable(nonce: &[u8], salt: &[u8], count: u32, extensions: &[u8]) -> bool
     ensures { IsTrue result ↔ CanBeServerFirst nonce.now salt.now count extensions.now }
 {
@@ -168,6 +161,7 @@ fn is_writable(nonce: &[u8], salt: &[u8], count: u32, extensions: &[u8]) -> bool
         && cut::are_extensions(extensions)
 }
 
+// The whole message.
 fn draft_of(nonce: &[u8], salt: &[u8], count: u32, extensions: &[u8]) -> MessageDraft
     requires { CanBeServerFirst nonce.now salt.now count extensions.now }
     ensures draft { IsDraftOf result (server_first_text (server_first_of nonce.now salt.now count extensions.now)) }

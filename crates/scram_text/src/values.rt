@@ -8,8 +8,7 @@ use arrayvec::ArrayVec;
 use mac_core::copy_of;
 use std::marker::Model;
 
-/// A password: 1 to 1024 bytes of 20 to 7E hex, which SASLprep (RFC 4013) leaves as they are.
-/// Contracts see it as its bytes.
+/// A password: 1 to 1024 bytes of 20 to 7E hex, which SASLprep (RFC 4013) leaves as they are. Contracts see it as its bytes.
 #[derive(Drop)]
 pub struct Password {
     bytes: ArrayVec<u8, LONGEST_PASSWORD>,
@@ -24,7 +23,7 @@ impl Model for Password {
 }
 
 impl Password {
-    /// The password of these bytes, or None where they are not 1 to 1024 of 20 to 7E hex.
+    /// The password of these bytes, or None if they are not 1 to 1024 bytes of 20 to 7E hex.
     pub fn new(bytes: &[u8]) -> Option<Password>
         ensures { SomeIff result (IsPassword bytes.now) bytes.now }
     {
@@ -45,8 +44,8 @@ impl Password {
     }
 }
 
-/// What one end adds to the nonce: 1 to 256 printable characters (RFC 5802, section 7), which are
-/// the bytes 21 to 7E hex except the comma. Contracts see it as its bytes.
+/// What one end contributes to the nonce: 1 to 256 printable characters (RFC 5802, section 7), which are the bytes 21 to 7E hex
+/// except the comma. Contracts see it as its bytes.
 #[derive(Drop)]
 pub struct NoncePart {
     bytes: ArrayVec<u8, LONGEST_NONCE_PART>,
@@ -61,7 +60,7 @@ impl Model for NoncePart {
 }
 
 impl NoncePart {
-    /// The nonce part of these bytes, or None where they are not 1 to 256 printable characters.
+    /// The nonce part of these bytes, or None if they are not 1 to 256 printable characters.
     pub fn new(bytes: &[u8]) -> Option<NoncePart>
         ensures { SomeIff result (IsNoncePart bytes.now) bytes.now }
     {
@@ -97,7 +96,7 @@ impl Model for Salt {
 }
 
 impl Salt {
-    /// The salt of these bytes, or None where they are not 1 to 64.
+    /// The salt of these bytes, or None if there are not 1 to 64.
     pub fn new(bytes: &[u8]) -> Option<Salt>
         ensures { SomeIff result (IsSalt bytes.now) bytes.now }
     {

@@ -1,5 +1,5 @@
-//! What no contract shows: that the definitions are those of RFC 5802, by its messages and those of
-//! other software, and that each call can succeed where there is memory.
+//! What no contract shows: that the definitions are those of RFC 5802, checked with its messages and
+//! those of other software, and that each call can succeed if there is memory.
 use mac_core::Tag;
 use scram_text::{
     ClientFinalWithoutProof, FinalResult, Flag, NoncePart, Password, PlainName, Salt, TextFault,
@@ -34,17 +34,21 @@ const PUBLISHED: [[&str; 5]; 2] = [
     ],
 ];
 
-// Asserts that the value is the one wanted, and says at what it is not.
+// Asserts that the value is the expected one; `at` says what it is for.
 fn check<T: PartialEq + Debug>(rt: &impl Abort, got: &T, want: &T, at: &str) {
     assert_eq!(rt; got, want, "{at}");
 }
 
-// Asserts that the bytes are those wanted, and says at what they are not.
+// Asserts that the bytes are the expected ones; `at` says what they are for. A failure shows both as texts, or both as bytes
+// if one is no UTF-8.
 fn check_bytes(rt: &impl Abort, got: &[u8], want: &[u8], at: &str) {
-    assert_eq!(rt; got, want, "{at}");
+    match (str::from_utf8(got), str::from_utf8(want)) {
+        (Ok(text), Ok(want_text)) => assert_eq!(rt; text, want_text, "{at}"),
+        _ => assert_eq!(rt; got, want, "{at}"),
+    }
 }
 
-// Asserts what is printed of a fault.
+// Asserts that a fault is printed as `want`.
 fn check_words(
     rt: &impl Abort,
     alloc: Global,
@@ -52,11 +56,11 @@ fn check_words(
     want: &str,
 ) -> Result<(), Fail> {
     let words = format!(in alloc; "{fault}")?;
-    check_bytes(rt, words.as_bytes(), want.as_bytes(), want);
+    assert_eq!(rt; words.as_str(), want);
     Ok(())
 }
 
-// Reads the message and writes what was read.
+// Reads the message, and writes what was read.
 fn client_first_again(text: &[u8], name: &[u8], out: &mut Vec<u8>) -> bool {
     let Ok(message) = read_client_first(text) else {
         return false;
@@ -110,7 +114,7 @@ fn client_final_again(text: &[u8], out: &mut Vec<u8>) -> bool {
     .is_ok()
 }
 
-// As a client writes it, who signs the text before the proof.
+// Writes it as a client does: first the text that it signs, then the proof.
 fn client_final_in_two(text: &[u8], out: &mut Vec<u8>) -> bool {
     let Ok(message) = read_client_final(text) else {
         return false;
@@ -481,9 +485,10 @@ fn limits_of_messages(rt: HostRuntime) -> Result<(), Fail> {
     ];
     for (kind, front, letters, back, is_read) in rows {
         let fault = fault_of_long(rt.alloc(), kind, front, letters, back)?;
-        assert!(rt;
-            fault.is_none() == is_read,
-            "{letters} letters after {front:?}"
+        assert_eq!(rt;
+            fault.is_none(),
+            is_read,
+            "{letters} letters after {front:?}: {fault:?}"
         );
     }
     let fault = fault_of_long(
@@ -502,27 +507,62 @@ fn limits_of_messages(rt: HostRuntime) -> Result<(), Fail> {
 }
 
 #[test]
-fn refused_writes(rt: HostRuntime) -> Result<(), Fail> {
-    let alloc = rt.alloc();
+fn refused_writes_of_a_server(rt: HostRuntime) -> Result<(), Fail> {
     let salt = Salt::new(b"A").ok_or("a salt")?;
+    let mut out = Vec::from_slice(rt.alloc(), b"before")?;
+    let refused = [
+        ("no nonce", write_server_first(b"", &salt, 1, b"", &mut out)),
+        (
+            "the count 0",
+            write_server_first(b"a", &salt, 0, b"", &mut out),
+        ),
+        (
+            "an extension without a value",
+            write_server_first(b"a", &salt, 1, b"x", &mut out),
+        ),
+        (
+            "an error value with a comma",
+            write_server_final(FinalResult::ErrorValue(b"a,b"), b"", &mut out),
+        ),
+    ];
+    for (what, refused) in refused {
+        assert_eq!(rt; refused, Err(WriteFault::Unwritable), "{what}");
+    }
+    check_bytes(&rt, out.as_slice(), b"before", "nothing is written");
+    Ok(())
+}
+
+#[test]
+fn refused_writes_of_a_client(rt: HostRuntime) -> Result<(), Fail> {
     let name = PlainName::new(b"u").ok_or("a name")?;
     let nonce = NoncePart::new(b"x").ok_or("a nonce")?;
     let tag = Tag::try_from(b"A".as_slice())?;
-    let mut out = Vec::from_slice(alloc, b"before")?;
+    let mut out = Vec::from_slice(rt.alloc(), b"before")?;
     let without_proof = ClientFinalWithoutProof::new(b"n,,", b"a", b"")?;
     let refused = [
-        write_server_first(b"", &salt, 1, b"", &mut out),
-        write_server_first(b"a", &salt, 0, b"", &mut out),
-        write_server_first(b"a", &salt, 1, b"x", &mut out),
-        write_client_first(Flag::Binding(b""), None, &name, &nonce, b"", &mut out),
-        write_client_first(Flag::NotOffered, None, &name, &nonce, b"x=\xFF", &mut out),
-        write_client_final(b"", b"a", b"", &tag, &mut out),
-        write_client_final(b"n,,", b"a", b"", &Tag::new(), &mut out),
-        without_proof.write_with_proof(&Tag::new(), &mut out),
-        write_server_final(FinalResult::ErrorValue(b"a,b"), b"", &mut out),
+        (
+            "a binding without a name",
+            write_client_first(Flag::Binding(b""), None, &name, &nonce, b"", &mut out),
+        ),
+        (
+            "an extension that is no UTF-8",
+            write_client_first(Flag::NotOffered, None, &name, &nonce, b"x=\xFF", &mut out),
+        ),
+        (
+            "no header",
+            write_client_final(b"", b"a", b"", &tag, &mut out),
+        ),
+        (
+            "no proof",
+            write_client_final(b"n,,", b"a", b"", &Tag::new(), &mut out),
+        ),
+        (
+            "no proof after the rest",
+            without_proof.write_with_proof(&Tag::new(), &mut out),
+        ),
     ];
-    for (place, refused) in refused.iter().enumerate() {
-        assert!(rt; *refused == Err(WriteFault::Unwritable), "{place}");
+    for (what, refused) in refused {
+        assert_eq!(rt; refused, Err(WriteFault::Unwritable), "{what}");
     }
     check_bytes(&rt, out.as_slice(), b"before", "nothing is written");
     Ok(())

@@ -1,10 +1,10 @@
--- The nonce of a challenge and the client's own, and that a challenge to answer is not refused.
+-- The nonce of a challenge and the client's own; and a challenge to answer is not refused.
 use Rattle.std.proofs.Common.{◌≡◌, ℕ, ◌<◌, true, false, List, ◌++◌, length, length-append, sym, ◌∙◌, ap, subst, arith, eqb}
 use Rattle.std.specs.Prelude.{◌≢◌}
 use Rattle.std.proofs.lemmas.Bool.{eqb-true, eqb-false}
 use Rattle.scram_text.specs.FirstUnmet.{IsFirstUnmet}
 use Rattle.scram_text.specs.Messages.{ServerFirstParts}
-use Rattle.scram_text.proofs.lemmas.FirstUnmet.{no_first_unmet}
+use Rattle.scram_text.proofs.lemmas.FirstUnmet.{met_rows_have_no_first_unmet}
 use Rattle.scram_text.proofs.lemmas.ServerFirst.{has_one_server_first}
 use Rattle.scram_ends.specs.Stages.{Started}
 use Rattle.scram_ends.specs.Client.{IsStarted, challenge_faults_in_order, AsksOfChallenge, IsAnswerable, IsChallengeFault}
@@ -26,13 +26,13 @@ pub nonce_begins_with_clients : (client_nonce nonce sent prefix rest : List ℕ)
     → nonce ≡ client_nonce ++ rest
 nonce_begins_with_clients client_nonce nonce sent prefix rest same is cut = sym same ∙ (cut ∙ ap (λ (front : List ℕ). front ++ rest) is)
 
--- where a challenge's nonce is the client's and no more, it is not longer
+-- if a challenge's nonce is the client's with nothing after it, it is not longer
 pub nonce_is_not_longer : (client_nonce nonce rest : List ℕ) → nonce ≡ client_nonce ++ rest → eqb (length rest) 0 ≡ true
     → length client_nonce < length nonce → ⊥
 nonce_is_not_longer client_nonce nonce rest is empty long =
     omega (arith, long, ap length is, length-append client_nonce rest, eqb-true (length rest) 0 empty)
 
--- where a challenge's nonce is the client's and more, it is longer
+-- if a challenge's nonce is the client's with more after it, it is longer
 pub nonce_is_longer : (client_nonce nonce rest : List ℕ) → nonce ≡ client_nonce ++ rest → eqb (length rest) 0 ≡ false
     → length client_nonce < length nonce
 nonce_is_longer client_nonce nonce rest is some =
@@ -43,11 +43,11 @@ pub refused_is_not_answerable : (limits : Limits) (client_nonce server_first : L
     → IsChallengeFault limits client_nonce server_first fault → IsAnswerable limits client_nonce server_first c → ⊥
 refused_is_not_answerable limits client_nonce server_first (Text fault) c h a = h.0 c a.is_challenge
 refused_is_not_answerable limits client_nonce server_first fault c h a =
-    no_first_unmet (λ row. AsksOfChallenge row limits client_nonce c) challenge_faults_in_order fault a.asked
+    met_rows_have_no_first_unmet (λ row. AsksOfChallenge row limits client_nonce c) challenge_faults_in_order fault a.asked
     (subst (λ (p : ServerFirstParts). IsFirstUnmet (λ row. AsksOfChallenge row limits client_nonce p) challenge_faults_in_order fault)
     (has_one_server_first server_first h.0 c h.1 a.is_challenge) h.2)
 
--- a challenge's fault by the limits and the nonce that the client keeps is a fault by those of its login
+-- a fault of a challenge for the limits and the nonce that the client keeps is a fault for those of its login
 pub login_has_challenge_fault : (w : ClientOne) (l : Started) (server_first : List ℕ) (fault : ClientFault)
     → IsStarted w l → IsChallengeFault w.limits w.nonce.items server_first fault → IsChallengeFault l.limits l.nonce server_first fault
 login_has_challenge_fault w l server_first fault started is =

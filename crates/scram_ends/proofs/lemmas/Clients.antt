@@ -6,13 +6,14 @@ use Rattle.std.specs.declared.option.Option.{Option}
 use Rattle.std.specs.declared.option.Option.TheVariants.{None, Some}
 use Rattle.std.specs.declared.result.Result.{Result}
 use Rattle.std.specs.declared.result.Result.TheVariants.{Err}
+use Rattle.std.specs.Str.{byte}
 use Rattle.scram_text.specs.Limits.{longest_channel, longest_message, longest_nonce}
 use Rattle.mac_core.specs.declared.mechanism.Mechanism.{Mechanism}
 use Rattle.scram_text.specs.Class.{IsPlainName, IsNoncePart, IsNonce}
 use Rattle.scram_text.specs.Name.{name_spelling}
 use Rattle.scram_text.specs.Base64Field.{base64, IsField}
 use Rattle.scram_text.specs.Parts.{authzid_text}
-use Rattle.scram_text.specs.Messages.{ClientFirstParts, header_text, bare_text, client_first_text, IsClientFirst, ServerFirstParts}
+use Rattle.scram_text.specs.Messages.{ClientFirstParts, gs2_header, client_first_bare, client_first_text, IsClientFirst, ServerFirstParts}
 use Rattle.scram_text.specs.Messages.{IsServerFirst, client_final_without_proof, ClientFinalParts, client_final_text, IsClientFinal}
 use Rattle.scram_text.specs.Written.{client_first_of, CanBeClientFirst, client_final_of, CanBeClientFinal, CanBeClientFinalWithoutProof}
 use Rattle.scram_text.specs.Written.{IsClientFinalWithoutProof}
@@ -32,7 +33,7 @@ use Rattle.scram_ends.specs.declared.client.ClientOne.{ClientOne}
 use Rattle.scram_ends.specs.declared.client.ClientTwo.{ClientTwo}
 use Rattle.scram_ends.proofs.lemmas.Digests.{AreBytes}
 
--- a writer that is given what it can write fails only where memory runs out
+-- a writer that is given what it can write fails only if memory runs out
 write_fault_is_memory : {T : Type 0} (r : Result T WriteFault) (f : WriteFault) → r ≡ Err f → (r ≡ Err Unwritable → ⊥)
     → (r ≡ Err OverLimit → ⊥)
     → f ≡ NoMemory
@@ -46,17 +47,18 @@ write_fault_is_memory r NoMemory failed unwritable over = refl
 pub client_first_can_be_written : CanBeClientFirst NoBinding []
 client_first_can_be_written = record { flag_class = refl; extensions_class = record { utf8_text = empty_is_text; each = tt } }
 
--- the length of a client-first message is that of its parts, and of three commas
-length-client_first : (f a n r : List ℕ) → length ((f ++ 44 ∷ (a ++ 44 ∷ [])) ++ (n ++ 44 ∷ r)) ≡ length f + length a + length n + length r
+-- the length of a client-first message is that of its parts, plus three commas
+length-client_first : (f a n r : List ℕ) → length ((f ++ byte "," ∷ (a ++ byte "," ∷ [])) ++ (n ++ byte "," ∷ r)) ≡ length f + length a
+    + length n + length r
     + 3
 length-client_first f a n r =
     omega (
       arith,
-      length-append (f ++ 44 ∷ (a ++ 44 ∷ [])) (n ++ 44 ∷ r),
-      length-append f (44 ∷ (a ++ 44 ∷ [])),
+      length-append (f ++ byte "," ∷ (a ++ byte "," ∷ [])) (n ++ byte "," ∷ r),
+      length-append f (byte "," ∷ (a ++ byte "," ∷ [])),
       length-append a
-          (44 ∷ []),
-      length-append n (44 ∷ r),
+          (byte "," ∷ []),
+      length-append n (byte "," ∷ r),
     )
 
 -- the name to act as, spelled, has at most 767 bytes with the `a=` before it
@@ -65,7 +67,7 @@ spelled_authzid_is_short : (authzid : Option (List ℕ)) → IfSome authzid IsPl
 spelled_authzid_is_short None is = omega arith
 spelled_authzid_is_short (Some name) is = omega (arith, length-spelling name, is.at_most)
 
--- the parts of a client-first message within their bounds make no more than a message may have
+-- the parts of a client-first message within their bounds do not make more than a message may have
 first_parts_are_short : (f a n r : ℕ) → f ≡ 1 → a ≤ 767 → n ≤ 767 → r ≤ 258 → f + a + n + r + 3 ≤ longest_message
 first_parts_are_short f a n r one authzid name nonce = omega arith
 
@@ -73,7 +75,7 @@ first_parts_are_short f a n r one authzid name nonce = omega arith
 pub client_first_is_short : (authzid : Option (List ℕ)) (name nonce : List ℕ) → IfSome authzid IsPlainName → IsPlainName name
     → IsNoncePart nonce
     → length (client_first_text (client_first_of NoBinding authzid name nonce [])) ≤ longest_message
-unfolding client_first_text header_text bare_text
+unfolding client_first_text gs2_header client_first_bare
 client_first_is_short authzid name nonce is_authzid is_name is_nonce =
     subst (λ (k : ℕ). k ≤ longest_message)
     (sym (length-client_first (codes "n") (authzid_text (option_map name_spelling authzid)) (codes "n=" ++ name_spelling name)
@@ -81,7 +83,7 @@ client_first_is_short authzid name nonce is_authzid is_name is_nonce =
     (first_parts_are_short 1 _ _ _ refl (spelled_authzid_is_short authzid is_authzid) (omega (arith, length-spelling name, is_name.at_most))
     (omega (arith, is_nonce.at_most)))
 
--- a client-first message of plain names and a part of a nonce fails to be written only where memory runs out
+-- a client-first message of plain names and a part of a nonce fails to be written only if memory runs out
 pub client_first_fault_is_memory : {T : Type 0} (r : Result T WriteFault) (f : WriteFault) (authzid : Option (List ℕ)) (name nonce : List ℕ)
     → r ≡ Err f
     → IfSome authzid IsPlainName → IsPlainName name → IsNoncePart nonce
@@ -123,12 +125,13 @@ honest_is_taken_up name authzid nonce client_first first honest =
 -- The bare message and the gs2-header of client-first.
 
 -- a client-first message's bare part is no longer than a message
-pub bare_is_short : (text bare : List ℕ) (p : ClientFirstParts) → IsClientFirst text p → bare ≡ bare_text p → length bare ≤ longest_message
+pub bare_is_short : (text bare : List ℕ) (p : ClientFirstParts) → IsClientFirst text p → bare ≡ client_first_bare p
+    → length bare ≤ longest_message
 unfolding client_first_text
 bare_is_short text bare p is same =
-    let whole : length text ≡ length (header_text p) + length (bare_text p) = ap length is.spelled ∙ length-append (header_text p)
-    (bare_text p) in
-    let part : length bare ≡ length (bare_text p) = ap length same in
+    let whole : length text ≡ length (gs2_header p) + length (client_first_bare p) = ap length is.spelled ∙ length-append (gs2_header p)
+    (client_first_bare p) in
+    let part : length bare ≡ length (client_first_bare p) = ap length same in
     omega (arith, whole, part, is.short)
 
 -- the name to act as in a message has at most 767 bytes with the `a=` before it
@@ -140,15 +143,15 @@ authzid_is_short (Some name) (Some part) is =
     let same : length part ≡ length (name_spelling name) = ap length is.spelled in
     omega (arith, same, length-spelling name, is.plain.at_most)
 
--- the length of a header is that of its two parts, and of two commas
-length-header : (f a : List ℕ) → length (f ++ 44 ∷ (a ++ 44 ∷ [])) ≡ length f + length a + 2
-length-header f a = omega (arith, length-append f (44 ∷ (a ++ 44 ∷ [])), length-append a (44 ∷ []))
+-- the length of a header is that of its two parts, plus two commas
+length-header : (f a : List ℕ) → length (f ++ byte "," ∷ (a ++ byte "," ∷ [])) ≡ length f + length a + 2
+length-header f a = omega (arith, length-append f (byte "," ∷ (a ++ byte "," ∷ [])), length-append a (byte "," ∷ []))
 
 -- the header of an honest client-first message has from 1 to 770 bytes
 pub header_is_in_range : (name : List ℕ) (authzid : Option (List ℕ)) (nonce client_first : List ℕ) (first : ClientFirstParts)
     → IsHonestFirst name authzid nonce client_first first
-    → (1 ≤ length (header_text first)) × (length (header_text first) ≤ 770)
-unfolding header_text
+    → (1 ≤ length (gs2_header first)) × (length (gs2_header first) ≤ 770)
+unfolding gs2_header
 header_is_in_range name authzid nonce client_first first honest =
     let flag : length first.flag ≡ 1 = ap (λ (p : ClientFirstParts). length p.flag) honest.parts in
     let short = authzid_is_short authzid first.authzid (honest_is_taken_up name authzid nonce client_first first honest).is_authzid in
@@ -158,9 +161,9 @@ header_is_in_range name authzid nonce client_first first honest =
 -- the header of an honest client-first message fits a field of client-final
 pub header_fits_channel : (name : List ℕ) (authzid : Option (List ℕ)) (nonce client_first header : List ℕ) (first : ClientFirstParts)
     → IsHonestFirst name authzid nonce client_first first
-    → header ≡ header_text first → length header ≤ longest_channel
+    → header ≡ gs2_header first → length header ≤ longest_channel
 header_fits_channel name authzid nonce client_first header first honest same =
-    let long : length header ≡ length (header_text first) = ap length same in
+    let long : length header ≡ length (gs2_header first) = ap length same in
     omega (arith, long, (header_is_in_range name authzid nonce client_first first honest).1)
 
 -- Client-final.
@@ -183,11 +186,11 @@ client_final_can_be_written header nonce proof bytes also some short is_nonce so
   proof_class = bytes_are_field 64 proof also some_proof short_proof;
 }
 
--- the length of a client-final message is that of its three parts, and of two commas
-length-client_final : (c n p : List ℕ) → length ((c ++ 44 ∷ n) ++ 44 ∷ p) ≡ length c + length n + length p + 2
-length-client_final c n p = omega (arith, length-append (c ++ 44 ∷ n) (44 ∷ p), length-append c (44 ∷ n))
+-- the length of a client-final message is that of its three parts, plus two commas
+length-client_final : (c n p : List ℕ) → length ((c ++ byte "," ∷ n) ++ byte "," ∷ p) ≡ length c + length n + length p + 2
+length-client_final c n p = omega (arith, length-append (c ++ byte "," ∷ n) (byte "," ∷ p), length-append c (byte "," ∷ n))
 
--- the parts of client-final within their bounds make no more than a message may have
+-- the parts of client-final within their bounds do not make more than a message may have
 final_parts_are_short : (c n p : ℕ) → c ≤ 1030 → n ≤ 514 → p ≤ 90 → c + n + p + 2 ≤ longest_message
 final_parts_are_short c n p channel nonce proof = omega arith
 
@@ -210,7 +213,7 @@ pub without_proof_is_short : (header nonce : List ℕ) → length header ≤ 770
     → length (client_final_without_proof (client_final_of header nonce [] [])) ≤ longest_message
 unfolding client_final_without_proof
 without_proof_is_short header nonce short is_nonce =
-    omega (arith, length-append (codes "c=" ++ base64 header) (44 ∷ (codes "r=" ++ nonce)), base64_is_short header 257 (omega arith))
+    omega (arith, length-append (codes "c=" ++ base64 header) (byte "," ∷ (codes "r=" ++ nonce)), base64_is_short header 257 (omega arith))
 
 -- client-final before its proof is the same for each proof
 pub without_proof_is_same : (header nonce proof : List ℕ)
@@ -218,7 +221,7 @@ pub without_proof_is_same : (header nonce proof : List ℕ)
 unfolding client_final_without_proof
 without_proof_is_same header nonce proof = refl
 
--- client-final before its proof never fails to be written, where memory does not run out
+-- client-final before its proof never fails to be written, if memory does not run out
 pub without_proof_never_fails : {T : Type 0} (r : Result T WriteFault) (f : WriteFault) (header nonce : List ℕ) → r ≡ Err f
     → AreBytes header → 1 ≤ length header → length header ≤ 770 → IsNonce longest_nonce nonce
     → (r ≡ Err Unwritable → CanBeClientFinalWithoutProof header nonce [] → ⊥)
@@ -231,7 +234,7 @@ without_proof_never_fails r f header nonce failed bytes some short is_nonce unwr
     (λ e. let long = over e in omega (arith, long.1, without_proof_is_short header nonce short is_nonce.at_most)) in
     no_memory (failed ∙ ap (λ (x : WriteFault). Err x) full)
 
--- client-final with its proof fails to be written only where memory runs out
+-- client-final with its proof fails to be written only if memory runs out
 pub client_final_fault_is_memory : {T : Type 0} (r : Result T WriteFault) (f : WriteFault) (w : ClientFinalWithoutProof)
     (header nonce proof : List ℕ)
     → r ≡ Err f
@@ -251,7 +254,7 @@ pub kept_header_is_in_range : (w : ClientOne) (l : Started) (header : List ℕ)
     → IsStarted w l → header ≡ w.header.items → (1 ≤ length header) × (length header ≤ 770)
 kept_header_is_in_range w l header started same =
     let range = header_is_in_range l.name l.authzid l.nonce l.client_first started.first started.is_first in
-    let long : length header ≡ length (header_text started.first) = ap length (same ∙ started.header) in
+    let long : length header ≡ length (gs2_header started.first) = ap length (same ∙ started.header) in
     (omega (arith, long, range.0), omega (arith, long, range.1))
 
 -- equal arguments make equal proofs, and equal signatures:

@@ -1,4 +1,4 @@
--- The digests and MACs of a mechanism are bytes; and to xor twice with the same bytes changes nothing.
+-- The digests and MACs of a mechanism are bytes; and XORing twice with the same bytes changes nothing.
 use Rattle.std.proofs.Common.{◌≡◌, ℕ, zero, suc, ◌<◌, ◌/◌, ◌^◌, List, [], ◌∷◌, ◌++◌, length, refl, ◌∙◌, ap, arith}
 use Rattle.std.proofs.Math.Nat.{mod-lt}
 use Rattle.std.specs.Prelude.{bit_xor, slice_index}
@@ -58,14 +58,14 @@ pub mac_is_bytes : (m : Mechanism) (key text : List ℕ) → AreBytes (hmac_by m
 unfolding hmac
 mac_is_bytes m key text i = digest_is_bytes m _ i
 
--- the xor of two lists of the same length has that length
+-- the XOR of two lists of the same length has that length
 pub length-xor : (a b : List ℕ) → length a ≡ length b → length (xor_bytes a b) ≡ length a
 unfolding xor_bytes
 length-xor [] ys same = refl
 length-xor (x ∷ xs) [] same = absurd (omega (arith, same))
 length-xor (x ∷ xs) (y ∷ ys) same = ap suc (length-xor xs ys (omega (arith, same)))
 
--- to xor a number with another twice gives the number again, and so with lists of the same length:
+-- XORing a number with another twice gives the number again, and the same goes for lists of the same length:
 xor_cancels : (x y : ℕ) → bit_xor (bit_xor x y) y ≡ x
 xor_cancels x y = xor_assoc x y y ∙ (ap (bit_xor x) (xor_self y) ∙ xor_zero_r x)
 

@@ -31,7 +31,7 @@ pub digest_length_is_in_range : (m : Mechanism) → (1 ≤ length_by m) × (leng
 digest_length_is_in_range ScramSha1 = (omega arith, omega arith)
 digest_length_is_in_range ScramSha256 = (omega arith, omega arith)
 
--- the server-final message that accepts with a signature bears this signature as verifier
+-- the server-final message that accepts with a signature has this signature as its verifier
 due_text_is_authentic : (signature : List ℕ) → AreBytes signature → 1 ≤ length signature → length signature ≤ 64
     → IsAuthentic (due_text (accept signature)) signature
 due_text_is_authentic signature fits some within = record {
@@ -42,7 +42,7 @@ due_text_is_authentic signature fits some within = record {
   is_verifier = refl;
 }
 
--- the proof of a password is a proof by the keys of this password
+-- the proof made from a password is a proof for the keys of this password
 password_proof_passes : (m : Mechanism) (password salt auth proof : List ℕ) (count : ℕ) → proof ≡ proof_of m password salt count auth
     → IsProof m (password_keys m password salt count) auth proof
 password_proof_passes m password salt auth proof count is =

@@ -1,4 +1,4 @@
--- The challenge that a server sends opens a login, and a verdict fails to be written only where memory runs out.
+-- The challenge that a server sends opens a login, and a verdict fails to be written only if memory runs out.
 use Rattle.std.proofs.Common.{◌≡◌, ◌≤◌, ℕ, List, [], ◌++◌, length, ap, subst, refl, arith, ◌∙◌}
 use Rattle.mac_core.specs.Mechanism.{length_by, hmac_by}
 use Rattle.mac_core.specs.declared.mechanism.Mechanism.{Mechanism}
@@ -47,7 +47,7 @@ signature_is_not_empty : (m : Mechanism) (mac signature : List ℕ) → length m
 signature_is_not_empty ScramSha1 mac signature len same none = omega (arith, len, ap length same, none)
 signature_is_not_empty ScramSha256 mac signature len same none = omega (arith, len, ap length same, none)
 
--- a verdict that is due fails to be written only where memory runs out
+-- a verdict that is due fails to be written only if memory runs out
 pub verdict_fault_is_memory : (l : Challenged) (client_final : List ℕ) (d : Due) (fault : WriteFault) → IsDue l client_final d
     → (fault ≡ Unwritable → (signature : List ℕ) × (d ≡ accept signature) × (length signature ≡ 0)) → (fault ≡ OverLimit → ⊥)
     → fault ≡ NoMemory

@@ -1,4 +1,4 @@
--- At most one verdict is due, and acceptance exactly to a valid login.
+-- At most one verdict is due, and acceptance is due if and only if the login is valid.
 use Rattle.std.proofs.Common.{◌≡◌, ◌↔◌, ℕ, inl, inr, List, sym, ◌∙◌, ap, subst, refl}
 use Rattle.std.proofs.lemmas.Option.{same_Some}
 use Rattle.scram_text.specs.Messages.{ClientFinalParts, IsClientFinal, IsServerFinal}
@@ -15,13 +15,13 @@ use Rattle.scram_ends.specs.declared.verdict.Refusal.{Refusal}
 use Rattle.scram_ends.specs.declared.verdict.Refusal.TheVariants.{InvalidEncoding}
 use Rattle.scram_ends.specs.declared.verdict.Verdict.TheVariants as verdict
 use Rattle.scram_ends.proofs.lemmas.Opening.{one_opening}
-use Rattle.scram_text.proofs.lemmas.FirstUnmet.{no_first_unmet, one_first_unmet}
+use Rattle.scram_text.proofs.lemmas.FirstUnmet.{met_rows_have_no_first_unmet, one_first_unmet}
 
 -- a refusal is no acceptance
 refusal_is_not_acceptance : (r : Refusal) (signature : List ℕ) → refuse r ≡ accept signature → ⊥
 refusal_is_not_acceptance r signature same = cc
 
--- one verdict at most is due to the parts
+-- at most one verdict is due to the parts
 one_verdict_on_parts : (l : Challenged) (o : Opening) (p : ClientFinalParts) (d other : Due) → IsVerdictOn l o p d → IsVerdictOn l o p other
     → d ≡ other
 one_verdict_on_parts l o p (accept one) (accept other) is also =
@@ -29,9 +29,9 @@ one_verdict_on_parts l o p (accept one) (accept other) is also =
     let keys : is.1.0 ≡ also.1.0 = same_Some is.1.0 also.1.0 (sym is.1.1 ∙ also.1.1) in
     ap (λ (s : List ℕ). accept s) (is.1.2 ∙ (ap signed keys ∙ sym also.1.2))
 one_verdict_on_parts l o p (accept one) (refuse q) is also =
-    absurd (no_first_unmet (λ r. AsksOfFinal r l o p) refusals_in_order q is.0 also)
+    absurd (met_rows_have_no_first_unmet (λ r. AsksOfFinal r l o p) refusals_in_order q is.0 also)
 one_verdict_on_parts l o p (refuse r) (accept other) is also =
-    absurd (no_first_unmet (λ r. AsksOfFinal r l o p) refusals_in_order r also.0 is)
+    absurd (met_rows_have_no_first_unmet (λ r. AsksOfFinal r l o p) refusals_in_order r also.0 is)
 one_verdict_on_parts l o p (refuse r) (refuse q) is also = ap (λ (x : Refusal). refuse x)
     (one_first_unmet (λ r. AsksOfFinal r l o p) refusals_in_order r q is also)
 
@@ -52,7 +52,7 @@ at_most_one_verdict_is_due l client_final d other (inr due) (inr also) =
     one_verdict_on_parts l also.opening also.final d other
     (due_is_verdict_on_parts l client_final also.opening also.final d also.is_opening also.is_final due) also.is_verdict
 
--- a valid login makes acceptance due, with the signature that its last message bears
+-- a valid login makes acceptance due, with the signature in its last message
 pub acceptance_is_due : (l : Challenged) (client_final server_final : List ℕ) (v : IsValidLogin l client_final server_final)
     → IsDue l client_final (accept (server_signature l.mechanism v.keys (auth_message v.opening.first l.server_first v.final)))
 acceptance_is_due l client_final server_final v = inr (record {
@@ -66,7 +66,7 @@ acceptance_is_due l client_final server_final v = inr (record {
   );
 })
 
--- where acceptance is due, its signature is the server's
+-- if acceptance is due, its signature is the server's
 pub due_signature_is_servers : (l : Challenged) (client_final signature : List ℕ) → IsDue l client_final (accept signature)
     → (keys : Keys) × (auth : List ℕ) × (signature ≡ server_signature l.mechanism keys auth)
 due_signature_is_servers l client_final signature (inl none) = absurd (refusal_is_not_acceptance InvalidEncoding signature (sym none.1))
@@ -74,7 +74,7 @@ due_signature_is_servers l client_final signature (inr due) =
     let signed = due.is_verdict.1 in
     (signed.0, auth_message due.opening.first l.server_first due.final, signed.2)
 
--- where acceptance is due, a text that shows the signature makes a valid login
+-- if acceptance is due, a text that shows the signature makes a valid login
 accepted_login_is_valid : (l : Challenged) (client_final server_final signature : List ℕ)
     → IsDue l client_final (accept signature) → IsAuthentic server_final signature → IsValidLogin l client_final server_final
 accepted_login_is_valid l client_final server_final signature (inl none) authentic = absurd
@@ -100,7 +100,7 @@ accepted_login_is_valid l client_final server_final signature (inr due) authenti
           (auth_message due.opening.first l.server_first due.final)) keys) authentic;
     }
 
--- the law: acceptance is due exactly to a valid login
+-- the law: acceptance is due if and only if the login is valid
 pub accepts_exactly_valid : AcceptsExactlyValid
 accepts_exactly_valid l client_final server_final = (
   (λ (signature, due, authentic). accepted_login_is_valid l client_final server_final signature due authentic),
@@ -115,7 +115,7 @@ accepts_exactly_valid l client_final server_final = (
 refused_is_not_accepted : (r : Refusal) → verdict.Refused r ≡ verdict.Accepted → ⊥
 refused_is_not_accepted r same = cc
 
--- acceptance by the message due makes a valid login, and a refusal makes none
+-- acceptance with the message due makes a valid login, and a refusal makes none
 pub accepted_iff_valid : (l : Challenged) (client_final : List ℕ) (d : Due) → IsDue l client_final d
     → IsServerFinal (due_text d) (final_due d)
     → (verdict_of d ≡ verdict.Accepted) ↔ IsValidLogin l client_final (due_text d)

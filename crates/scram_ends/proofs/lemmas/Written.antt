@@ -1,4 +1,4 @@
--- What is written follows what a buffer held, and what the server writes is within the limits.
+-- What is written comes after what a buffer held, and what the server writes is within the limits.
 use Rattle.std.proofs.Common.{◌≡◌, ◌≤◌, ◌<◌, ◌^◌, ◌-◌, ℕ, List, [], ◌++◌, length, take, drop, ap, refl, arith, length-append}
 use Rattle.std.specs.Prelude.{decimal}
 use Rattle.std.proofs.lemmas.Fmt.{length-decimal-le}
@@ -11,14 +11,14 @@ use Rattle.scram_text.specs.Written.{server_first_of, server_final_of, IsExtensi
 use Rattle.scram_text.specs.Written.{CanBeServerFinal}
 use Rattle.scram_text.proofs.lemmas.Base64.{length-base64}
 use Rattle.scram_text.proofs.lemmas.Texts.{empty_is_text, plain_is_text}
-use Rattle.scram_text.proofs.lemmas.messages_composed.ServerFirst.{server_first_composed}
-use Rattle.scram_text.proofs.lemmas.messages_composed.ServerFinal.{server_final_composed}
+use Rattle.scram_text.proofs.lemmas.messages_composed.ServerFirst.{pieces_compose_server_first}
+use Rattle.scram_text.proofs.lemmas.messages_composed.ServerFinal.{pieces_compose_server_final}
 use Rattle.scram_ends.specs.Verdict.{error_value}
 use Rattle.scram_ends.specs.declared.verdict.Refusal.{Refusal}
 use Rattle.scram_ends.specs.declared.verdict.Refusal.TheVariants.{InvalidEncoding, ExtensionsNotSupported, OtherNonce, Channel}
 use Rattle.scram_ends.specs.declared.verdict.Refusal.TheVariants.{InvalidProof, NotAuthorised}
 
--- where a buffer is a front and a text after it, its slice from the front's end on is that text
+-- if a buffer is a front followed by a text, its slice from the front's end on is that text
 pub slice_after_front_is_text : (items front text : List ℕ) (start : ℕ) → items ≡ front ++ text → start ≡ length front
     → take (length items - start) (drop start items) ≡ text
 slice_after_front_is_text items front text start same at = rw (same, at) (grind (arith, common_steps))
@@ -42,7 +42,7 @@ challenge_can_be_written nonce salt count is_nonce is_salt least most =
 pub challenge_fits : (nonce salt : List ℕ) (count : ℕ) → IsNonce longest_nonce nonce → IsField 64 salt → count < 2 ^ 32
     → longest_message < length (server_first_text (server_first_of nonce salt count [])) → ⊥
 challenge_fits nonce salt count is_nonce is_salt most over =
-    let composed = simp length-append at (ap length (server_first_composed nonce salt count [])) in
+    let composed = simp length-append at (ap length (pieces_compose_server_first nonce salt count [])) in
     let digits : length (decimal count) ≤ 10 = length-decimal-le 10 count (omega arith) (omega arith) (omega arith) in
     omega (arith, composed, digits, over, is_nonce.at_most, is_salt.at_most, length-base64 salt)
 
@@ -84,5 +84,5 @@ error_value_is_short NotAuthorised = omega arith
 -- the server-final message of a refusal is within the limit
 pub refusal_fits : (r : Refusal) → longest_message < length (server_final_text (server_final_of (server_error (error_value r)) [])) → ⊥
 refusal_fits r over =
-    let composed = simp length-append at (ap length (server_final_composed (server_error (error_value r)) [])) in
+    let composed = simp length-append at (ap length (pieces_compose_server_final (server_error (error_value r)) [])) in
     omega (arith, composed, over, error_value_is_short r)

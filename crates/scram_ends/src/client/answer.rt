@@ -1,8 +1,8 @@
-//! The client's answer to a challenge: client-final with the proof, as
+//! The client's answer to a challenge: client-final with the proof, for example
 //! `c=biws,r=fyko+d2lbbFgONRv9qkxdawL3rfcNHYJY1ZVvWVs7j,p=v0X8v3Bz2T0CJGbJQyF0X+HI4Ts=`.
 ghost use Rattle.std.specs.Prelude.{◌≡◌, ◌≤◌, ◌<◌, ◌+◌, ℕ, List, ◌++◌, length, slice_index, IfOk, IfErr};
 ghost use Rattle.mac_core.specs.Mechanism.{hmac_by, length_by};
-ghost use Rattle.scram_text.specs.Messages.{ClientFirstParts, bare_text, ServerFirstParts, IsServerFirst};
+ghost use Rattle.scram_text.specs.Messages.{ClientFirstParts, client_first_bare, ServerFirstParts, IsServerFirst};
 ghost use Rattle.scram_text.specs.Shown.{ShowsServerFirst};
 ghost use Rattle.scram_text.specs.Appended.{UnchangedOnErr, KeepsRoom, LacksRoom};
 ghost use Rattle.scram_ends.specs.Stages.{Started, answered_login};
@@ -18,14 +18,18 @@ use scram_text::{ClientFinalWithoutProof, Password, ServerFirst, WriteFault, rea
 use std::alloc::Allocator;
 
 impl ClientOne {
-    /// Answers the challenge `server_first` (RFC 5802, section 3): appends the client-final message with
-    /// the proof of `password` to `out`, at most 1592 bytes, which no clause says. Where nothing is wrong with the challenge,
-    /// this takes time in proportion to its iteration count.
+    /// Answers the challenge `server_first` (RFC 5802, section 3): appends the client-final message with the proof of `password` to
+    /// `out`, at most 1592 bytes (no clause says so). If nothing is wrong with the challenge, this takes time in proportion to its
+    /// iteration count.
     ///
-    /// Spent has the first of these: 24 for a text that is no server-first message, 25 for one that asks for a mandatory
-    /// extension, 26 for a nonce that does not begin with the client's, 27 for one that is the client's with nothing added,
-    /// and 28 for a count outside the limits. Back has 99 NoMemory, only where `out` had no room reserved for the
-    /// message. After both `out` is unchanged.
+    /// Errors: Back has 99 NoMemory, only if `out` had no room reserved for the message. Spent has the first of these that applies:
+    /// - 24 if the text is not a server-first message;
+    /// - 25 if it asks for a mandatory extension;
+    /// - 26 if its nonce does not begin with the client's;
+    /// - 27 if its nonce is the client's with nothing added;
+    /// - 28 if its count is outside the limits.
+    ///
+    /// After an error `out` is unchanged.
     pub fn first<A: Allocator>(
         self,
         password: &Password,
@@ -37,14 +41,15 @@ impl ClientOne {
             × IsExpecting two (answered_login l password.now server_first.now client_final)) }
         ensures unchanged { UnchangedOnErr result out.old out.new }
         ensures room { KeepsRoom out.old out.new }
-        // Where it is answered, or would have been, it is a challenge to this client with nothing wrong.
+        // If it is answered, or its answer could not be written, it is a challenge to this client with nothing wrong.
         ensures answerable { IsUnspent result → (l : Started) → IsStarted self l
             → (challenge : ServerFirstParts) × IsAnswerable l.limits l.nonce server_first.now challenge }
-        // Each such challenge is answered, or its answer could not be written.
-        ensures only { (l : Started) (challenge : ServerFirstParts) → IsStarted self l
+        // Each challenge with nothing wrong is answered, or its answer could not be written.
+        ensures every { (l : Started) (challenge : ServerFirstParts) → IsStarted self l
             → IsAnswerable l.limits l.nonce server_first.now challenge → IsUnspent result }
         ensures spent { IfSpent result (λ fault. (l : Started) → IsStarted self l
             → IsChallengeFault l.limits l.nonce server_first.now fault) }
+        // If there was no room, the client is handed back unchanged.
         ensures back { IfBack result (λ client _. client ≡ self) }
         ensures no_memory { IfBack result (λ _ fault. (l : Started) → IsStarted self l
             → (fault ≡ WriteFault.NoMemory) × ((client_final : List ℕ)
@@ -61,7 +66,7 @@ impl ClientOne {
         }
     }
 
-    // Reads the challenge, or says what is wrong with it.
+    // Reads the challenge, or returns what is wrong with it.
     #[tactic(auto, using(scram_text::proofs::lemmas::FirstUnmet::found_is_first))]
     fn read_challenge<'a>(&self, server_first: &'a [u8]) -> Result<ServerFirst<'a>, ClientFault>
         ensures ok { IfOk result (λ challenge. (p : ServerFirstParts) × ShowsServerFirst challenge p
@@ -85,7 +90,7 @@ impl ClientOne {
         Ok(challenge)
     }
 
-    // Appends client-final to `out`.
+    // Appends the client-final message to `out`.
     fn answer<A: Allocator>(
         &self,
         password: &Password,
@@ -125,10 +130,10 @@ impl ClientOne {
         client_final_without_proof: &[u8],
     ) -> Answer
         requires { 1 ≤ challenge.now.count }
-        ensures proof { (first : ClientFirstParts) → self.now.bare.items ≡ bare_text first
+        ensures proof { (first : ClientFirstParts) → self.now.bare.items ≡ client_first_bare first
             → result.proof.items ≡ proof_of self.now.mechanism password.now challenge.now.salt
             challenge.now.count (auth_to_challenge first server_first.now ++ client_final_without_proof.now) }
-        ensures expected { (first : ClientFirstParts) → self.now.bare.items ≡ bare_text first
+        ensures expected { (first : ClientFirstParts) → self.now.bare.items ≡ client_first_bare first
             → result.expected.items ≡ expected_signature self.now.mechanism password.now challenge.now.salt
             challenge.now.count (auth_to_challenge first server_first.now ++ client_final_without_proof.now) }
         ensures len { length result.proof.items ≡ length_by self.now.mechanism }
@@ -148,9 +153,9 @@ impl ClientOne {
         }
     }
 
-    // The HMAC of AuthMessage.
+    // The HMAC of AuthMessage under the key (RFC 5802, section 3).
     fn sign(&self, key: &Tag, server_first: &[u8], client_final_without_proof: &[u8]) -> Tag
-        ensures value { (first : ClientFirstParts) → self.now.bare.items ≡ bare_text first
+        ensures value { (first : ClientFirstParts) → self.now.bare.items ≡ client_first_bare first
             → result.items ≡ hmac_by self.now.mechanism key.now.items
             (auth_to_challenge first server_first.now ++ client_final_without_proof.now) }
         ensures len { length result.items ≡ length_by self.now.mechanism }

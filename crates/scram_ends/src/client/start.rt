@@ -1,4 +1,4 @@
-//! The client's first message, as `n,,n=user,r=fyko+d2lbbFgONRv9qkxdawL`.
+//! The client's first message, for example `n,,n=user,r=fyko+d2lbbFgONRv9qkxdawL`.
 ghost use Rattle.std.specs.Prelude.{◌≡◌, ◌≤◌, ◌<◌, ◌+◌, ℕ, List, ◌++◌, IfSome, IfOk, IfErr};
 ghost use Rattle.std.specs.Option.{option_copied};
 ghost use Rattle.scram_text.specs.Class.{IsPlainName, IsNoncePart};
@@ -14,10 +14,9 @@ use scram_text::{Flag, NoncePart, PlainName, WriteFault, read_client_first, writ
 use std::alloc::Allocator;
 
 impl Client {
-    /// Appends the client-first message of this name, name to act as and nonce to `out`: at most
-    /// 1796 bytes, which no clause says, with the flag `n` and no extensions. `limits` are the counts that the client will
-    /// accept, the least at least 1. Answers no fault but 99 NoMemory, and only where `out` had no
-    /// room reserved for the message; `out` is then unchanged.
+    /// Appends the client-first message of this name, name to act as and nonce to `out`, with the flag `n` and no extensions: at
+    /// most 1796 bytes (no clause says so). `limits` are the iteration counts that the client will accept, at least 1. Errors:
+    /// 99 NoMemory, only if `out` had no room reserved for the message. After an error `out` is unchanged.
     pub fn start<A: Allocator>(
         mechanism: Mechanism,
         name: &PlainName,

@@ -1,24 +1,29 @@
-//! Both ends in one login: each is given what the other wrote.
+//! Both ends in one login: each gets what the other wrote.
 use super::logins::{Exchange, PUBLISHED};
 use super::*;
 use scram_ends::{Authenticated, Client, Limits};
 use scram_text::Password;
 
-// Each message is the published one, where `own` is the server's part of the nonce.
-fn check_both(rt: &impl Abort, alloc: Global, exchange: &Exchange, own: &str) -> Result<(), Fail> {
+// Checks that each message is the published one; `server_nonce` is the server's part of the nonce.
+fn check_both(
+    rt: &impl Abort,
+    alloc: Global,
+    exchange: &Exchange,
+    server_nonce: &str,
+) -> Result<(), Fail> {
     let [first, challenge, last, outcome] = exchange.messages;
     let mechanism = exchange.mechanism;
     let name = PlainName::new(exchange.name.as_bytes()).ok_or("a name")?;
     let password = Password::new(exchange.password.as_bytes()).ok_or("a password")?;
     let nonce = NoncePart::new(exchange.nonce.as_bytes()).ok_or("a nonce")?;
-    let own = NoncePart::new(own.as_bytes()).ok_or("a nonce")?;
+    let server_nonce = NoncePart::new(server_nonce.as_bytes()).ok_or("a nonce")?;
     let view = view_of(mechanism, password.bytes(), challenge.as_bytes(), &[]).ok_or("an account")?;
 
     let mut t1 = Vec::new(alloc);
     let client = Client::start(mechanism, &name, None, &nonce, Limits::usual(), &mut t1)?;
     check_text(rt, t1.as_slice(), first, "the first");
     let mut t2 = Vec::new(alloc);
-    let Ok(server) = server_first(mechanism, &view, t1.as_slice(), &own, &mut t2) else {
+    let Ok(server) = server_first(mechanism, &view, t1.as_slice(), &server_nonce, &mut t2) else {
         return Err(Fail::from("no challenge"));
     };
     check_text(rt, t2.as_slice(), challenge, "the challenge");

@@ -81,8 +81,8 @@ fn logins_of_other_software(rt: HostRuntime) {
     }
 }
 
-// The fault by which a client with this nonce and these limits ends the login at a challenge, if
-// any.
+// The fault, if any, with which a client with this nonce and these limits ends the login at a
+// challenge.
 fn refused(
     nonce: &'static str,
     limits: Limits,

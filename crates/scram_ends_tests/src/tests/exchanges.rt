@@ -1,6 +1,6 @@
 //! Logins between GNU SASL's and Cyrus SASL's ends: the mechanism, the password that the server's keys are
-//! made of, the first three messages, and what is due to them. Where the server refused, it sent no
-//! message of its own that said so.
+//! derived from, the first three messages, and what is due to them. A server that refused sent no message
+//! that said so.
 
 pub(super) const EXCHANGES: [[&str; 6]; 16] = [
     [

@@ -1,5 +1,5 @@
-//! The text of each fault of both ends, which says what is wrong and what to do about it; and the numbers of the client's, by
-//! docs/REFUSALS.md.
+//! The text of each fault of both ends, which says what is wrong and what to do about it; and the numbers of the client's
+//! faults, as in docs/REFUSALS.md.
 use super::*;
 use scram_ends::ClientFault;
 
@@ -16,11 +16,11 @@ fn texts_of_first_faults(rt: HostRuntime) -> Result<(), Fail> {
     for (fault, text) in [
         (
             FirstFault::Text(no_name()),
-            "no client-first message: part 2: the name is not `n=` and a name: write `,` as `=2C` and `=` as `=3D`",
+            "not a client-first message: part 2: the name is not `n=` and a name: write `,` as `=2C` and `=` as `=3D`",
         ),
         (
             FirstFault::Mandatory,
-            "the message asks for an extension that is not known here: send none named `m`",
+            "mandatory extensions are not supported: send none named `m`",
         ),
         (
             FirstFault::BindingAsked,
@@ -39,11 +39,11 @@ fn texts_of_first_faults(rt: HostRuntime) -> Result<(), Fail> {
         &rt,
         alloc,
         &RecordedFault::NotThisChallenge,
-        "the second text is no challenge for this account and client-first message",
+        "the second text is not a challenge for this account and client-first message",
     )
 }
 
-// The fault has this number and these words.
+// Checks that the fault has this number and this text.
 fn check_client_fault(
     rt: &(impl Abort + AllocGlobal),
     fault: ClientFault,
@@ -60,12 +60,12 @@ fn texts_of_faults_of_a_challenge(rt: HostRuntime) -> Result<(), Fail> {
         (
             ClientFault::Text(no_name()),
             24,
-            "no message of the server's: part 2: the name is not `n=` and a name: write `,` as `=2C` and `=` as `=3D`",
+            "not a message of the server: part 2: the name is not `n=` and a name: write `,` as `=2C` and `=` as `=3D`",
         ),
         (
             ClientFault::Mandatory,
             25,
-            "the server asks for an extension that is not known here",
+            "the server demands an extension that is not supported",
         ),
         (
             ClientFault::NonceNotMine,
@@ -75,7 +75,7 @@ fn texts_of_faults_of_a_challenge(rt: HostRuntime) -> Result<(), Fail> {
         (
             ClientFault::NonceNotLonger,
             27,
-            "the nonce has no part of the server's",
+            "the nonce has no part from the server",
         ),
         (
             ClientFault::CountOutside,

@@ -1,4 +1,4 @@
-//! Logins as they were sent: what each client was given, and the four messages.
+//! Recorded logins: what each client was given, and the four messages as they were sent.
 use super::{SHA1, SHA256};
 use mac_core::Mechanism;
 
@@ -29,8 +29,8 @@ pub(super) const PUBLISHED: [Exchange; 2] = [
     },
 ];
 
-/// Logins of Cyrus SASL's and GNU SASL's clients. The last message is empty where the password was wrong,
-/// and the server sent no message that said so.
+/// Logins of Cyrus SASL's and GNU SASL's clients. The last message is empty if the password was wrong: the
+/// server sent no message that said so.
 pub(super) const OTHERS: [Exchange; 6] = [
     Exchange {
         mechanism: Mechanism::ScramSha256,

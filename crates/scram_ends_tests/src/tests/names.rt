@@ -1,4 +1,4 @@
-//! The name of a client-first message, why a message has none, and the numbers of the server's faults.
+//! The name in a client-first message, why a message is refused, and the numbers of the server's faults.
 use super::*;
 
 #[test]
@@ -23,7 +23,7 @@ fn refused_client_first(rt: HostRuntime) {
         ("p=tls-unique,,n=user,r=x", FirstFault::BindingAsked),
         ("n,,n=a\x7F,r=x", FirstFault::OutsideProfile),
         ("n,a=a\x7F,n=user,r=x", FirstFault::OutsideProfile),
-        // Two faults at once: the first in the order counts.
+        // Two faults at once: the first in the fixed order counts.
         ("p=tls-unique,,m=x,n=a\x7F,r=x", FirstFault::Mandatory),
         ("p=tls-unique,,n=a\x7F,r=x", FirstFault::BindingAsked),
     ] {

@@ -1,4 +1,4 @@
-//! Recorded logins: those that other software made, records that are refused, and challenges that no server here writes.
+//! Recorded logins: those of other software, records that are refused, and challenges that `server_first` does not write.
 use super::exchanges::EXCHANGES;
 use super::*;
 
@@ -59,7 +59,7 @@ fn refused_records(rt: HostRuntime) -> Result<(), Fail> {
     Ok(())
 }
 
-// The verdict due to RFC 5802's client where this challenge is recorded.
+// The verdict due to RFC 5802's client after this recorded challenge.
 fn due_after(alloc: Global, challenge: &str) -> Result<Option<Refusal>, Fail> {
     let view = pencil(&[]).ok_or("an account")?;
     let [first, _, _, _] = SHA1;
@@ -79,7 +79,7 @@ fn due_after(alloc: Global, challenge: &str) -> Result<Option<Refusal>, Fail> {
     })
 }
 
-// Challenges that `server_first` does not write: with an extension, and with a longer own part.
+// Challenges that `server_first` does not write: with an extension, and with a longer part of the nonce.
 #[test]
 fn other_challenges(rt: HostRuntime) -> Result<(), Fail> {
     let alloc = rt.alloc();

@@ -1,23 +1,23 @@
-//! The server's end: published logins, what each refusal is due to, and memory that is refused.
+//! The server's end: published logins, what each refusal is due to, and calls that get no memory.
 ghost use Rattle.std.specs.Prelude.{◌≤◌};
 
 use super::*;
 
-// The server's end of a login with these four messages, where `own` is its part of the nonce.
+// Checks the server's end of a login with these four messages; `server_nonce` is its part of the nonce.
 fn check_login(
     rt: &impl Abort,
     alloc: Global,
     mechanism: Mechanism,
     view: &KeysView<'_>,
-    own: &str,
+    server_nonce: &str,
     messages: &[&str; 4],
 ) -> Result<(), Fail>
     requires { 1 ≤ view.now.count }
 {
     let [first, challenge, last, outcome] = *messages;
-    let own = NoncePart::new(own.as_bytes()).ok_or("a nonce")?;
+    let server_nonce = NoncePart::new(server_nonce.as_bytes()).ok_or("a nonce")?;
     let mut out = Vec::new(alloc);
-    let Ok(wait) = server_first(mechanism, view, first.as_bytes(), &own, &mut out) else {
+    let Ok(wait) = server_first(mechanism, view, first.as_bytes(), &server_nonce, &mut out) else {
         return Err(Fail::from("no challenge"));
     };
     check_text(rt, out.as_slice(), challenge, first);
@@ -29,16 +29,16 @@ fn check_login(
     Ok(())
 }
 
-// Runs a published login, with its server's own part of the nonce.
+// Checks a published login, given its server's part of the nonce.
 fn check_published(
     rt: &impl Abort,
     alloc: Global,
     mechanism: Mechanism,
-    own: &str,
+    server_nonce: &str,
     messages: &[&str; 4],
 ) -> Result<(), Fail> {
     let view = view_of(mechanism, b"pencil", messages[1].as_bytes(), &[]).ok_or("an account")?;
-    check_login(rt, alloc, mechanism, &view, own, messages)
+    check_login(rt, alloc, mechanism, &view, server_nonce, messages)
 }
 
 #[test]
@@ -97,7 +97,7 @@ const LAST: [(&str, &str); 13] = [
         "c=biws,r=fyko+d2lbbFgONRv9qkxdawL3rfcNHYJY1ZVvWVs7j,x=1,p=v0X8v3Bz2T0CJGbJQyF0X+HI4Ts=",
         "e=invalid-proof",
     ),
-    // Two faults at once: the first in the order counts.
+    // Two faults at once: the first in the fixed order counts.
     (
         "c=biws,r=fyko+d2lbbFgONRv9qkxdawL3rfcNHYJY1ZVvWVs7j,m=1,p=",
         "e=invalid-encoding",
@@ -125,7 +125,7 @@ fn waiting(view: &KeysView<'_>) -> Result<ServerWait, Fail>
     Ok(ServerWait::recorded(sha1, view, first.as_bytes(), challenge.as_bytes())?)
 }
 
-// The refusal of this last message is appended to what was there.
+// Checks that the refusal of this last message is appended to what was there.
 fn check_finish(
     rt: &impl Abort,
     alloc: Global,
@@ -135,7 +135,10 @@ fn check_finish(
 ) -> Result<(), Fail> {
     let mut out = Vec::from_slice(alloc, b"before ")?;
     let verdict = wait.finish(last.as_bytes(), &mut out).ok();
-    assert!(rt; matches!(verdict, Some(Verdict::Refused(_))), "{last}");
+    assert!(rt;
+        matches!(verdict, Some(Verdict::Refused(_))),
+        "{last}: {verdict:?}"
+    );
     let after = out.strip_prefix(b"before ").ok_or("what was there")?;
     check_text(rt, after, want, last);
     Ok(())
@@ -153,11 +156,11 @@ fn each_refusal(rt: HostRuntime) -> Result<(), Fail> {
     Ok(())
 }
 
-// A decoy answers every proof as a wrong one, even the right proof of another account.
+// A decoy treats every proof as wrong, even the right proof of another account.
 #[test]
 fn decoy(rt: HostRuntime) -> Result<(), Fail> {
     let alloc = rt.alloc();
-    let own = NoncePart::new(b"3rfcNHYJY1ZVvWVs7j").ok_or("a nonce")?;
+    let server_nonce = NoncePart::new(b"3rfcNHYJY1ZVvWVs7j").ok_or("a nonce")?;
     for (last, want) in [
         (SHA1[2], "e=invalid-proof"),
         ("c=biws,r=fyko,p=AA==", "e=other-error"),
@@ -166,7 +169,7 @@ fn decoy(rt: HostRuntime) -> Result<(), Fail> {
         view.keys = None;
         let mut out = Vec::new(alloc);
         let sha1 = Mechanism::ScramSha1;
-        let Ok(wait) = server_first(sha1, &view, SHA1[0].as_bytes(), &own, &mut out) else {
+        let Ok(wait) = server_first(sha1, &view, SHA1[0].as_bytes(), &server_nonce, &mut out) else {
             return Err(Fail::from("no challenge"));
         };
         check_text(&rt, out.as_slice(), SHA1[1], "the challenge");
@@ -203,7 +206,7 @@ fn due_to(
 
 const BARE: &str = "n=user,r=fyko+d2lbbFgONRv9qkxdawL";
 
-// The verdict due where the account may act as this name, if it is one.
+// The verdict due if the account may act as this name, or as no other name if this is none.
 fn due_acting_as(
     alloc: Global,
     header: &str,
@@ -219,7 +222,7 @@ fn due_acting_as(
 #[test]
 fn headers_and_authorisation_names(rt: HostRuntime) -> Result<(), Fail> {
     let refused = Some(Refusal::NotAuthorised);
-    // A wrong proof counts before a name that is not allowed.
+    // A wrong proof goes before a name that is not allowed.
     let wrong = "n=user,r=fyko";
     for (header, signed, act_as, want) in [
         ("n,,", BARE, "", None),
@@ -247,7 +250,7 @@ fn the_proof_covers_extensions(rt: HostRuntime) -> Result<(), Fail> {
     Ok(())
 }
 
-// By Python: hashlib.pbkdf2_hmac("sha256", b"open sesame", b"salt", 4096), and then each key and signature by
+// Computed with Python: hashlib.pbkdf2_hmac("sha256", b"open sesame", b"salt", 4096), and then each key and signature with
 // hmac.digest(key, text, "sha256"). The second proof leaves `,x=1` out of AuthMessage.
 #[test]
 fn an_extension_is_signed(rt: HostRuntime) -> Result<(), Fail> {
@@ -270,9 +273,9 @@ fn an_extension_is_signed(rt: HostRuntime) -> Result<(), Fail> {
     Ok(())
 }
 
-// A client's `a` and the server's `bb` give the nonce `abb`, and so do `ab` and `b`: the challenges are equal, and each
-// proof is right in its own login alone. By Python as above, with "sha1", b"pencil", b"A" and 1: as many rounds as the
-// challenge says would take hours.
+// A client's `a` and the server's `bb` give the nonce `abb`, and so do `ab` and `b`: the challenges are equal, but each
+// proof is right only in its own login. Computed with Python as above, with "sha1", b"pencil", b"A" and 1: as many rounds
+// as the challenge says would take hours.
 #[test]
 fn nonces_that_join_alike(rt: HostRuntime) -> Result<(), Fail> {
     let sha1 = Mechanism::ScramSha1;
@@ -287,16 +290,16 @@ fn nonces_that_join_alike(rt: HostRuntime) -> Result<(), Fail> {
         "c=biws,r=abb,p=QWm98tpWXJLePSAGs9pqVsFG7aY=",
         "c=biws,r=abb,p=20eu7pJHMJPBsO8hysyWq0wz/k0=",
     ];
-    for (first, own, last, outcome) in [
+    for (first, server_nonce, last, outcome) in [
         (first_a, "bb", last_a, "v=xx+jew+BeJLNwZeV8s3Edjni0Wo="),
         (first_a, "bb", last_ab, "e=invalid-proof"),
         (first_ab, "b", last_a, "e=invalid-proof"),
         (first_ab, "b", last_ab, "v=NEhJ1Yp78A4n8V8mMI60F1s4oqg="),
-        // The nonce that was sent merely begins with this one.
+        // The nonce that was sent only begins with this one.
         (first_ab, "b", "c=biws,r=ab,p=AA==", "e=other-error"),
     ] {
         let messages = [first, "r=abb,s=QQ==,i=4294967295", last, outcome];
-        check_login(&rt, rt.alloc(), sha1, &view, own, &messages)?;
+        check_login(&rt, rt.alloc(), sha1, &view, server_nonce, &messages)?;
     }
     Ok(())
 }
@@ -304,11 +307,11 @@ fn nonces_that_join_alike(rt: HostRuntime) -> Result<(), Fail> {
 #[test]
 fn refused_memory_for_a_challenge(rt: HostRuntime) -> Result<(), Fail> {
     let view = pencil(&[]).ok_or("an account")?;
-    let own = NoncePart::new(b"3rfcNHYJY1ZVvWVs7j").ok_or("a nonce")?;
+    let server_nonce = NoncePart::new(b"3rfcNHYJY1ZVvWVs7j").ok_or("a nonce")?;
     let heap = LocalHeap::new(rt.alloc(), 16)?;
     let mut none = Vec::new(&heap);
     let sha1 = Mechanism::ScramSha1;
-    let refused = server_first(sha1, &view, SHA1[0].as_bytes(), &own, &mut none);
+    let refused = server_first(sha1, &view, SHA1[0].as_bytes(), &server_nonce, &mut none);
     let no_memory = FirstRefused::Write(WriteFault::NoMemory);
     check(&rt, &refused.err(), &Some(no_memory), "no memory");
     check(&rt, &none.len(), &0, "nothing is written");
@@ -326,7 +329,7 @@ fn refused_memory_for_an_outcome(rt: HostRuntime) -> Result<(), Fail> {
     };
     check(&rt, &fault, &WriteFault::NoMemory, "no memory");
     check(&rt, &none.len(), &0, "nothing is written");
-    // The call once more, with room.
+    // The same call again, with room.
     let mut out = Vec::new(rt.alloc());
     let verdict = wait.finish(last.as_bytes(), &mut out).ok();
     check(&rt, &verdict, &Some(Verdict::Accepted), "with room");

@@ -1,5 +1,5 @@
--- The STANDARD engine's texts have their usual form: no comma, four bytes for each three begun, and each
--- is decoded to the bytes that it is the text of, while no other text is.
+-- The texts of the STANDARD engine have their usual form: no comma, and four characters for each three bytes or part of three. Each
+-- decodes to the bytes of which it is the base64, and no other text does.
 use Rattle.std.proofs.Common.{◌≡◌, ℕ, ◌+◌, ◌*◌, ◌/◌, ◌≤◌, ◌<◌, not, List, length, take, drop, replicate, refl, sym, ◌∙◌, ap}
 use Rattle.std.proofs.Common.{arith, length-append, subst}
 use Rattle.std.specs.declared.result.Result.TheVariants.{Ok, Err}
@@ -31,12 +31,12 @@ length-base64 bytes =
     length-append (encode_symbols standard.encode_table bytes) (replicate (padding_len (length bytes)) 61)
     ∙ rw (length-encode_symbols standard.encode_table bytes, length-replicate) (padded_length (length bytes))
 
--- the base64 of bytes is decoded to them
+-- the base64 of bytes decodes to them
 pub base64_decodes_back : (bytes : List ℕ) → IsBytes bytes → base64_decoded (base64 bytes) ≡ Ok bytes
 unfolding base64_decoded base64
 base64_decodes_back bytes fits = decode_of-encode_of standard bytes refl fits
 
--- a text that is decoded is the base64 of what it is decoded to
+-- a text that decodes is the base64 of what it decodes to
 decoded_text_is_base64 : (text bytes : List ℕ) → IsBytes text → base64_decoded text ≡ Ok bytes → text ≡ base64 bytes
 unfolding base64_decoded base64
 decoded_text_is_base64 text bytes fits read = decode_of_strict standard text bytes (refl, refl) fits read
@@ -65,7 +65,7 @@ decoded_bytes_are_field most size text buffer fits buffer_fits read some within 
       decoded_text_is_base64 text _ fits read,
     )
 
--- the bytes of a field are those that it is decoded to, and the text of a field is their base64
+-- the bytes of a field are those that it decodes to, and the text of a field is their base64
 pub spelled_field_is_decoded : (most : ℕ) (text bytes : List ℕ) → decode_of standard text ≡ Ok bytes → SpellsField most text
     → (text ≡ base64 bytes) × IsField most bytes
 unfolding base64_decoded
@@ -74,7 +74,7 @@ spelled_field_is_decoded most text bytes read (spelt, spelled, field) =
     let same : spelt ≡ bytes = cc (also, read) in
     subst (λ (b : List ℕ). (text ≡ base64 b) × IsField most b) same (spelled, field)
 
--- a text that is not decoded is no field
+-- a text that does not decode is no field
 pub undecoded_spells_no_field : (most : ℕ) (text : List ℕ) (e : DecodeError) → decode_of standard text ≡ Err e → SpellsField most text → ⊥
 unfolding base64_decoded
 undecoded_spells_no_field most text e read (spelt, spelled, field) =
@@ -90,8 +90,8 @@ long_base64_spells_no_field most other text bytes field is long spells =
     omega (arith, long, (spelled_field_is_decoded most text bytes read spells).1.at_most)
 
 -- the base64 of at most 64 bytes has at most 88 characters
-pub base64_at_most_88 : (text bytes : List ℕ) → text ≡ base64 bytes → IsField 64 bytes → length text ≤ 88
-base64_at_most_88 text bytes spelled field =
+pub base64_has_at_most_88_bytes : (text bytes : List ℕ) → text ≡ base64 bytes → IsField 64 bytes → length text ≤ 88
+base64_has_at_most_88_bytes text bytes spelled field =
     let whole : length text ≡ length (base64 bytes) = ap length spelled in
     omega (arith, whole, length-base64 bytes, field.at_most)
 

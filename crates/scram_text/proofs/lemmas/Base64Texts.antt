@@ -9,7 +9,7 @@ use Rattle.base64.specs.GeneralPurpose.{IsBytes}
 use Rattle.base64.specs.Rfc4648.{encode_symbols, padding_len}
 use Rattle.scram_text.specs.Base64Field.{base64}
 
--- where all symbols of a list pass a test, the one at each index does
+-- if all symbols of a list pass a test, the one at each index does
 symbol_at_index_passes_test : (test : ℕ → Bool) (symbols : List ℕ) (k : ℕ) → k < length symbols → list_all test symbols ≡ true
     → test (slice_index symbols k) ≡ true
 symbol_at_index_passes_test test [] k short all = absurd (omega (arith, short))
@@ -21,11 +21,11 @@ symbol_at_index_passes_test test (c ∷ symbols) (suc k) short all =
 abbrev table : List ℕ
 table = standard.encode_table
 
--- where the 64 symbols pass a test, the one at each index does
+-- if the 64 symbols pass a test, the one at each index does
 standard_symbol_passes_test : (test : ℕ → Bool) → list_all test table ≡ true → (k : ℕ) → k < 64 → test (slice_index table k) ≡ true
 standard_symbol_passes_test test all k short = symbol_at_index_passes_test test table k short all
 
--- where the 64 symbols pass a test, so do those of the text of bytes
+-- if the 64 symbols pass a test, so do those of the text of bytes
 symbols_pass_test : (test : ℕ → Bool) → list_all test table ≡ true → (bytes : List ℕ) → IsBytes bytes
     → list_all test (encode_symbols table bytes) ≡ true
 unfolding encode_symbols
@@ -50,12 +50,12 @@ symbols_pass_test test all (a ∷ b ∷ c ∷ rest) fits =
       standard_symbol_passes_test test all (c % 64) (omega arith),
     ) (symbols_pass_test test all rest (λ i. fits (suc (suc (suc i)))))
 
--- where the padding's byte passes a test, so does the padding
+-- if the padding's byte passes a test, so does the padding
 padding_passes_test : (test : ℕ → Bool) → test 61 ≡ true → (n : ℕ) → list_all test (replicate n 61) ≡ true
 padding_passes_test test pads zero = refl
 padding_passes_test test pads (suc n) = rw pads (padding_passes_test test pads n)
 
--- where the 64 symbols and the padding's byte pass a test, so does the base64 of bytes
+-- if the 64 symbols and the padding's byte pass a test, so does the base64 of bytes
 pub base64_passes_test : (test : ℕ → Bool) → list_all test standard.encode_table ≡ true → test 61 ≡ true → (bytes : List ℕ) → IsBytes bytes
     → list_all test (base64 bytes) ≡ true
 unfolding base64

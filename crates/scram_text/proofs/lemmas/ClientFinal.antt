@@ -1,9 +1,10 @@
--- The parts of client-final: they are read in one way, and a text that has them has no fault.
+-- The parts of client-final: they are read in only one way, and a text that has them has no fault.
 use Rattle.std.proofs.Common.{◌≡◌, inr, ℕ, ◌+◌, ◌≤◌, List, [], ◌∷◌, ◌++◌, length, replicate, refl, sym, ◌∙◌, ap, arith, length-append}
 use Rattle.std.specs.Prelude.{codes, IfOk, IfErr, IsOkAnd}
 use Rattle.std.specs.declared.result.Result.{Result}
 use Rattle.std.proofs.lemmas.List.Splits.{join_with_byte-slice_split}
 use Rattle.std.proofs.lemmas.List.{same_from_push}
+use Rattle.std.specs.Str.{byte}
 use Rattle.scram_text.specs.Limits.{longest_channel, longest_message, longest_nonce}
 use Rattle.scram_text.specs.Class.{IsNonce, IsUtf8Text}
 use Rattle.scram_text.specs.Base64Field.{base64, IsField}
@@ -17,9 +18,9 @@ use Rattle.scram_text.specs.declared.client_final.ClientFinal.{ClientFinal}
 use Rattle.scram_text.specs.declared.fault.TextFault.{TextFault}
 use Rattle.scram_text.specs.declared.fault.TextWhy.TheVariants.{Channel, Nonce, Extension, Proof}
 use Rattle.scram_text.proofs.lemmas.Base64.{base64_lacks_comma}
-use Rattle.scram_text.proofs.lemmas.Parts.{parts-append, no_comma_one_part, misfit_here, misfit_later}
-use Rattle.scram_text.proofs.lemmas.Places.{part_fault_is_fault, AllFit, AllFit-cons, AllFit-nil, places_unfold, misfit-append, extensions_keep_misfit, extensions_keep_fit, no_fault}
-use Rattle.scram_text.proofs.lemmas.Places.{nonce_lacks_comma, extensions_lack_comma, parts-joined, field_fits, one_field_per_base64}
+use Rattle.scram_text.proofs.lemmas.Parts.{parts-append, text_without_comma_is_one_part, unfit_part_is_misfit, fitting_part_keeps_misfit}
+use Rattle.scram_text.proofs.lemmas.Places.{part_fault_is_fault, AllFit, AllFit-cons, AllFit-nil, places_unfold, later_parts_keep_misfit, extensions_keep_misfit, extensions_keep_fit, fitting_text_has_no_fault}
+use Rattle.scram_text.proofs.lemmas.Places.{nonce_lacks_comma, extensions_lack_comma, parts-joined, field_part_spells_field, one_field_per_base64}
 use Rattle.scram_text.proofs.lemmas.ReadMessages.{message_is_read}
 
 -- the parts, with their letters, of the client-final message that has these values
@@ -28,36 +29,36 @@ client_final_parts p =
     (codes "c=" ++ base64 p.channel) ∷ (codes "r=" ++ p.nonce) ∷ (p.extensions ++ (codes "p=" ++ base64 p.proof) ∷ [])
 
 -- client-final before its proof is cut into its channel field, its nonce and its extensions
-parts_without_proof : (p : ClientFinalParts) → IsField longest_channel p.channel → IsNonce longest_nonce p.nonce
+parts-client_final_without_proof : (p : ClientFinalParts) → IsField longest_channel p.channel → IsNonce longest_nonce p.nonce
     → AreExtensions p.extensions
     → parts (client_final_without_proof p) ≡ (codes "c=" ++ base64 p.channel) ∷ (codes "r=" ++ p.nonce) ∷ p.extensions
 unfolding client_final_without_proof
-parts_without_proof p channel nonce extensions =
+parts-client_final_without_proof p channel nonce extensions =
     parts-joined (codes "c=" ++ base64 p.channel) ((codes "r=" ++ p.nonce) ∷ p.extensions) (
       base64_lacks_comma p.channel channel.each,
       (nonce_lacks_comma longest_nonce p.nonce nonce, extensions_lack_comma p.extensions extensions),
     )
 
 -- a client-final message is cut into its parts
-pub parts_client_final : (text : List ℕ) (p : ClientFinalParts) → IsClientFinal text p → parts text ≡ client_final_parts p
+pub parts-client_final : (text : List ℕ) (p : ClientFinalParts) → IsClientFinal text p → parts text ≡ client_final_parts p
 unfolding client_final_text
-parts_client_final text p is =
+parts-client_final text p is =
     rw (is.spelled) (rw (
       parts-append (client_final_without_proof p) (codes "p=" ++ base64 p.proof),
-      parts_without_proof p is.channel is.nonce is.extensions,
-      no_comma_one_part (codes "p=" ++ base64 p.proof) (base64_lacks_comma p.proof is.proof.each),
+      parts-client_final_without_proof p is.channel is.nonce is.extensions,
+      text_without_comma_is_one_part (codes "p=" ++ base64 p.proof) (base64_lacks_comma p.proof is.proof.each),
     ) refl)
 
--- client-final messages with the same parts are the same
-same_fields_same_parts : (p q : ClientFinalParts) → p.channel ≡ q.channel → p.nonce ≡ q.nonce → p.extensions ≡ q.extensions
+-- the parts of client-final are the same if each of them is
+same_fields_make_same_parts : (p q : ClientFinalParts) → p.channel ≡ q.channel → p.nonce ≡ q.nonce → p.extensions ≡ q.extensions
     → p.proof ≡ q.proof → p ≡ q
-same_fields_same_parts p q channel nonce extensions proof =
+same_fields_make_same_parts p q channel nonce extensions proof =
     λ i. record { channel = channel i; nonce = nonce i; extensions = extensions i; proof = proof i }
 
--- the law: a text is client-final with one list of parts
+-- the law: a text is client-final with at most one list of parts
 pub has_one_client_final : HasOneClientFinal
 has_one_client_final text p q is also =
-    let same : client_final_parts p ≡ client_final_parts q = sym (parts_client_final text p is) ∙ parts_client_final text q also in
+    let same : client_final_parts p ≡ client_final_parts q = sym (parts-client_final text p is) ∙ parts-client_final text q also in
     let channels : base64 p.channel ≡ base64 q.channel = cc same in
     let nonces : p.nonce ≡ q.nonce = cc same in
     let rest : p.extensions ++ (codes "p=" ++ base64 p.proof) ∷ [] ≡ q.extensions ++ (codes "p=" ++ base64 q.proof) ∷ [] = cc same in
@@ -65,7 +66,7 @@ has_one_client_final text p q is also =
     let proofs : base64 p.proof ≡ base64 q.proof = cc (ends.1) in
     let channel = one_field_per_base64 longest_channel p.channel q.channel is.channel also.channel channels in
     let proof = one_field_per_base64 64 p.proof q.proof is.proof also.proof proofs in
-    same_fields_same_parts p q channel nonces ends.0 proof
+    same_fields_make_same_parts p q channel nonces ends.0 proof
 
 -- the places of client-final's parts are Channel, Nonce, one Extension for each extension, and Proof
 pub client_final_places_unfold : (channel nonce proof : List ℕ) (extensions : List (List ℕ))
@@ -74,7 +75,7 @@ pub client_final_places_unfold : (channel nonce proof : List ℕ) (extensions : 
 client_final_places_unfold channel nonce proof extensions =
     places_unfold (Channel ∷ Nonce ∷ []) (Proof ∷ []) _ (length extensions) (omega (arith, length-append extensions (proof ∷ [])))
 
--- where the channel field, the nonce and the proof of client-final fit, and the parts between are extensions, all fit their places
+-- if the channel field, the nonce and the proof of client-final fit, and the parts between are extensions, all fit their places
 channel_nonce_proof_fit : (channel nonce proof : List ℕ) (extensions : List (List ℕ))
     → Fits longest_nonce Channel channel → Fits longest_nonce Nonce nonce → AreExtensions extensions → Fits longest_nonce Proof proof
     → AllFit longest_nonce (places (Channel ∷ Nonce ∷ []) (Proof ∷ []) (length (channel ∷ nonce ∷ (extensions ++ proof ∷ []))))
@@ -86,28 +87,29 @@ channel_nonce_proof_fit channel nonce proof extensions is_channel is_nonce are i
     (AllFit-cons longest_nonce Proof [] proof [] is_proof (AllFit-nil longest_nonce [])))))
 
 -- the parts of a client-final message fit their places
-pub client_final_fit : (p : ClientFinalParts) → IsField longest_channel p.channel → IsNonce longest_nonce p.nonce
+pub client_final_parts_fit : (p : ClientFinalParts) → IsField longest_channel p.channel → IsNonce longest_nonce p.nonce
     → AreExtensions p.extensions → IsField 64 p.proof
     → AllFit longest_nonce (places (Channel ∷ Nonce ∷ []) (Proof ∷ []) (length (client_final_parts p))) (client_final_parts p)
-client_final_fit p channel nonce extensions proof =
-    channel_nonce_proof_fit _ _ _ p.extensions (field_fits 99 longest_channel _ p.channel refl channel) (p.nonce, refl, nonce) extensions
-    (field_fits 112 64 _ p.proof refl proof)
+client_final_parts_fit p channel nonce extensions proof =
+    channel_nonce_proof_fit _ _ _ p.extensions (field_part_spells_field 99 longest_channel _ p.channel refl channel)
+    (p.nonce, refl, nonce) extensions
+    (field_part_spells_field 112 64 _ p.proof refl proof)
 
 -- a client-final message has no fault
-client_final_no_fault : (text : List ℕ) (p : ClientFinalParts) (f : TextFault) → IsClientFinal text p → IsClientFinalFault text f → ⊥
-client_final_no_fault text p f is =
-    no_fault longest_nonce (λ _. Channel ∷ Nonce ∷ []) (Proof ∷ []) text (client_final_parts p) f is.short is.utf8_text
-    (parts_client_final text p is)
+client_final_has_no_fault : (text : List ℕ) (p : ClientFinalParts) (f : TextFault) → IsClientFinal text p → IsClientFinalFault text f → ⊥
+client_final_has_no_fault text p f is =
+    fitting_text_has_no_fault longest_nonce (λ _. Channel ∷ Nonce ∷ []) (Proof ∷ []) text (client_final_parts p) f is.short is.utf8_text
+    (parts-client_final text p is)
     (omega (arith, length-append p.extensions ((codes "p=" ++ base64 p.proof) ∷ [])))
-    (client_final_fit p is.channel is.nonce is.extensions is.proof)
+    (client_final_parts_fit p is.channel is.nonce is.extensions is.proof)
 
 -- client-final's pieces make the text before its proof, and the whole text
-pub client_final_spelled : (text front last channel_part nonce_part : List ℕ) (p : ClientFinalParts)
-    → text ≡ front ++ 44 ∷ last → parts front ≡ channel_part ∷ nonce_part ∷ p.extensions
+pub pieces_spell_client_final : (text front last channel_part nonce_part : List ℕ) (p : ClientFinalParts)
+    → text ≡ front ++ byte "," ∷ last → parts front ≡ channel_part ∷ nonce_part ∷ p.extensions
     → channel_part ≡ codes "c=" ++ base64 p.channel → nonce_part ≡ codes "r=" ++ p.nonce → last ≡ codes "p=" ++ base64 p.proof
     → (front ≡ client_final_without_proof p) × (text ≡ client_final_text p)
 unfolding client_final_without_proof client_final_text
-client_final_spelled text front last channel_part nonce_part p whole cut is_channel is_nonce is_proof =
+pieces_spell_client_final text front last channel_part nonce_part p whole cut is_channel is_nonce is_proof =
     let pieces : channel_part ∷ nonce_part ∷ p.extensions ≡ (codes "c=" ++ base64 p.channel) ∷ (codes "r=" ++ p.nonce)
     ∷ p.extensions = cc (is_channel, is_nonce) in
     let front_is : front ≡ client_final_without_proof p = sym (join_with_byte-slice_split 44 front) ∙ ap joined (cut ∙ pieces) in
@@ -119,7 +121,7 @@ pub client_final_is_read : (text : List ℕ) (r : Result ClientFinal TextFault)
     → (p : ClientFinalParts) → IsClientFinal text p → IsOkAnd r (λ m. ShowsClientFinal m p)
 client_final_is_read text r =
     message_is_read (IsClientFinal text) ShowsClientFinal (IsClientFinalFault text) r
-    (has_one_client_final text) (client_final_no_fault text)
+    (has_one_client_final text) (client_final_has_no_fault text)
 
 -- the first part of client-final that does not fit is a fault of the text
 module _ (text channel nonce proof : List ℕ) (extensions : List (List ℕ)) (short : length text ≤ longest_message)
@@ -137,29 +139,33 @@ module _ (text channel nonce proof : List ℕ) (extensions : List (List ℕ)) (s
         rw (client_final_places_unfold channel nonce proof extensions) misfit,
       ))
 
-  -- that part is the channel field, the nonce, an extension or the proof:
-  pub channel_fault : (Fits longest_nonce Channel channel → ⊥) → IsClientFinalFault text (fault 0 Channel)
-  channel_fault no_channel =
+  -- the first part that does not fit may be the channel field, the nonce, an extension or the proof:
+  pub unfit_channel_is_fault : (Fits longest_nonce Channel channel → ⊥) → IsClientFinalFault text (fault 0 Channel)
+  unfit_channel_is_fault no_channel =
       client_final_misfit_is_fault _
-      (misfit_here longest_nonce 0 Channel _ channel _ no_channel)
+      (unfit_part_is_misfit longest_nonce 0 Channel _ channel _ no_channel)
 
-  pub nonce_fault : Fits longest_nonce Channel channel → (Fits longest_nonce Nonce nonce → ⊥) → IsClientFinalFault text (fault 1 Nonce)
-  nonce_fault is_channel no_nonce =
+  pub unfit_nonce_is_fault : Fits longest_nonce Channel channel → (Fits longest_nonce Nonce nonce → ⊥)
+      → IsClientFinalFault text (fault 1 Nonce)
+  unfit_nonce_is_fault is_channel no_nonce =
       client_final_misfit_is_fault _
-      (misfit_later longest_nonce 0 Channel _ channel _ _ is_channel (misfit_here longest_nonce 1 Nonce _ nonce _ no_nonce))
+      (fitting_part_keeps_misfit longest_nonce 0 Channel _ channel _ _ is_channel
+      (unfit_part_is_misfit longest_nonce 1 Nonce _ nonce _ no_nonce))
 
-  pub extension_fault : (f : TextFault) → Fits longest_nonce Channel channel → Fits longest_nonce Nonce nonce
+  pub extension_misfit_is_fault : (f : TextFault) → Fits longest_nonce Channel channel → Fits longest_nonce Nonce nonce
       → IsExtensionMisfit 2 extensions f → IsClientFinalFault text f
-  extension_fault f is_channel is_nonce misfit =
+  extension_misfit_is_fault f is_channel is_nonce misfit =
       client_final_misfit_is_fault f
-      (misfit_later longest_nonce 0 Channel _ channel _ f is_channel (misfit_later longest_nonce 1 Nonce _ nonce _ f is_nonce
-      (misfit-append longest_nonce (replicate (length extensions) Extension) (Proof ∷ []) 2 extensions (proof ∷ []) f
+      (fitting_part_keeps_misfit longest_nonce 0 Channel _ channel _ f is_channel
+      (fitting_part_keeps_misfit longest_nonce 1 Nonce _ nonce _ f is_nonce
+      (later_parts_keep_misfit longest_nonce (replicate (length extensions) Extension) (Proof ∷ []) 2 extensions (proof ∷ []) f
       (misfit longest_nonce))))
 
-  pub proof_fault : (k : ℕ) → Fits longest_nonce Channel channel → Fits longest_nonce Nonce nonce → AreExtensions extensions
+  pub unfit_proof_is_fault : (k : ℕ) → Fits longest_nonce Channel channel → Fits longest_nonce Nonce nonce → AreExtensions extensions
       → (Fits longest_nonce Proof proof → ⊥) → k ≡ 2 + length extensions → IsClientFinalFault text (fault k Proof)
-  proof_fault k is_channel is_nonce are no_proof at =
+  unfit_proof_is_fault k is_channel is_nonce are no_proof at =
       client_final_misfit_is_fault _
-      (misfit_later longest_nonce 0 Channel _ channel _ _ is_channel (misfit_later longest_nonce 1 Nonce _ nonce _ _ is_nonce
+      (fitting_part_keeps_misfit longest_nonce 0 Channel _ channel _ _ is_channel
+      (fitting_part_keeps_misfit longest_nonce 1 Nonce _ nonce _ _ is_nonce
       (extensions_keep_misfit longest_nonce (Proof ∷ []) 2 k extensions (proof ∷ []) _ at are
-      (misfit_here longest_nonce k Proof [] proof [] no_proof))))
+      (unfit_part_is_misfit longest_nonce k Proof [] proof [] no_proof))))

@@ -1,4 +1,4 @@
--- The parts of client-first: they are read in one way, and a text that has them has no fault.
+-- The parts of client-first: they are read in only one way, and a text that has them has no fault.
 use Rattle.std.proofs.Common.{◌≡◌, inl, inr, ℕ, suc, ◌+◌, ◌≤◌, true, false, ◌&&◌, ◌||◌, List, [], ◌∷◌, ◌++◌, length, replicate, refl, sym}
 use Rattle.std.proofs.Common.{◌∙◌, ap, arith, subst, append_assoc}
 use Rattle.std.specs.Prelude.{codes, IfOk, IfErr, IfSome, IsOkAnd, ◌==◌, nat_le}
@@ -8,11 +8,12 @@ use Rattle.std.specs.declared.option.Option.TheVariants.{None, Some}
 use Rattle.std.specs.declared.result.Result.{Result}
 use Rattle.std.proofs.lemmas.Bool.{cases_Bool, eqb-true, both_ways, and_parts}
 use Rattle.std.proofs.lemmas.List.Splits.{join_with_byte-slice_split}
+use Rattle.std.specs.Str.{byte}
 use Rattle.scram_text.specs.Limits.{longest_message, longest_nonce_part}
 use Rattle.scram_text.specs.Class.{is_cb_char, IsNonce, IsUtf8Text}
 use Rattle.scram_text.specs.Name.{LacksComma, IsSaslName}
 use Rattle.scram_text.specs.Parts.{parts, joined, is_flag, is_cb_name, authzid_text, mext_parts, is_named, IsValue, AreExtensions}
-use Rattle.scram_text.specs.Messages.{ClientFirstParts, header_text, bare_parts, bare_text, client_first_text, IsClientFirst}
+use Rattle.scram_text.specs.Messages.{ClientFirstParts, gs2_header, bare_parts, client_first_bare, client_first_text, IsClientFirst}
 use Rattle.scram_text.specs.Laws.{HasOneClientFirst}
 use Rattle.scram_text.specs.Faults.{Fits, fault, places, IsAuthzid, IsFirstMisfit, places_with_mext, first_of}
 use Rattle.scram_text.specs.Pieces.{IsExtensionMisfit}
@@ -23,11 +24,11 @@ use Rattle.scram_text.specs.declared.client_first.ClientFirst.{ClientFirst}
 use Rattle.scram_text.specs.declared.fault.TextFault.{TextFault}
 use Rattle.scram_text.specs.declared.fault.TextWhy.{TextWhy}
 use Rattle.scram_text.specs.declared.fault.TextWhy.TheVariants.{Flag, Authzid, Name, Nonce, Extension}
-use Rattle.scram_text.proofs.lemmas.Parts.{first_part_precedes_comma, misfit_here, misfit_later, same_index_same_misfit}
-use Rattle.scram_text.proofs.lemmas.Places.{AllFit, AllFit-cons, extensions_fit, part_fault_is_fault, no_fault, nonce_lacks_comma}
+use Rattle.scram_text.proofs.lemmas.Parts.{first_part_precedes_comma, unfit_part_is_misfit, fitting_part_keeps_misfit, equal_index_keeps_misfit}
+use Rattle.scram_text.proofs.lemmas.Places.{AllFit, AllFit-cons, extensions_fit, part_fault_is_fault, fitting_text_has_no_fault, nonce_lacks_comma}
 use Rattle.scram_text.proofs.lemmas.Places.{extensions_lack_comma, parts-joined_list}
-use Rattle.scram_text.proofs.lemmas.MextAndRest.{places-cons, front_places_unfold, mext_and_rest_joined, mext_and_rest_lack_comma, mext_and_rest_nonempty, one_mext_and_rest, mext_and_rest_fit}
-use Rattle.scram_text.proofs.lemmas.MextAndRest.{rest_misfit, mext_and_rest_lengths}
+use Rattle.scram_text.proofs.lemmas.MextAndRest.{places-cons, front_places_unfold, joined_are_mext_and_rest, mext_and_rest_lack_comma, mext_and_rest_are_nonempty, one_mext_and_rest, mext_and_rest_fit}
+use Rattle.scram_text.proofs.lemmas.MextAndRest.{rest_misfit_is_of_all_parts, mext_and_rest_lengths_add_up}
 use Rattle.scram_text.proofs.lemmas.WithoutByte.{class_lacks_byte}
 use Rattle.scram_text.proofs.lemmas.ReadMessages.{message_is_read}
 
@@ -41,10 +42,10 @@ cb_name_lacks_comma name is = class_lacks_byte 44 is_cb_char name refl (and_part
 
 flag_lacks_comma : (flag : List ℕ) → is_flag flag ≡ true → LacksComma flag
 flag_lacks_comma [] is = refl
-flag_lacks_comma (c ∷ []) is = class_lacks_byte 44 (λ b. (b == 110) || (b == 121)) (c ∷ []) refl (rw is refl)
+flag_lacks_comma (c ∷ []) is = class_lacks_byte 44 (λ b. (b == byte "n") || (b == byte "y")) (c ∷ []) refl (rw is refl)
 flag_lacks_comma (a ∷ b ∷ name) is =
-    let front = and_parts ((a == 112) && (b == 61)) (is_cb_name name) is in
-    let letters = and_parts (a == 112) (b == 61) front.0 in
+    let front = and_parts ((a == byte "p") && (b == byte "=")) (is_cb_name name) is in
+    let letters = and_parts (a == byte "p") (b == byte "=") front.0 in
     rw (eqb-true a 112 letters.0, eqb-true b 61 letters.1) (cb_name_lacks_comma name front.1)
 
 authzid_lacks_comma : (authzid : Option (List ℕ)) → IfSome authzid IsSaslName → LacksComma (authzid_text authzid)
@@ -52,53 +53,55 @@ authzid_lacks_comma None is = refl
 authzid_lacks_comma (Some spelled) is = is.no_comma
 
 -- the bare message is cut into its parts
-parts_bare : (p : ClientFirstParts) → IfSome p.mext IsValue → IsSaslName p.name → IsNonce longest_nonce_part p.nonce
+parts-client_first_bare : (p : ClientFirstParts) → IfSome p.mext IsValue → IsSaslName p.name → IsNonce longest_nonce_part p.nonce
     → AreExtensions p.extensions
-    → parts (bare_text p) ≡ bare_parts p
-unfolding bare_text
-parts_bare p mext name nonce extensions =
-    parts-joined_list (bare_parts p) (mext_and_rest_nonempty p.mext (codes "n=" ++ p.name) _)
+    → parts (client_first_bare p) ≡ bare_parts p
+unfolding client_first_bare
+parts-client_first_bare p mext name nonce extensions =
+    parts-joined_list (bare_parts p) (mext_and_rest_are_nonempty p.mext (codes "n=" ++ p.name) _)
     (mext_and_rest_lack_comma p.mext (client_first_rest p) mext
     (name.no_comma, (nonce_lacks_comma longest_nonce_part p.nonce nonce, extensions_lack_comma p.extensions extensions)))
 
 -- a header of two parts and what follows it are the parts, with a comma after each, and what follows
-pub header_pieces_regroup : (flag authzid rest : List ℕ) → (flag ++ 44 ∷ (authzid ++ 44 ∷ [])) ++ rest ≡ flag ++ 44 ∷ (authzid ++ 44 ∷ rest)
+pub header_pieces_regroup : (flag authzid rest : List ℕ) → (flag ++ byte "," ∷ (authzid ++ byte "," ∷ [])) ++ rest ≡ flag ++ byte ","
+    ∷ (authzid ++ byte "," ∷ rest)
 header_pieces_regroup flag authzid rest =
-    append_assoc flag (44 ∷ (authzid ++ 44 ∷ [])) rest
-    ∙ ap (λ (t : List ℕ). flag ++ 44 ∷ t) (append_assoc authzid (44 ∷ []) rest)
+    append_assoc flag (byte "," ∷ (authzid ++ byte "," ∷ [])) rest
+    ∙ ap (λ (t : List ℕ). flag ++ byte "," ∷ t) (append_assoc authzid (byte "," ∷ []) rest)
 
 -- a client-first message is cut into its parts
-pub parts_client_first : (text : List ℕ) (p : ClientFirstParts) → IsClientFirst text p
+pub parts-client_first : (text : List ℕ) (p : ClientFirstParts) → IsClientFirst text p
     → parts text ≡ p.flag ∷ authzid_text p.authzid ∷ bare_parts p
-unfolding client_first_text header_text
-parts_client_first text p is =
-    let whole : text ≡ p.flag ++ 44 ∷ (authzid_text p.authzid ++ 44 ∷ bare_text p) = is.spelled
+unfolding client_first_text gs2_header
+parts-client_first text p is =
+    let whole : text ≡ p.flag ++ byte "," ∷ (authzid_text p.authzid ++ byte "," ∷ client_first_bare p) = is.spelled
     ∙ header_pieces_regroup p.flag (authzid_text p.authzid)
-    (bare_text p) in
-    ap parts whole ∙ first_part_precedes_comma p.flag (authzid_text p.authzid ++ 44 ∷ bare_text p) (flag_lacks_comma p.flag is.flag)
-    ∙ ap (λ (ps : List (List ℕ)). p.flag ∷ ps) (first_part_precedes_comma (authzid_text p.authzid) (bare_text p)
+    (client_first_bare p) in
+    ap parts whole ∙ first_part_precedes_comma p.flag (authzid_text p.authzid ++ byte "," ∷ client_first_bare p)
+    (flag_lacks_comma p.flag is.flag)
+    ∙ ap (λ (ps : List (List ℕ)). p.flag ∷ ps) (first_part_precedes_comma (authzid_text p.authzid) (client_first_bare p)
     (authzid_lacks_comma p.authzid is.authzid))
-    ∙ ap (λ (ps : List (List ℕ)). p.flag ∷ authzid_text p.authzid ∷ ps) (parts_bare p is.mext is.name is.nonce is.extensions)
+    ∙ ap (λ (ps : List (List ℕ)). p.flag ∷ authzid_text p.authzid ∷ ps) (parts-client_first_bare p is.mext is.name is.nonce is.extensions)
 
--- the name to act as is read from its part in one way
+-- the name to act as is read from its part in only one way
 one_authzid_per_part : (one other : Option (List ℕ)) → authzid_text one ≡ authzid_text other → one ≡ other
 one_authzid_per_part None None same = refl
 one_authzid_per_part None (Some v) same = absurd (cc same)
 one_authzid_per_part (Some v) None same = absurd (cc same)
 one_authzid_per_part (Some v) (Some w) same = let names : v ≡ w = cc same in ap Some names
 
--- client-first messages with the same parts are the same
-same_fields_same_parts : (p q : ClientFirstParts) → p.flag ≡ q.flag → p.authzid ≡ q.authzid → p.mext ≡ q.mext → p.name ≡ q.name
+-- the parts of client-first are the same if each of them is
+same_fields_make_same_parts : (p q : ClientFirstParts) → p.flag ≡ q.flag → p.authzid ≡ q.authzid → p.mext ≡ q.mext → p.name ≡ q.name
     → p.nonce ≡ q.nonce
     → p.extensions ≡ q.extensions → p ≡ q
-same_fields_same_parts p q flag authzid mext name nonce extensions =
+same_fields_make_same_parts p q flag authzid mext name nonce extensions =
     λ i. record { flag = flag i; authzid = authzid i; mext = mext i; name = name i; nonce = nonce i; extensions = extensions i }
 
--- the law: a text is client-first with one list of parts
+-- the law: a text is client-first with at most one list of parts
 pub has_one_client_first : HasOneClientFirst
 has_one_client_first text p q is also =
     let same : p.flag ∷ authzid_text p.authzid ∷ bare_parts p ≡ q.flag ∷ authzid_text q.authzid ∷ bare_parts q =
-    sym (parts_client_first text p is) ∙ parts_client_first text q also in
+    sym (parts-client_first text p is) ∙ parts-client_first text q also in
     let flags : p.flag ≡ q.flag = cc same in
     let authzids : authzid_text p.authzid ≡ authzid_text q.authzid = cc same in
     let bares : bare_parts p ≡ bare_parts q = cc same in
@@ -107,7 +110,7 @@ has_one_client_first text p q is also =
     let names : p.name ≡ q.name = cc later in
     let nonces : p.nonce ≡ q.nonce = cc later in
     let extensions : p.extensions ≡ q.extensions = cc later in
-    same_fields_same_parts p q flags (one_authzid_per_part p.authzid q.authzid authzids) rest.0 names nonces extensions
+    same_fields_make_same_parts p q flags (one_authzid_per_part p.authzid q.authzid authzids) rest.0 names nonces extensions
 
 -- the places of the parts after the mandatory extension are Name, Nonce and one Extension for each extension
 pub client_first_rest_places_unfold : (name nonce : List ℕ) (extensions : List (List ℕ))
@@ -115,7 +118,7 @@ pub client_first_rest_places_unfold : (name nonce : List ℕ) (extensions : List
 client_first_rest_places_unfold name nonce extensions =
     front_places_unfold (Name ∷ Nonce ∷ []) (length (name ∷ nonce ∷ extensions)) (length extensions) (omega arith)
 
--- where the name and the nonce of client-first fit, and the parts after them are extensions, all fit their places
+-- if the name and the nonce of client-first fit, and the parts after them are extensions, all fit their places
 name_and_nonce_fit : (name nonce : List ℕ) (extensions : List (List ℕ)) → Fits longest_nonce_part Name name
     → Fits longest_nonce_part Nonce nonce
     → AreExtensions extensions
@@ -131,46 +134,48 @@ pub header_places_unfold : (later : List TextWhy) (n : ℕ)
 header_places_unfold later n =
     places-cons Flag (Authzid ∷ later) [] (suc n) ∙ ap (λ (ps : List TextWhy). Flag ∷ ps) (places-cons Authzid later [] n)
 
--- there are as many fixed places as the later ones, and one for a mandatory extension where the parts begin with one
+-- there are as many fixed places as later ones, and one more for a mandatory extension if the parts begin with one
 later_places_add_up : (pieces : List (List ℕ)) (later : List TextWhy)
     → length (places_with_mext pieces later) ≡ length (places_with_mext pieces []) + length later
-later_places_add_up pieces later = elim (cases_Bool (is_named 109 (first_of pieces))) [
+later_places_add_up pieces later = elim (cases_Bool (is_named (byte "m") (first_of pieces))) [
   | inl hit ↦ rw hit (omega arith)
   | inr miss ↦ rw miss (omega arith)
 ]
 
--- where the flag, the name to act as and the parts of the bare message fit their places, all parts of client-first do
-pub header_fit : (flag authzid : List ℕ) (bare : List (List ℕ)) → Fits longest_nonce_part Flag flag
+-- if the flag, the name to act as and the parts of the bare message fit their places, all parts of client-first do
+pub client_first_parts_fit : (flag authzid : List ℕ) (bare : List (List ℕ)) → Fits longest_nonce_part Flag flag
     → Fits longest_nonce_part Authzid authzid
     → AllFit longest_nonce_part (places (places_with_mext bare (Name ∷ Nonce ∷ [])) [] (length bare)) bare
     → AllFit longest_nonce_part (places (client_first_places (flag ∷ authzid ∷ bare)) [] (length (flag ∷ authzid ∷ bare)))
     (flag ∷ authzid ∷ bare)
-header_fit flag authzid bare is_flag is_authzid fit =
+client_first_parts_fit flag authzid bare is_flag is_authzid fit =
     subst (λ (ps : List TextWhy). AllFit longest_nonce_part ps (flag ∷ authzid ∷ bare))
     (sym (header_places_unfold (places_with_mext bare (Name ∷ Nonce ∷ [])) (length bare)))
     (AllFit-cons longest_nonce_part Flag _ flag _ is_flag (AllFit-cons longest_nonce_part Authzid _ authzid _ is_authzid fit))
 
--- the parts of the bare message are its mandatory extension, where it has one, and the others
-pub bare_mext_and_rest : (p : ClientFirstParts) → IfSome p.mext IsValue → IsMextAndRest (bare_parts p) (client_first_rest p) p.mext
-bare_mext_and_rest p mext = mext_and_rest_joined p.mext (codes "n=" ++ p.name) _ refl mext
+-- the parts of the bare message are its mandatory extension, if it has one, and the others
+pub bare_has_mext_and_rest : (p : ClientFirstParts) → IfSome p.mext IsValue → IsMextAndRest (bare_parts p) (client_first_rest p) p.mext
+bare_has_mext_and_rest p mext = joined_are_mext_and_rest p.mext (codes "n=" ++ p.name) _ refl mext
 
 -- the parts of a bare message fit their places
-pub bare_fit : (p : ClientFirstParts) → IfSome p.mext IsValue → IsSaslName p.name → IsNonce longest_nonce_part p.nonce
+pub bare_parts_fit : (p : ClientFirstParts) → IfSome p.mext IsValue → IsSaslName p.name → IsNonce longest_nonce_part p.nonce
     → AreExtensions p.extensions
     → AllFit longest_nonce_part (places (places_with_mext (bare_parts p) (Name ∷ Nonce ∷ [])) [] (length (bare_parts p))) (bare_parts p)
-bare_fit p mext name nonce extensions =
-    mext_and_rest_fit longest_nonce_part (Name ∷ Nonce ∷ []) (bare_parts p) (client_first_rest p) p.mext (bare_mext_and_rest p mext)
+bare_parts_fit p mext name nonce extensions =
+    mext_and_rest_fit longest_nonce_part (Name ∷ Nonce ∷ []) (bare_parts p) (client_first_rest p) p.mext (bare_has_mext_and_rest p mext)
     (name_and_nonce_fit (codes "n=" ++ p.name) (codes "r=" ++ p.nonce) p.extensions (p.name, refl, name) (p.nonce, refl, nonce) extensions)
 
 -- a client-first message has no fault
-client_first_no_fault : (text : List ℕ) (p : ClientFirstParts) (f : TextFault) → IsClientFirst text p → IsClientFirstFault text f → ⊥
-client_first_no_fault text p f is =
-    let lengths = mext_and_rest_lengths (Name ∷ Nonce ∷ []) (bare_parts p) (client_first_rest p) p.mext (bare_mext_and_rest p is.mext) in
-    no_fault longest_nonce_part client_first_places [] text (p.flag ∷ authzid_text p.authzid ∷ bare_parts p) f is.short is.utf8_text
-    (parts_client_first text p is)
+client_first_has_no_fault : (text : List ℕ) (p : ClientFirstParts) (f : TextFault) → IsClientFirst text p → IsClientFirstFault text f → ⊥
+client_first_has_no_fault text p f is =
+    let lengths = mext_and_rest_lengths_add_up (Name ∷ Nonce ∷ []) (bare_parts p) (client_first_rest p) p.mext
+    (bare_has_mext_and_rest p is.mext) in
+    fitting_text_has_no_fault longest_nonce_part client_first_places [] text (p.flag ∷ authzid_text p.authzid ∷ bare_parts p) f is.short
+    is.utf8_text
+    (parts-client_first text p is)
     (omega (arith, lengths.0, lengths.1))
-    (header_fit p.flag (authzid_text p.authzid) (bare_parts p) is.flag (p.authzid, refl, is.authzid)
-    (bare_fit p is.mext is.name is.nonce is.extensions))
+    (client_first_parts_fit p.flag (authzid_text p.authzid) (bare_parts p) is.flag (p.authzid, refl, is.authzid)
+    (bare_parts_fit p is.mext is.name is.nonce is.extensions))
 
 -- a text that is client-first is read, and what is read shows its parts
 pub client_first_is_read : (text : List ℕ) (r : Result ClientFirst TextFault)
@@ -178,17 +183,17 @@ pub client_first_is_read : (text : List ℕ) (r : Result ClientFirst TextFault)
     → (p : ClientFirstParts) → IsClientFirst text p → IsOkAnd r (λ m. ShowsClientFirst m p)
 client_first_is_read text r =
     message_is_read (IsClientFirst text) ShowsClientFirst (IsClientFirstFault text) r
-    (has_one_client_first text) (client_first_no_fault text)
+    (has_one_client_first text) (client_first_has_no_fault text)
 
 -- the first part of client-first that does not fit is a fault of the text
 module _ (text flag authzid : List ℕ) (bare : List (List ℕ)) (short : length text ≤ longest_message) (utf8_text : IsUtf8Text text)
     (cut : parts text ≡ flag ∷ authzid ∷ bare) (enough : length (places_with_mext bare []) + 2 ≤ length bare) where
   -- the first misfit of all parts is a fault of the text
-  header_fault : (f : TextFault)
+  client_first_misfit_is_fault : (f : TextFault)
       → IsFirstMisfit longest_nonce_part (Flag ∷ Authzid ∷ places (places_with_mext bare (Name ∷ Nonce ∷ [])) [] (length bare)) 0
       (flag ∷ authzid ∷ bare) f
       → IsClientFirstFault text f
-  header_fault f misfit =
+  client_first_misfit_is_fault f misfit =
       part_fault_is_fault longest_nonce_part client_first_places [] text (flag ∷ authzid ∷ bare) f short utf8_text cut
       (inr (
         omega (arith, enough, later_places_add_up bare (Name ∷ Nonce ∷ [])),
@@ -196,49 +201,54 @@ module _ (text flag authzid : List ℕ) (bare : List (List ℕ)) (short : length
             (sym (header_places_unfold (places_with_mext bare (Name ∷ Nonce ∷ [])) (length bare))) misfit,
       ))
 
-  -- that part is the flag, the name to act as, or one of the bare message:
-  pub flag_fault : is_flag flag ≡ false → IsClientFirstFault text (fault 0 Flag)
-  flag_fault no_flag = header_fault _ (misfit_here longest_nonce_part 0 Flag _ flag _ (λ is. both_ways (is_flag flag) no_flag is))
+  -- the first part that does not fit may be the flag, the name to act as, or one of the bare message:
+  pub unfit_flag_is_fault : is_flag flag ≡ false → IsClientFirstFault text (fault 0 Flag)
+  unfit_flag_is_fault no_flag = client_first_misfit_is_fault _ (unfit_part_is_misfit longest_nonce_part 0 Flag _ flag _
+      (λ is. both_ways (is_flag flag) no_flag is))
 
-  pub authzid_fault : (f : TextFault) → is_flag flag ≡ true → (IsAuthzid authzid → ⊥) × (f ≡ fault 1 Authzid) → IsClientFirstFault text f
-  authzid_fault f is_a_flag (no_authzid, is) =
+  pub unfit_authzid_is_fault : (f : TextFault) → is_flag flag ≡ true → (IsAuthzid authzid → ⊥) × (f ≡ fault 1 Authzid)
+      → IsClientFirstFault text f
+  unfit_authzid_is_fault f is_a_flag (no_authzid, is) =
       subst (λ (g : TextFault). IsClientFirstFault text g) (sym is)
-      (header_fault (fault 1 Authzid)
-      (misfit_later longest_nonce_part 0 Flag _ flag _ _ is_a_flag (misfit_here longest_nonce_part 1 Authzid _ authzid _ no_authzid)))
+      (client_first_misfit_is_fault (fault 1 Authzid)
+      (fitting_part_keeps_misfit longest_nonce_part 0 Flag _ flag _ _ is_a_flag
+      (unfit_part_is_misfit longest_nonce_part 1 Authzid _ authzid _ no_authzid)))
 
-  pub bare_fault : (f : TextFault) → is_flag flag ≡ true → IsAuthzid authzid → IsBareMisfit bare f → IsClientFirstFault text f
-  bare_fault f is_a_flag is_authzid misfit =
-      header_fault f
-      (misfit_later longest_nonce_part 0 Flag _ flag _ f is_a_flag
-      (misfit_later longest_nonce_part 1 Authzid _ authzid _ f is_authzid misfit))
+  pub bare_misfit_is_fault : (f : TextFault) → is_flag flag ≡ true → IsAuthzid authzid → IsBareMisfit bare f → IsClientFirstFault text f
+  bare_misfit_is_fault f is_a_flag is_authzid misfit =
+      client_first_misfit_is_fault f
+      (fitting_part_keeps_misfit longest_nonce_part 0 Flag _ flag _ f is_a_flag
+      (fitting_part_keeps_misfit longest_nonce_part 1 Authzid _ authzid _ f is_authzid misfit))
 
 -- the first part of a bare message that does not fit, after its mandatory extension; k is the index of the name
 module _ (pieces : List (List ℕ)) (name nonce : List ℕ) (extensions : List (List ℕ)) (mext : Option (List ℕ)) (k : ℕ)
     (marked : IsMextAndRest pieces (name ∷ nonce ∷ extensions) mext) (at : k ≡ 2 + length (mext_parts mext)) where
   -- a misfit after the mandatory extension is one of the bare message
-  client_first_rest_misfit : (f : TextFault)
+  rest_misfit_is_bare_misfit : (f : TextFault)
       → IsFirstMisfit longest_nonce_part (Name ∷ Nonce ∷ replicate (length extensions) Extension) k (name ∷ nonce ∷ extensions) f
       → IsBareMisfit pieces f
-  client_first_rest_misfit f misfit =
-      rest_misfit longest_nonce_part 2 k (Name ∷ Nonce ∷ []) pieces (name ∷ nonce ∷ extensions) mext f marked at
+  rest_misfit_is_bare_misfit f misfit =
+      rest_misfit_is_of_all_parts longest_nonce_part 2 k (Name ∷ Nonce ∷ []) pieces (name ∷ nonce ∷ extensions) mext f marked at
       (rw (client_first_rest_places_unfold name nonce extensions) misfit)
 
-  -- that part is the name, the nonce or an extension:
-  pub name_misfit : (Fits longest_nonce_part Name name → ⊥) → IsBareMisfit pieces (fault k Name)
-  name_misfit no_name = client_first_rest_misfit _ (misfit_here longest_nonce_part k Name _ name _ no_name)
+  -- the first part that does not fit may be the name, the nonce or an extension:
+  pub unfit_name_is_bare_misfit : (Fits longest_nonce_part Name name → ⊥) → IsBareMisfit pieces (fault k Name)
+  unfit_name_is_bare_misfit no_name = rest_misfit_is_bare_misfit _ (unfit_part_is_misfit longest_nonce_part k Name _ name _ no_name)
 
-  pub nonce_misfit : Fits longest_nonce_part Name name → (Fits longest_nonce_part Nonce nonce → ⊥)
+  pub unfit_nonce_is_bare_misfit : Fits longest_nonce_part Name name → (Fits longest_nonce_part Nonce nonce → ⊥)
       → IsBareMisfit pieces (fault (k + 1) Nonce)
-  nonce_misfit is_name no_nonce =
-      client_first_rest_misfit _
-      (misfit_later longest_nonce_part k Name _ name _ _ is_name (misfit_here longest_nonce_part (k + 1) Nonce _ nonce _ no_nonce))
+  unfit_nonce_is_bare_misfit is_name no_nonce =
+      rest_misfit_is_bare_misfit _
+      (fitting_part_keeps_misfit longest_nonce_part k Name _ name _ _ is_name (unfit_part_is_misfit longest_nonce_part
+      (k + 1) Nonce _ nonce _ no_nonce))
 
-  pub extension_misfit : (f : TextFault) → Fits longest_nonce_part Name name → Fits longest_nonce_part Nonce nonce
+  pub extension_misfit_is_bare_misfit : (f : TextFault) → Fits longest_nonce_part Name name → Fits longest_nonce_part Nonce nonce
       → IsExtensionMisfit (k + 2) extensions f → IsBareMisfit pieces f
-  extension_misfit f is_name is_nonce misfit =
-      client_first_rest_misfit f
-      (misfit_later longest_nonce_part k Name _ name _ f is_name (misfit_later longest_nonce_part (k + 1) Nonce _ nonce _ f is_nonce
-      (same_index_same_misfit longest_nonce_part (k + 2) (k + 1 + 1) _ _ f (omega arith) (misfit longest_nonce_part))))
+  extension_misfit_is_bare_misfit f is_name is_nonce misfit =
+      rest_misfit_is_bare_misfit f
+      (fitting_part_keeps_misfit longest_nonce_part k Name _ name _ f is_name (fitting_part_keeps_misfit longest_nonce_part
+      (k + 1) Nonce _ nonce _ f is_nonce
+      (equal_index_keeps_misfit longest_nonce_part (k + 2) (k + 1 + 1) _ _ f (omega arith) (misfit longest_nonce_part))))
 
 -- the pieces of a bare message, with their letters, are its parts
 pub bare_pieces_are_parts : (pieces : List (List ℕ)) (name nonce : List ℕ) (p : ClientFirstParts)
@@ -249,11 +259,11 @@ bare_pieces_are_parts pieces name nonce p marked is_name is_nonce =
     marked.cut ∙ ap (λ (ps : List (List ℕ)). mext_parts p.mext ++ ps) later
 
 -- the pieces of client-first make the header, the bare message and the whole text
-pub client_first_spelled : (text header flag authzid bare : List ℕ) (p : ClientFirstParts) → text ≡ header ++ bare
-    → header ≡ flag ++ 44 ∷ (authzid ++ 44 ∷ []) → flag ≡ p.flag → authzid ≡ authzid_text p.authzid → parts bare ≡ bare_parts p
-    → (header ≡ header_text p) × (bare ≡ bare_text p) × (text ≡ client_first_text p)
-unfolding header_text bare_text client_first_text
-client_first_spelled text header flag authzid bare p whole header_is is_flag is_authzid cut =
-    let the_header : header ≡ header_text p = header_is ∙ rw (is_flag, is_authzid) refl in
-    let the_bare : bare ≡ bare_text p = sym (join_with_byte-slice_split 44 bare) ∙ ap joined cut in
+pub pieces_spell_client_first : (text header flag authzid bare : List ℕ) (p : ClientFirstParts) → text ≡ header ++ bare
+    → header ≡ flag ++ byte "," ∷ (authzid ++ byte "," ∷ []) → flag ≡ p.flag → authzid ≡ authzid_text p.authzid → parts bare ≡ bare_parts p
+    → (header ≡ gs2_header p) × (bare ≡ client_first_bare p) × (text ≡ client_first_text p)
+unfolding gs2_header client_first_bare client_first_text
+pieces_spell_client_first text header flag authzid bare p whole header_is is_flag is_authzid cut =
+    let the_header : header ≡ gs2_header p = header_is ∙ rw (is_flag, is_authzid) refl in
+    let the_bare : bare ≡ client_first_bare p = sym (join_with_byte-slice_split 44 bare) ∙ ap joined cut in
     (the_header, the_bare, rw (whole, the_header, the_bare) refl)

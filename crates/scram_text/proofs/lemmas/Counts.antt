@@ -7,10 +7,10 @@ use Rattle.scram_text.specs.Parts.{IsCount}
 use Rattle.scram_text.proofs.lemmas.WithoutByte.{digits_lack_byte}
 
 -- a count is below 2^64
-pub count_below_2_64 : (count : ℕ) → IsCount count → count < 2 ^ 64
-count_below_2_64 count is = omega (arith, is.at_most)
+pub count_is_below_2_64 : (count : ℕ) → IsCount count → count < 2 ^ 64
+count_is_below_2_64 count is = omega (arith, is.at_most)
 
 -- the decimal of a count has no comma
 pub decimal_lacks_comma : (count : ℕ) → IsCount count → LacksComma (decimal count)
 decimal_lacks_comma count is =
-    digits_lack_byte 44 (decimal count) (omega arith) (decimal_is_IsNumeral count (count_below_2_64 count is)).0.1
+    digits_lack_byte 44 (decimal count) (omega arith) (decimal_is_IsNumeral count (count_is_below_2_64 count is)).0.1

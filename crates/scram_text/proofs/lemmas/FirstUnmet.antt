@@ -1,10 +1,10 @@
--- Of the rows of a table all are met, or one is the first that is not, and it is one alone.
+-- Of the rows of a table all are met, or exactly one is the first that is not.
 use Rattle.std.proofs.Common.{◌≡◌, ◌⊎◌, inl, inr, List, [], ◌∷◌, ◌++◌, sym, ◌∙◌, ap, subst, refl}
 use Rattle.std.specs.List.{AllByRecursion}
 use Rattle.mac_core.proofs.lemmas.Decided.{Decided}
 use Rattle.scram_text.specs.FirstUnmet.{IsFirstUnmet}
 
--- the first row that is not met, as it is found from the top: the top row; or that is met, and it is found below
+-- the first row that is not met, found from the top: the top row; or that is met, and it is found below
 abbrev pub IsFound : {R : Type 0} → (R → Type 0) → List R → R → Type 0
 IsFound Asked [] r = ⊥
 IsFound Asked (row ∷ rows) r = ((row ≡ r) × (Asked row → ⊥)) ⊎ (Asked row × IsFound Asked rows r)
@@ -44,7 +44,7 @@ first_is_found Asked rows r first =
     subst (λ these. IsFound Asked these r) (sym first.split) (unmet_after_met_is_found Asked first.before first.after r first.met
     first.unmet)
 
--- one row at most is found from the top
+-- at most one row is found from the top
 one_found : {R : Type 0} (Asked : R → Type 0) (rows : List R) (r q : R) → IsFound Asked rows r → IsFound Asked rows q → r ≡ q
 one_found Asked [] r q found other = absurd found
 one_found Asked (row ∷ rows) r q (inl found) (inl other) = sym found.0 ∙ other.0
@@ -58,17 +58,18 @@ pub one_first_unmet : {R : Type 0} (Asked : R → Type 0) (rows : List R) (r q :
 one_first_unmet Asked rows r q first other =
     one_found Asked rows r q (first_is_found Asked rows r first) (first_is_found Asked rows q other)
 
--- where all rows are met, none is found from the top
-none_found : {R : Type 0} (Asked : R → Type 0) (rows : List R) (r : R) → AllByRecursion Asked rows → IsFound Asked rows r → ⊥
-none_found Asked [] r all found = found
-none_found Asked (row ∷ rows) r all (inl found) = found.1 all.0
-none_found Asked (row ∷ rows) r all (inr found) = none_found Asked rows r all.1 found.1
+-- if all rows are met, none is found from the top
+met_rows_find_none : {R : Type 0} (Asked : R → Type 0) (rows : List R) (r : R) → AllByRecursion Asked rows → IsFound Asked rows r → ⊥
+met_rows_find_none Asked [] r all found = found
+met_rows_find_none Asked (row ∷ rows) r all (inl found) = found.1 all.0
+met_rows_find_none Asked (row ∷ rows) r all (inr found) = met_rows_find_none Asked rows r all.1 found.1
 
--- where all rows are met, none is the first that is not
-pub no_first_unmet : {R : Type 0} (Asked : R → Type 0) (rows : List R) (r : R) → AllByRecursion Asked rows → IsFirstUnmet Asked rows r → ⊥
-no_first_unmet Asked rows r all first = none_found Asked rows r all (first_is_found Asked rows r first)
+-- if all rows are met, none is the first that is not
+pub met_rows_have_no_first_unmet : {R : Type 0} (Asked : R → Type 0) (rows : List R) (r : R) → AllByRecursion Asked rows
+    → IsFirstUnmet Asked rows r → ⊥
+met_rows_have_no_first_unmet Asked rows r all first = met_rows_find_none Asked rows r all (first_is_found Asked rows r first)
 
--- where each row is decided, one is the first that is not met, or all are met
+-- if each row is decidable, one is the first that is not met, or all are met
 pub first_unmet_or_all_met : {R : Type 0} (Asked : R → Type 0) (rows : List R) → ((r : R) → Decided (Asked r))
     → ((r : R) × IsFirstUnmet Asked rows r) ⊎ AllByRecursion Asked rows
 first_unmet_or_all_met Asked [] decided = inr tt

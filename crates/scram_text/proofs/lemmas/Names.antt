@@ -1,4 +1,4 @@
--- A name's spelling is read in one way, from the left, and is a saslname.
+-- A name's spelling is read in only one way, from the left, and is a saslname.
 use Rattle.std.proofs.Common.{◌≡◌, ◌≢◌, inl, inr, ℕ, zero, suc, ◌*◌, ◌≤◌, List, [], ◌∷◌, ◌++◌, length, refl, sym, ◌∙◌, ap, subst, arith, append_assoc}
 use Rattle.std.proofs.Common.{true, not}
 use Rattle.std.specs.Prelude.{codes, ◌==◌, if◌then◌else◌}
@@ -6,13 +6,14 @@ use Rattle.std.proofs.lemmas.Bool.Decides.{eqb_tells}
 use Rattle.std.proofs.lemmas.List.{append_cancel_left}
 use Rattle.std.proofs.lemmas.List.Folds.{list_all-append}
 use Rattle.std.proofs.lemmas.Bool.{ne_eqb}
+use Rattle.std.specs.Str.{byte}
 use Rattle.scram_text.specs.Class.{is_comma}
 use Rattle.scram_text.specs.Name.{IsSaslName, LacksComma, escape, name_spelling, is_escaped}
 use Rattle.scram_text.proofs.lemmas.ListEnds.{same_cons}
 
--- what holds of `=2C` for a comma, of `=3D` for an equals sign and else of the byte itself holds of the byte's spelling
-pub escape_by_cases : (P : List ℕ → Type 0) (c : ℕ) → (c ≡ 44 → P (codes "=2C")) → (c ≡ 61 → P (codes "=3D"))
-    → (c ≢ 44 → c ≢ 61 → P (c ∷ [])) → P (escape c)
+-- what is true of `=2C` for a comma, of `=3D` for an equals sign and otherwise of the byte itself is true of the byte's spelling
+pub escape_by_cases : (P : List ℕ → Type 0) (c : ℕ) → (c ≡ byte "," → P (codes "=2C")) → (c ≡ byte "=" → P (codes "=3D"))
+    → (c ≢ byte "," → c ≢ byte "=" → P (c ∷ [])) → P (escape c)
 escape_by_cases P c comma equals other = elim (eqb_tells c 44) [
   | inl is ↦ rw is.0 (comma is.1)
   | inr no_comma ↦ elim (eqb_tells c 61) [
@@ -21,10 +22,10 @@ escape_by_cases P c comma equals other = elim (eqb_tells c 44) [
   ]
 ]
 
--- the bytes that a saslname may spell, where k bytes of an escape were read: the byte after `=` says which is meant
+-- the bytes that a saslname may spell, if k bytes of an escape were read: the byte after `=` says which is meant
 pub unescaped_from : ℕ → List ℕ → List ℕ
 unescaped_from k [] = []
-unescaped_from zero (c ∷ text) = if c == 61 then unescaped_from 1 text else c ∷ unescaped_from 0 text
+unescaped_from zero (c ∷ text) = if c == byte "=" then unescaped_from 1 text else c ∷ unescaped_from 0 text
 unescaped_from (suc zero) (c ∷ text) = (if c == 50 then 44 else 61) ∷ unescaped_from 2 text
 unescaped_from (suc (suc k)) (c ∷ text) = unescaped_from 0 text
 
@@ -45,9 +46,9 @@ unescaped_from-spelling (c ∷ name) =
 pub one_name_per_spelling : (one other : List ℕ) → name_spelling one ≡ name_spelling other → one ≡ other
 one_name_per_spelling one other e = sym (unescaped_from-spelling one) ∙ ap (unescaped_from 0) e ∙ unescaped_from-spelling other
 
--- where spellings of two bytes begin the same text, the bytes are the same, and what follows is
-same_escape_same_byte : (b c : ℕ) (x y : List ℕ) → escape b ++ x ≡ escape c ++ y → (b ≡ c) × (x ≡ y)
-same_escape_same_byte b c x y e =
+-- if spellings of two bytes begin the same text, the bytes are the same, and so is what follows
+one_byte_per_escape : (b c : ℕ) (x y : List ℕ) → escape b ++ x ≡ escape c ++ y → (b ≡ c) × (x ≡ y)
+one_byte_per_escape b c x y e =
     let read : b ∷ unescaped_from 0 x ≡ c ∷ unescaped_from 0 y =
     sym (unescaped_from-escape b x) ∙ ap (unescaped_from 0) e ∙ unescaped_from-escape c y in
     let same : b ≡ c = cc read in
@@ -57,13 +58,13 @@ same_escape_same_byte b c x y e =
 pub escape_is_nonempty : (b : ℕ) (x : List ℕ) → escape b ++ x ≡ [] → ⊥
 escape_is_nonempty b x e = escape_by_cases (λ s. s ++ x ≡ [] → ⊥) b (λ _ none. cc none) (λ _ none. cc none) (λ _ _ none. cc none) e
 
--- where the spelling of the first bytes was read, the rest spells the others
+-- if the spelling of the first bytes was read, the rest spells the others
 pub rest_spells_rest : (front rest name : List ℕ) → name_spelling front ++ rest ≡ name_spelling name
     → (more : List ℕ) × (name ≡ front ++ more) × (rest ≡ name_spelling more)
 rest_spells_rest [] rest name e = (name, refl, e)
 rest_spells_rest (b ∷ front) rest [] e = absurd (escape_is_nonempty b (name_spelling front ++ rest) (rw append_assoc at e))
 rest_spells_rest (b ∷ front) rest (c ∷ name) e =
-    let first = same_escape_same_byte b c (name_spelling front ++ rest) (name_spelling name) (rw append_assoc at e) in
+    let first = one_byte_per_escape b c (name_spelling front ++ rest) (name_spelling name) (rw append_assoc at e) in
     let more = rest_spells_rest front rest name first.1 in
     (more.0, same_cons c b name (front ++ more.0) (sym first.0) more.1, more.2)
 

@@ -1,4 +1,4 @@
--- Whether a text spells a plain name is decided.
+-- It is decidable whether a text spells a plain name.
 use Rattle.std.proofs.Common.{◌≡◌, inl, inr, ℕ, List, sym, ◌∙◌, ap, subst}
 use Rattle.mac_core.proofs.lemmas.Decided.{Decided, decided_equivalent, decided_both, decided_same_text}
 use Rattle.scram_text.specs.Class.{is_plain, IsPlainName}
@@ -7,7 +7,7 @@ use Rattle.scram_text.specs.Laws.{NameIsDecided}
 use Rattle.scram_text.proofs.lemmas.Decided.{decided_run}
 use Rattle.scram_text.proofs.lemmas.Names.{unescaped_from, unescaped_from-spelling}
 
--- whether a text spells a plain name, and which, is decided
+-- it is decidable whether a text spells a plain name, and which
 decided_plain_name : (spelled : List ℕ) → Decided ((name : List ℕ) × IsPlainName name × SpellsName name spelled)
 decided_plain_name spelled =
     let found = unescaped_from 0 spelled in
@@ -18,7 +18,7 @@ decided_plain_name spelled =
     (subst IsPlainName (sym same) plain, subst (λ (n : List ℕ). SpellsName n spelled) (sym same) spells))
     (decided_both _ _ (decided_run is_plain 255 found) (decided_same_text spelled (name_spelling found)))
 
--- the law: whether a text spells a plain name is decided
+-- the law: it is decidable whether a text spells a plain name
 pub name_is_decided : NameIsDecided
 name_is_decided spelled = elim (decided_plain_name spelled) [
   | inl there ↦ inl there

@@ -8,6 +8,7 @@ use Rattle.std.proofs.lemmas.List.Splits.{length-slice_split}
 use Rattle.std.proofs.lemmas.List.Sums.{split_at_first, passes_at_first}
 use Rattle.std.proofs.lemmas.List.{take_all, take_rest}
 use Rattle.std.specs.declared.option.Option.TheVariants.{None, Some}
+use Rattle.std.specs.Str.{byte}
 use Rattle.scram_text.specs.Class.{is_comma}
 use Rattle.scram_text.specs.Name.{LacksComma}
 use Rattle.scram_text.specs.Parts.{parts}
@@ -17,36 +18,36 @@ use Rattle.scram_text.specs.declared.fault.TextWhy.{TextWhy}
 use Rattle.scram_text.proofs.lemmas.FirstUnmet.{met_row_keeps_first}
 
 -- a text has one part more than it has commas
-pub parts_count : (text : List ℕ) → length (parts text) ≡ count_by is_comma text + 1
-parts_count text = length-slice_split is_comma text
+pub parts_exceed_commas_by_one : (text : List ℕ) → length (parts text) ≡ count_by is_comma text + 1
+parts_exceed_commas_by_one text = length-slice_split is_comma text
 
 -- a text without commas is its one part
-pub no_comma_one_part : (text : List ℕ) → LacksComma text → parts text ≡ text ∷ []
-no_comma_one_part [] h = refl
-no_comma_one_part (c ∷ text) h =
+pub text_without_comma_is_one_part : (text : List ℕ) → LacksComma text → parts text ≡ text ∷ []
+text_without_comma_is_one_part [] h = refl
+text_without_comma_is_one_part (c ∷ text) h =
     let each = and_parts (not (is_comma c)) (list_all (λ c. not (is_comma c)) text) h in
-    rw (not-true (is_comma c) each.0, no_comma_one_part text each.1) refl
+    rw (not-true (is_comma c) each.0, text_without_comma_is_one_part text each.1) refl
 
--- a character goes before the first part, also where more parts follow
+-- a character goes before the first part, even if more parts follow
 onto_first-append : (c : ℕ) (pieces more : List (List ℕ)) → 1 ≤ length pieces → onto_first c (pieces ++ more) ≡ onto_first c pieces ++ more
 onto_first-append c [] more h = absurd (omega (arith, h))
 onto_first-append c (piece ∷ pieces) more h = refl
 
 -- a comma separates the parts before it and those after it
-pub parts-append : (front back : List ℕ) → parts (front ++ 44 ∷ back) ≡ parts front ++ parts back
+pub parts-append : (front back : List ℕ) → parts (front ++ byte "," ∷ back) ≡ parts front ++ parts back
 parts-append [] back = refl
 parts-append (c ∷ front) back =
-    let some : 1 ≤ length (parts front) = omega (arith, parts_count front) in
+    let some : 1 ≤ length (parts front) = omega (arith, parts_exceed_commas_by_one front) in
     elim (cases_Bool (is_comma c)) [
       | inl hit ↦ rw (hit, parts-append front back) refl
       | inr miss ↦ rw (miss, parts-append front back) (onto_first-append c (parts front) (parts back) some)
     ]
 
 -- the first part ends at the first comma
-pub first_part_precedes_comma : (front back : List ℕ) → LacksComma front → parts (front ++ 44 ∷ back) ≡ front ∷ parts back
-first_part_precedes_comma front back h = rw (parts-append front back, no_comma_one_part front h) refl
+pub first_part_precedes_comma : (front back : List ℕ) → LacksComma front → parts (front ++ byte "," ∷ back) ≡ front ∷ parts back
+first_part_precedes_comma front back h = rw (parts-append front back, text_without_comma_is_one_part front h) refl
 
--- to take one more element, with one before the others, is to take that one and as many of the others
+-- taking one more element, with one before the others, is taking that one and as many of the others
 take-cons : (n c : ℕ) (text : List ℕ) → take (1 + n) (c ∷ text) ≡ c ∷ take n text
 take-cons n c text = let one : 1 + n ≡ suc n = omega arith in rw one refl
 
@@ -58,56 +59,60 @@ front_lacks_comma (c ∷ text) = elim (cases_Bool (is_comma c)) [
   | inr miss ↦ rw (miss, take-cons (position_or_len is_comma text) c text, miss) (front_lacks_comma text)
 ]
 
--- where a text has a comma, it is cut at the first: none comes before it; else it has none
+-- if a text has a comma, it is cut at the first: none comes before it; else it has none
 position_is_first_comma : (text : List ℕ) → MatchOption (position is_comma text) (LacksComma text)
-    (λ at. (text ≡ take at text ++ 44 ∷ drop (at + 1) text) × LacksComma (take at text))
+    (λ at. (text ≡ take at text ++ byte "," ∷ drop (at + 1) text) × LacksComma (take at text))
 position_is_first_comma text = let at = position_or_len is_comma text in elim (cases_lt at (length text)) [
   | inl some ↦
-      let byte : get_or text at 0 ≡ 44 = eqb-true (get_or text at 0) 44 (passes_at_first is_comma text 0 some) in
-      let cut = rw byte at (split_at_first is_comma text 0 some) in
+      let comma : get_or text at 0 ≡ byte "," = eqb-true (get_or text at 0) 44 (passes_at_first is_comma text 0 some) in
+      let cut = rw comma at (split_at_first is_comma text 0 some) in
       rw (lt-ltb at (length text) some) (cut, front_lacks_comma text)
   | inr none ↦ rw (le-ltb at (length text) none) (rw (take_all at text none) at (front_lacks_comma text))
 ]
 
--- where a text's first comma is at an index, its parts are what is before it, which has none, and the parts of what follows it
+-- if a text's first comma is at an index, its parts are what is before it, which has none, and the parts of what follows it
 pub first_comma_cuts_parts : (text : List ℕ) (at : ℕ) → position is_comma text ≡ Some at
     → (parts text ≡ take at text ∷ parts (take (length text - (at + 1)) (drop (at + 1) text))) × LacksComma (take at text)
 first_comma_cuts_parts text at found =
     let cuts = rw found at (position_is_first_comma text) in
     (rw (take_rest text (at + 1)) (ap parts cuts.0 ∙ first_part_precedes_comma (take at text) (drop (at + 1) text) cuts.1), cuts.1)
 
--- where a text's first comma is at an index, the text is what is before it, the comma and what follows it
-pub first_comma_cuts_text : (text : List ℕ) (at : ℕ) → position is_comma text ≡ Some at → text ≡ take at text ++ 44 ∷ drop (at + 1) text
+-- if a text's first comma is at an index, the text is what is before it, the comma and what follows it
+pub first_comma_cuts_text : (text : List ℕ) (at : ℕ) → position is_comma text ≡ Some at
+    → text ≡ take at text ++ byte "," ∷ drop (at + 1) text
 first_comma_cuts_text text at found = let cuts = rw found at (position_is_first_comma text) in cuts.0
 
--- where a text has no comma, it is its one part
-pub no_position_one_part : (text : List ℕ) → position is_comma text ≡ None → (parts text ≡ text ∷ []) × LacksComma text
-no_position_one_part text none = let lacks = rw none at (position_is_first_comma text) in (no_comma_one_part text lacks, lacks)
+-- if a text has no comma, it is its one part
+pub unfound_comma_leaves_one_part : (text : List ℕ) → position is_comma text ≡ None → (parts text ≡ text ∷ []) × LacksComma text
+unfound_comma_leaves_one_part text none = let lacks = rw none at (position_is_first_comma text) in
+    (text_without_comma_is_one_part text lacks, lacks)
 
--- where the first part does not fit its place, it is the first that does not
-pub misfit_here : (most k : ℕ) (place : TextWhy) (places : List TextWhy) (part : List ℕ) (pieces : List (List ℕ))
+-- if the first part does not fit its place, it is the first that does not
+pub unfit_part_is_misfit : (most k : ℕ) (place : TextWhy) (places : List TextWhy) (part : List ℕ) (pieces : List (List ℕ))
     → (Fits most place part → ⊥) → IsFirstMisfit most (place ∷ places) k (part ∷ pieces) (fault k place)
-misfit_here most k place places part pieces no_fit = record {
+unfit_part_is_misfit most k place places part pieces no_fit = record {
   part = part;
   first = record { before = []; after = zip places pieces; split = refl; met = tt; unmet = no_fit };
   number = omega arith;
 }
 
--- where the first part fits, the first that does not fit is a later one
-pub misfit_later : (most k : ℕ) (place : TextWhy) (places : List TextWhy) (part : List ℕ) (pieces : List (List ℕ)) (f : TextFault)
+-- if the first part fits, the first that does not fit is a later one
+pub fitting_part_keeps_misfit : (most k : ℕ) (place : TextWhy) (places : List TextWhy) (part : List ℕ) (pieces : List (List ℕ))
+    (f : TextFault)
     → Fits most place part → IsFirstMisfit most places (k + 1) pieces f → IsFirstMisfit most (place ∷ places) k (part ∷ pieces) f
-misfit_later most k place places part pieces f fits later = record {
+fitting_part_keeps_misfit most k place places part pieces f fits later = record {
   part = later.part;
   first = met_row_keeps_first (λ row. Fits most row.0 row.1) (place, part) (zip places pieces) (f.why, later.part) fits later.first;
   number = omega (arith, later.number);
 }
 
--- the first part that does not fit is the same where its index is written in another way
-pub same_index_same_misfit : (most j k : ℕ) (later : List TextWhy) (pieces : List (List ℕ)) (f : TextFault) → j ≡ k
+-- the first part that does not fit is the same if its index is written in another way
+pub equal_index_keeps_misfit : (most j k : ℕ) (later : List TextWhy) (pieces : List (List ℕ)) (f : TextFault) → j ≡ k
     → IsFirstMisfit most later j pieces f → IsFirstMisfit most later k pieces f
-same_index_same_misfit most j k later pieces f same misfit = subst (λ (i : ℕ). IsFirstMisfit most later i pieces f) same misfit
+equal_index_keeps_misfit most j k later pieces f same misfit = subst (λ (i : ℕ). IsFirstMisfit most later i pieces f) same misfit
 
 -- the last part of a text follows its last comma
-pub last_part_follows_comma : (text front back : List ℕ) → text ≡ front ++ 44 ∷ back → LacksComma back
+pub last_part_follows_comma : (text front back : List ℕ) → text ≡ front ++ byte "," ∷ back → LacksComma back
     → parts text ≡ parts front ++ back ∷ []
-last_part_follows_comma text front back spelled lacks = rw spelled (rw (parts-append front back, no_comma_one_part back lacks) refl)
+last_part_follows_comma text front back spelled lacks = rw spelled
+    (rw (parts-append front back, text_without_comma_is_one_part back lacks) refl)

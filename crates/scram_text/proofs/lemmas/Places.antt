@@ -2,6 +2,7 @@
 use Rattle.std.proofs.Common.{◌≡◌, inl, inr, ℕ, ◌+◌, ◌-◌, ◌≤◌, List, [], ◌∷◌, ◌++◌, length, replicate, refl, sym, ◌∙◌, ap, arith, subst}
 use Rattle.std.specs.List.{AllByRecursion, zip}
 use Rattle.std.proofs.lemmas.List.{append_assoc}
+use Rattle.std.specs.Str.{byte}
 use Rattle.scram_text.specs.Limits.{longest_message}
 use Rattle.scram_text.specs.Class.{is_printable, IsNonce, IsUtf8Text}
 use Rattle.scram_text.specs.Name.{LacksComma}
@@ -12,16 +13,16 @@ use Rattle.scram_text.specs.declared.fault.TextFault.{TextFault}
 use Rattle.scram_text.specs.declared.fault.TextWhy.{TextWhy}
 use Rattle.scram_text.specs.declared.fault.TextWhy.TheVariants.{Extension}
 use Rattle.scram_text.proofs.lemmas.Base64.{base64_decodes_back}
-use Rattle.scram_text.proofs.lemmas.Parts.{no_comma_one_part, first_part_precedes_comma, misfit_later, same_index_same_misfit}
+use Rattle.scram_text.proofs.lemmas.Parts.{text_without_comma_is_one_part, first_part_precedes_comma, fitting_part_keeps_misfit, equal_index_keeps_misfit}
 use Rattle.scram_text.proofs.lemmas.AttrVals.{extension_lacks_comma}
-use Rattle.scram_text.proofs.lemmas.FirstUnmet.{no_first_unmet}
+use Rattle.scram_text.proofs.lemmas.FirstUnmet.{met_rows_have_no_first_unmet}
 use Rattle.scram_text.proofs.lemmas.WithoutByte.{class_lacks_byte}
 
--- each part fits its place, as far as there are both
+-- each part fits its place, for as many as there are of both
 unfoldable pub AllFit : ℕ → List TextWhy → List (List ℕ) → Type 0
 AllFit most later pieces = AllByRecursion (λ row. Fits most row.0 row.1) (zip later pieces)
 
--- parts all fit where the first fits the first place and the others theirs, and where there are no places:
+-- all parts fit if the first fits the first place and the others theirs, and if there are no places:
 pub AllFit-cons : (most : ℕ) (place : TextWhy) (later : List TextWhy) (part : List ℕ) (pieces : List (List ℕ))
     → Fits most place part → AllFit most later pieces → AllFit most (place ∷ later) (part ∷ pieces)
 unfolding AllFit
@@ -31,13 +32,13 @@ pub AllFit-nil : (most : ℕ) (pieces : List (List ℕ)) → AllFit most [] piec
 unfolding AllFit
 AllFit-nil most pieces = tt
 
--- where parts fit their places, the first fits the first place, and the others fit theirs
+-- if parts fit their places, the first fits the first place, and the others fit theirs
 pub first_part_fits : (most : ℕ) (place : TextWhy) (later : List TextWhy) (part : List ℕ) (pieces : List (List ℕ))
     → AllFit most (place ∷ later) (part ∷ pieces) → Fits most place part × AllFit most later pieces
 unfolding AllFit
 first_part_fits most place later part pieces fit = fit
 
--- where extensions and parts after them fit their places, the extensions are ones, and the parts fit theirs
+-- if extensions and parts after them fit their places, the extensions are ones, and the parts fit theirs
 pub extensions_and_rest_fit : (most : ℕ) (later : List TextWhy) (extensions pieces : List (List ℕ))
     → AllFit most (replicate (length extensions) Extension ++ later) (extensions ++ pieces) → AreExtensions extensions
     × AllFit most later pieces
@@ -59,14 +60,14 @@ unfolding AllFit
 extensions_fit most [] are = tt
 extensions_fit most (part ∷ extensions) are = (are.0, extensions_fit most extensions are.1)
 
--- where each part fits, none is the first that does not
-no_misfit : (most : ℕ) (later : List TextWhy) (k : ℕ) (pieces : List (List ℕ)) (f : TextFault)
+-- if each part fits, none is the first that does not
+fitting_parts_have_no_misfit : (most : ℕ) (later : List TextWhy) (k : ℕ) (pieces : List (List ℕ)) (f : TextFault)
     → AllFit most later pieces → IsFirstMisfit most later k pieces f → ⊥
 unfolding AllFit
-no_misfit most later k pieces f fit misfit =
-    no_first_unmet (λ row. Fits most row.0 row.1) (zip later pieces) (f.why, misfit.part) fit misfit.first
+fitting_parts_have_no_misfit most later k pieces f fit misfit =
+    met_rows_have_no_first_unmet (λ row. Fits most row.0 row.1) (zip later pieces) (f.why, misfit.part) fit misfit.first
 
--- two lists of pairs, joined, begin with the pairs of the first lists
+-- two zipped lists with more after each begin with the pairs of the first lists
 zip-append : {A B : Type 0} (xs more : List A) (ys others : List B)
     → (rest : List (A × B)) × (zip (xs ++ more) (ys ++ others) ≡ zip xs ys ++ rest)
 zip-append [] more ys others = (zip more (ys ++ others), refl)
@@ -75,9 +76,9 @@ zip-append (x ∷ xs) more (y ∷ ys) others =
     let later = zip-append xs more ys others in (later.0, ap (λ rows. (x, y) ∷ rows) later.1)
 
 -- the first part that does not fit is the same with more places and parts after them
-pub misfit-append : (most : ℕ) (later more : List TextWhy) (k : ℕ) (pieces others : List (List ℕ)) (f : TextFault)
+pub later_parts_keep_misfit : (most : ℕ) (later more : List TextWhy) (k : ℕ) (pieces others : List (List ℕ)) (f : TextFault)
     → IsFirstMisfit most later k pieces f → IsFirstMisfit most (later ++ more) k (pieces ++ others) f
-misfit-append most later more k pieces others f misfit =
+later_parts_keep_misfit most later more k pieces others f misfit =
     let (rest, rows) = zip-append later more pieces others in record {
       part = misfit.part;
       first = record {
@@ -95,9 +96,10 @@ pub extensions_keep_misfit : (most : ℕ) (later : List TextWhy) (k j : ℕ) (ex
     → j ≡ k + length extensions → AreExtensions extensions → IsFirstMisfit most later j pieces f
     → IsFirstMisfit most (replicate (length extensions) Extension ++ later) k (extensions ++ pieces) f
 extensions_keep_misfit most later k j [] pieces f at are misfit =
-    same_index_same_misfit most j k later pieces f (omega (arith, at)) misfit
+    equal_index_keeps_misfit most j k later pieces f (omega (arith, at)) misfit
 extensions_keep_misfit most later k j (part ∷ extensions) pieces f at are misfit =
-    misfit_later most k Extension _ part _ f are.0 (extensions_keep_misfit most later (k + 1) j extensions pieces f (omega (arith, at))
+    fitting_part_keeps_misfit most k Extension _ part _ f are.0 (extensions_keep_misfit most later (k + 1) j extensions pieces f
+    (omega (arith, at))
     are.1 misfit)
 
 -- parts that fit, with extensions before them, fit
@@ -114,7 +116,7 @@ pub places_unfold : (front back : List TextWhy) (n middle : ℕ) → n ≡ lengt
 places_unfold front back n middle count =
     let same : n - (length front + length back) ≡ middle = omega (arith, count) in rw same refl
 
--- a fault of the parts is one of the text; the places before the extensions may follow from the parts
+-- a fault of the parts is one of the text; the places before the extensions may depend on the parts
 pub part_fault_is_fault : (most : ℕ) (front : List (List ℕ) → List TextWhy) (back : List TextWhy) (text : List ℕ) (pieces : List (List ℕ))
     (f : TextFault) → length text ≤ longest_message → IsUtf8Text text → parts text ≡ pieces → IsPartFault most (front pieces) back pieces f
     → IsFault most (front (parts text)) back text f
@@ -122,11 +124,12 @@ part_fault_is_fault most front back text pieces f short utf8_text cut misfit =
     inr (short, utf8_text, subst (λ (ps : List (List ℕ)). IsPartFault most (front ps) back ps f) (sym cut) misfit)
 
 -- a text whose parts fit has no fault
-pub no_fault : (most : ℕ) (front : List (List ℕ) → List TextWhy) (back : List TextWhy) (text : List ℕ) (pieces : List (List ℕ))
+pub fitting_text_has_no_fault : (most : ℕ) (front : List (List ℕ) → List TextWhy) (back : List TextWhy) (text : List ℕ)
+    (pieces : List (List ℕ))
     (f : TextFault) → length text ≤ longest_message → IsUtf8Text text → parts text ≡ pieces
     → length (front pieces) + length back ≤ length pieces → AllFit most (places (front pieces) back (length pieces)) pieces
     → IsFault most (front (parts text)) back text f → ⊥
-no_fault most front back text pieces f short utf8_text cut enough fit faulty = elim faulty [
+fitting_text_has_no_fault most front back text pieces f short utf8_text cut enough fit faulty = elim faulty [
   | inl whole ↦ elim whole [
     | inl long ↦ omega (arith, short, long.0)
     | inr no_text ↦ no_text.1 utf8_text
@@ -134,7 +137,7 @@ no_fault most front back text pieces f short utf8_text cut enough fit faulty = e
   | inr in_parts ↦
       let misfit = subst (λ (ps : List (List ℕ)). IsPartFault most (front ps) back ps f) cut in_parts.2 in elim misfit [
         | inl missing ↦ omega (arith, enough, missing.0)
-        | inr first ↦ no_misfit most (places (front pieces) back (length pieces)) 0 pieces f fit first.1
+        | inr first ↦ fitting_parts_have_no_misfit most (places (front pieces) back (length pieces)) 0 pieces f fit first.1
       ]
 ]
 
@@ -149,7 +152,7 @@ extensions_lack_comma (part ∷ extensions) are = (extension_lacks_comma part ar
 -- parts without commas are cut as they were joined, by commas:
 pub parts-joined : (piece : List ℕ) (pieces : List (List ℕ)) → AllByRecursion LacksComma (piece ∷ pieces)
     → parts (joined (piece ∷ pieces)) ≡ piece ∷ pieces
-parts-joined piece [] lack = no_comma_one_part piece lack.0
+parts-joined piece [] lack = text_without_comma_is_one_part piece lack.0
 parts-joined piece (next ∷ pieces) lack =
     first_part_precedes_comma piece (joined (next ∷ pieces)) lack.0 ∙ ap (λ (ps : List (List ℕ)). piece ∷ ps)
     (parts-joined next pieces lack.1)
@@ -159,9 +162,9 @@ parts-joined_list [] some lack = absurd (omega (arith, some))
 parts-joined_list (piece ∷ pieces) some lack = parts-joined piece pieces lack
 
 -- a letter, `=` and the base64 of a field are a part that spells the field
-pub field_fits : (letter most : ℕ) (part bytes : List ℕ) → part ≡ letter ∷ 61 ∷ base64 bytes → IsField most bytes
+pub field_part_spells_field : (letter most : ℕ) (part bytes : List ℕ) → part ≡ letter ∷ byte "=" ∷ base64 bytes → IsField most bytes
     → IsAttrVal letter (SpellsField most) part
-field_fits letter most part bytes spelled field = (base64 bytes, spelled, (bytes, refl, field))
+field_part_spells_field letter most part bytes spelled field = (base64 bytes, spelled, (bytes, refl, field))
 
 -- two fields with the same base64 are the same bytes
 pub one_field_per_base64 : (most : ℕ) (one other : List ℕ) → IsField most one → IsField most other → base64 one ≡ base64 other → one ≡ other

@@ -1,4 +1,4 @@
--- The parts of server-final: they are read in one way, and a text that has them has no fault.
+-- The parts of server-final: they are read in only one way, and a text that has them has no fault.
 use Rattle.std.proofs.Common.{◌≡◌, inr, ℕ, ◌≤◌, List, [], ◌∷◌, length, replicate, refl, sym, ◌∙◌, ap, arith, subst}
 use Rattle.std.specs.Prelude.{IfOk, IfErr, IsOkAnd}
 use Rattle.std.specs.declared.result.Result.{Result}
@@ -19,9 +19,9 @@ use Rattle.scram_text.specs.declared.fault.TextFault.{TextFault}
 use Rattle.scram_text.specs.declared.fault.TextWhy.TheVariants.{Extension}
 use Rattle.scram_text.proofs.lemmas.ListEnds.{same_head_and_tail}
 use Rattle.scram_text.proofs.lemmas.Base64.{base64_lacks_comma}
-use Rattle.scram_text.proofs.lemmas.Parts.{misfit_here, misfit_later}
-use Rattle.scram_text.proofs.lemmas.Places.{AllFit, AllFit-cons, extensions_fit, part_fault_is_fault, no_fault, extensions_lack_comma, parts-joined}
-use Rattle.scram_text.proofs.lemmas.Places.{field_fits, one_field_per_base64}
+use Rattle.scram_text.proofs.lemmas.Parts.{unfit_part_is_misfit, fitting_part_keeps_misfit}
+use Rattle.scram_text.proofs.lemmas.Places.{AllFit, AllFit-cons, extensions_fit, part_fault_is_fault, fitting_text_has_no_fault, extensions_lack_comma, parts-joined}
+use Rattle.scram_text.proofs.lemmas.Places.{field_part_spells_field, one_field_per_base64}
 use Rattle.scram_text.proofs.lemmas.MextAndRest.{front_places_unfold}
 use Rattle.scram_text.proofs.lemmas.ReadMessages.{message_is_read}
 
@@ -31,10 +31,10 @@ outcome_lacks_comma (verifier signature) is = base64_lacks_comma signature is.ea
 outcome_lacks_comma (server_error value) is = is.no_comma
 
 -- a server-final message is cut into its parts
-pub parts_server_final : (text : List ℕ) (p : ServerFinalParts) → IsServerFinal text p
+pub parts-server_final : (text : List ℕ) (p : ServerFinalParts) → IsServerFinal text p
     → parts text ≡ verifier_or_error_text p.outcome ∷ p.extensions
 unfolding server_final_text
-parts_server_final text p is =
+parts-server_final text p is =
     rw (is.spelled) (parts-joined (verifier_or_error_text p.outcome) p.extensions
     (outcome_lacks_comma p.outcome is.outcome, extensions_lack_comma p.extensions is.extensions))
 
@@ -47,11 +47,11 @@ one_outcome_per_text (verifier one) (server_error other) is also same = absurd (
 one_outcome_per_text (server_error one) (verifier other) is also same = absurd (omega (arith, (same_head_and_tail 101 118 _ _ same).0))
 one_outcome_per_text (server_error one) (server_error other) is also same = let values : one ≡ other = cc same in ap server_error values
 
--- the law: a text is server-final with one list of parts
+-- the law: a text is server-final with at most one list of parts
 pub has_one_server_final : HasOneServerFinal
 has_one_server_final text p q is also =
     let same : verifier_or_error_text p.outcome ∷ p.extensions ≡ verifier_or_error_text q.outcome
-    ∷ q.extensions = sym (parts_server_final text p is) ∙ parts_server_final text q also in
+    ∷ q.extensions = sym (parts-server_final text p is) ∙ parts-server_final text q also in
     let outcomes : verifier_or_error_text p.outcome ≡ verifier_or_error_text q.outcome = cc same in
     let extensions : p.extensions ≡ q.extensions = cc same in
     let outcome = one_outcome_per_text p.outcome q.outcome is.outcome also.outcome outcomes in
@@ -66,24 +66,25 @@ server_final_places_unfold first extensions =
 -- an outcome's text fits its place
 pub outcome_fits : (outcome : VerifierOrError) → IsVerifierOrError outcome
     → Fits longest_nonce (outcome_place (verifier_or_error_text outcome)) (verifier_or_error_text outcome)
-outcome_fits (verifier signature) is = field_fits 118 64 _ signature refl is
+outcome_fits (verifier signature) is = field_part_spells_field 118 64 _ signature refl is
 outcome_fits (server_error value) is = (value, refl, is)
 
--- where the first part of server-final fits its place, and the others are extensions, all parts fit their places
-pub server_final_fit : (first : List ℕ) (extensions : List (List ℕ)) → Fits longest_nonce (outcome_place first) first
+-- if the first part of server-final fits its place, and the others are extensions, all parts fit their places
+pub server_final_parts_fit : (first : List ℕ) (extensions : List (List ℕ)) → Fits longest_nonce (outcome_place first) first
     → AreExtensions extensions
     → AllFit longest_nonce (places (outcome_place first ∷ []) [] (length (first ∷ extensions))) (first ∷ extensions)
-server_final_fit first extensions fits are =
+server_final_parts_fit first extensions fits are =
     rw (server_final_places_unfold first extensions)
     (AllFit-cons longest_nonce (outcome_place first) _ first extensions fits
     (extensions_fit longest_nonce extensions are))
 
 -- a server-final message has no fault
-server_final_no_fault : (text : List ℕ) (p : ServerFinalParts) (f : TextFault) → IsServerFinal text p → IsServerFinalFault text f → ⊥
-server_final_no_fault text p f is =
-    no_fault longest_nonce server_final_places [] text (verifier_or_error_text p.outcome ∷ p.extensions) f is.short is.utf8_text
-    (parts_server_final text p is)
-    (omega arith) (server_final_fit (verifier_or_error_text p.outcome) p.extensions (outcome_fits p.outcome is.outcome) is.extensions)
+server_final_has_no_fault : (text : List ℕ) (p : ServerFinalParts) (f : TextFault) → IsServerFinal text p → IsServerFinalFault text f → ⊥
+server_final_has_no_fault text p f is =
+    fitting_text_has_no_fault longest_nonce server_final_places [] text (verifier_or_error_text p.outcome ∷ p.extensions) f is.short
+    is.utf8_text
+    (parts-server_final text p is)
+    (omega arith) (server_final_parts_fit (verifier_or_error_text p.outcome) p.extensions (outcome_fits p.outcome is.outcome) is.extensions)
 
 -- a text that is server-final is read, and what is read shows its parts
 pub server_final_is_read : (text : List ℕ) (r : Result ServerFinal TextFault)
@@ -91,7 +92,7 @@ pub server_final_is_read : (text : List ℕ) (r : Result ServerFinal TextFault)
     → (p : ServerFinalParts) → IsServerFinal text p → IsOkAnd r (λ m. ShowsServerFinal m p)
 server_final_is_read text r =
     message_is_read (IsServerFinal text) ShowsServerFinal (IsServerFinalFault text) r
-    (has_one_server_final text) (server_final_no_fault text)
+    (has_one_server_final text) (server_final_has_no_fault text)
 
 -- the first part of server-final that does not fit is a fault of the text
 module _ (text first : List ℕ) (extensions : List (List ℕ)) (short : length text ≤ longest_message) (utf8_text : IsUtf8Text text)
@@ -104,18 +105,19 @@ module _ (text first : List ℕ) (extensions : List (List ℕ)) (short : length 
       part_fault_is_fault longest_nonce server_final_places [] text (first ∷ extensions) f short utf8_text cut
       (inr (omega arith, rw (server_final_places_unfold first extensions) misfit))
 
-  -- that part is the outcome, or an extension:
-  pub outcome_fault : (f : TextFault) → (Fits longest_nonce (outcome_place first) first → ⊥) × (f ≡ fault 0 (outcome_place first))
+  -- the first part that does not fit may be the outcome, or an extension:
+  pub unfit_outcome_is_fault : (f : TextFault) → (Fits longest_nonce (outcome_place first) first → ⊥) × (f ≡ fault 0 (outcome_place first))
       → IsServerFinalFault text f
-  outcome_fault f (no_fit, is) =
+  unfit_outcome_is_fault f (no_fit, is) =
       subst (λ (g : TextFault). IsServerFinalFault text g) (sym is)
       (server_final_misfit_is_fault (fault 0 (outcome_place first))
-      (misfit_here longest_nonce 0 (outcome_place first) _ first extensions no_fit))
+      (unfit_part_is_misfit longest_nonce 0 (outcome_place first) _ first extensions no_fit))
 
-  pub extension_fault : (f : TextFault) → Fits longest_nonce (outcome_place first) first → IsExtensionMisfit 1 extensions f
+  pub extension_misfit_is_fault : (f : TextFault) → Fits longest_nonce (outcome_place first) first → IsExtensionMisfit 1 extensions f
       → IsServerFinalFault text f
-  extension_fault f fits misfit =
-      server_final_misfit_is_fault f (misfit_later longest_nonce 0 (outcome_place first) _ first extensions f fits (misfit longest_nonce))
+  extension_misfit_is_fault f fits misfit =
+      server_final_misfit_is_fault f (fitting_part_keeps_misfit longest_nonce 0 (outcome_place first) _ first extensions f fits
+      (misfit longest_nonce))
 
 -- a part that is the text of an outcome fits the outcome's place
 pub outcome_part_fits : (part : List ℕ) (outcome : VerifierOrError) → part ≡ verifier_or_error_text outcome → IsVerifierOrError outcome
@@ -124,10 +126,10 @@ outcome_part_fits part outcome spelled is =
     subst (λ (t : List ℕ). Fits longest_nonce (outcome_place t) t) (sym spelled) (outcome_fits outcome is)
 
 -- the pieces of server-final make its text
-pub server_final_spelled : (text first : List ℕ) (p : ServerFinalParts) → parts text ≡ first ∷ p.extensions
+pub pieces_spell_server_final : (text first : List ℕ) (p : ServerFinalParts) → parts text ≡ first ∷ p.extensions
     → first ≡ verifier_or_error_text p.outcome
     → text ≡ server_final_text p
 unfolding server_final_text
-server_final_spelled text first p cut spelled =
+pieces_spell_server_final text first p cut spelled =
     let pieces : first ∷ p.extensions ≡ verifier_or_error_text p.outcome ∷ p.extensions = cc spelled in
     sym (join_with_byte-slice_split 44 text) ∙ ap joined (cut ∙ pieces)

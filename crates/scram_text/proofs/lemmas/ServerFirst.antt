@@ -1,4 +1,4 @@
--- The parts of server-first: they are read in one way, and a text that has them has no fault.
+-- The parts of server-first: they are read in only one way, and a text that has them has no fault.
 use Rattle.std.proofs.Common.{◌≡◌, inr, ℕ, ◌+◌, ◌≤◌, List, [], ◌∷◌, ◌++◌, length, replicate, refl, sym, ◌∙◌, ap, arith, subst}
 use Rattle.std.specs.Prelude.{codes, decimal, IfOk, IfErr, IsOkAnd}
 use Rattle.std.specs.declared.option.Option.{Option}
@@ -19,12 +19,12 @@ use Rattle.scram_text.specs.declared.server_first.ServerFirst.{ServerFirst}
 use Rattle.scram_text.specs.declared.fault.TextFault.{TextFault}
 use Rattle.scram_text.specs.declared.fault.TextWhy.TheVariants.{Nonce, Salt, Count, Extension}
 use Rattle.scram_text.proofs.lemmas.Base64.{base64_lacks_comma}
-use Rattle.scram_text.proofs.lemmas.Parts.{misfit_here, misfit_later, same_index_same_misfit}
-use Rattle.scram_text.proofs.lemmas.Places.{AllFit, AllFit-cons, extensions_fit, no_fault, nonce_lacks_comma, extensions_lack_comma}
-use Rattle.scram_text.proofs.lemmas.Places.{parts-joined_list, field_fits, one_field_per_base64}
-use Rattle.scram_text.proofs.lemmas.MextAndRest.{front_places_unfold, mext_and_rest_joined, mext_and_rest_lack_comma, mext_and_rest_nonempty, one_mext_and_rest, mext_and_rest_fit, rest_fault}
-use Rattle.scram_text.proofs.lemmas.MextAndRest.{mext_and_rest_lengths}
-use Rattle.scram_text.proofs.lemmas.Counts.{decimal_lacks_comma, count_below_2_64}
+use Rattle.scram_text.proofs.lemmas.Parts.{unfit_part_is_misfit, fitting_part_keeps_misfit, equal_index_keeps_misfit}
+use Rattle.scram_text.proofs.lemmas.Places.{AllFit, AllFit-cons, extensions_fit, fitting_text_has_no_fault, nonce_lacks_comma, extensions_lack_comma}
+use Rattle.scram_text.proofs.lemmas.Places.{parts-joined_list, field_part_spells_field, one_field_per_base64}
+use Rattle.scram_text.proofs.lemmas.MextAndRest.{front_places_unfold, joined_are_mext_and_rest, mext_and_rest_lack_comma, mext_and_rest_are_nonempty, one_mext_and_rest, mext_and_rest_fit, rest_misfit_is_part_fault}
+use Rattle.scram_text.proofs.lemmas.MextAndRest.{mext_and_rest_lengths_add_up}
+use Rattle.scram_text.proofs.lemmas.Counts.{decimal_lacks_comma, count_is_below_2_64}
 use Rattle.scram_text.proofs.lemmas.ReadMessages.{message_is_read}
 
 -- the parts after the mandatory extension, if there is one
@@ -32,11 +32,12 @@ abbrev server_first_rest : ServerFirstParts → List (List ℕ)
 server_first_rest p = (codes "r=" ++ p.nonce) ∷ (codes "s=" ++ base64 p.salt) ∷ (codes "i=" ++ decimal p.count) ∷ p.extensions
 
 -- a server-first message is cut into its parts
-parts_server_first : (text : List ℕ) (p : ServerFirstParts) → IsServerFirst text p
+parts-server_first : (text : List ℕ) (p : ServerFirstParts) → IsServerFirst text p
     → parts text ≡ mext_parts p.mext ++ server_first_rest p
 unfolding server_first_text
-parts_server_first text p is =
-    rw (is.spelled) (parts-joined_list (mext_parts p.mext ++ server_first_rest p) (mext_and_rest_nonempty p.mext (codes "r=" ++ p.nonce) _)
+parts-server_first text p is =
+    rw (is.spelled) (parts-joined_list (mext_parts p.mext ++ server_first_rest p) (mext_and_rest_are_nonempty p.mext
+    (codes "r=" ++ p.nonce) _)
     (mext_and_rest_lack_comma p.mext (server_first_rest p) is.mext (
       nonce_lacks_comma longest_nonce p.nonce is.nonce,
       (
@@ -45,31 +46,31 @@ parts_server_first text p is =
       ),
     )))
 
--- the parts of a server-first message are its mandatory extension, where it has one, and the others
-pub server_first_mext_and_rest : (text : List ℕ) (p : ServerFirstParts) → IsServerFirst text p
+-- the parts of a server-first message are its mandatory extension, if it has one, and the others
+pub server_first_has_mext_and_rest : (text : List ℕ) (p : ServerFirstParts) → IsServerFirst text p
     → IsMextAndRest (parts text) (server_first_rest p) p.mext
-server_first_mext_and_rest text p is =
-    subst (λ (ps : List (List ℕ)). IsMextAndRest ps (server_first_rest p) p.mext) (sym (parts_server_first text p is))
-    (mext_and_rest_joined p.mext (codes "r=" ++ p.nonce) _ refl is.mext)
+server_first_has_mext_and_rest text p is =
+    subst (λ (ps : List (List ℕ)). IsMextAndRest ps (server_first_rest p) p.mext) (sym (parts-server_first text p is))
+    (joined_are_mext_and_rest p.mext (codes "r=" ++ p.nonce) _ refl is.mext)
 
--- server-first messages with the same parts are the same
-same_fields_same_parts : (p q : ServerFirstParts) → p.mext ≡ q.mext → p.nonce ≡ q.nonce → p.salt ≡ q.salt → p.count ≡ q.count
+-- the parts of server-first are the same if each of them is
+same_fields_make_same_parts : (p q : ServerFirstParts) → p.mext ≡ q.mext → p.nonce ≡ q.nonce → p.salt ≡ q.salt → p.count ≡ q.count
     → p.extensions ≡ q.extensions → p ≡ q
-same_fields_same_parts p q mext nonce salt count extensions =
+same_fields_make_same_parts p q mext nonce salt count extensions =
     λ i. record { mext = mext i; nonce = nonce i; salt = salt i; count = count i; extensions = extensions i }
 
--- the law: a text is server-first with one list of parts
+-- the law: a text is server-first with at most one list of parts
 pub has_one_server_first : HasOneServerFirst
 has_one_server_first text p q is also =
     let same = one_mext_and_rest p.mext q.mext (codes "r=" ++ p.nonce) (codes "r=" ++ q.nonce) _ _ refl refl
-    (sym (parts_server_first text p is) ∙ parts_server_first text q also) in
+    (sym (parts-server_first text p is) ∙ parts-server_first text q also) in
     let rest : server_first_rest p ≡ server_first_rest q = same.1 in
     let nonces : p.nonce ≡ q.nonce = cc rest in
     let salts : base64 p.salt ≡ base64 q.salt = cc rest in
     let counts : decimal p.count ≡ decimal q.count = cc rest in
     let extensions : p.extensions ≡ q.extensions = cc rest in
-    same_fields_same_parts p q same.0 nonces (one_field_per_base64 64 p.salt q.salt is.salt also.salt salts)
-    (decimal_injective p.count q.count (count_below_2_64 p.count is.count) (count_below_2_64 q.count also.count) counts) extensions
+    same_fields_make_same_parts p q same.0 nonces (one_field_per_base64 64 p.salt q.salt is.salt also.salt salts)
+    (decimal_injective p.count q.count (count_is_below_2_64 p.count is.count) (count_is_below_2_64 q.count also.count) counts) extensions
 
 -- the places of the parts after the mandatory extension are Nonce, Salt, Count and one Extension for each extension
 pub server_first_rest_places_unfold : (nonce salt count : List ℕ) (extensions : List (List ℕ))
@@ -78,7 +79,7 @@ pub server_first_rest_places_unfold : (nonce salt count : List ℕ) (extensions 
 server_first_rest_places_unfold nonce salt count extensions =
     front_places_unfold (Nonce ∷ Salt ∷ Count ∷ []) (length (nonce ∷ salt ∷ count ∷ extensions)) (length extensions) (omega arith)
 
--- where the nonce, the salt and the count of server-first fit, and the other parts are extensions, all fit their places
+-- if the nonce, the salt and the count of server-first fit, and the other parts are extensions, all fit their places
 nonce_salt_count_fit : (nonce salt count : List ℕ) (extensions : List (List ℕ))
     → Fits longest_nonce Nonce nonce → Fits longest_nonce Salt salt → Fits longest_nonce Count count → AreExtensions extensions
     → AllFit longest_nonce (places (Nonce ∷ Salt ∷ Count ∷ []) [] (length (nonce ∷ salt ∷ count ∷ extensions)))
@@ -90,21 +91,22 @@ nonce_salt_count_fit nonce salt count extensions is_nonce is_salt is_count are =
     (extensions_fit longest_nonce extensions are))))
 
 -- the parts of a server-first message fit their places
-pub server_first_fit : (text : List ℕ) (p : ServerFirstParts) → IsServerFirst text p
+pub server_first_parts_fit : (text : List ℕ) (p : ServerFirstParts) → IsServerFirst text p
     → AllFit longest_nonce (places (server_first_places (parts text)) [] (length (parts text))) (parts text)
-server_first_fit text p is =
+server_first_parts_fit text p is =
     mext_and_rest_fit longest_nonce (Nonce ∷ Salt ∷ Count ∷ []) (parts text) (server_first_rest p) p.mext
-    (server_first_mext_and_rest text p is)
-    (nonce_salt_count_fit _ _ _ p.extensions (p.nonce, refl, is.nonce) (field_fits 115 64 _ p.salt refl is.salt)
+    (server_first_has_mext_and_rest text p is)
+    (nonce_salt_count_fit _ _ _ p.extensions (p.nonce, refl, is.nonce) (field_part_spells_field 115 64 _ p.salt refl is.salt)
     (decimal p.count, refl, (p.count, refl, is.count)) is.extensions)
 
 -- a server-first message has no fault
-server_first_no_fault : (text : List ℕ) (p : ServerFirstParts) (f : TextFault) → IsServerFirst text p → IsServerFirstFault text f → ⊥
-server_first_no_fault text p f is =
-    let lengths = mext_and_rest_lengths (Nonce ∷ Salt ∷ Count ∷ []) (parts text) (server_first_rest p) p.mext
-    (server_first_mext_and_rest text p is) in
-    no_fault longest_nonce server_first_places [] text (parts text) f is.short is.utf8_text refl (omega (arith, lengths.0, lengths.1))
-    (server_first_fit text p is)
+server_first_has_no_fault : (text : List ℕ) (p : ServerFirstParts) (f : TextFault) → IsServerFirst text p → IsServerFirstFault text f → ⊥
+server_first_has_no_fault text p f is =
+    let lengths = mext_and_rest_lengths_add_up (Nonce ∷ Salt ∷ Count ∷ []) (parts text) (server_first_rest p) p.mext
+    (server_first_has_mext_and_rest text p is) in
+    fitting_text_has_no_fault longest_nonce server_first_places [] text (parts text) f is.short is.utf8_text refl
+    (omega (arith, lengths.0, lengths.1))
+    (server_first_parts_fit text p is)
 
 -- a text that is server-first is read, and what is read shows its parts
 pub server_first_is_read : (text : List ℕ) (r : Result ServerFirst TextFault)
@@ -112,56 +114,62 @@ pub server_first_is_read : (text : List ℕ) (r : Result ServerFirst TextFault)
     → (p : ServerFirstParts) → IsServerFirst text p → IsOkAnd r (λ m. ShowsServerFirst m p)
 server_first_is_read text r =
     message_is_read (IsServerFirst text) ShowsServerFirst (IsServerFirstFault text) r
-    (has_one_server_first text) (server_first_no_fault text)
+    (has_one_server_first text) (server_first_has_no_fault text)
 
 -- the first part of server-first that does not fit is a fault of the text; k is the index of the nonce
 module _ (text nonce salt count : List ℕ) (extensions : List (List ℕ)) (mext : Option (List ℕ)) (k : ℕ)
     (short : length text ≤ longest_message) (utf8_text : IsUtf8Text text)
     (marked : IsMextAndRest (parts text) (nonce ∷ salt ∷ count ∷ extensions) mext) (at : k ≡ length (mext_parts mext)) where
   -- a misfit after the mandatory extension is a fault of the text
-  server_first_rest_fault : (f : TextFault)
+  server_first_rest_misfit_is_fault : (f : TextFault)
       → IsFirstMisfit longest_nonce (Nonce ∷ Salt ∷ Count ∷ replicate (length extensions) Extension) k (nonce ∷ salt ∷ count ∷ extensions) f
       → IsServerFirstFault text f
-  server_first_rest_fault f misfit =
+  server_first_rest_misfit_is_fault f misfit =
       inr (
         short,
         utf8_text,
-        rest_fault longest_nonce (Nonce ∷ Salt ∷ Count ∷ []) (parts text) (nonce ∷ salt ∷ count ∷ extensions) mext f marked (omega arith)
-            (rw (server_first_rest_places_unfold nonce salt count extensions) (same_index_same_misfit longest_nonce k
+        rest_misfit_is_part_fault longest_nonce (Nonce ∷ Salt ∷ Count ∷ []) (parts text) (nonce ∷ salt ∷ count ∷ extensions) mext f marked
+            (omega arith)
+            (rw (server_first_rest_places_unfold nonce salt count extensions) (equal_index_keeps_misfit longest_nonce k
             (length (mext_parts mext)) _ _ f at misfit)),
       )
 
-  -- that part is the nonce, the salt, the count or an extension:
-  pub nonce_fault : (Fits longest_nonce Nonce nonce → ⊥) → IsServerFirstFault text (fault k Nonce)
-  nonce_fault no_nonce = server_first_rest_fault _ (misfit_here longest_nonce k Nonce _ nonce _ no_nonce)
+  -- the first part that does not fit may be the nonce, the salt, the count or an extension:
+  pub unfit_nonce_is_fault : (Fits longest_nonce Nonce nonce → ⊥) → IsServerFirstFault text (fault k Nonce)
+  unfit_nonce_is_fault no_nonce = server_first_rest_misfit_is_fault _ (unfit_part_is_misfit longest_nonce k Nonce _ nonce _ no_nonce)
 
-  pub salt_fault : Fits longest_nonce Nonce nonce → (Fits longest_nonce Salt salt → ⊥) → IsServerFirstFault text (fault (k + 1) Salt)
-  salt_fault is_nonce no_salt =
-      server_first_rest_fault _
-      (misfit_later longest_nonce k Nonce _ nonce _ _ is_nonce (misfit_here longest_nonce (k + 1) Salt _ salt _ no_salt))
+  pub unfit_salt_is_fault : Fits longest_nonce Nonce nonce → (Fits longest_nonce Salt salt → ⊥)
+      → IsServerFirstFault text (fault (k + 1) Salt)
+  unfit_salt_is_fault is_nonce no_salt =
+      server_first_rest_misfit_is_fault _
+      (fitting_part_keeps_misfit longest_nonce k Nonce _ nonce _ _ is_nonce (unfit_part_is_misfit longest_nonce
+      (k + 1) Salt _ salt _ no_salt))
 
-  pub count_fault : Fits longest_nonce Nonce nonce → Fits longest_nonce Salt salt → (Fits longest_nonce Count count → ⊥)
+  pub unfit_count_is_fault : Fits longest_nonce Nonce nonce → Fits longest_nonce Salt salt → (Fits longest_nonce Count count → ⊥)
       → IsServerFirstFault text (fault (k + 2) Count)
-  count_fault is_nonce is_salt no_count =
-      server_first_rest_fault _
-      (misfit_later longest_nonce k Nonce _ nonce _ _ is_nonce (misfit_later longest_nonce (k + 1) Salt _ salt _ _ is_salt
-      (same_index_same_misfit longest_nonce (k + 2) (k + 1 + 1) _ _ _ (omega arith)
-      (misfit_here longest_nonce (k + 2) Count _ count _ no_count))))
+  unfit_count_is_fault is_nonce is_salt no_count =
+      server_first_rest_misfit_is_fault _
+      (fitting_part_keeps_misfit longest_nonce k Nonce _ nonce _ _ is_nonce (fitting_part_keeps_misfit longest_nonce
+      (k + 1) Salt _ salt _ _ is_salt
+      (equal_index_keeps_misfit longest_nonce (k + 2) (k + 1 + 1) _ _ _ (omega arith)
+      (unfit_part_is_misfit longest_nonce (k + 2) Count _ count _ no_count))))
 
-  pub extension_fault : (f : TextFault) → Fits longest_nonce Nonce nonce → Fits longest_nonce Salt salt → Fits longest_nonce Count count
+  pub extension_misfit_is_fault : (f : TextFault) → Fits longest_nonce Nonce nonce → Fits longest_nonce Salt salt
+      → Fits longest_nonce Count count
       → IsExtensionMisfit (k + 3) extensions f → IsServerFirstFault text f
-  extension_fault f is_nonce is_salt is_count misfit =
-      server_first_rest_fault f
-      (misfit_later longest_nonce k Nonce _ nonce _ f is_nonce
-      (misfit_later longest_nonce (k + 1) Salt _ salt _ f is_salt (misfit_later longest_nonce (k + 1 + 1) Count _ count _ f is_count
-      (same_index_same_misfit longest_nonce (k + 3) (k + 1 + 1 + 1) _ _ f (omega arith) (misfit longest_nonce)))))
+  extension_misfit_is_fault f is_nonce is_salt is_count misfit =
+      server_first_rest_misfit_is_fault f
+      (fitting_part_keeps_misfit longest_nonce k Nonce _ nonce _ f is_nonce
+      (fitting_part_keeps_misfit longest_nonce (k + 1) Salt _ salt _ f is_salt (fitting_part_keeps_misfit longest_nonce
+      (k + 1 + 1) Count _ count _ f is_count
+      (equal_index_keeps_misfit longest_nonce (k + 3) (k + 1 + 1 + 1) _ _ f (omega arith) (misfit longest_nonce)))))
 
 -- the pieces of server-first make its text
-pub server_first_spelled : (text nonce salt count : List ℕ) (p : ServerFirstParts)
+pub pieces_spell_server_first : (text nonce salt count : List ℕ) (p : ServerFirstParts)
     → IsMextAndRest (parts text) (nonce ∷ salt ∷ count ∷ p.extensions) p.mext
     → nonce ≡ codes "r=" ++ p.nonce → salt ≡ codes "s=" ++ base64 p.salt → count ≡ codes "i=" ++ decimal p.count
     → text ≡ server_first_text p
 unfolding server_first_text
-server_first_spelled text nonce salt count p marked is_nonce is_salt is_count =
+pieces_spell_server_first text nonce salt count p marked is_nonce is_salt is_count =
     let later : nonce ∷ salt ∷ count ∷ p.extensions ≡ server_first_rest p = cc (is_nonce, is_salt, is_count) in
     sym (join_with_byte-slice_split 44 text) ∙ ap joined (marked.cut ∙ ap (λ (ps : List (List ℕ)). mext_parts p.mext ++ ps) later)

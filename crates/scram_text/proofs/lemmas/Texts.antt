@@ -1,4 +1,4 @@
--- Texts of which messages are made: each is UTF-8 without a NUL.
+-- Texts of which messages are made: each is UTF-8 without NUL.
 use Rattle.std.proofs.Common.{◌≡◌, inl, inr, ℕ, zero, suc, ◌+◌, ◌<◌, Bool, true, false, not, ◌&&◌, List, [], ◌∷◌, ◌++◌, length, refl, arith}
 use Rattle.std.specs.Prelude.{decimal, nat_le, ◌==◌}
 use Rattle.std.specs.List.{list_all}
@@ -15,11 +15,11 @@ use Rattle.scram_text.specs.Name.{escape, name_spelling}
 use Rattle.scram_text.specs.Base64Field.{base64}
 use Rattle.scram_text.specs.Parts.{IsCount, is_cb_name}
 use Rattle.scram_text.proofs.lemmas.Base64Texts.{base64_passes_test}
-use Rattle.scram_text.proofs.lemmas.Counts.{count_below_2_64}
+use Rattle.scram_text.proofs.lemmas.Counts.{count_is_below_2_64}
 use Rattle.scram_text.proofs.lemmas.Names.{escape_by_cases}
 use Rattle.scram_text.proofs.lemmas.WithoutByte.{class_lacks_byte, digits_lack_byte}
 
--- a byte is no NUL
+-- a byte is not NUL
 abbrev is_no_nul : ℕ → Bool
 is_no_nul c = not (c == 0)
 
@@ -27,8 +27,8 @@ is_no_nul c = not (c == 0)
 pub empty_is_text : IsUtf8Text []
 empty_is_text = record { utf8 = IsUtf8-nil; no_nul = refl }
 
-pub text-append : (front back : List ℕ) → IsUtf8Text front → IsUtf8Text back → IsUtf8Text (front ++ back)
-text-append front back is also = record {
+pub IsUtf8Text-append : (front back : List ℕ) → IsUtf8Text front → IsUtf8Text back → IsUtf8Text (front ++ back)
+IsUtf8Text-append front back is also = record {
   utf8 = IsUtf8-append front back is.utf8 also.utf8;
   no_nul = rw (list_all-append is_no_nul front back, is.no_nul, also.no_nul) refl;
 }
@@ -85,8 +85,8 @@ spelling_is_text name all = plain_is_text (name_spelling name) (spelling_is_plai
 -- the decimal of a count is a text
 pub count_is_text : (count : ℕ) → IsCount count → IsUtf8Text (decimal count)
 count_is_text count is = record {
-  utf8 = IsUtf8-from_ascii (decimal count) (IsAscii-decimal count (count_below_2_64 count is));
-  no_nul = digits_lack_byte 0 (decimal count) (omega arith) (decimal_is_IsNumeral count (count_below_2_64 count is)).0.1;
+  utf8 = IsUtf8-from_ascii (decimal count) (IsAscii-decimal count (count_is_below_2_64 count is));
+  no_nul = digits_lack_byte 0 (decimal count) (omega arith) (decimal_is_IsNumeral count (count_is_below_2_64 count is)).0.1;
 }
 
 -- the base64 of bytes is a text

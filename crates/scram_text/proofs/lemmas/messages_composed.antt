@@ -1,4 +1,4 @@
--- Messages as they are composed: each is the text of its parts, and is a message, where it is within the limit.
+-- Messages as they are composed: each is the text of its parts, and is a message if it is within the limit.
 pub mod ClientFinal
 pub mod ClientFirst
 pub mod Joined

@@ -1,4 +1,4 @@
--- A text is a message exactly where its parts all fit their places, so whether it is one is decided.
+-- A text is a message if and only if its parts all fit their places, so it is decidable whether it is one.
 pub mod ClientFinal
 pub mod ClientFirst
 pub mod Fitting

@@ -1,5 +1,5 @@
 //! Logins between GNU SASL's and Cyrus SASL's ends: the name, then the four messages as they were
-//! sent. The last is empty where the server sent no message of its failure.
+//! sent. The last one is empty if the login failed and the server sent no message about it.
 
 pub(super) const EXCHANGES: [[&str; 5]; 16] = [
     [

@@ -1,7 +1,7 @@
 //! The number and the text that a user reads for each fault.
 use super::*;
 
-// What is wrong with a message, its number by docs/REFUSALS.md, and its text.
+// What is wrong with a message, its number as in docs/REFUSALS.md, and its text.
 const TEXTS: [(TextWhy, u16, &str); 15] = [
     (
         TextWhy::TooLong,
@@ -85,7 +85,7 @@ fn texts_of_faults(rt: HostRuntime) -> Result<(), Fail> {
     Ok(())
 }
 
-// The part is named before what is wrong there.
+// The text names the part before what is wrong there.
 #[test]
 fn text_of_a_part_at_fault(rt: HostRuntime) -> Result<(), Fail> {
     let fault = read_client_first(b"n,,n=user,r=x,").err().ok_or("a fault")?;
@@ -99,7 +99,7 @@ fn texts_of_refusals_to_write(rt: HostRuntime) -> Result<(), Fail> {
         (
             WriteFault::Unwritable,
             16,
-            "an argument is not what the message may hold: pass one within its limits",
+            "an argument is not allowed in the message: pass one within its limits",
         ),
         (
             WriteFault::OverLimit,

@@ -1,8 +1,8 @@
-//! Names in order of their bytes, names and salts as texts and copies, and numbers in decimal.
+//! The order of names by their bytes, names and salts as texts and copies, and decimal numbers.
 use super::*;
 use std::cmp::Ordering;
 
-// Names, each before the next.
+// Names in ascending order.
 const ASCENDING: [&str; 9] = [" ", "A", "Z", "a", "a ", "a.", "aa", "b", "~"];
 
 fn is_before(one: &PlainName, other: &PlainName) -> bool {
@@ -16,7 +16,7 @@ fn is_before(one: &PlainName, other: &PlainName) -> bool {
 fn names_are_in_order_of_their_bytes(rt: HostRuntime) -> Result<(), Fail> {
     for (i, one) in ASCENDING.iter().enumerate() {
         let first = PlainName::new(one.as_bytes()).ok_or("in range")?;
-        assert!(rt; first.cmp(&first) == Ordering::Equal, "{one}");
+        assert_eq!(rt; first.cmp(&first), Ordering::Equal, "{one}");
         for other in ASCENDING.iter().skip(i + 1) {
             let second = PlainName::new(other.as_bytes()).ok_or("in range")?;
             assert!(rt; is_before(&first, &second), "{one} {other}");

@@ -1,6 +1,6 @@
 use Rattle.std.proofs.Common.{◌≡◌, ◌≤◌, ℕ, List, length, sym, ◌∙◌, subst, ap, refl, inl, inr, arith, length-append}
 use Rattle.scram_text.specs.Limits.{longest_message}
-use Rattle.scram_text.specs.Messages.{ClientFirstParts, header_text, bare_text, client_first_text, IsClientFirst}
+use Rattle.scram_text.specs.Messages.{ClientFirstParts, gs2_header, client_first_bare, client_first_text, IsClientFirst}
 use Rattle.scram_text.proofs.lemmas.FirstUnmet.{found_is_first}
 use Rattle.scram_ends.specs.Opening.{IsUnbound}
 use Rattle.scram_ends.specs.First.{first_faults_in_order, AsksOfFirst}
@@ -26,11 +26,11 @@ returns-in_default-clause-err c =
     )
 
 -- the header of a client-first message is no longer than a message may be
-header_is_short : (client_first : List ℕ) (p : ClientFirstParts) (header : List ℕ) → IsClientFirst client_first p → header ≡ header_text p
+header_is_short : (client_first : List ℕ) (p : ClientFirstParts) (header : List ℕ) → IsClientFirst client_first p → header ≡ gs2_header p
     → length header ≤ longest_message
 unfolding client_first_text
 header_is_short client_first p header is same = omega
-    (arith, ap length is.spelled, ap length same, length-append (header_text p) (bare_text p), is.short)
+    (arith, ap length is.spelled, ap length same, length-append (gs2_header p) (client_first_bare p), is.short)
 
 pub returns-clause-header : goal.returns-clause-header
 returns-clause-header c =

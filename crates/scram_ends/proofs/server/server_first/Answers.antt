@@ -11,14 +11,16 @@ pub returns-in-Ok-write_challenge-clause-ok : goal.returns-in-Ok-write_challenge
 returns-in-Ok-write_challenge-clause-ok g c =
     let taken = c.in-Ok.ensures.ok in
     let e = entry_of c.args.view.now in
-    let nonce : c.as_slice-nonce.result.now ≡ c.in-Ok.taken.nonce.now ++ c.args.own.now = search rules in
+    let nonce : c.as_slice-nonce.result.now ≡ c.in-Ok.taken.nonce.now ++ c.args.server_nonce.now = search rules in
     let client : c.in-Ok.taken.nonce.now ≡ taken.0.nonce = taken.2.nonce in
-    let server_first : List ℕ = server_first_text (server_first_of (c.in-Ok.taken.nonce.now ++ c.args.own.now) e.salt e.count []) in
-    let is_challenge : IsServerFirst server_first (server_first_of (c.in-Ok.taken.nonce.now ++ c.args.own.now) e.salt e.count []) =
+    let server_first : List ℕ =
+    server_first_text (server_first_of (c.in-Ok.taken.nonce.now ++ c.args.server_nonce.now) e.salt e.count []) in
+    let is_challenge : IsServerFirst server_first (server_first_of (c.in-Ok.taken.nonce.now ++ c.args.server_nonce.now) e.salt e.count []) =
     subst (λ (n : List ℕ). IsServerFirst (server_first_text (server_first_of n e.salt e.count []))
     (server_first_of n e.salt e.count [])) nonce c.in-Ok-write_challenge.ensures.is_message in
-    let opens = challenge_opens e c.args.client_first.now c.args.own.now server_first
-    (c.in-Ok.taken.nonce.now ++ c.args.own.now) taken.0 c.in-Ok.taken taken.1 taken.2 refl c.bytes.ensures.fits.at_least is_challenge in
+    let opens = challenge_opens e c.args.client_first.now c.args.server_nonce.now server_first
+    (c.in-Ok.taken.nonce.now ++ c.args.server_nonce.now) taken.0 c.in-Ok.taken taken.1 taken.2 refl c.bytes.ensures.fits.at_least
+    is_challenge in
     let written : c.write_challenge.new.out.items ≡ c.args.out.now.items ++ server_first =
     c.in-Ok-write_challenge.ensures.appended.0 ∙ ap
     (λ (n : List ℕ). c.args.out.now.items ++ server_first_text (server_first_of n e.salt e.count [])) nonce in
@@ -32,7 +34,7 @@ returns-in-Ok-write_challenge-clause-ok g c =
         first = taken.0;
         is_first = taken.1;
         is_challenge = subst (λ (n : List ℕ). IsServerFirst server_first
-            (server_first_of (n ++ c.args.own.now) e.salt e.count [])) client is_challenge;
+            (server_first_of (n ++ c.args.server_nonce.now) e.salt e.count [])) client is_challenge;
       },
       rw slice at (c.wait_for.ensures c.args.client_first.now opens.0 (rw slice opens.1)
           (subst (λ (n : List ℕ). ShowsOpening c.in-Ok.taken n opens.0) (sym nonce) opens.2)),

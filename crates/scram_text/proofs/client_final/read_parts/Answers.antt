@@ -4,27 +4,27 @@ use Rattle.std.proofs.lemmas.Result.{err_from_is_err_and}
 use Rattle.scram_text.specs.Limits.{longest_channel}
 use Rattle.scram_text.specs.Parts.{parts_of_some}
 use Rattle.scram_text.specs.Messages.{ClientFinalParts}
-use Rattle.scram_text.proofs.lemmas.Places.{field_fits}
-use Rattle.scram_text.proofs.lemmas.ClientFinal.{channel_fault, nonce_fault, extension_fault, proof_fault, client_final_spelled}
+use Rattle.scram_text.proofs.lemmas.Places.{field_part_spells_field}
+use Rattle.scram_text.proofs.lemmas.ClientFinal.{unfit_channel_is_fault, unfit_nonce_is_fault, extension_misfit_is_fault, unfit_proof_is_fault, pieces_spell_client_final}
 use Rattle.scram_text.proofs.client_final.read_parts.Goals as goal
 
 pub returns-in_default-clause-fault : goal.returns-in_default-clause-fault
 returns-in_default-clause-fault c =
     let cut = c.in_ok-pieces.ensures.cut in
-    channel_fault c.args.message.now _ _ _ _ cut.short cut.utf8_text cut.cut_whole c.in_default.ensures.none
+    unfit_channel_is_fault c.args.message.now _ _ _ _ cut.short cut.utf8_text cut.cut_whole c.in_default.ensures.none
 
 pub returns-in_default-nonce_of-clause-fault : goal.returns-in_default-nonce_of-clause-fault
 returns-in_default-nonce_of-clause-fault c =
     let cut = c.in_ok-pieces.ensures.cut in
-    nonce_fault c.args.message.now _ _ _ _ cut.short cut.utf8_text cut.cut_whole
-    (field_fits 99 longest_channel _ _ c.in-Some.ensures.spelled c.in-Some.ensures.class) c.in_default-nonce_of.ensures.none
+    unfit_nonce_is_fault c.args.message.now _ _ _ _ cut.short cut.utf8_text cut.cut_whole
+    (field_part_spells_field 99 longest_channel _ _ c.in-Some.ensures.spelled c.in-Some.ensures.class) c.in_default-nonce_of.ensures.none
 
 pub returns-in_err-extensions-clause-fault : goal.returns-in_err-extensions-clause-fault
 returns-in_err-extensions-clause-fault c =
     let cut = c.in_ok-pieces.ensures.cut in
     let p = err_from_is_err_and c.from_residual-in_err-extensions.result c.from_residual-in_err-extensions.ensures.1 in
-    rw (p.1, p.2) (extension_fault c.args.message.now _ _ _ _ cut.short cut.utf8_text cut.cut_whole _
-    (field_fits 99 longest_channel _ _ c.in-Some.ensures.spelled c.in-Some.ensures.class)
+    rw (p.1, p.2) (extension_misfit_is_fault c.args.message.now _ _ _ _ cut.short cut.utf8_text cut.cut_whole _
+    (field_part_spells_field 99 longest_channel _ _ c.in-Some.ensures.spelled c.in-Some.ensures.class)
     (c.in-Some-nonce_of.nonce.now, c.in-Some-nonce_of.ensures.spelled, c.in-Some-nonce_of.ensures.class)
     c.in_err-extensions.ensures.fault)
 
@@ -33,8 +33,8 @@ returns-in_default-short_bytes_of-clause-fault c =
     let cut = c.in_ok-pieces.ensures.cut in
     let rest : List (List ℕ) = parts_of_some (option_copied c.in_ok-pieces.pieces.rest) in
     let count = rw cut.cut_whole at cut.count in
-    proof_fault c.args.message.now _ _ _ rest cut.short cut.utf8_text cut.cut_whole _
-    (field_fits 99 longest_channel _ _ c.in-Some.ensures.spelled c.in-Some.ensures.class)
+    unfit_proof_is_fault c.args.message.now _ _ _ rest cut.short cut.utf8_text cut.cut_whole _
+    (field_part_spells_field 99 longest_channel _ _ c.in-Some.ensures.spelled c.in-Some.ensures.class)
     (c.in-Some-nonce_of.nonce.now, c.in-Some-nonce_of.ensures.spelled, c.in-Some-nonce_of.ensures.class)
     c.in_ok-extensions.ensures.found c.in_default-short_bytes_of.ensures.none
     (omega (arith, count, length-append rest (c.in_ok-pieces.pieces.proof.now ∷ [])))
@@ -48,7 +48,7 @@ returns-clause-found c =
       extensions = parts_of_some (option_copied c.in_ok-pieces.pieces.rest);
       proof = c.in-Some-short_bytes_of.proof.items;
     } in
-    let spelled = client_final_spelled c.args.message.now c.in_ok-pieces.pieces.without_proof.now c.in_ok-pieces.pieces.proof.now
+    let spelled = pieces_spell_client_final c.args.message.now c.in_ok-pieces.pieces.without_proof.now c.in_ok-pieces.pieces.proof.now
     c.in_ok-pieces.pieces.channel.now c.in_ok-pieces.pieces.nonce.now p cut.whole cut.cut
     c.in-Some.ensures.spelled c.in-Some-nonce_of.ensures.spelled c.in-Some-short_bytes_of.ensures.spelled in (
       p,

@@ -1,15 +1,15 @@
 use Rattle.std.proofs.Common.{ℕ, List, subst}
 use Rattle.std.specs.Option.{option_copied}
 use Rattle.scram_text.specs.Draft.{IsDraftOf}
-use Rattle.scram_text.proofs.lemmas.messages_composed.ClientFirst.{client_first_composed, written_is_client_first}
+use Rattle.scram_text.proofs.lemmas.messages_composed.ClientFirst.{pieces_compose_client_first, written_is_client_first}
 use Rattle.scram_text.proofs.client_first.draft_of.Goals as goal
 
 pub returns-clause-draft : goal.returns-clause-draft
 returns-clause-draft c =
     let named = c.add-3.ensures _ (c.add_name.ensures.draft _
-    (c.add-2.ensures _ (c.add_authzid.ensures.draft _ (c.add.ensures _ c.flagged-draft.ensures)))) in
+    (c.add-2.ensures _ (c.add_authzid.ensures.draft _ (c.add.ensures _ c.flag_draft-draft.ensures)))) in
     subst (λ (text : List ℕ). IsDraftOf c.add_extensions.new.self text)
-    (client_first_composed c.args.flag.now (option_copied c.args.authzid) c.args.name.now c.args.nonce.now c.args.extensions.now)
+    (pieces_compose_client_first c.args.flag.now (option_copied c.args.authzid) c.args.name.now c.args.nonce.now c.args.extensions.now)
     (c.add_extensions.ensures _ (rw c.bytes.ensures.value at (c.add-4.ensures _ named)))
 
 pub returns-clause-is_message : goal.returns-clause-is_message

@@ -4,25 +4,25 @@ use Rattle.std.specs.declared.option.Option.TheVariants.{None}
 use Rattle.std.proofs.lemmas.Result.{err_from_is_err_and}
 use Rattle.scram_text.specs.Parts.{parts, parts_of_some}
 use Rattle.scram_text.specs.Messages.{ClientFirstParts}
-use Rattle.scram_text.proofs.lemmas.ClientFirst.{name_misfit, nonce_misfit, extension_misfit, bare_pieces_are_parts}
+use Rattle.scram_text.proofs.lemmas.ClientFirst.{unfit_name_is_bare_misfit, unfit_nonce_is_bare_misfit, extension_misfit_is_bare_misfit, bare_pieces_are_parts}
 use Rattle.scram_text.proofs.client_first.read_bare.Goals as goal
 
 pub returns-in_default-clause-fault : goal.returns-in_default-clause-fault
 returns-in_default-clause-fault c =
     let cut = c.in_ok-pieces.ensures.cut in
-    name_misfit (parts c.args.bare.now) _ _ _ cut.mext _ cut.mext_and_rest cut.index c.in_default.ensures.none
+    unfit_name_is_bare_misfit (parts c.args.bare.now) _ _ _ cut.mext _ cut.mext_and_rest cut.index c.in_default.ensures.none
 
 pub returns-in_default-nonce_of-clause-fault : goal.returns-in_default-nonce_of-clause-fault
 returns-in_default-nonce_of-clause-fault c =
     let cut = c.in_ok-pieces.ensures.cut in
-    nonce_misfit (parts c.args.bare.now) _ _ _ cut.mext _ cut.mext_and_rest cut.index
+    unfit_nonce_is_bare_misfit (parts c.args.bare.now) _ _ _ cut.mext _ cut.mext_and_rest cut.index
     (c.in-Some.name, c.in-Some.ensures.spelled, c.in-Some.ensures.class) c.in_default-nonce_of.ensures.none
 
 pub returns-in_err-extensions-clause-fault : goal.returns-in_err-extensions-clause-fault
 returns-in_err-extensions-clause-fault c =
     let cut = c.in_ok-pieces.ensures.cut in
     let p = err_from_is_err_and c.from_residual-in_err-extensions.result c.from_residual-in_err-extensions.ensures.1 in
-    rw (p.1, p.2) (extension_misfit (parts c.args.bare.now) _ _ _ cut.mext _ cut.mext_and_rest cut.index _
+    rw (p.1, p.2) (extension_misfit_is_bare_misfit (parts c.args.bare.now) _ _ _ cut.mext _ cut.mext_and_rest cut.index _
     (c.in-Some.name, c.in-Some.ensures.spelled, c.in-Some.ensures.class)
     (c.in-Some-nonce_of.nonce.now, c.in-Some-nonce_of.ensures.spelled, c.in-Some-nonce_of.ensures.class)
     c.in_err-extensions.ensures.fault)

@@ -4,7 +4,7 @@ use Rattle.scram_text.specs.Parts.{parts, parts_of_some}
 use Rattle.scram_text.proofs.lemmas.Extensions.{RestShowsAll}
 use Rattle.scram_text.proofs.cut.check_extensions.Given as goal
 
--- what holds of the extensions that are left holds of all
+-- what is true of the extensions that are left is true of all
 abbrev pub invariant-loop-left : goal.invariant-loop-left
 invariant-loop-left l =
     RestShowsAll l.first (parts l.fn.text) l.index l.mandatory (parts_of_some (option_copied l.left))

@@ -9,37 +9,38 @@ use Rattle.scram_text.specs.Messages.{VerifierOrError}
 use Rattle.scram_text.specs.Messages.{verifier, server_error, verifier_or_error_text, IsVerifierOrError, server_final_text, IsServerFinal}
 use Rattle.scram_text.specs.Draft.{after_comma}
 use Rattle.scram_text.specs.Written.{server_final_of, CanBeVerifierOrError, CanBeServerFinal}
-use Rattle.scram_text.proofs.lemmas.Texts.{text-append, plain_is_text, base64_is_text}
+use Rattle.scram_text.proofs.lemmas.Texts.{IsUtf8Text-append, plain_is_text, base64_is_text}
 use Rattle.scram_text.proofs.lemmas.messages_composed.Joined.{extensions_join_after_comma, after_comma_is_text}
 
 -- what is written of server-final is its text
-pub server_final_composed : (outcome : VerifierOrError) (extensions : List ℕ)
+pub pieces_compose_server_final : (outcome : VerifierOrError) (extensions : List ℕ)
     → verifier_or_error_text outcome ++ after_comma extensions ≡ server_final_text (server_final_of outcome extensions)
 unfolding server_final_text
-server_final_composed outcome extensions = sym (extensions_join_after_comma (verifier_or_error_text outcome) extensions)
+pieces_compose_server_final outcome extensions = sym (extensions_join_after_comma (verifier_or_error_text outcome) extensions)
 
 -- a signature with its letter is a text, and so is an error value with its letter:
 pub signature_is_text : (signature : List ℕ) → IsBytes signature → IsUtf8Text (codes "v=" ++ base64 signature)
 signature_is_text signature bytes =
-    text-append (codes "v=") (base64 signature) (plain_is_text (codes "v=") refl) (base64_is_text signature bytes)
+    IsUtf8Text-append (codes "v=") (base64 signature) (plain_is_text (codes "v=") refl) (base64_is_text signature bytes)
 
 pub error_is_text : (value : List ℕ) → IsUtf8Text value → IsUtf8Text (codes "e=" ++ value)
-error_is_text value is = text-append (codes "e=") value (plain_is_text (codes "e=") refl) is
+error_is_text value is = IsUtf8Text-append (codes "e=") value (plain_is_text (codes "e=") refl) is
 
 -- an outcome that can be written is a verifier or an error
 writable_outcome_is_outcome : (outcome : VerifierOrError) → CanBeVerifierOrError outcome → IsVerifierOrError outcome
 writable_outcome_is_outcome (verifier signature) can = can
 writable_outcome_is_outcome (server_error value) can = can.0
 
--- the text of what can be written as server-final is a server-final message, where it is within the limit
+-- the text of what can be written as server-final is a server-final message, if it is within the limit
 pub written_is_server_final : (outcome : VerifierOrError) (extensions : List ℕ) → IsUtf8Text (verifier_or_error_text outcome)
     → CanBeServerFinal outcome extensions → length (server_final_text (server_final_of outcome extensions)) ≤ longest_message
     → IsServerFinal (server_final_text (server_final_of outcome extensions)) (server_final_of outcome extensions)
 written_is_server_final outcome extensions told can short =
-    let whole = text-append _ (after_comma extensions) told (after_comma_is_text extensions can.extensions_class.utf8_text) in record {
+    let whole = IsUtf8Text-append _ (after_comma extensions) told (after_comma_is_text extensions can.extensions_class.utf8_text) in
+    record {
       spelled = refl;
       outcome = writable_outcome_is_outcome outcome can.outcome_class;
       extensions = can.extensions_class.each;
-      utf8_text = subst IsUtf8Text (server_final_composed outcome extensions) whole;
+      utf8_text = subst IsUtf8Text (pieces_compose_server_final outcome extensions) whole;
       short = short;
     }

@@ -1,4 +1,4 @@
--- Whether a text is client-final is decided: it is where its parts all fit their places.
+-- It is decidable whether a text is client-final: it is if its parts all fit their places.
 use Rattle.std.proofs.Common.{◌≡◌, ℕ, ◌≤◌, List, [], ◌∷◌, ◌++◌, length, refl, sym, ◌∙◌, ap, arith, subst, length-append}
 use Rattle.std.specs.Prelude.{codes}
 use Rattle.std.proofs.lemmas.List.Splits.{join_with_byte-slice_split}
@@ -15,14 +15,15 @@ use Rattle.scram_text.specs.declared.fault.TextWhy.TheVariants.{Nonce, Channel, 
 use Rattle.scram_text.proofs.lemmas.ListEnds.{nonempty_has_last}
 use Rattle.scram_text.proofs.lemmas.Places.{AllFit, first_part_fits, extensions_and_rest_fit}
 use Rattle.scram_text.proofs.lemmas.Decided.{some_or_none}
-use Rattle.scram_text.proofs.lemmas.ClientFinal.{client_final_parts, parts_client_final, client_final_fit, client_final_places_unfold}
-use Rattle.scram_text.proofs.lemmas.messages_composed.Joined.{joined_last}
+use Rattle.scram_text.proofs.lemmas.ClientFinal.{client_final_parts, parts-client_final, client_final_parts_fit, client_final_places_unfold}
+use Rattle.scram_text.proofs.lemmas.messages_composed.Joined.{joined-push}
 use Rattle.scram_text.proofs.lemmas.messages_decided.Fitting.{IsFittingText, decided_fitting_text}
 
 -- the parts of client-final, joined by commas, are its text
-client_final_joined : (p : ClientFinalParts) → joined (client_final_parts p) ≡ client_final_text p
+joined-client_final_parts : (p : ClientFinalParts) → joined (client_final_parts p) ≡ client_final_text p
 unfolding client_final_text client_final_without_proof
-client_final_joined p = joined_last (codes "c=" ++ base64 p.channel) ((codes "r=" ++ p.nonce) ∷ p.extensions) (codes "p=" ++ base64 p.proof)
+joined-client_final_parts p = joined-push (codes "c=" ++ base64 p.channel) ((codes "r=" ++ p.nonce) ∷ p.extensions)
+    (codes "p=" ++ base64 p.proof)
 
 -- a short text whose parts are those of client-final is one
 fitting_parts_are_client_final : (text channel nonce proof : List ℕ) (extensions : List (List ℕ))
@@ -46,7 +47,7 @@ fitting_parts_are_client_final text channel nonce proof extensions cut short utf
     ≡ client_final_parts p = cc (channel_is, channel_spelled, nonce_is, proof_is, proof_spelled) in (
       p,
       record {
-        spelled = sym (join_with_byte-slice_split 44 text) ∙ ap joined (cut ∙ pieces) ∙ client_final_joined p;
+        spelled = sym (join_with_byte-slice_split 44 text) ∙ ap joined (cut ∙ pieces) ∙ joined-client_final_parts p;
         channel = channel_field;
         nonce = nonce_class;
         extensions = after.0;
@@ -76,15 +77,15 @@ fitting_text_is_client_final text (channel ∷ nonce ∷ next ∷ rest) cut enou
 client_final_is_fitting : (text : List ℕ) (p : ClientFinalParts) → IsClientFinal text p
     → IsFittingText longest_nonce 3 (places (Channel ∷ Nonce ∷ []) (Proof ∷ []) (length (parts text))) text
 client_final_is_fitting text p is =
-    let cut = parts_client_final text p is in record {
+    let cut = parts-client_final text p is in record {
       short = is.short;
       utf8_text = is.utf8_text;
       enough = rw cut (omega (arith, length-append p.extensions ((codes "p=" ++ base64 p.proof) ∷ [])));
       fit = subst (λ (ps : List (List ℕ)). AllFit longest_nonce (places (Channel ∷ Nonce ∷ []) (Proof ∷ []) (length ps)) ps) (sym cut)
-          (client_final_fit p is.channel is.nonce is.extensions is.proof);
+          (client_final_parts_fit p is.channel is.nonce is.extensions is.proof);
     }
 
--- whether a text is client-final, and with which parts, is decided
+-- it is decidable whether a text is client-final, and with which parts
 decided_client_final : (text : List ℕ) → Decided ((p : ClientFinalParts) × IsClientFinal text p)
 decided_client_final text =
     decided_equivalent (IsFittingText longest_nonce 3 (places (Channel ∷ Nonce ∷ []) (Proof ∷ []) (length (parts text))) text)
@@ -93,6 +94,6 @@ decided_client_final text =
     (λ (p, is). client_final_is_fitting text p is)
     (decided_fitting_text longest_nonce 3 (places (Channel ∷ Nonce ∷ []) (Proof ∷ []) (length (parts text))) text)
 
--- the law: whether a text is client-final is decided
+-- the law: it is decidable whether a text is client-final
 pub client_final_is_decided : ClientFinalIsDecided
 client_final_is_decided text = some_or_none ClientFinalParts (IsClientFinal text) (decided_client_final text)

@@ -1,33 +1,34 @@
--- Whether a text is client-first is decided: it is where its parts all fit their places.
+-- It is decidable whether a text is client-first: it is if its parts all fit their places.
 use Rattle.std.proofs.Common.{◌≡◌, ℕ, ◌≤◌, List, [], ◌∷◌, ◌++◌, length, refl, sym, ◌∙◌, ap, arith, subst}
 use Rattle.std.specs.Prelude.{codes}
 use Rattle.std.specs.declared.option.Option.{Option}
 use Rattle.std.proofs.lemmas.List.Splits.{join_with_byte-slice_split}
+use Rattle.std.specs.Str.{byte}
 use Rattle.mac_core.proofs.lemmas.Decided.{Decided, decided_equivalent}
 use Rattle.scram_text.specs.Limits.{longest_message, longest_nonce_part}
 use Rattle.scram_text.specs.Class.{IsNonce, IsUtf8Text}
 use Rattle.scram_text.specs.Name.{IsSaslName}
 use Rattle.scram_text.specs.Parts.{parts, joined, authzid_text, mext_parts, AreExtensions}
-use Rattle.scram_text.specs.Messages.{ClientFirstParts, header_text, bare_text, bare_parts, client_first_text, IsClientFirst}
+use Rattle.scram_text.specs.Messages.{ClientFirstParts, gs2_header, client_first_bare, bare_parts, client_first_text, IsClientFirst}
 use Rattle.scram_text.specs.Faults.{places, places_with_mext, client_first_places}
 use Rattle.scram_text.specs.Laws.{ClientFirstIsDecided}
 use Rattle.scram_text.specs.Pieces.{IsMextAndRest}
 use Rattle.scram_text.specs.declared.fault.TextWhy.{TextWhy}
 use Rattle.scram_text.specs.declared.fault.TextWhy.TheVariants.{Flag, Authzid, Name, Nonce}
 use Rattle.scram_text.proofs.lemmas.Places.{AllFit, first_part_fits, fitting_are_extensions}
-use Rattle.scram_text.proofs.lemmas.MextAndRest.{mext_and_rest_lengths, mext_and_rest_nonempty, some_mext_and_rest}
-use Rattle.scram_text.proofs.lemmas.messages_composed.Joined.{joined_cons}
+use Rattle.scram_text.proofs.lemmas.MextAndRest.{mext_and_rest_lengths_add_up, mext_and_rest_are_nonempty, some_mext_and_rest}
+use Rattle.scram_text.proofs.lemmas.messages_composed.Joined.{joined-cons}
 use Rattle.scram_text.proofs.lemmas.Decided.{some_or_none}
-use Rattle.scram_text.proofs.lemmas.ClientFirst.{client_first_rest_places_unfold as first_later_places, parts_client_first, header_fit, header_places_unfold}
-use Rattle.scram_text.proofs.lemmas.ClientFirst.{bare_mext_and_rest, bare_fit, header_pieces_regroup}
+use Rattle.scram_text.proofs.lemmas.ClientFirst.{client_first_rest_places_unfold as first_later_places, parts-client_first, client_first_parts_fit, header_places_unfold}
+use Rattle.scram_text.proofs.lemmas.ClientFirst.{bare_has_mext_and_rest, bare_parts_fit, header_pieces_regroup}
 use Rattle.scram_text.proofs.lemmas.messages_decided.Fitting.{IsFittingText, decided_fitting_text}
 
 -- the parts of client-first, joined by commas, are its text
-client_first_joined : (p : ClientFirstParts) → joined (p.flag ∷ authzid_text p.authzid ∷ bare_parts p) ≡ client_first_text p
-unfolding client_first_text header_text bare_text
-client_first_joined p =
-    ap (λ (t : List ℕ). p.flag ++ 44 ∷ t)
-    (joined_cons (authzid_text p.authzid) (bare_parts p) (mext_and_rest_nonempty p.mext (codes "n=" ++ p.name) _))
+joined-client_first_parts : (p : ClientFirstParts) → joined (p.flag ∷ authzid_text p.authzid ∷ bare_parts p) ≡ client_first_text p
+unfolding client_first_text gs2_header client_first_bare
+joined-client_first_parts p =
+    ap (λ (t : List ℕ). p.flag ++ byte "," ∷ t)
+    (joined-cons (authzid_text p.authzid) (bare_parts p) (mext_and_rest_are_nonempty p.mext (codes "n=" ++ p.name) _))
     ∙ sym (header_pieces_regroup p.flag (authzid_text p.authzid) (joined (bare_parts p)))
 
 -- parts of a bare message that fit are its name, its nonce and extensions, after a mandatory one if there is one
@@ -84,7 +85,7 @@ fitting_bare_is_client_first text flag authzid bare cut short utf8_text enough f
     let pieces : flag ∷ authzid ∷ bare ≡ p.flag ∷ authzid_text p.authzid ∷ bare_parts p = cc (authzid_is, bare_is) in (
       p,
       record {
-        spelled = sym (join_with_byte-slice_split 44 text) ∙ ap joined (cut ∙ pieces) ∙ client_first_joined p;
+        spelled = sym (join_with_byte-slice_split 44 text) ∙ ap joined (cut ∙ pieces) ∙ joined-client_first_parts p;
         flag = first.0;
         authzid = authzid_class;
         mext = marked.value;
@@ -115,23 +116,23 @@ FitsClientFirst text = IsFittingText longest_nonce_part (length (client_first_pl
 -- a client-first message is a short text with enough parts, all of which fit
 client_first_is_fitting : (text : List ℕ) (p : ClientFirstParts) → IsClientFirst text p → FitsClientFirst text
 client_first_is_fitting text p is =
-    let cut = parts_client_first text p is in
-    let lengths = mext_and_rest_lengths (Name ∷ Nonce ∷ []) (bare_parts p) _ p.mext (bare_mext_and_rest p is.mext) in record {
+    let cut = parts-client_first text p is in
+    let lengths = mext_and_rest_lengths_add_up (Name ∷ Nonce ∷ []) (bare_parts p) _ p.mext (bare_has_mext_and_rest p is.mext) in record {
       short = is.short;
       utf8_text = is.utf8_text;
       enough = subst (λ (ps : List (List ℕ)). length (client_first_places ps) ≤ length ps) (sym cut) (omega (arith, lengths.0, lengths.1));
       fit = subst (λ (ps : List (List ℕ)). AllFit longest_nonce_part (places (client_first_places ps) [] (length ps)) ps) (sym cut)
-          (header_fit p.flag (authzid_text p.authzid) (bare_parts p) is.flag (p.authzid, refl, is.authzid)
-          (bare_fit p is.mext is.name is.nonce is.extensions));
+          (client_first_parts_fit p.flag (authzid_text p.authzid) (bare_parts p) is.flag (p.authzid, refl, is.authzid)
+          (bare_parts_fit p is.mext is.name is.nonce is.extensions));
     }
 
--- whether a text is client-first, and with which parts, is decided
+-- it is decidable whether a text is client-first, and with which parts
 decided_client_first : (text : List ℕ) → Decided ((p : ClientFirstParts) × IsClientFirst text p)
 decided_client_first text =
     decided_equivalent (FitsClientFirst text) ((p : ClientFirstParts) × IsClientFirst text p)
     (λ r. fitting_text_is_client_first text (parts text) refl r.short r.utf8_text r.enough r.fit)
     (λ (p, is). client_first_is_fitting text p is) (decided_fitting_text longest_nonce_part _ _ text)
 
--- the law: whether a text is client-first is decided
+-- the law: it is decidable whether a text is client-first
 pub client_first_is_decided : ClientFirstIsDecided
 client_first_is_decided text = some_or_none ClientFirstParts (IsClientFirst text) (decided_client_first text)

@@ -1,4 +1,4 @@
--- Whether a text is short, and has enough parts, all of which fit their places, is decided.
+-- It is decidable whether a text is short and has enough parts, all of which fit their places.
 use Rattle.std.proofs.Common.{ℕ, ◌≤◌, List, length}
 use Rattle.mac_core.proofs.lemmas.Decided.{Decided, decided_equivalent, decided_both, decided_le}
 use Rattle.scram_text.specs.Limits.{longest_message}
@@ -10,12 +10,16 @@ use Rattle.scram_text.proofs.lemmas.Decided.{decided_text, decided_all_fit}
 
 -- a text is short, and has enough parts, all of which fit their places
 pub record IsFittingText (most : ℕ) (least : ℕ) (later : List TextWhy) (text : List ℕ) : Type 0 where
+  -- it is no longer than a message may be
   pub short : length text ≤ longest_message
+  -- it is a text of UTF-8
   pub utf8_text : IsUtf8Text text
+  -- it has at least `least` parts
   pub enough : least ≤ length (parts text)
+  -- each part fits its place
   pub fit : AllFit most later (parts text)
 
--- whether a text is a short one with enough parts, all of which fit, is decided
+-- it is decidable whether a text is a short one with enough parts, all of which fit
 pub decided_fitting_text : (most least : ℕ) (later : List TextWhy) (text : List ℕ) → Decided (IsFittingText most least later text)
 decided_fitting_text most least later text =
     decided_equivalent ((length text ≤ longest_message) × (IsUtf8Text text × ((least ≤ length (parts text))

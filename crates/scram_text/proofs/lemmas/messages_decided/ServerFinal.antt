@@ -1,7 +1,8 @@
--- Whether a text is server-final is decided: it is where its parts all fit their places.
+-- It is decidable whether a text is server-final: it is if its parts all fit their places.
 use Rattle.std.proofs.Common.{◌≡◌, inl, inr, ℕ, ◌≤◌, List, [], ◌∷◌, ◌++◌, length, replicate, refl, sym, ◌∙◌, ap, arith, subst}
 use Rattle.std.specs.Prelude.{codes}
 use Rattle.std.proofs.lemmas.Bool.{cases_Bool}
+use Rattle.std.specs.Str.{byte}
 use Rattle.mac_core.proofs.lemmas.Decided.{Decided, decided_equivalent}
 use Rattle.scram_text.specs.Limits.{longest_message, longest_nonce}
 use Rattle.scram_text.specs.Class.{IsUtf8Text}
@@ -12,16 +13,16 @@ use Rattle.scram_text.specs.Faults.{Fits, places, outcome_place, server_final_pl
 use Rattle.scram_text.specs.Laws.{ServerFinalIsDecided}
 use Rattle.scram_text.specs.declared.fault.TextWhy.{TextWhy}
 use Rattle.scram_text.specs.declared.fault.TextWhy.TheVariants.{Extension}
-use Rattle.scram_text.proofs.lemmas.Parts.{parts_count}
+use Rattle.scram_text.proofs.lemmas.Parts.{parts_exceed_commas_by_one}
 use Rattle.scram_text.proofs.lemmas.Places.{AllFit, first_part_fits, fitting_are_extensions}
 use Rattle.scram_text.proofs.lemmas.Decided.{some_or_none}
-use Rattle.scram_text.proofs.lemmas.ServerFinal.{parts_server_final, server_final_fit, outcome_fits, server_final_places_unfold, server_final_spelled}
+use Rattle.scram_text.proofs.lemmas.ServerFinal.{parts-server_final, server_final_parts_fit, outcome_fits, server_final_places_unfold, pieces_spell_server_final}
 use Rattle.scram_text.proofs.lemmas.messages_decided.Fitting.{IsFittingText, decided_fitting_text}
 
 -- a first part that fits the place of an outcome is the text of one
 fitting_part_is_outcome : (part : List ℕ) → Fits longest_nonce (outcome_place part) part → (outcome : VerifierOrError)
     × (part ≡ verifier_or_error_text outcome) × IsVerifierOrError outcome
-fitting_part_is_outcome part fits = elim (cases_Bool (is_named 101 part)) [
+fitting_part_is_outcome part fits = elim (cases_Bool (is_named (byte "e") part)) [
   | inl hit ↦ let (value, spelled, is) = rw hit at fits in (server_error value, spelled, is)
   | inr miss ↦ let (value, spelled, (bytes, is, field)) = rw miss at fits in
       (verifier bytes, spelled ∙ ap (λ (v : List ℕ). codes "v=" ++ v) is, field)
@@ -31,7 +32,7 @@ fitting_part_is_outcome part fits = elim (cases_Bool (is_named 101 part)) [
 fitting_text_is_server_final : (text : List ℕ) (pieces : List (List ℕ)) → parts text ≡ pieces → length text ≤ longest_message
     → IsUtf8Text text
     → AllFit longest_nonce (places (server_final_places pieces) [] (length pieces)) pieces → (p : ServerFinalParts) × IsServerFinal text p
-fitting_text_is_server_final text [] cut short utf8_text fit = absurd (omega (arith, parts_count text, ap length cut))
+fitting_text_is_server_final text [] cut short utf8_text fit = absurd (omega (arith, parts_exceed_commas_by_one text, ap length cut))
 fitting_text_is_server_final text (first ∷ extensions) cut short utf8_text fit =
     let each = first_part_fits longest_nonce (outcome_place first) (replicate (length extensions) Extension) first extensions
     (subst (λ (ps : List TextWhy). AllFit longest_nonce ps (first ∷ extensions)) (server_final_places_unfold first extensions) fit) in
@@ -39,7 +40,7 @@ fitting_text_is_server_final text (first ∷ extensions) cut short utf8_text fit
     let p : ServerFinalParts = record { outcome = outcome; extensions = extensions } in (
       p,
       record {
-        spelled = server_final_spelled text first p cut spelled;
+        spelled = pieces_spell_server_final text first p cut spelled;
         outcome = is;
         extensions = fitting_are_extensions longest_nonce extensions each.1;
         utf8_text = utf8_text;
@@ -51,15 +52,15 @@ fitting_text_is_server_final text (first ∷ extensions) cut short utf8_text fit
 server_final_is_fitting : (text : List ℕ) (p : ServerFinalParts) → IsServerFinal text p
     → IsFittingText longest_nonce 1 (places (server_final_places (parts text)) [] (length (parts text))) text
 server_final_is_fitting text p is =
-    let cut = parts_server_final text p is in record {
+    let cut = parts-server_final text p is in record {
       short = is.short;
       utf8_text = is.utf8_text;
       enough = rw cut (omega arith);
       fit = subst (λ (ps : List (List ℕ)). AllFit longest_nonce (places (server_final_places ps) [] (length ps)) ps) (sym cut)
-          (server_final_fit (verifier_or_error_text p.outcome) p.extensions (outcome_fits p.outcome is.outcome) is.extensions);
+          (server_final_parts_fit (verifier_or_error_text p.outcome) p.extensions (outcome_fits p.outcome is.outcome) is.extensions);
     }
 
--- whether a text is server-final, and with which parts, is decided
+-- it is decidable whether a text is server-final, and with which parts
 decided_server_final : (text : List ℕ) → Decided ((p : ServerFinalParts) × IsServerFinal text p)
 decided_server_final text =
     decided_equivalent (IsFittingText longest_nonce 1 (places (server_final_places (parts text)) [] (length (parts text))) text)
@@ -67,6 +68,6 @@ decided_server_final text =
     (λ r. fitting_text_is_server_final text (parts text) refl r.short r.utf8_text r.fit) (λ (p, is). server_final_is_fitting text p is)
     (decided_fitting_text longest_nonce 1 (places (server_final_places (parts text)) [] (length (parts text))) text)
 
--- the law: whether a text is server-final is decided
+-- the law: it is decidable whether a text is server-final
 pub server_final_is_decided : ServerFinalIsDecided
 server_final_is_decided text = some_or_none ServerFinalParts (IsServerFinal text) (decided_server_final text)

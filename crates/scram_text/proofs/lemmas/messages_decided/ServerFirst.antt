@@ -1,4 +1,4 @@
--- Whether a text is server-first is decided: it is where its parts all fit their places.
+-- It is decidable whether a text is server-first: it is if its parts all fit their places.
 use Rattle.std.proofs.Common.{ℕ, ◌≤◌, List, [], ◌∷◌, ◌++◌, length, refl, ◌∙◌, ap, arith, subst}
 use Rattle.std.specs.Prelude.{codes}
 use Rattle.std.specs.declared.option.Option.{Option}
@@ -13,12 +13,12 @@ use Rattle.scram_text.specs.Pieces.{IsMextAndRest}
 use Rattle.scram_text.specs.declared.fault.TextWhy.{TextWhy}
 use Rattle.scram_text.specs.declared.fault.TextWhy.TheVariants.{Nonce, Salt, Count}
 use Rattle.scram_text.proofs.lemmas.Places.{AllFit, first_part_fits, fitting_are_extensions}
-use Rattle.scram_text.proofs.lemmas.MextAndRest.{mext_and_rest_lengths, some_mext_and_rest}
+use Rattle.scram_text.proofs.lemmas.MextAndRest.{mext_and_rest_lengths_add_up, some_mext_and_rest}
 use Rattle.scram_text.proofs.lemmas.Decided.{some_or_none}
-use Rattle.scram_text.proofs.lemmas.ServerFirst.{server_first_mext_and_rest, server_first_fit, server_first_spelled, server_first_rest_places_unfold}
+use Rattle.scram_text.proofs.lemmas.ServerFirst.{server_first_has_mext_and_rest, server_first_parts_fit, pieces_spell_server_first, server_first_rest_places_unfold}
 use Rattle.scram_text.proofs.lemmas.messages_decided.Fitting.{IsFittingText, decided_fitting_text}
 
--- a short text whose parts are those of server-first is one, whether with a mandatory extension or without:
+-- a short text whose parts are those of server-first is one, with or without a mandatory extension:
 fitting_parts_are_server_first : (text nonce salt count : List ℕ) (extensions : List (List ℕ)) (mext : Option (List ℕ))
     → IsMextAndRest (parts text) (nonce ∷ salt ∷ count ∷ extensions) mext → length text ≤ longest_message → IsUtf8Text text
     → AllFit longest_nonce (places (Nonce ∷ Salt ∷ Count ∷ []) [] (length (nonce ∷ salt ∷ count ∷ extensions)))
@@ -36,7 +36,7 @@ fitting_parts_are_server_first text nonce salt count extensions mext marked shor
     let p : ServerFirstParts = record { mext = mext; nonce = nonce_text; salt = salt_bytes; count = number; extensions = extensions } in (
       p,
       record {
-        spelled = server_first_spelled text nonce salt count p marked nonce_is
+        spelled = pieces_spell_server_first text nonce salt count p marked nonce_is
             (salt_is ∙ ap (λ (v : List ℕ). codes "s=" ++ v) salt_spelled) (count_is ∙ ap (λ (v : List ℕ). codes "i=" ++ v) count_spelled);
         mext = marked.value;
         nonce = nonce_class;
@@ -76,20 +76,20 @@ fitting_text_is_server_first text r =
 -- a server-first message is a short text with enough parts, all of which fit
 server_first_is_fitting : (text : List ℕ) (p : ServerFirstParts) → IsServerFirst text p → FitsServerFirst text
 server_first_is_fitting text p is =
-    let marked = server_first_mext_and_rest text p is in
-    let lengths = mext_and_rest_lengths server_first_rest_places (parts text) _ p.mext marked in record {
+    let marked = server_first_has_mext_and_rest text p is in
+    let lengths = mext_and_rest_lengths_add_up server_first_rest_places (parts text) _ p.mext marked in record {
       short = is.short;
       utf8_text = is.utf8_text;
       enough = omega (arith, lengths.0, lengths.1);
-      fit = server_first_fit text p is;
+      fit = server_first_parts_fit text p is;
     }
 
--- whether a text is server-first, and with which parts, is decided
+-- it is decidable whether a text is server-first, and with which parts
 decided_server_first : (text : List ℕ) → Decided ((p : ServerFirstParts) × IsServerFirst text p)
 decided_server_first text =
     decided_equivalent (FitsServerFirst text) ((p : ServerFirstParts) × IsServerFirst text p) (fitting_text_is_server_first text)
     (λ (p, is). server_first_is_fitting text p is) (decided_fitting_text longest_nonce _ _ text)
 
--- the law: whether a text is server-first is decided
+-- the law: it is decidable whether a text is server-first
 pub server_first_is_decided : ServerFirstIsDecided
 server_first_is_decided text = some_or_none ServerFirstParts (IsServerFirst text) (decided_server_first text)

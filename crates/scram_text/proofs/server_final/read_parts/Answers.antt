@@ -4,19 +4,19 @@ use Rattle.std.proofs.lemmas.Result.{err_from_is_err_and}
 use Rattle.scram_text.specs.Parts.{parts_of_some}
 use Rattle.scram_text.specs.Messages.{ServerFinalParts}
 use Rattle.scram_text.specs.Shown.{verifier_or_error_of}
-use Rattle.scram_text.proofs.lemmas.ServerFinal.{outcome_fault, extension_fault, outcome_part_fits, server_final_spelled}
+use Rattle.scram_text.proofs.lemmas.ServerFinal.{unfit_outcome_is_fault, extension_misfit_is_fault, outcome_part_fits, pieces_spell_server_final}
 use Rattle.scram_text.proofs.server_final.read_parts.Goals as goal
 
 pub returns-in_err-result-clause-fault : goal.returns-in_err-result-clause-fault
 returns-in_err-result-clause-fault c =
     let p = err_from_is_err_and c.from_residual-in_err-result.result c.from_residual-in_err-result.ensures.1 in
-    rw (p.1, p.2) (outcome_fault c.args.message.now c.cut.result.0.now _ c.in_ok-checked_part_count.ensures.short
+    rw (p.1, p.2) (unfit_outcome_is_fault c.args.message.now c.cut.result.0.now _ c.in_ok-checked_part_count.ensures.short
     c.in_ok-checked_part_count.ensures.utf8_text c.cut.ensures.parts _ c.in_err-result.ensures.fault)
 
 pub returns-in_err-extensions-clause-fault : goal.returns-in_err-extensions-clause-fault
 returns-in_err-extensions-clause-fault c =
     let p = err_from_is_err_and c.from_residual-in_err-extensions.result c.from_residual-in_err-extensions.ensures.1 in
-    rw (p.1, p.2) (extension_fault c.args.message.now c.cut.result.0.now _ c.in_ok-checked_part_count.ensures.short
+    rw (p.1, p.2) (extension_misfit_is_fault c.args.message.now c.cut.result.0.now _ c.in_ok-checked_part_count.ensures.short
     c.in_ok-checked_part_count.ensures.utf8_text c.cut.ensures.parts _
     (outcome_part_fits c.cut.result.0.now (verifier_or_error_of c.in_ok-result.result) c.in_ok-result.ensures.spelled
     c.in_ok-result.ensures.class)
@@ -30,7 +30,7 @@ returns-clause-found c =
     } in (
       p,
       record {
-        spelled = server_final_spelled c.args.message.now c.cut.result.0.now p c.cut.ensures.parts c.in_ok-result.ensures.spelled;
+        spelled = pieces_spell_server_final c.args.message.now c.cut.result.0.now p c.cut.ensures.parts c.in_ok-result.ensures.spelled;
         outcome = c.in_ok-result.ensures.class;
         extensions = c.in_ok-extensions.ensures.found;
         utf8_text = c.in_ok-checked_part_count.ensures.utf8_text;

@@ -1,6 +1,6 @@
 use Rattle.scram_text.proofs.lemmas.ServerFinal.{server_final_is_read}
 use Rattle.scram_text.proofs.server_final.read_server_final.Goals as goal
 
-pub returns-clause-only : goal.returns-clause-only
-returns-clause-only c =
+pub returns-clause-every : goal.returns-clause-every
+returns-clause-every c =
     server_final_is_read c.args.message.now c.read_parts.result c.read_parts.ensures.found c.read_parts.ensures.fault

@@ -3,35 +3,36 @@ use Rattle.std.specs.Option.{option_copied}
 use Rattle.std.proofs.lemmas.Result.{err_from_is_err_and}
 use Rattle.scram_text.specs.Parts.{parts_of_some}
 use Rattle.scram_text.specs.Messages.{ServerFirstParts}
-use Rattle.scram_text.proofs.lemmas.Places.{field_fits}
-use Rattle.scram_text.proofs.lemmas.ServerFirst.{nonce_fault, salt_fault, count_fault, extension_fault, server_first_spelled}
+use Rattle.scram_text.proofs.lemmas.Places.{field_part_spells_field}
+use Rattle.scram_text.proofs.lemmas.ServerFirst.{unfit_nonce_is_fault, unfit_salt_is_fault, unfit_count_is_fault, extension_misfit_is_fault, pieces_spell_server_first}
 use Rattle.scram_text.proofs.server_first.read_parts.Goals as goal
 
 pub returns-in_default-clause-fault : goal.returns-in_default-clause-fault
 returns-in_default-clause-fault c =
     let cut = c.in_ok-pieces.ensures.cut in
-    nonce_fault c.args.message.now _ _ _ _ cut.mext _ cut.short cut.utf8_text cut.mext_and_rest cut.index c.in_default.ensures.none
+    unfit_nonce_is_fault c.args.message.now _ _ _ _ cut.mext _ cut.short cut.utf8_text cut.mext_and_rest cut.index c.in_default.ensures.none
 
 pub returns-in_default-salt_of-clause-fault : goal.returns-in_default-salt_of-clause-fault
 returns-in_default-salt_of-clause-fault c =
     let cut = c.in_ok-pieces.ensures.cut in
-    salt_fault c.args.message.now _ _ _ _ cut.mext _ cut.short cut.utf8_text cut.mext_and_rest cut.index
+    unfit_salt_is_fault c.args.message.now _ _ _ _ cut.mext _ cut.short cut.utf8_text cut.mext_and_rest cut.index
     (c.in-Some.nonce.now, c.in-Some.ensures.spelled, c.in-Some.ensures.class) c.in_default-salt_of.ensures.none
 
 pub returns-in_default-count_of-clause-fault : goal.returns-in_default-count_of-clause-fault
 returns-in_default-count_of-clause-fault c =
     let cut = c.in_ok-pieces.ensures.cut in
-    count_fault c.args.message.now _ _ _ _ cut.mext _ cut.short cut.utf8_text cut.mext_and_rest cut.index
+    unfit_count_is_fault c.args.message.now _ _ _ _ cut.mext _ cut.short cut.utf8_text cut.mext_and_rest cut.index
     (c.in-Some.nonce.now, c.in-Some.ensures.spelled, c.in-Some.ensures.class)
-    (field_fits 115 64 _ _ c.in-Some-salt_of.ensures.spelled c.in-Some-salt_of.ensures.class) c.in_default-count_of.ensures.none
+    (field_part_spells_field 115 64 _ _ c.in-Some-salt_of.ensures.spelled c.in-Some-salt_of.ensures.class)
+    c.in_default-count_of.ensures.none
 
 pub returns-in_err-extensions-clause-fault : goal.returns-in_err-extensions-clause-fault
 returns-in_err-extensions-clause-fault c =
     let cut = c.in_ok-pieces.ensures.cut in
     let p = err_from_is_err_and c.from_residual-in_err-extensions.result c.from_residual-in_err-extensions.ensures.1 in
-    rw (p.1, p.2) (extension_fault c.args.message.now _ _ _ _ cut.mext _ cut.short cut.utf8_text cut.mext_and_rest cut.index _
+    rw (p.1, p.2) (extension_misfit_is_fault c.args.message.now _ _ _ _ cut.mext _ cut.short cut.utf8_text cut.mext_and_rest cut.index _
     (c.in-Some.nonce.now, c.in-Some.ensures.spelled, c.in-Some.ensures.class)
-    (field_fits 115 64 _ _ c.in-Some-salt_of.ensures.spelled c.in-Some-salt_of.ensures.class)
+    (field_part_spells_field 115 64 _ _ c.in-Some-salt_of.ensures.spelled c.in-Some-salt_of.ensures.class)
     (_, c.in-Some-count_of.ensures.spelled, (c.in-Some-count_of.count, refl, c.in-Some-count_of.ensures.class))
     c.in_err-extensions.ensures.fault)
 
@@ -47,7 +48,7 @@ returns-clause-found c =
     } in (
       p,
       record {
-        spelled = server_first_spelled c.args.message.now _ _ _ p cut.mext_and_rest c.in-Some.ensures.spelled
+        spelled = pieces_spell_server_first c.args.message.now _ _ _ p cut.mext_and_rest c.in-Some.ensures.spelled
             c.in-Some-salt_of.ensures.spelled
             c.in-Some-count_of.ensures.spelled;
         mext = cut.mext_and_rest.value;

@@ -43,7 +43,7 @@ copy_of-requires-2 g c =
     let start : c.len-start.result ≡ length c.args.out.now.items = search rules in
     let written = slice_after_front_is_text c.deref.result.now c.args.out.now.items (client_first_text first) c.len-start.result
     (c.deref.ensures.value ∙ c.in_ok-write_client_first.ensures.appended.0) start in
-    let shows = c.in-Ok.ensures.only first
+    let shows = c.in-Ok.ensures.every first
     (subst (λ (client_first : List ℕ). IsClientFirst client_first first) (sym written) c.in_ok-write_client_first.ensures.is_message) in (
       omega arith,
       header_fits_channel c.args.name.now authzid c.args.nonce.now (client_first_text first) c.in-Ok.message.header.now first

@@ -11,7 +11,7 @@ returns-in-Err-answer-clause-no_memory g c = λ l started.
     let taken = c.in-Ok.ensures.ok in
     c.in-Err-answer.ensures.no_memory l taken.0 started taken.2.is_challenge taken.1
 
-pub returns-in-Err-clause-only : goal.returns-in-Err-clause-only
-returns-in-Err-clause-only g c = λ l challenge started answerable.
+pub returns-in-Err-clause-every : goal.returns-in-Err-clause-every
+returns-in-Err-clause-every g c = λ l challenge started answerable.
     absurd (refused_is_not_answerable l.limits l.nonce c.args.server_first.now c.in-Err.fault challenge
     (login_has_challenge_fault c.args.self l c.args.server_first.now c.in-Err.fault started c.in-Err.ensures.err) answerable)

@@ -12,7 +12,7 @@ returns-then-not-is_challenge_to-clause-err c =
       λ o is. let nonce : c.in_ok-taken.taken.nonce.now ≡ o.first.nonce =
           taken.2.nonce ∙ ap (λ (p : ClientFirstParts). p.nonce) (has_one_client_first client_first taken.0 o.first taken.1 is.is_first) in
           c.if-not-is_challenge_to.ensures.not client_first c.args.server_first.now o nonce
-          (c.in-Ok.ensures.only o.challenge is.is_challenge) is,
+          (c.in-Ok.ensures.every o.challenge is.is_challenge) is,
     )
 
 pub returns-clause-ok : goal.returns-clause-ok

@@ -8,7 +8,7 @@ use Rattle.scram_text.specs.Name.{SpellsName}
 use Rattle.scram_text.proofs.lemmas.Names.{one_name_per_spelling}
 use Rattle.scram_text.proofs.name.SaslText.plain.Goals as goal
 
--- where the one name that is spelled is not plain, no plain name is spelled
+-- if the one name that is spelled is not plain, no plain name is spelled
 no_plain_name_spelled : (o : Option (List ℕ)) (found spelled : List ℕ) → SpellsName found spelled → SomeIff o (IsPlainName found) found
     → IfNone o ((name : List ℕ) → IsPlainName name → SpellsName name spelled → ⊥)
 no_plain_name_spelled None found spelled spells not_plain = λ name plain also. not_plain
