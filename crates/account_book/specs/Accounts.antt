@@ -1,5 +1,5 @@
--- A book as accounts by their names, in byte order of the names: the account at a name, and books in which one account
--- changes. Of each change it is also said what becomes of the accounts as a map from names.
+-- A book as accounts by their names, in byte order of the names: the account at a name, and books in which one account changes. For
+-- each change there is also what it does to the accounts as a map from names.
 use Rattle.std.specs.Prelude.{ℕ, ◌≡◌, List, Option, None}
 use Rattle.std.specs.Option.{option_map_or}
 use Rattle.std.specs.FinMap as map
@@ -24,11 +24,11 @@ account_at book name = lookup (is_at (name_cmp name)) book.accounts
 abbrev pub with_account : BookFields → List ℕ → AccountFields → BookFields
 with_account book name account = record book { accounts = insert_entry name_cmp book.accounts name account }
 
--- the book without the account of this name, where there is one
+-- the book without the account of this name, if there is one
 abbrev pub without_account : BookFields → List ℕ → BookFields
 without_account book name = record book { accounts = remove_entry (is_at (name_cmp name)) book.accounts }
 
--- the book in which the account of this name, where there is one, is changed
+-- the book in which the account of this name, if there is one, is changed
 abbrev pub with_changed : BookFields → List ℕ → (AccountFields → AccountFields) → BookFields
 with_changed book name change = record book {
   accounts =
@@ -36,7 +36,7 @@ with_changed book name change = record book {
       (account_at book name) book.accounts;
 }
 
--- an account that may act as these names
+-- the account, changed so that it may act as these names
 abbrev pub with_act_as : List (List ℕ) → AccountFields → AccountFields
 with_act_as names account = record account { act_as = names }
 
@@ -44,18 +44,18 @@ with_act_as names account = record account { act_as = names }
 abbrev pub accounts_of : BookFields → FinMap name_cmp AccountFields
 accounts_of book = from_entries book.accounts
 
--- the map in which the account of this name, where there is one, is changed
+-- the map in which the account of this name, if there is one, is changed
 abbrev pub map_changed : FinMap name_cmp AccountFields → List ℕ → (AccountFields → AccountFields)
     → FinMap name_cmp AccountFields
 map_changed accounts name change =
     option_map_or (λ account. map.insert accounts name (change account)) (map.get accounts name) accounts
 
--- a book is this one, and its accounts, as a map, are these
+-- the book is this one, and its accounts, as a map, are these
 pub record Becomes (expected : BookFields) (mapped : FinMap name_cmp AccountFields) (new : BookFields) : Type 0 where
   pub book : new ≡ expected
   pub accounts : accounts_of new ≡ mapped
 
--- the account of this name, where there is one, is changed, and nothing else
+-- the account of this name, if there is one, is changed, and nothing else
 abbrev pub IsChanged : BookFields → List ℕ → (AccountFields → AccountFields) → BookFields → Type 0
 IsChanged old name change = Becomes (with_changed old name change) (map_changed (accounts_of old) name change)
 
@@ -64,6 +64,6 @@ pub record IsAdded (old : BookFields) (name : List ℕ) (account : AccountFields
   pub free : account_at old name ≡ None
   pub added : Becomes (with_account old name account) (map.insert (accounts_of old) name account) new
 
--- the account of this name, where there is one, is removed, and nothing else changes
+-- the account of this name, if there is one, is removed, and nothing else changes
 abbrev pub IsRemoved : BookFields → List ℕ → BookFields → Type 0
 IsRemoved old name = Becomes (without_account old name) (map.remove (accounts_of old) name)

@@ -18,7 +18,7 @@ keys_from m password salt count =
           record { stored = record { items = keys.stored }; server = record { items = keys.server } };
     }
 
--- an account with the keys of a password for both mechanisms, which acts as no other name and has no token
+-- an account with the keys of a password for both mechanisms, which may act as no other name and has no token
 abbrev pub enrolled : (password salt1 salt256 : List ℕ) → (count : ℕ) → AccountFields
 enrolled password salt1 salt256 count = record {
   sha1 = Some (keys_from ScramSha1 password salt1 count);

@@ -1,4 +1,4 @@
--- What changes, and what stays, where an account of a book gets another token, and where an account is added.
+-- What changes and what stays when an account of a book gets another token, and when an account is added.
 use Rattle.std.specs.Prelude.{ℕ, ◌≡◌, List, cond}
 use Rattle.std.specs.Str.{bytes_eq}
 use Rattle.std.specs.declared.option.Option.TheVariants.{Some}
@@ -21,17 +21,17 @@ abbrev pub EntriesStay : Type 0
 EntriesStay = (old : BookFields) (name : List ℕ) (token next : TokenFields) → token_at old name ≡ Some token
     → (m : Mechanism) (other : List ℕ) → entry_in (with_changed old name (with_token next)) m other ≡ entry_in old m other
 
--- a token that is put where it stands changes nothing
+-- putting a token where it already is changes nothing
 abbrev pub TokensStay : Type 0
 TokensStay = (old : BookFields) (name : List ℕ) (token : TokenFields) → token_at old name ≡ Some token
     → with_changed old name (with_token token) ≡ old
 
--- a token that is put back makes the book that there was
+-- putting the old token back gives the old book
 abbrev pub TokensGoBack : Type 0
 TokensGoBack = (old : BookFields) (name : List ℕ) (token next : TokenFields) → token_at old name ≡ Some token
     → with_changed (with_changed old name (with_token next)) name (with_token token) ≡ old
 
--- the account that is added stands at its name, and every other name has the account that it had
+-- the added account is at its name, and every other name has the account that it had
 abbrev pub AddedIsApart : Type 0
 AddedIsApart = (old : BookFields) (name : List ℕ) (account : AccountFields) (other : List ℕ)
     → account_at (with_account old name account) other ≡ cond (bytes_eq name other) (Some account) (account_at old other)

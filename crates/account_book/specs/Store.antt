@@ -1,15 +1,18 @@
--- What a store of the book's text promises of one save.
+-- What a store of the book's text promises about one save.
 use Rattle.std.specs.Prelude.{ℕ, ◌≡◌, ◌+◌, ◌⊎◌, true, false, Bool, List}
 use Rattle.std.specs.declared.result.Result.{Result}
 use Rattle.std.specs.declared.result.Result.TheVariants.{Ok, Err}
 use Rattle.account_book.specs.declared.store.StoreFault.{StoreFault}
 
--- what is known of a store: `saved`, the text that it holds; where it has failed, it holds this one or `asked`, the text that the
--- last save was given; whether it has failed; and how many saves it has begun
+-- what is known of a store of a text
 pub record StoreFacts : Type 0 where
+  -- the text that it holds; if it has failed, it holds this one or `asked`
   pub saved : List ℕ
+  -- the text that the last save was given
   pub asked : List ℕ
+  -- whether it has failed
   pub failed : Bool
+  -- how many saves it has begun
   pub saves : ℕ
 
 -- a store that had not failed begins a save of this text
@@ -24,13 +27,13 @@ pub record IsSaved (old : StoreFacts) (text : List ℕ) (new : StoreFacts) : Typ
   pub saved : new.saved ≡ text
   pub working : new.failed ≡ false
 
--- a save in which the store fails: it holds the text from before, or this one
+-- a save in which the store fails: it holds the text that it had before, or this one
 pub record IsFailedSave (old : StoreFacts) (text : List ℕ) (new : StoreFacts) : Type 0 where
   pub begun : BeginsSave old text new
   pub saved : (new.saved ≡ old.saved) ⊎ (new.saved ≡ text)
   pub failed : new.failed ≡ true
 
--- one save and its answer. A store that has failed answers Err, and stays as it is.
+-- one save and its result. A store that had failed returns Err, and stays as it is.
 abbrev pub IsSaveAnswered : StoreFacts → List ℕ → Result (Unit {0}) StoreFault → StoreFacts → Type 0
 IsSaveAnswered old text (Ok done) new = IsSaved old text new
 IsSaveAnswered old text (Err fault) new = ((old.failed ≡ true) × (new ≡ old)) ⊎ IsFailedSave old text new

@@ -14,27 +14,26 @@ use Rattle.account_book.specs.Accounts.{account_at, IsChanged}
 abbrev pub token_at : BookFields → List ℕ → Option TokenFields
 token_at book name = option_and_then (λ account. account.token) (account_at book name)
 
--- an account that has this token
+-- the account with this token
 abbrev pub with_token : TokenFields → AccountFields → AccountFields
 with_token token account = record account { token = Some token }
 
--- what an attempt on the token of the account of this name does: `next` is the token after it, and it is all that changes in
--- the book
+-- what an attempt on the token of this name's account does: `next` is the token after it, and nothing else in the book changes
 pub record IsAttempt (old : BookFields) (name : List ℕ) (token : TokenFields) (moment : ℕ) (sent : CodeTexts) (reply : Reply)
     (new : BookFields) : Type 0 where
   pub next : TokenFields
   pub judged : IsTokenAttempt token moment sent reply next
   pub kept : IsChanged old name (with_token next) new
 
--- what comes of an attempt on the account of this name: a reply, where it has a token; where there is no account of the
--- name or it has no token, no reply and no change
+-- what an attempt on this name's account leads to: if it has a token, a reply; if there is no such account or it has no token, no
+-- reply and no change
 abbrev pub IsBookAttempt : BookFields → List ℕ → ℕ → CodeTexts → Option Reply → BookFields → Type 0
 IsBookAttempt old name moment sent answer new =
     MatchOption (token_at old name)
     ((answer ≡ None) × (new ≡ old))
     (λ token. (reply : Reply) × (answer ≡ Some reply) × IsAttempt old name token moment sent reply new)
 
--- the token of this name's account has no failures any more, and nothing else changes; where there is no account of the name
--- or it has no token, nothing does
+-- the failures of the token of this name's account are set to 0, and nothing else changes; if there is no such account or it has no
+-- token, nothing changes
 abbrev pub IsUnlocked : BookFields → List ℕ → BookFields → Type 0
 IsUnlocked old name new = MatchOption (token_at old name) (new ≡ old) (λ token. IsChanged old name (with_token (unlocked token)) new)

@@ -1,4 +1,4 @@
--- What a book shows a SCRAM server of a name: an account's keys, or a decoy.
+-- What a book shows a SCRAM server about a name: an account's keys, or a decoy.
 use Rattle.std.specs.Prelude.{ℕ, List, [], ◌∷◌, ◌++◌, take, option_map, option_and_then, unwrap_or, Option}
 use Rattle.std.specs.Str.{byte}
 use Rattle.std.specs.declared.option.Option.TheVariants.{None, Some}
@@ -21,8 +21,8 @@ mech_keys ScramSha256 account = account.sha256
 abbrev pub keys_entry : List (List ℕ) → MechKeys → Entry
 keys_entry act_as keys = record { salt = keys.salt; count = keys.count; keys = Some (keys_of keys.keys); act_as = act_as }
 
--- the salt of a decoy: the first `SALT_LEN` bytes, 16, of the HMAC-SHA-256, under the book's decoy key, of the mechanism's
--- name, a byte 00 and the name. So a name without keys has one salt for each mechanism, as an account has.
+-- the salt of a decoy: the first 16 bytes of HMAC-SHA-256 with the book's decoy key over the mechanism's name, a byte 00 and the
+-- name. So a name without keys has one salt for each mechanism, as an account has.
 abbrev pub decoy_salt : BookFields → Mechanism → List ℕ → List ℕ
 decoy_salt book m name = take SALT_LEN (hmac_by ScramSha256 book.decoy_key (name_of m ++ byte "\0" ∷ name))
 
@@ -30,7 +30,7 @@ decoy_salt book m name = take SALT_LEN (hmac_by ScramSha256 book.decoy_key (name
 abbrev pub decoy_entry : BookFields → Mechanism → List ℕ → Entry
 decoy_entry book m name = record { salt = decoy_salt book m name; count = book.decoy_count; keys = None; act_as = [] }
 
--- what a server keeps of a name for a mechanism: the account where it has keys for it, else a decoy
+-- what a server keeps of a name for a mechanism: the account if it has keys for it, else a decoy
 abbrev pub entry_in : BookFields → Mechanism → List ℕ → Entry
 entry_in book m name =
     unwrap_or (option_and_then (λ account. option_map (keys_entry account.act_as) (mech_keys m account)) (account_at book name))

@@ -1,4 +1,4 @@
-//! An account book: accounts by their names, and what decoys are made from.
+//! An account book: accounts by their names, and what decoys are derived from.
 ghost use Rattle.std.specs.Prelude.{◌≡◌, ◌≤◌, [], length, is_some, option_copied, IfSome};
 ghost use Rattle.std.specs.FinMap as map;
 ghost use Rattle.book_format.specs.Account.{IsAccount, most_names};
@@ -18,8 +18,7 @@ use std::collections::BTreeMap;
 use std::marker::Model;
 pub use view::SALT_LEN;
 
-/// An account book. Contracts see its accounts by their names, in byte order of the names, and also as a map
-/// from names.
+/// An account book. Contracts see its accounts by their names, in byte order of the names, and also as a map from names.
 #[derive(Drop)]
 pub struct Book {
     contents: Contents,
@@ -34,8 +33,8 @@ impl Model for Book {
 }
 
 impl Book {
-    /// A book without accounts. The salts of its decoys are made from `decoy_key`, which nobody else may
-    /// know, and their iteration count is `decoy_count`, at least 1.
+    /// A book without accounts. The salts of its decoys are derived from `decoy_key`, which must be secret, and their iteration
+    /// count is `decoy_count`, at least 1.
     pub fn new(alloc: Global, decoy_key: [u8; 32], decoy_count: u32) -> Book
         requires { 1 ≤ decoy_count }
         ensures { result ≡ record { decoy_key = decoy_key; decoy_count = decoy_count; accounts = [] } }
@@ -50,15 +49,15 @@ impl Book {
         }
     }
 
-    /// Each book is in its ranges: a law, for proofs that only know a book's value.
+    /// Each book is in its ranges: a law, for proofs that know only a book's value.
     pub(crate) fn is_in_range(&self)
         ensures { IsBook self.now }
     {
-        // To look at a field brings the type's invariant into the proof.
+        // Reading a field brings the type's invariant into the proof.
         let _ = &self.contents.decoy_count;
     }
 
-    /// The account of this name, or None where there is none.
+    /// The account of this name, or None if there is none.
     #[tactic(auto, using(crate::proofs::lemmas::Maps::account_is_in_map))]
     pub fn account(&self, name: &PlainName) -> Option<&Account>
         ensures value { option_copied result ≡ account_at self.now name.now }
@@ -68,7 +67,7 @@ impl Book {
         self.contents.accounts.get(name)
     }
 
-    /// Removes the account of this name. Returns whether there was one; where there was none, nothing changes.
+    /// Removes the account of this name. Returns whether there was one; if there was none, nothing changes.
     pub fn remove(&mut self, name: &PlainName) -> bool
         ensures found { result ≡ is_some (account_at self.old name.now) }
         ensures removed { IsRemoved self.old name.now self.new }
@@ -76,8 +75,8 @@ impl Book {
         self.contents.accounts.remove(name).is_some()
     }
 
-    /// Lets the account of this name act as these names, at most 16, and no others except its own. Returns
-    /// whether there is such an account; else nothing changes.
+    /// Lets the account of this name act as these names, at most 16, and as no others except its own. Returns whether there is such
+    /// an account; if there is none, nothing changes.
     pub fn set_act_as(&mut self, name: &PlainName, act_as: Vec<PlainName>) -> bool
         requires { length act_as.items ≤ most_names }
         ensures found { result ≡ is_some (account_at self.old name.now) }

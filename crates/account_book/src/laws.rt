@@ -1,4 +1,5 @@
-//! What follows from the contracts of a book's calls.
+//! Laws that follow from the contracts of a book's calls. All do nothing at run time except `written_is_read`, which writes and
+//! reads the book.
 ghost use Rattle.std.specs.Prelude.{◌≡◌, IfOk};
 ghost use Rattle.book_format.specs.Book.{IsBook};
 ghost use Rattle.account_book.specs.Laws.{TokensAreApart, EntriesStay, TokensStay, TokensGoBack, AddedIsApart};
@@ -7,16 +8,16 @@ use crate::book::Book;
 use book_format::BookWhy;
 use std::alloc::{AllocError, Global};
 
-/// Each book is in its ranges: its salts and iteration counts are those that a challenge can show, and its keys
-/// are as long as the digests of their hash functions.
+/// Each book is in its ranges: its salts and iteration counts fit into a challenge, and its keys are as long as the digests of
+/// their hash functions.
 pub fn books_are_in_range(book: &Book)
     ensures { IsBook book.now }
 {
     book.is_in_range();
 }
 
-/// What a book writes is read as that book. Returns the book that was read. `AllocError` comes only where memory runs out, which no
-/// clause says.
+/// The text that a book writes is read as that book. Returns the book that was read. Errors: `AllocError`, only if memory runs out
+/// (no clause says so).
 pub fn written_is_read(alloc: Global, book: &Book) -> Result<Book, AllocError>
     ensures { IfOk result (λ read. read ≡ book.now) }
 {
@@ -30,27 +31,27 @@ pub fn written_is_read(alloc: Global, book: &Book) -> Result<Book, AllocError>
     }
 }
 
-/// Where one account gets another token, every other name has the token that it had.
+/// If one account gets another token, every other name keeps its token.
 pub fn tokens_are_apart()
     ensures { TokensAreApart }
 {}
 
-/// Where one account gets another token, the entry of every name is as it was: no token is in an entry.
+/// If one account gets another token, the entry of every name stays the same: an entry contains no token.
 pub fn entries_stay()
     ensures { EntriesStay }
 {}
 
-/// A token that is put where it stands changes nothing.
+/// Giving an account the token that it already has changes nothing.
 pub fn tokens_stay()
     ensures { TokensStay }
 {}
 
-/// A token that is put back makes the book that there was.
+/// Giving an account another token, and then its old token again, restores the book.
 pub fn tokens_go_back()
     ensures { TokensGoBack }
 {}
 
-/// Where an account is added, it stands at its name, and every other name has the account that it had.
+/// If an account is added, its name has that account, and every other name keeps its account.
 pub fn added_is_apart()
     ensures { AddedIsApart }
 {}

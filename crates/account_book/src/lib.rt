@@ -1,10 +1,9 @@
-//! An account book: accounts by their names, each with SCRAM keys, names to act as and a token, and
-//! where the book's text is kept.
+//! An account book: accounts by their names, each with SCRAM keys, names to act as and a token. Also the trait of stores for a
+//! book's text.
 //!
-//! `Book::read` and `Book::write` read and write its text, `Book::enrol` adds an account, `Book::view`
-//! shows what a SCRAM server keeps of a name, `Book::attempt` judges a code, `Book::sync` two in a
-//! row, and `Book::judge` either. A name without keys is seen as a decoy. Each call's contract says
-//! which account changes and how; every other stays as it was.
+//! `Book::read` and `Book::write` read and write its text, `Book::enrol` adds an account, `Book::view` shows what a SCRAM server
+//! keeps for a name, `Book::attempt` judges a code, `Book::sync` two in a row, and `Book::judge` either. A name without keys is
+//! shown as a decoy. Each call's contract says which account changes and how; all others stay the same.
 //!
 //! ```rust
 //! use account_book::Book;

@@ -1,5 +1,5 @@
-//! What each call does, by values from outside: the published examples of RFC 5802, RFC 7677 and RFC 4226, the keys of the
-//! former two by Python's hashlib, and decoys' salts by its hmac.
+//! What each call does, checked with values from outside: the published examples of RFC 5802, RFC 7677 and RFC 4226, the keys
+//! of the former two computed with Python's hashlib, and decoys' salts with its hmac.
 use account_book::{Book, EnrolFault};
 use scram_text::{Password, PlainName, Salt};
 use std::process::Abort;
@@ -30,7 +30,7 @@ fn name(rt: &impl Abort, bytes: &[u8]) -> PlainName {
     PlainName::new(bytes).expect(rt, "a name")
 }
 
-// Enrols this name with the password and the salts of the examples.
+// Enrols an account of this name, with the password and the salts of the examples.
 fn enrol(rt: &(impl Abort + AllocGlobal), book: &mut Book, bytes: &[u8]) -> Result<(), EnrolFault> {
     let password = Password::new(b"pencil").expect(rt, "a password");
     let salt1 = Salt::new(&SALT_1).expect(rt, "a salt");

@@ -6,8 +6,7 @@ use Rattle.std.specs.declared.io.ErrorKind.TheVariants.{ResourceBusy}
 use Rattle.book_file.specs.declared.fault.HoldFault.{HoldFault}
 use Rattle.book_file.specs.declared.fault.HoldFault.TheVariants.{Unreadable, Missing, Unwritable, OwnedByAnother, HeldByOthers, InTheWay}
 
--- a fault of taking hold of a book. Where a missing book is to be made, Missing does not come; where none is made, Unwritable does
--- not.
+-- a fault of taking hold of a book. If a missing book is to be made, it is not Missing; otherwise it is not Unwritable.
 abbrev pub IsHoldFault : (may_make : Bool) → HoldFault → Type 0
 IsHoldFault may_make (Unreadable error) = Unit {0}
 IsHoldFault may_make Missing = may_make ≡ false
@@ -16,7 +15,8 @@ IsHoldFault may_make OwnedByAnother = Unit {0}
 IsHoldFault may_make HeldByOthers = Unit {0}
 IsHoldFault may_make (InTheWay path) = Unit {0}
 
--- why no next text can be written: the error of the call that failed, where there is one; else the file's name is not free
+-- why no next text can be written: the error of the call that failed, if there is one; else one of kind ResourceBusy, as the file's
+-- name is not free
 abbrev pub IsNextError : HoldFault → Error → Type 0
 IsNextError (Unreadable error) found = found ≡ error
 IsNextError (Unwritable error) found = found ≡ error

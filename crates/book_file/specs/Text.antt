@@ -1,13 +1,12 @@
--- What is known of the files that a text was read from or written to: what their reads and writes say. Which paths they have
--- is not known.
+-- What is known of the files that a text was read from or written to: what their reads and writes say. Their paths are not known.
 use Rattle.std.specs.Prelude.{ℕ, ◌≡◌, List, Option, IfSome}
 use Rattle.std.specs.Io.KnownBytes.{Appends}
 
--- these are all bytes that a file had left when it was read, where those are known
+-- these are all the bytes that a file had left when it was read, if those are known
 abbrev pub IsRead : {File : Type 0} → (remaining : File → Option (List ℕ)) → List ℕ → Type 0
 IsRead {File} remaining bytes = (file : File) × IfSome (remaining file) (λ all. bytes ≡ all)
 
--- these bytes were written to a file, at the end of what it had, where that is known. In a save this is the file of the next text.
--- That it is then given the book's name is not said: a store is known by its texts alone.
+-- these bytes were written to a file, at the end of its contents, if those are known. In a save this is the file of the next text.
+-- It is not said that this file then gets the book's name: a store is known only by its texts.
 abbrev pub IsWritten : {File : Type 0} → (contents : File → Option (List ℕ)) → List ℕ → Type 0
 IsWritten {File} contents bytes = (before : File) × (after : File) × Appends (contents before) (contents after) bytes

@@ -1,4 +1,4 @@
-//! Why a book could not be held.
+//! Why a run could not take hold of a book.
 ghost use Rattle.std.specs.Prelude.{◌≡◌};
 ghost use Rattle.std.specs.declared.io.Error.{Error};
 ghost use Rattle.book_file.specs.declared.fault.HoldFault.TheVariants.{Unreadable};
@@ -6,12 +6,15 @@ ghost use Rattle.book_file.specs.declared.fault.HoldFault.TheVariants.{Unreadabl
 use std::alloc::AllocError;
 use std::io;
 
-/// Why a run could not take hold of a book.
+/// Why a run could not take hold of a book's file or of the place for a new one.
 #[derive(Debug, Drop)]
 pub enum HoldFault {
-    /// The file is no plain file, has a second name, or belongs to others in a folder that others may write; it or its folder
-    /// can't be opened or locked, or the folder does not exist; no file is there and the path ends in no name or is a link to
-    /// nothing; the clock can't be read; or memory ran out.
+    /// One of these:
+    /// - the file is not a plain file, has a second name, or belongs to others in a folder that others may write;
+    /// - it or its folder can't be opened or locked, or the folder does not exist;
+    /// - there is no file, and the path does not end in a name or is a link to nothing;
+    /// - the clock can't be read;
+    /// - memory ran out.
     Unreadable(io::Error),
 
     /// There is no file.
@@ -20,13 +23,13 @@ pub enum HoldFault {
     /// There is no file, and none can be made.
     Unwritable(io::Error),
 
-    /// The book belongs to another user, and the one who runs is not root: a save could not keep its owner.
+    /// The book belongs to another user, and the user of this run is not root: a save could not keep its owner.
     OwnedByAnother,
 
     /// Other runs held the book for 30 seconds.
     HeldByOthers,
 
-    /// What has this path, where the next text of the book would be written, is no folder and can't be opened or removed.
+    /// What has this path, where the next text of the book would be written, is not a folder and can't be opened or removed.
     InTheWay(String),
 }
 

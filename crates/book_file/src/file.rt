@@ -1,4 +1,4 @@
-//! The file of a book, held by one run at a time.
+//! A book's file, held by one run at a time.
 ghost use Rattle.std.specs.Prelude.{◌≡◌, ◌≤◌, ◌<◌, true, false, length, IfOk, IfErr, IfSome, IsErrAnd, OnOk, vec_len};
 ghost use Rattle.std.specs.IoError.{error_kind};
 ghost use Rattle.book_file.specs.Faults.{IsNextError, IsHoldFault};
@@ -15,31 +15,31 @@ use std::os::unix::fs::{MetadataExt, PermissionsExt};
 use std::time::Clock;
 use std::{fs, io};
 
-/// The most bytes that a book may have.
+/// The greatest length of a book's text, in bytes.
 pub const MOST_BOOK: usize = 16_777_216;
 
-/// The bits of a mode that say what the owner may do.
+/// The permission bits of the owner in a file's mode.
 const OWNER_BITS: u32 = 0o700;
 
-/// A book's file, or the place of one that is still to be made. No other run works on the book while this value lives.
+/// A book's file, or the place for one that is still to be made. No other run works on the book while this value lives.
 pub struct BookFile<'a, R: Files> {
     rt: &'a R,
     paths: BookPaths,
 
-    // The folder, so that the system can be asked to write its names to its device.
+    // The folder, so that the system can be asked to write its entries to its device.
     folder: R::File,
 
-    // Whether others may change the folder's names.
+    // Whether others may change the folder's entries.
     is_shared: bool,
 
-    // The file at the book's path, or None where there is none.
+    // The file at the book's path, or None if there is none.
     book: Option<LockedBook<R::File>>,
 
-    // The file of a new book's first text, until a save takes it.
+    // The file for a new book's first text, until a save takes it.
     next: Option<R::File>,
 }
 
-// Removes the file of a next text that has not become the book.
+// Removes the file of a next text if it has not become the book.
 impl<'a, R: Files> Drop for BookFile<'a, R> {
     fn drop(self) {
         if let Some(next) = &self.next {
@@ -56,9 +56,9 @@ impl<'a, R: Files> Drop for BookFile<'a, R> {
     }
 }
 
-// Gives a file the owner and the group of the book. The system refuses a group that the user who runs is not in. The group may do
-// nothing with the file anyway, since only the owner's bits of the mode are kept: so that refusal is passed over where the file has
-// the book's owner already.
+// Gives a file the owner and the group of the book. The system refuses a group that the user of this run is not in. That refusal is
+// ignored if the file already has the book's owner: its group may do nothing with it anyway, since only the owner's bits of the
+// mode are kept.
 fn give_owner<F: OpenFile + BookFileExt>(file: &F, book: &Metadata) -> io::Result<()> {
     match file.set_owner(book.uid(), book.gid()) {
         Err(error)
@@ -68,7 +68,7 @@ fn give_owner<F: OpenFile + BookFileExt>(file: &F, book: &Metadata) -> io::Resul
     }
 }
 
-// Why a save has no next file: the error of the call that failed, or ResourceBusy where its name can't be had.
+// Why a save has no next file: the error of the call that failed, or ResourceBusy if the name of that file is not free.
 fn next_error(fault: HoldFault) -> io::Error
     ensures { IsNextError fault result }
 {
@@ -91,28 +91,31 @@ where
     R: Files + Clock + AllocGlobal,
     R::File: BookFileExt,
 {
-    /// Takes hold of the book at `path`. Waits up to 30 seconds for other runs, then answers HeldByOthers. Missing where
-    /// there is no file. Unreadable where the file is no plain file, where it has another name too (a save would
-    /// leave the old text there), where it belongs to others in a folder that others may write, where it or its folder can't be
-    /// opened or locked, or the folder does not exist, where no file is there and the path ends in no name or is a link to nothing,
-    /// where the clock can't be read, and where memory runs out.
-    /// OwnedByAnother where a save could not keep the book's owner. InTheWay where what has the path
-    /// of the next text is no folder and can't be opened or removed. A folder there makes only a save fail.
+    /// Takes hold of the book at `path`. Waits up to 30 seconds for other runs. Errors:
+    /// - Missing if there is no file;
+    /// - Unreadable if the file is not a plain file, has another name too (a save would leave the old text there), or belongs to
+    ///   others in a folder that others may write; if it or its folder can't be opened or locked, or the folder does not exist; if
+    ///   there is no file and the path does not end in a name or is a link to nothing; if the clock can't be read; or if memory
+    ///   runs out;
+    /// - OwnedByAnother if a save could not keep the book's owner;
+    /// - HeldByOthers if other runs held the book all that time;
+    /// - InTheWay if what has the path of the next text is not a folder and can't be opened or removed. A folder there only makes
+    ///   a save fail.
     pub fn hold(rt: &'a R, path: &str) -> Result<BookFile<'a, R>, HoldFault>
         ensures { IfErr result (IsHoldFault false) }
     {
         BookFile::hold_at(rt, path, false)
     }
 
-    /// As `hold`; but where there is no file at `path`, takes hold of the place of a book that is to be made there.
-    /// Unwritable where none can be made.
+    /// As `hold`, but if there is no file at `path`, takes hold of the place for a new book there. Errors: as `hold`, but
+    /// Unwritable if no book can be made, instead of Missing.
     pub fn hold_or_make(rt: &'a R, path: &str) -> Result<BookFile<'a, R>, HoldFault>
         ensures { IfErr result (IsHoldFault true) }
     {
         BookFile::hold_at(rt, path, true)
     }
 
-    // As `hold`, or, where `may_make` is true, as `hold_or_make`.
+    // As `hold_or_make` if `may_make` is true, else as `hold`.
     fn hold_at(rt: &'a R, path: &str, may_make: bool) -> Result<BookFile<'a, R>, HoldFault>
         ensures { IfErr result (IsHoldFault may_make) }
     {
@@ -136,8 +139,8 @@ where
         })
     }
 
-    /// The file's bytes, or None where there is no file. FileTooLarge where there are more than 16777216; else the error of the
-    /// call to the file system that failed, or that memory ran out.
+    /// The file's bytes, or None if there is no file. Errors: FileTooLarge if there are more than 16777216; else the error of the
+    /// file system call that failed, or out of memory.
     pub fn read(&mut self) -> io::Result<Option<Vec<u8>>>
         ensures most { IfOk result (λ found. IfSome found (λ bytes. vec_len bytes ≤ MOST_BOOK)) }
         ensures all { IfOk result (λ found. IfSome found (λ bytes. IsRead R.File.remaining bytes.items)) }
@@ -151,12 +154,14 @@ where
         }
     }
 
-    /// Puts a file with this text in the place of the book, whole or not at all: a run that is stopped leaves the
-    /// old text or the new one. The new file keeps the book's owner, its group where the user who runs may give it, and the owner's
-    /// bits of its mode; that of a new book has the mode 0600. NotFound where the file at the path is not the one that this run has
-    /// read or put there last, or has changed since; AlreadyExists where there was none and there now is one; ResourceBusy where
-    /// another run holds the next file for 30 seconds, or what has its name can't be opened or removed; FileTooLarge where the text
-    /// has more bytes than `read` takes; else the error of the call to the file system that failed.
+    /// Replaces the book with a file that has this text, whole or not at all: a run that is stopped leaves the old text or the new
+    /// one. The new file keeps the book's owner, its group if the user of this run may give it, and the owner's bits of its mode;
+    /// the file of a new book has the mode 0600. Errors:
+    /// - FileTooLarge if the text has more bytes than `read` accepts;
+    /// - NotFound if the file at the path is not the one that this run read or put there last, or has changed since;
+    /// - AlreadyExists if there was none and there now is one;
+    /// - ResourceBusy if another run holds the next file for 30 seconds, or what has its name can't be opened or removed;
+    /// - else the error of the file system call that failed.
     pub fn replace(&mut self, text: &str) -> io::Result<()>
         ensures written { OnOk result (IsWritten R.File.contents text.now) }
         ensures long { MOST_BOOK < length text.now → IsErrAnd result (λ error. error_kind error ≡ ErrorKind.FileTooLarge) }
@@ -194,7 +199,7 @@ where
         }
     }
 
-    // Takes the file of the next text, or makes it where there is none yet.
+    // Takes the file of the next text, or makes it if there is none yet.
     fn take_next(&mut self) -> io::Result<R::File> {
         if let Some(next) = self.next.take() {
             return Ok(next);
@@ -203,7 +208,7 @@ where
         next_of(self.rt, &self.paths, metadata, self.is_shared).map_err(next_error)
     }
 
-    // Writes the text to the next file, and gives that file the book's name. Returns its metadata.
+    // Writes the text to the next file and gives that file the book's name. Returns its metadata.
     fn write_and_put(&self, next: &mut R::File, text: &str) -> io::Result<Metadata>
         ensures { OnOk result (IsWritten R.File.contents text.now) }
     {
@@ -211,7 +216,7 @@ where
         self.put_in_place(next)
     }
 
-    // Writes the text to the next file, and asks the system to write that to its device.
+    // Writes the text to the next file and asks the system to write the file to its device.
     fn write_next(&self, next: &mut R::File, text: &str) -> io::Result<()>
         ensures { OnOk result (IsWritten R.File.contents text.now) }
     {
@@ -240,18 +245,18 @@ where
     }
 }
 
-/// Reads the bytes of the book at `path` without a hold of it: a save replaces it whole. FileTooLarge where there
-/// are more than 16777216.
+/// Reads the bytes of the book at `path` without a lock: a save replaces the file as a whole. Errors: FileTooLarge if there are
+/// more than 16777216; else the error of the file system call that failed, or out of memory.
 pub fn read_without_lock<R: Files + AllocGlobal>(rt: &R, path: &str) -> io::Result<Vec<u8>>
     ensures most { IfOk result (λ bytes. vec_len bytes ≤ MOST_BOOK) }
-    // They are all bytes of a file, where these are known.
+    // They are all the bytes of a file, if these are known.
     ensures all { IfOk result (λ bytes. IsRead R.File.remaining bytes.items) }
 {
     let mut file = fs::open(rt, path)?;
     read_all(rt, &mut file)
 }
 
-// Reads the rest of a file. FileTooLarge where that is more bytes than a book may have.
+// Reads the rest of a file. Errors: FileTooLarge if that is more bytes than a book may have.
 fn read_all<R: AllocGlobal, F: Read>(rt: &R, file: &mut F) -> io::Result<Vec<u8>>
     ensures most { IfOk result (λ bytes. vec_len bytes ≤ MOST_BOOK) }
     ensures all { IfOk result (λ bytes. IfSome (F.remaining file.old) (λ all. bytes.items ≡ all)) }

@@ -1,8 +1,8 @@
 //! How a run takes hold of a book: the locks that keep two runs from working on one at the same time.
 //!
-//! The lock is on the book's own file, so whoever may not open the book can't keep a run from it. A save puts
-//! another file in its place, which the run has locked before: so once a lock is taken, the book's name has to be
-//! looked up once more. Where there is no book yet, the file of its next text stands for it.
+//! The lock is on the book's own file, so whoever may not open the book can't keep a run from it. A save puts another file in its
+//! place, which the run has locked before. So after a lock is taken, the book's name has to be looked up again. If there is no book
+//! yet, the file of its first text is locked instead.
 ghost use Rattle.std.specs.Prelude.{IfErr, true, false};
 ghost use Rattle.book_file.specs.Faults.{IsHoldFault};
 
@@ -22,17 +22,17 @@ const OWNER_ONLY: u32 = 0o600;
 
 /// The file of a book, open and locked.
 #[derive(Drop)]
-pub struct LockedBook<F> {
+pub(crate) struct LockedBook<F> {
     /// The open file, which this run has locked.
-    pub file: F,
+    pub(crate) file: F,
 
     /// Its metadata when this run took hold of it, or put it in place.
-    pub metadata: Metadata,
+    pub(crate) metadata: Metadata,
 }
 
-/// What a run holds of a book.
+/// What a run holds: a book, or the place for a new one.
 #[derive(Drop)]
-pub enum Held<F> {
+pub(crate) enum Held<F> {
     /// The file of the book.
     Book(LockedBook<F>),
 
@@ -40,10 +40,9 @@ pub enum Held<F> {
     Next(F),
 }
 
-/// Takes hold of the book at a place; `is_shared` says whether others may change the folder's names. Where there is
-/// no file, the answer is Missing, or, where `may_make` is true, the file of the next text is made. Waits up to 30
-/// seconds for other runs.
-pub fn hold<R>(
+/// Takes hold of the book at these paths; `is_shared` says whether others may change the folder's entries. If there is no file, it
+/// makes the file of the first text if `may_make` is true, and fails with Missing if not. Waits up to 30 seconds for other runs.
+pub(crate) fn hold<R>(
     rt: &R,
     paths: &BookPaths,
     is_shared: bool,
@@ -55,7 +54,7 @@ where
     ensures { IfErr result (IsHoldFault may_make) }
 {
     let wait = Wait::begin(rt)?;
-    // Bounded only because every function has to return; what ends it is in its body.
+    // The bound is there only because every function has to return; in practice the body ends the loop.
     for _ in 0..u64::MAX {
         let held = match open_plain(rt, paths.book.as_str(), is_shared)? {
             Some(file) => try_book(rt, paths, file, is_shared)?,
@@ -72,9 +71,9 @@ where
     Err(HoldFault::HeldByOthers)
 }
 
-// Opens the plain file of this name, or returns None where nothing has the name. Anything but a plain file is not
-// opened: the system has no flag here that keeps a pipe from blocking. In a shared folder, where a pipe may take
-// the file's place in between, the file is opened for writing too, since no pipe blocks that.
+// Opens the plain file with this name, or returns None if nothing has the name. Only a plain file is opened: there is no flag here
+// that keeps a pipe from blocking. In a shared folder, a pipe may take the file's place in between; so there it is opened for
+// reading and writing: in that way Linux opens even a pipe without waiting (fifo(7)).
 fn open_plain<R: Files>(rt: &R, path: &str, is_shared: bool) -> io::Result<Option<R::File>> {
     match fs::symlink_metadata(rt, path) {
         Err(error) if error.kind() == ErrorKind::NotFound => return Ok(None),
@@ -90,8 +89,8 @@ fn open_plain<R: Files>(rt: &R, path: &str, is_shared: bool) -> io::Result<Optio
     Ok(Some(file))
 }
 
-// Locks a file that was opened at the book's path, and removes what a killed run left. None where another run holds
-// the book, or has put another file in its place.
+// Locks a file that was opened at the book's path, and removes what a killed run left. Returns None if another run holds the book,
+// or has put another file in its place.
 fn try_book<R>(
     rt: &R,
     paths: &BookPaths,
@@ -111,6 +110,7 @@ where
     if !clear_next(rt, paths, Some(&locked), is_shared)? {
         return Ok(None);
     }
+    // Taken again: `clear_next` may have removed a second name of the book.
     let metadata = file.metadata()?;
     if metadata.nlink() != 1 {
         return Err(HoldFault::Unreadable(io::Error::from(ErrorKind::InvalidInput)));
@@ -118,8 +118,8 @@ where
     Ok(Some(Held::Book(LockedBook { file, metadata })))
 }
 
-// Makes the file of the first text of a book that does not exist. None where another run is making the book, or has
-// made it in the meantime.
+// Makes the file of the first text of a book that does not exist. Returns None if another run is making the book, or has made it in
+// the meantime.
 fn try_first<R>(
     rt: &R,
     paths: &BookPaths,
@@ -143,9 +143,9 @@ where
     }
 }
 
-/// Makes and locks the file of the next text of a book that is held. Waits up to 30 seconds where another run has that file, as
-/// one may that looked for the book before it was there.
-pub fn next_of<R>(
+/// Makes and locks the file of the next text of a book that is held. Waits up to 30 seconds if another run has that file: a run
+/// that looked for the book before it was there may have it.
+pub(crate) fn next_of<R>(
     rt: &R,
     paths: &BookPaths,
     book: Option<&Metadata>,
@@ -156,7 +156,7 @@ where
     R::File: BookFileExt,
 {
     let wait = Wait::begin(rt)?;
-    // Bounded only because every function has to return; what ends it is in its body.
+    // The bound is there only because every function has to return; in practice the body ends the loop.
     for _ in 0..u64::MAX {
         if let Some(next) = try_next(rt, paths, book, is_shared)? {
             return Ok(next);
@@ -168,7 +168,7 @@ where
     Err(HoldFault::HeldByOthers)
 }
 
-// Makes and locks the file of the next text. None where another run has one.
+// Makes and locks the file of the next text. Returns None if another run has one.
 fn try_next<R>(
     rt: &R,
     paths: &BookPaths,
@@ -191,6 +191,7 @@ where
     }
 }
 
+// Whether the path names a folder itself, and not a link to one. False if the system does not say.
 fn is_folder<R: Files>(rt: &R, path: &str) -> bool {
     match fs::symlink_metadata(rt, path) {
         Ok(found) => found.is_dir(),
@@ -198,7 +199,7 @@ fn is_folder<R: Files>(rt: &R, path: &str) -> bool {
     }
 }
 
-// Makes and locks the file of the next text, which nobody but its owner can open. None where another run has it.
+// Makes and locks the file of the next text, which only its owner can open. Returns None if another run has it.
 fn make_next<R>(rt: &R, next: &str) -> io::Result<Option<R::File>>
 where
     R: Files,
@@ -217,7 +218,7 @@ where
     Ok(claimed?.then_some(file))
 }
 
-// Locks a file that was opened at `path`. Returns whether this run now holds it, and the path still names it.
+// Locks a file that was opened at `path`. Returns whether this run now holds it and the path still names it.
 fn claim<R>(rt: &R, file: &R::File, path: &str) -> io::Result<bool>
 where
     R: Files,
@@ -226,10 +227,10 @@ where
     Ok(file.try_lock_now()? && is_named(rt, file, path)?)
 }
 
-// Removes what has the path of the next text: at once where it is no plain file of a trusted owner, or is the book under a second
-// name, of which `book` is the metadata; else a killed run left it, and it goes where its lock is free. Returns false where another
-// run holds it, or where it has been replaced or removed meanwhile. A folder stays, and the answer is true. InTheWay where it can't
-// be removed, or where it can't be opened, so that nobody can tell whether another run holds it.
+// Removes what has the path of the next text: at once if it is not a plain file of a trusted owner, or is the book, whose metadata
+// is `book`, under a second name; else only if its lock is free, since then a killed run left it. Returns false if another run
+// holds it, or if it has been replaced or removed meanwhile. Leaves a folder there and returns true. Errors: InTheWay if it can't
+// be removed, or can't be opened to find out whether another run holds it.
 fn clear_next<R>(
     rt: &R,
     paths: &BookPaths,
@@ -278,13 +279,13 @@ fn remove<R: Files + AllocGlobal>(rt: &R, next: &str) -> Result<(), HoldFault>
     }
 }
 
-// Whether an error of this kind says that there is a folder, or nothing any more.
+// Whether an error of this kind says that there is a folder, or that nothing is left there.
 fn is_folder_or_gone(kind: ErrorKind) -> bool {
     kind == ErrorKind::NotFound || kind == ErrorKind::IsADirectory
 }
 
 /// Whether the path names this open file itself, and not a link to it.
-pub fn is_named<R: Files>(rt: &R, file: &R::File, path: &str) -> io::Result<bool> {
+pub(crate) fn is_named<R: Files>(rt: &R, file: &R::File, path: &str) -> io::Result<bool> {
     match fs::symlink_metadata(rt, path) {
         Err(error) if error.kind() == ErrorKind::NotFound => Ok(false),
         found => Ok(trust::is_same_file(&found?, &file.metadata()?)),

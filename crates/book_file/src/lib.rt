@@ -1,14 +1,14 @@
-//! The file of an account book, held by one run at a time, and the store in which a book is saved to it.
+//! The file of an account book, held by one run at a time, and the store that saves a book to it.
 //!
-//! `BookFile::hold` locks the book's file, `read` reads its bytes, and `FileStore` replaces them by each new text,
-//! whole or not at all: the text is written to a file beside the book, with `.new` after its name, which the system
-//! is asked to write to its device before it gets the book's name. The lock is the system's advisory one on the
-//! open file, which ends with the run, however it ends; the next file is locked before it is the book's. A save is
-//! made only where the file at the path is the one that was read, or saved last.
+//! `BookFile::hold` locks the book's file, `read` reads its bytes, and `FileStore` replaces them with each new text, whole or not
+//! at all. The text is written to a file beside the book, with `.new` after its name, and the system is asked to write that file to
+//! its device before it gets the book's name. The lock is the system's advisory lock on the open file, which ends with the run,
+//! however it ends; the next file is locked before it becomes the book. A save is made only if the file at the path is the one that
+//! was read or saved last.
 //!
-//! Contracts say that the text of a save was written to a file, at the end of what that had (`IsWritten`), and that
-//! what is read is all that a file had left (`IsRead`). Which path a file has, and that the file of the next text was
-//! empty, no contract can say: the kit's `open` promises nothing of what a file has. That is tested.
+//! Contracts say that the text of a save was written to a file, after what the file already had (`IsWritten`), and that what is
+//! read is all that a file had left (`IsRead`). No contract can say which path a file has, or that the file of the next text was
+//! empty: the kit's `open` promises nothing about a file's bytes. That is tested instead.
 //!
 //! ```rust
 //! use book_file::{BookFile, FileStore};

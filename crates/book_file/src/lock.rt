@@ -1,16 +1,15 @@
-//! What is asked of a book's open file, beyond the standard library's trait.
+//! What a book's open file has to offer beyond the standard library's trait.
 use std::fs::{File, TryLockError};
 use std::io;
 use std::os::unix::fs::fchown;
 
 /// An open file that can be locked, by one run at a time, and given to an owner.
 pub trait BookFileExt {
-    /// Takes the exclusive advisory lock. Returns whether it did; false where another opening of the
-    /// file holds it. The system frees the lock when the file is closed, even where a run is killed.
-    /// An error where the system can't lock the file.
+    /// Takes the exclusive advisory lock. Returns whether it did: false if another open handle of the file holds it. The system
+    /// releases the lock when the file is closed, even if a run is killed. Fails if the system can't lock the file.
     fn try_lock_now(&self) -> io::Result<bool>;
 
-    /// Gives the file to this owner and this group. An error where the system refuses it.
+    /// Gives the file to this owner and this group. Fails if the system refuses it.
     fn set_owner(&self, owner: u32, group: u32) -> io::Result<()>;
 }
 

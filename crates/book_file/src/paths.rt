@@ -8,21 +8,21 @@ use std::{fs, io};
 
 /// The paths of a book, with symbolic links followed, so that a book and each link to it have the same paths.
 #[derive(Drop)]
-pub struct BookPaths {
+pub(crate) struct BookPaths {
     /// The book's file.
-    pub book: String,
+    pub(crate) book: String,
 
-    /// The file in which the next text is written, before it takes the book's place.
-    pub next: String,
+    /// The file to which the next text is written, before it takes the book's place.
+    pub(crate) next: String,
 
     /// The folder of both.
-    pub folder: String,
+    pub(crate) folder: String,
 }
 
 impl BookPaths {
-    /// The paths of the book at `path`, whether or not a file is there. An error where its folder does not
-    /// exist, where the path does not end in a name, and where it is a link to nothing.
-    pub fn find<R: Files + AllocGlobal>(rt: &R, path: &str) -> io::Result<BookPaths>
+    /// The paths of the book at `path`, whether or not a file is there. Fails if its folder does not exist, if no file is there and
+    /// the path does not end in a name, or if it is a link to nothing.
+    pub(crate) fn find<R: Files + AllocGlobal>(rt: &R, path: &str) -> io::Result<BookPaths>
         ensures next { IfOk result (λ paths. string_bytes paths.next ≡ string_bytes paths.book ++ codes ".new") }
     {
         let alloc = rt.alloc();
@@ -44,8 +44,8 @@ fn real_path<R: Files + AllocGlobal>(rt: &R, path: &str) -> io::Result<String> {
     }
 }
 
-// The path of a file that is still to be made, with the links of its folder followed. With a slash after it,
-// the name would be a folder's.
+// The path of a file that is still to be made, with the links of its folder followed. With a slash after it, the name would be a
+// folder's.
 fn new_path<R: Files + AllocGlobal>(rt: &R, path: Path<'_>) -> io::Result<String> {
     let (folder, name) = match (path.parent(), path.file_name()) {
         (Some(folder), Some(name)) if path.as_str().ends_with(name) => (folder, name),

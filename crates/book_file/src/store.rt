@@ -1,4 +1,4 @@
-//! The store of a book that is kept in a file.
+//! The store that saves a book to its file.
 ghost use Rattle.std.specs.Prelude.{◌≡◌, ◌<◌, ◌+◌, ◌^◌, string_bytes, Some, None, false};
 ghost use Rattle.book_file.specs.Text.{IsWritten};
 ghost use Rattle.std.specs.Option.{is_some, option_map, unwrap_or};
@@ -14,18 +14,17 @@ use std::time::Clock;
 pub struct FileStore<'a, R: Files> {
     file: BookFile<'a, R>,
 
-    // The text that the file had at first, or that was saved last. After a save that failed, the file may have
-    // that save's text instead: where it has the book's name already, but the name could not be written to its
-    // device.
+    // The text that the file had at first, or that was saved last. After a failed save, the file may have that save's text instead:
+    // a save can still fail when the new file already has the book's name, if that name can't be written to its device.
     saved: String,
 
     // The text of the save that failed.
     failed_text: Option<String>,
 
-    // How many saves it was asked for, up to the one that failed.
+    // How many saves were begun, up to the one that failed.
     saves: u64,
 
-    // While none has failed, one more can be counted: the save of the last number fails.
+    // While none has failed, one more can be counted: the save with the greatest number fails.
     ghost room: { failed_text ≡ None → saves + 1 < 2 ^ 64 },
 }
 
@@ -34,7 +33,7 @@ where
     R: Files + Clock + AllocGlobal,
     R::File: BookFileExt,
 {
-    /// The store of a book's file, which has this text. Nothing was saved or has failed yet.
+    /// The store of a book's file, which has this text. No save has been begun.
     pub fn new(file: BookFile<'a, R>, text: String) -> FileStore<'a, R>
         ensures { ⟦<FileStore<'a, R> as BookStore>⟧.facts result
             ≡ record { saved = string_bytes text; asked = string_bytes text; failed = false; saves = 0 } }

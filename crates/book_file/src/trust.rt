@@ -1,5 +1,5 @@
-//! Whose files and folders a run trusts: those of its user, and those of root. What the system says of owners and of files'
-//! numbers is not specified by the kit, so the clauses speak of modes, kinds and lengths alone.
+//! Whose files and folders a run trusts: those of its user and those of root. The kit does not specify what the system says about
+//! owners and about device and inode numbers, so the clauses are only about modes, kinds and lengths.
 ghost use Rattle.std.specs.Prelude.{◌≡◌, true, bit_and, OnOk, OnErr, IfErr};
 ghost use Rattle.std.specs.IoError.{error_kind};
 ghost use Rattle.std.specs.Bool.{OnFalse, OnTrue};
@@ -14,30 +14,30 @@ use std::os::unix::fs::MetadataExt;
 /// The user id of root.
 const ROOT: u32 = 0;
 
-/// The bits of a folder's mode by which its group, or everyone, may change its names. Where the folder has an
-/// access list, the group's bits cover all that the list allows.
+/// The bits of a folder's mode that let its group, or everyone, change its entries. If the folder has an access list, the group's
+/// bits cover all that the list allows.
 const OTHERS_WRITE: u32 = 0o022;
 
-/// Whether this belongs to the user who runs, or to root.
-pub fn has_trusted_owner(found: &Metadata) -> bool {
+/// Whether this belongs to the user of this run, or to root.
+pub(crate) fn has_trusted_owner(found: &Metadata) -> bool {
     found.uid() == libc::geteuid() || found.uid() == ROOT
 }
 
-/// Whether anyone but the user who runs, and root, may change the names of this folder.
-pub fn is_shared(folder: &Metadata) -> bool
+/// Whether anyone but the user of this run and root may change the entries of this folder.
+pub(crate) fn is_shared(folder: &Metadata) -> bool
     ensures { OnFalse result (bit_and (metadata_mode folder.now) OTHERS_WRITE ≡ 0) }
 {
     !has_trusted_owner(folder) || folder.mode() & OTHERS_WRITE != 0
 }
 
-/// Whether the user who runs can give another file the owner of this one.
-pub fn can_give_owner(found: &Metadata) -> bool {
+/// Whether the user of this run can give another file the owner of this one.
+pub(crate) fn can_give_owner(found: &Metadata) -> bool {
     let runner = libc::geteuid();
     runner == found.uid() || runner == ROOT
 }
 
-/// Answers InvalidInput for anything but a plain file, and, in a shared folder, for a file of others.
-pub fn check(found: &Metadata, is_shared: bool) -> io::Result<()>
+/// Checks that this is a plain file and, in a shared folder, that it does not belong to others. Errors: InvalidInput if not.
+pub(crate) fn check(found: &Metadata, is_shared: bool) -> io::Result<()>
     ensures plain { OnOk result (IsFile (file_type found.now)) }
     ensures others { IsFile (file_type found.now) → OnErr result (is_shared ≡ true) }
     ensures kind { IfErr result (λ error. error_kind error ≡ ErrorKind.InvalidInput) }
@@ -49,13 +49,13 @@ pub fn check(found: &Metadata, is_shared: bool) -> io::Result<()>
     }
 }
 
-/// Whether both are of one file, whatever names it has.
+/// Whether both are the metadata of one file, whatever its names.
 pub fn is_same_file(one: &Metadata, other: &Metadata) -> bool {
     one.dev() == other.dev() && one.ino() == other.ino()
 }
 
-/// Whether both are of one file that has not changed in between: neither its bytes nor its names, owner and mode.
-pub fn are_unchanged(one: &Metadata, other: &Metadata) -> bool
+/// Whether both are the metadata of one file that has not changed in between: neither its bytes nor its names, owner or mode.
+pub(crate) fn are_unchanged(one: &Metadata, other: &Metadata) -> bool
     ensures { OnTrue result (metadata_len one.now ≡ metadata_len other.now) }
 {
     is_same_file(one, other)

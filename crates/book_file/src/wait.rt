@@ -10,21 +10,21 @@ const PAUSE_MILLIS: u64 = 50;
 
 /// A wait, from its beginning.
 #[derive(Clone, Copy)]
-pub struct Wait {
+pub(crate) struct Wait {
     begun: Instant,
 }
 
 impl Wait {
-    /// A wait that begins now. An error where the clock can't be read.
-    pub fn begin(clock: &impl Clock) -> io::Result<Wait> {
+    /// A wait that begins now. Fails if the clock can't be read.
+    pub(crate) fn begin(clock: &impl Clock) -> io::Result<Wait> {
         Ok(Wait {
             begun: Instant::now(clock)?,
         })
     }
 
-    /// Pauses before the next try and returns true; or returns false, at once, where the wait has
-    /// taken 30 seconds. An error where the clock can't be read.
-    pub fn pause(&self, clock: &impl Clock) -> io::Result<bool> {
+    /// Pauses before the next try and returns true, or returns false at once if the wait has taken 30 seconds. Fails if the clock
+    /// can't be read.
+    pub(crate) fn pause(&self, clock: &impl Clock) -> io::Result<bool> {
         if self.begun.elapsed(clock)? >= Duration::from_secs(MOST_WAIT_SECONDS) {
             return Ok(false);
         }

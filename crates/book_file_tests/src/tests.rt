@@ -1,18 +1,19 @@
-//! Tests of a book's file and its store, on files of a folder of their own.
+//! Tests of a book's file and its store. Each test has a folder of its own.
 mod folder;
 
 use account_book::{BookStore, StoreFault};
 use book_file::{BookFile, BookFileExt, FileStore, HoldFault, is_same_file};
 use faulty_files::{Calls, Faulty};
-use folder::has;
+use folder::text_at;
 use std::fs;
 use std::fs::{File, OpenFile, Permissions};
 use std::io::ErrorKind;
 use std::os::unix::fs::{PermissionsExt, symlink};
+use std::process::Abort;
 use std::test::Fail;
 use std::time::{Clock, Duration};
 
-// The calls to the file system of a run that reads a book and saves it once, each with the end of its path.
+// The file system calls of a run that reads a book and saves it once, each with the end of its path.
 const READ_AND_SAVED: [(&str, &str); 27] = [
     ("canonicalize", "/book"),
     ("open_file", ""),
@@ -47,7 +48,7 @@ fn text(rt: &HostRuntime, text: &str) -> Result<String, Fail> {
     Ok(format!(in rt.alloc(); "{text}")?)
 }
 
-// Holds the book at `path`, where there is one.
+// Holds the book at `path`, which has to be there.
 fn held<'r>(rt: &'r HostRuntime, path: &str) -> Result<BookFile<'r, HostRuntime>, Fail> {
     match BookFile::hold(rt, path) {
         Ok(file) => Ok(file),
@@ -55,7 +56,7 @@ fn held<'r>(rt: &'r HostRuntime, path: &str) -> Result<BookFile<'r, HostRuntime>
     }
 }
 
-// Holds the place of a book at `path`, where there is none.
+// Holds the place for a new book at `path`, where there is none yet.
 fn made<'r>(rt: &'r HostRuntime, path: &str) -> Result<BookFile<'r, HostRuntime>, Fail> {
     match BookFile::hold_or_make(rt, path) {
         Ok(file) => Ok(file),
@@ -63,12 +64,21 @@ fn made<'r>(rt: &'r HostRuntime, path: &str) -> Result<BookFile<'r, HostRuntime>
     }
 }
 
-// The bits of a file's mode.
+// Asserts that a book was not held since it is Unreadable; `at` says which book.
+fn check_unreadable(rt: &impl Abort, held: Result<BookFile<'_, HostRuntime>, HoldFault>, at: &str) {
+    let fault = held.err();
+    assert!(rt;
+        matches!(fault, Some(HoldFault::Unreadable(_))),
+        "{at}: {fault:?}"
+    );
+}
+
+// The permission bits of a file's mode.
 fn mode(rt: &HostRuntime, path: &str) -> Result<u32, Fail> {
     Ok(fs::metadata(rt, path)?.permissions().mode() & 0o7777)
 }
 
-// Only its owner can read or write a new book; of a rewritten one's mode the owner's bits stay.
+// Only its owner can read or write a new book. A rewritten book keeps only the owner's bits of its mode.
 #[test]
 fn modes(rt: HostRuntime) -> Result<(), Fail> {
     let folder = folder::make(&rt, "new")?;
@@ -77,23 +87,21 @@ fn modes(rt: HostRuntime) -> Result<(), Fail> {
     assert!(rt; file.read()?.is_none());
     file.replace("first")?;
     drop(file);
-    assert!(rt; has(&rt, book.as_str(), "first"));
+    assert_eq!(rt; text_at(&rt, book.as_str())?.as_str(), "first");
     assert_eq!(rt; mode(&rt, book.as_str())?, 0o600);
     for (before, after) in [(0o644, 0o600), (0o640, 0o600), (0o404, 0o400)] {
         fs::set_permissions(&rt, book.as_str(), Permissions::from_mode(before))?;
         let mut file = held(&rt, book.as_str())?;
         file.replace("second")?;
-        assert!(rt;
-            file.read()?
-                .is_some_and(|bytes| bytes.as_slice() == b"second".as_slice())
-        );
+        let read = file.read()?.ok_or("a text")?;
+        assert_eq!(rt; str::from_utf8(read.as_slice())?, "second");
         assert_eq!(rt; mode(&rt, book.as_str())?, after);
     }
     assert_eq!(rt; fs::read_dir(&rt, folder.as_str())?.count(), 1);
     Ok(fs::remove_dir_all(&rt, folder.as_str())?)
 }
 
-// Every name of a book leads to the same book, and a link in the place of the next text is not followed.
+// A link to a book leads to the same book, and a link at the path of the next text is not followed.
 #[test]
 fn links(rt: HostRuntime) -> Result<(), Fail> {
     let folder = folder::make(&rt, "links")?;
@@ -108,15 +116,14 @@ fn links(rt: HostRuntime) -> Result<(), Fail> {
     symlink(&rt, "other", next.as_str())?;
     symlink(&rt, "nothing", dangling.as_str())?;
     held(&rt, link.as_str())?.replace("new")?;
-    assert!(rt; has(&rt, book.as_str(), "new"));
-    assert!(rt; has(&rt, other.as_str(), "other"));
+    assert_eq!(rt; text_at(&rt, book.as_str())?.as_str(), "new");
+    assert_eq!(rt; text_at(&rt, other.as_str())?.as_str(), "other");
     assert!(rt; fs::symlink_metadata(&rt, link.as_str())?.is_symlink());
     assert!(rt; fs::symlink_metadata(&rt, next.as_str()).is_err());
-    assert!(rt;
-        matches!(
-            BookFile::hold_or_make(&rt, dangling.as_str()),
-            Err(HoldFault::Unreadable(_))
-        )
+    check_unreadable(
+        &rt,
+        BookFile::hold_or_make(&rt, dangling.as_str()),
+        "dangling",
     );
     Ok(fs::remove_dir_all(&rt, folder.as_str())?)
 }
@@ -127,77 +134,59 @@ fn paths_that_name_no_file(rt: HostRuntime) -> Result<(), Fail> {
     let missing = format!(in rt.alloc(); "{folder}/missing/book")?;
     let slash = format!(in rt.alloc(); "{folder}/book/")?;
     for path in ["", "/", "..", missing.as_str(), slash.as_str()] {
-        assert!(rt;
-            matches!(BookFile::hold(&rt, path), Err(HoldFault::Unreadable(_))),
-            "{path}"
-        );
-        assert!(rt;
-            matches!(
-                BookFile::hold_or_make(&rt, path),
-                Err(HoldFault::Unreadable(_))
-            ),
-            "{path}"
-        );
+        check_unreadable(&rt, BookFile::hold(&rt, path), path);
+        check_unreadable(&rt, BookFile::hold_or_make(&rt, path), path);
     }
     assert_eq!(rt; fs::read_dir(&rt, folder.as_str())?.count(), 0);
     Ok(fs::remove_dir_all(&rt, folder.as_str())?)
 }
 
-// A book that is not there is missing, and a folder is none that can be read.
+// A book that is not there is Missing, and a folder at its path is Unreadable.
 #[test]
 fn no_book(rt: HostRuntime) -> Result<(), Fail> {
     let folder = folder::make(&rt, "no-book")?;
     let book = format!(in rt.alloc(); "{folder}/book")?;
-    assert!(rt; matches!(BookFile::hold(&rt, book.as_str()), Err(HoldFault::Missing)));
+    let fault = BookFile::hold(&rt, book.as_str()).err();
+    assert!(rt; matches!(fault, Some(HoldFault::Missing)), "{fault:?}");
     fs::create_dir(&rt, book.as_str())?;
-    assert!(rt;
-        matches!(
-            BookFile::hold(&rt, book.as_str()),
-            Err(HoldFault::Unreadable(_))
-        )
-    );
-    assert!(rt;
-        matches!(
-            BookFile::hold_or_make(&rt, book.as_str()),
-            Err(HoldFault::Unreadable(_))
-        )
-    );
+    check_unreadable(&rt, BookFile::hold(&rt, book.as_str()), "a folder");
+    check_unreadable(&rt, BookFile::hold_or_make(&rt, book.as_str()), "a folder");
     Ok(fs::remove_dir_all(&rt, folder.as_str())?)
 }
 
-// While one run holds the place of a new book, another waits for 30 seconds, here by a clock of its own.
+// While one run holds the place of a new book, another waits for 30 seconds, here by a simulated clock.
 #[test]
 fn the_place_of_a_new_book_is_held(rt: HostRuntime) -> Result<(), Fail> {
     let folder = folder::make(&rt, "new-lock")?;
     let book = format!(in rt.alloc(); "{folder}/book")?;
     let calls = Calls::new(rt.alloc(), 0);
-    let hasty = Faulty {
-        rt: &rt,
-        calls: &calls,
-    };
+    let hasty = Faulty::new(&rt, &calls);
     let first = made(&rt, book.as_str())?;
-    let second = BookFile::hold_or_make(&hasty, book.as_str());
-    assert!(rt; matches!(second, Err(HoldFault::HeldByOthers)));
+    let second = BookFile::hold_or_make(&hasty, book.as_str()).err();
+    assert!(rt;
+        matches!(second, Some(HoldFault::HeldByOthers)),
+        "{second:?}"
+    );
     assert_eq!(rt; hasty.monotonic()?, Duration::from_secs(30));
     drop(first);
     Ok(fs::remove_dir_all(&rt, folder.as_str())?)
 }
 
-// While one run holds a book, no other can, even after a save. Once it lets go, another can.
+// While one run holds a book, no other can, even after a save. Once it releases the book, another can.
 #[test]
 fn a_book_is_held(rt: HostRuntime) -> Result<(), Fail> {
     let folder = folder::make(&rt, "lock")?;
     let book = format!(in rt.alloc(); "{folder}/book")?;
     fs::write(&rt, book.as_str(), "old")?;
     let calls = Calls::new(rt.alloc(), 0);
-    let hasty = Faulty {
-        rt: &rt,
-        calls: &calls,
-    };
+    let hasty = Faulty::new(&rt, &calls);
     let mut first = held(&rt, book.as_str())?;
     for _ in 0..2 {
-        let second = BookFile::hold(&hasty, book.as_str());
-        assert!(rt; matches!(second, Err(HoldFault::HeldByOthers)));
+        let second = BookFile::hold(&hasty, book.as_str()).err();
+        assert!(rt;
+            matches!(second, Some(HoldFault::HeldByOthers)),
+            "{second:?}"
+        );
         first.replace("new")?;
     }
     drop(first);
@@ -214,7 +203,7 @@ fn a_run_that_saves_nothing_leaves_nothing(rt: HostRuntime) -> Result<(), Fail> 
     Ok(fs::remove_dir_all(&rt, folder.as_str())?)
 }
 
-// What a killed run left is removed when the book is held.
+// The file that a killed run left is removed when the book is held.
 #[test]
 fn the_next_text_of_a_killed_run(rt: HostRuntime) -> Result<(), Fail> {
     let folder = folder::make(&rt, "killed")?;
@@ -227,11 +216,11 @@ fn the_next_text_of_a_killed_run(rt: HostRuntime) -> Result<(), Fail> {
     fs::hard_link(&rt, book.as_str(), next.as_str())?;
     held(&rt, book.as_str())?.replace("new")?;
     assert_eq!(rt; fs::read_dir(&rt, folder.as_str())?.count(), 1);
-    assert!(rt; has(&rt, book.as_str(), "new"));
+    assert_eq!(rt; text_at(&rt, book.as_str())?.as_str(), "new");
     Ok(fs::remove_dir_all(&rt, folder.as_str())?)
 }
 
-// No save is made where the book was moved away, even where a link in its place leads to it.
+// No save is made if the book was moved away, even if a link in its place leads to it.
 #[test]
 fn a_book_that_was_moved(rt: HostRuntime) -> Result<(), Fail> {
     let folder = folder::make(&rt, "moved")?;
@@ -244,11 +233,11 @@ fn a_book_that_was_moved(rt: HostRuntime) -> Result<(), Fail> {
     symlink(&rt, "away", book.as_str())?;
     assert!(rt; file.replace("new").is_err());
     assert!(rt; fs::symlink_metadata(&rt, book.as_str())?.is_symlink());
-    assert!(rt; has(&rt, away.as_str(), "old"));
+    assert_eq!(rt; text_at(&rt, away.as_str())?.as_str(), "old");
     Ok(fs::remove_dir_all(&rt, folder.as_str())?)
 }
 
-// No save is made where another file has the book's name.
+// No save is made if another file has the book's name.
 #[test]
 fn a_book_that_was_replaced(rt: HostRuntime) -> Result<(), Fail> {
     let folder = folder::make(&rt, "replaced")?;
@@ -259,11 +248,11 @@ fn a_book_that_was_replaced(rt: HostRuntime) -> Result<(), Fail> {
     fs::rename(&rt, book.as_str(), away.as_str())?;
     fs::write(&rt, book.as_str(), "new")?;
     assert!(rt; file.replace("newer").is_err());
-    assert!(rt; has(&rt, book.as_str(), "new"));
+    assert_eq!(rt; text_at(&rt, book.as_str())?.as_str(), "new");
     Ok(fs::remove_dir_all(&rt, folder.as_str())?)
 }
 
-// No save is made where the book has changed since it was read.
+// No save is made if the book has changed since it was held.
 #[test]
 fn a_book_that_was_changed(rt: HostRuntime) -> Result<(), Fail> {
     let folder = folder::make(&rt, "changed")?;
@@ -272,11 +261,11 @@ fn a_book_that_was_changed(rt: HostRuntime) -> Result<(), Fail> {
     let mut file = held(&rt, book.as_str())?;
     fs::write(&rt, book.as_str(), "longer")?;
     assert!(rt; file.replace("newer").is_err());
-    assert!(rt; has(&rt, book.as_str(), "longer"));
+    assert_eq!(rt; text_at(&rt, book.as_str())?.as_str(), "longer");
     Ok(fs::remove_dir_all(&rt, folder.as_str())?)
 }
 
-// No save is made where there was no book, and now there is one.
+// No save is made if there was no book and now there is one.
 #[test]
 fn a_book_that_others_made(rt: HostRuntime) -> Result<(), Fail> {
     let folder = folder::make(&rt, "others")?;
@@ -285,12 +274,12 @@ fn a_book_that_others_made(rt: HostRuntime) -> Result<(), Fail> {
     fs::write(&rt, book.as_str(), "another")?;
     assert!(rt; file.replace("newer").is_err());
     drop(file);
-    assert!(rt; has(&rt, book.as_str(), "another"));
+    assert_eq!(rt; text_at(&rt, book.as_str())?.as_str(), "another");
     assert_eq!(rt; fs::read_dir(&rt, folder.as_str())?.count(), 1);
     Ok(fs::remove_dir_all(&rt, folder.as_str())?)
 }
 
-// A file is the same under a second name, and a copy of it is another.
+// Two names of one file are the same file, and a copy is another.
 #[test]
 fn one_file_of_two_names(rt: HostRuntime) -> Result<(), Fail> {
     let folder = folder::make(&rt, "names")?;
@@ -313,7 +302,8 @@ fn the_longest_book(rt: HostRuntime) -> Result<(), Fail> {
     let file = File::create(&rt, book.as_str())?;
     file.set_len(16_777_216)?;
     let mut held = held(&rt, book.as_str())?;
-    assert!(rt; held.read()?.is_some_and(|bytes| bytes.len() == 16_777_216));
+    let longest = held.read()?.ok_or("a text")?;
+    assert_eq!(rt; longest.len(), 16_777_216);
     file.set_len(16_777_217)?;
     let longer = held.read().map(|_| ());
     assert_eq!(rt;
@@ -323,18 +313,15 @@ fn the_longest_book(rt: HostRuntime) -> Result<(), Fail> {
     Ok(fs::remove_dir_all(&rt, folder.as_str())?)
 }
 
-// The book is locked before it is read, and the next file before it has the book's name. A new text is on its
-// device before it has the book's name, and the name is on its device before the save ends.
+// The book is locked before it is read, and the file of the next text before it gets the book's name. A new text is on
+// its device before it gets the book's name, and the name is on its device before the save ends.
 #[test]
 fn the_order_of_calls(rt: HostRuntime) -> Result<(), Fail> {
     let folder = folder::make(&rt, "order")?;
     let book = format!(in rt.alloc(); "{folder}/book")?;
     fs::write(&rt, book.as_str(), "old")?;
     let calls = Calls::new(rt.alloc(), 0);
-    let noting = Faulty {
-        rt: &rt,
-        calls: &calls,
-    };
+    let noting = Faulty::new(&rt, &calls);
     let Ok(mut file) = BookFile::hold(&noting, book.as_str()) else {
         return Err(Fail::from("the book is not held"));
     };
@@ -345,12 +332,11 @@ fn the_order_of_calls(rt: HostRuntime) -> Result<(), Fail> {
     for (call, end) in READ_AND_SAVED {
         wanted.push_str(format!(in rt.alloc(); "{call} {folder}{end}\n")?.as_str())?;
     }
-    assert!(rt; calls.were(wanted.as_str()));
+    assert_eq!(rt; calls.noted()?.as_str(), wanted.as_str());
     Ok(fs::remove_dir_all(&rt, folder.as_str())?)
 }
 
-// Whichever call of the file system fails, the book has its old text or the new one, and a store that
-// has failed stays failed.
+// Whichever file system call fails, the book has its old text or the new one, and a store that has failed stays failed.
 #[test]
 fn each_call_fails_in_turn(rt: HostRuntime) -> Result<(), Fail> {
     let folder = folder::make(&rt, "turns")?;
@@ -359,29 +345,35 @@ fn each_call_fails_in_turn(rt: HostRuntime) -> Result<(), Fail> {
     for failing in 1..60u32 {
         fs::write(&rt, book.as_str(), "old")?;
         let calls = Calls::new(rt.alloc(), failing);
-        let faulty = Faulty {
-            rt: &rt,
-            calls: &calls,
-        };
+        let faulty = Faulty::new(&rt, &calls);
         let Ok(file) = BookFile::hold(&faulty, book.as_str()) else {
-            assert!(rt; has(&rt, book.as_str(), "old"), "{failing}");
+            assert_eq!(rt; text_at(&rt, book.as_str())?.as_str(), "old", "{failing}");
             continue;
         };
         let mut store = FileStore::new(file, text(&rt, "old")?);
         let saved = store.save(text(&rt, "new")?);
         if saved.is_ok() {
-            assert!(rt; has(&rt, book.as_str(), "new"), "{failing}");
+            assert_eq!(rt; text_at(&rt, book.as_str())?.as_str(), "new", "{failing}");
             saved_at_last = !calls.are_over();
             if saved_at_last {
                 break;
             }
         } else {
+            let left = text_at(&rt, book.as_str())?;
             assert!(rt;
-                has(&rt, book.as_str(), "old") || has(&rt, book.as_str(), "new"),
+                left.as_str() == "old" || left.as_str() == "new",
+                "{failing}: {left:?}"
+            );
+            assert_eq!(rt;
+                store.save(text(&rt, "later")?),
+                Err(StoreFault),
                 "{failing}"
             );
-            assert_eq!(rt; store.save(text(&rt, "later")?), Err(StoreFault));
-            assert!(rt; !has(&rt, book.as_str(), "later"), "{failing}");
+            assert_eq!(rt;
+                text_at(&rt, book.as_str())?.as_str(),
+                left.as_str(),
+                "{failing}"
+            );
         }
         assert_eq!(rt; fs::read_dir(&rt, folder.as_str())?.count(), 1, "{failing}");
     }
@@ -389,7 +381,7 @@ fn each_call_fails_in_turn(rt: HostRuntime) -> Result<(), Fail> {
     Ok(fs::remove_dir_all(&rt, folder.as_str())?)
 }
 
-// Whichever call of the file system fails in a save, the save answers with its error.
+// Whichever file system call fails in a save, the save returns its error.
 #[test]
 fn each_failed_call_is_told(rt: HostRuntime) -> Result<(), Fail> {
     let folder = folder::make(&rt, "told")?;
@@ -399,10 +391,7 @@ fn each_failed_call_is_told(rt: HostRuntime) -> Result<(), Fail> {
     for failing in 1..60u32 {
         fs::write(&rt, book.as_str(), "old")?;
         let calls = Calls::new(rt.alloc(), failing);
-        let faulty = Faulty {
-            rt: &rt,
-            calls: &calls,
-        };
+        let faulty = Faulty::new(&rt, &calls);
         let Ok(mut file) = BookFile::hold(&faulty, book.as_str()) else {
             continue;
         };
@@ -419,7 +408,7 @@ fn each_failed_call_is_told(rt: HostRuntime) -> Result<(), Fail> {
     Ok(fs::remove_dir_all(&rt, folder.as_str())?)
 }
 
-// Where another run keeps the file of the next text, or what has its name can't be replaced, the save says so.
+// If another run keeps the file of the next text locked, or a folder has its name, the save returns an error.
 #[test]
 fn no_next_file(rt: HostRuntime) -> Result<(), Fail> {
     let folder = folder::make(&rt, "no-next")?;
@@ -427,10 +416,7 @@ fn no_next_file(rt: HostRuntime) -> Result<(), Fail> {
     let next = format!(in rt.alloc(); "{folder}/book.new")?;
     fs::write(&rt, book.as_str(), "old")?;
     let calls = Calls::new(rt.alloc(), 0);
-    let hasty = Faulty {
-        rt: &rt,
-        calls: &calls,
-    };
+    let hasty = Faulty::new(&rt, &calls);
     let Ok(mut file) = BookFile::hold(&hasty, book.as_str()) else {
         return Err(Fail::from("the book is not held"));
     };
@@ -447,11 +433,11 @@ fn no_next_file(rt: HostRuntime) -> Result<(), Fail> {
         file.replace("new").map_err(|error| error.kind()),
         Err(ErrorKind::AlreadyExists)
     );
-    assert!(rt; has(&rt, book.as_str(), "old"));
+    assert_eq!(rt; text_at(&rt, book.as_str())?.as_str(), "old");
     Ok(fs::remove_dir_all(&rt, folder.as_str())?)
 }
 
-// Whichever call of the file system fails while a book is made, there is none, or it has the text.
+// Whichever file system call fails while a book is made, there is no book, or it has the new text.
 #[test]
 fn each_call_for_a_new_book_fails_in_turn(rt: HostRuntime) -> Result<(), Fail> {
     let folder = folder::make(&rt, "new-turns")?;
@@ -459,19 +445,18 @@ fn each_call_for_a_new_book_fails_in_turn(rt: HostRuntime) -> Result<(), Fail> {
     let mut saved_at_last = false;
     for failing in 1..60u32 {
         let calls = Calls::new(rt.alloc(), failing);
-        let faulty = Faulty {
-            rt: &rt,
-            calls: &calls,
-        };
+        let faulty = Faulty::new(&rt, &calls);
         let mut is_saved = false;
         if let Ok(mut file) = BookFile::hold_or_make(&faulty, book.as_str()) {
             is_saved = file.replace("new").is_ok();
         }
         let count = fs::read_dir(&rt, folder.as_str())?.count();
-        assert!(rt;
-            count == 0 && !is_saved || count == 1 && has(&rt, book.as_str(), "new"),
-            "{failing}"
-        );
+        if count == 0 {
+            assert!(rt; !is_saved, "{failing}");
+        } else {
+            assert_eq!(rt; count, 1, "{failing}");
+            assert_eq!(rt; text_at(&rt, book.as_str())?.as_str(), "new", "{failing}");
+        }
         saved_at_last = is_saved && !calls.are_over();
         if saved_at_last {
             break;

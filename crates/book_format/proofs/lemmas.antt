@@ -1,4 +1,4 @@
--- Lemmas: what the proofs of this crate cite.
+-- Lemmas that the proofs of this crate cite.
 pub mod BookTexts
 pub mod Demands
 pub mod Depths

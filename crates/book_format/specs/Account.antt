@@ -1,4 +1,4 @@
--- What is kept of an account, and its ranges.
+-- What a book keeps of an account, and its ranges.
 use Rattle.std.specs.Prelude.{ℕ, ◌≤◌, ◌≡◌, List, length, Option}
 use Rattle.std.specs.Option.{ForSome}
 use Rattle.hex.specs.Hex.{IsBytes}
@@ -20,7 +20,7 @@ pub record AccountFields : Type 0 where
   pub act_as : List (List ℕ)
   pub token : Option TokenFields
 
--- StoredKey and ServerKey have `len` bytes each, and the salt and the iteration count are such as a challenge can have
+-- StoredKey and ServerKey have `len` bytes each, and a challenge can have this salt and this iteration count
 pub record AreKeys (len : ℕ) (keys : MechKeys) : Type 0 where
   pub salt : IsSalt keys.salt
   pub salt_bytes : IsBytes keys.salt

@@ -14,7 +14,7 @@ pub record BookFields : Type 0 where
 abbrev pub AreAccounts : List (List ℕ × AccountFields) → Type 0
 AreAccounts entries = AllByRecursion (λ entry. IsAccount entry.1) entries
 
--- a book is in its ranges. By their types the decoy key has 32 bytes, and the names ascend.
+-- a book is in its ranges. That the decoy key has 32 bytes and that the names ascend follows from the types in the code.
 pub record IsBook (book : BookFields) : Type 0 where
   pub count : IsCount book.decoy_count
   pub accounts : AreAccounts book.accounts

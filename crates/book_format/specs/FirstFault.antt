@@ -1,5 +1,5 @@
--- The first fault of a text that is no book: that of the first demand which it does not meet. First come the demands on the
--- document and its own keys, then those on account after account, in byte order of their names.
+-- The first fault of a text that is no book: that of the first demand that it does not meet. First come the demands on the document
+-- and its own keys, then those on each account, in byte order of their names.
 use Rattle.std.specs.Prelude.{ℕ, ◌+◌, ◌==◌, ℤ, pos, negsuc, Bool, false, List, [], ◌∷◌, ◌++◌, map, codes}
 use Rattle.std.specs.Prelude.{Option, Some, None, option_and_then}
 use Rattle.std.specs.Str.{is_utf8}
@@ -49,6 +49,6 @@ book_demands bytes = must (is_utf8 bytes) no_toml ∷ required no_toml document_
     no_toml : BookFault
     no_toml = record { why = Toml; account = None }
 
--- the fault is the first of a text: that of the first demand which the text does not meet
+-- the fault is the first of a text: that of the first demand that the text does not meet
 abbrev pub IsFirstFault : List ℕ → BookFault → Type 0
 IsFirstFault bytes fault = HasFirstFault (book_demands bytes) fault

@@ -1,4 +1,4 @@
--- What follows of books and first faults: each text is that of one book, or has one first fault, and never both.
+-- Laws of books and first faults: each text is that of exactly one book or has exactly one first fault, and never both.
 use Rattle.std.specs.Prelude.{ℕ, ◌≡◌, ◌⊎◌, List}
 use Rattle.book_format.specs.Book.{BookFields}
 use Rattle.book_format.specs.FirstFault.{IsFirstFault}
@@ -13,10 +13,10 @@ IsBookOrAtFault = (text : List ℕ) → ((book : BookFields) × IsBookText text 
 abbrev pub BookIsNotAtFault : Type 0
 BookIsNotAtFault = (text : List ℕ) (book : BookFields) (fault : BookFault) → IsBookText text book → IsFirstFault text fault → ⊥
 
--- a text is that of one book at most
+-- a text is that of at most one book
 abbrev pub HasOneBook : Type 0
 HasOneBook = (text : List ℕ) (one other : BookFields) → IsBookText text one → IsBookText text other → one ≡ other
 
--- a text has one first fault at most
+-- a text has at most one first fault
 abbrev pub HasOneFirstFault : Type 0
 HasOneFirstFault = (text : List ℕ) (one other : BookFault) → IsFirstFault text one → IsFirstFault text other → one ≡ other

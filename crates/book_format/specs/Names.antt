@@ -11,7 +11,7 @@ use Rattle.book_format.specs.Account.{most_names}
 abbrev pub AreNames : List (List ℕ) → Type 0
 AreNames names = AllByRecursion IsPlainName names
 
--- names, as in `["root"]`
+-- the TOML array of these names, as in `["root"]`
 abbrev pub names_tree : List (List ℕ) → Data
 names_tree names = array (items_of (map string names))
 

@@ -1,4 +1,4 @@
--- The kinds of rows: a key that has to be there, one whose bound stands at another key, and two that may be missing.
+-- The kinds of rows: a key that must be there, one whose bound is the value at another key, and two that may be missing.
 use Rattle.std.specs.Prelude.{ℕ, ◌≡◌, ◌⊎◌, List, codes, pos, Option, Some, None, option_map, Ok}
 use Prim.Native.String.{String}
 use Rattle.toml.specs.Data.{Data, integer, table, Members, get_member, as_table}
@@ -11,12 +11,12 @@ use Rattle.book_format.specs.declared.fault.BookWhy.TheVariants.{Key}
 abbrev pub HasAt : {V : Type 0} → List ℕ → ValueType V → Members → V → Type 0
 HasAt key values ms v = (d : Data) × (get_member key ms ≡ Some d) × values.Is d v
 
--- the table has a value of this type at a key, or has neither key nor value
+-- the table has this value at a key, or lacks the key if there is no value
 abbrev pub HasSome : {V : Type 0} → List ℕ → ValueType V → Members → Option V → Type 0
 HasSome key values ms None = get_member key ms ≡ None
 HasSome key values ms (Some v) = HasAt key values ms v
 
--- the whole number at a key, which bounds the value at another, or 0
+-- the whole number at a key, which bounds the value at another key, or 0 if there is none
 abbrev pub bound_at : List ℕ → Members → ℕ
 bound_at key ms = bound_of (get_member key ms)
   where
@@ -24,7 +24,7 @@ bound_at key ms = bound_of (get_member key ms)
     bound_of (Some (integer (pos n))) = n
     bound_of o = 0
 
--- a row whose key has to be there
+-- a row whose key must be there
 abbrev pub row : {T V : Type 0} → String → ValueType V → (T → V) → Row T
 row name values field = record {
   V = _;
@@ -36,10 +36,10 @@ row name values field = record {
   field = field;
 }
 
--- a row whose key has to be there, of a type with a bound: the whole number at another key. How a value is written does not
--- depend on the bound, so 0 stands for it there.
-abbrev pub row_to : {T V : Type 0} → String → (ℕ → ValueType V) → String → (T → V) → Row T
-row_to name values bound field = record {
+-- a row whose key must be there, of a type with a bound: the whole number at another key. How a value is written does not depend on
+-- the bound, so 0 is used for it there.
+abbrev pub row_up_to : {T V : Type 0} → String → (ℕ → ValueType V) → String → (T → V) → Row T
+row_up_to name values bound field = record {
   V = _;
   key = codes name;
   Has = λ ms. HasAt (codes name) (values (bound_at (codes bound) ms)) ms;
@@ -50,8 +50,8 @@ row_to name values bound field = record {
 }
 
 -- a row whose key may be missing. A missing key means `other`, which is written with its key like any value.
-abbrev pub row_or : {T V : Type 0} → V → String → ValueType V → (T → V) → Row T
-row_or other name values field = record {
+abbrev pub row_or_default : {T V : Type 0} → V → String → ValueType V → (T → V) → Row T
+row_or_default other name values field = record {
   V = _;
   key = codes name;
   Has = λ ms v. ((get_member (codes name) ms ≡ None) × (v ≡ other)) ⊎ HasAt (codes name) values ms v;
@@ -61,7 +61,7 @@ row_or other name values field = record {
   field = field;
 }
 
--- a row whose key may be missing, and then has no value
+-- a row whose key may be missing, which means that there is no value
 abbrev pub optional : {T V : Type 0} → String → ValueType V → (T → Option V) → Row T
 optional name values field = record {
   V = Option _;
@@ -73,7 +73,7 @@ optional name values field = record {
   field = field;
 }
 
--- tables as a type of values. The marks are not among the demands: there are none, or they are judged before.
+-- tables as a type of values. The marks are not among the demands: either there are none, or they are judged before.
 abbrev pub in_table : {T : Type 0} → Table T → ValueType T
 in_table t = record {
   Is = IsTableIn t;

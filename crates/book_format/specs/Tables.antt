@@ -1,5 +1,5 @@
--- The tables of the format, but for those of tokens. A row has a key, the type and the range of its value, and the field that the
--- value is in; rows stand in the order in which they are judged.
+-- The tables of the format, except those of tokens. A row has a key, the type and the range of its value, and the field that the
+-- value is in; rows are in the order in which they are judged.
 use Rattle.std.specs.Prelude.{ℕ, pos, List, [], ◌∷◌, codes, Option}
 use Rattle.toml.specs.Data.{integer, Members}
 use Rattle.mac_core.specs.Mechanism.{length_by}
@@ -10,7 +10,7 @@ use Rattle.otp_core.specs.declared.token.kinds.TokenFields.{TokenFields}
 use Rattle.book_format.specs.Account.{AccountFields}
 use Rattle.book_format.specs.ValueTypes.{number, bytes, name_list, any_table}
 use Rattle.book_format.specs.Rows.{ValueType, Table}
-use Rattle.book_format.specs.RowKinds.{row, row_or, optional, in_table}
+use Rattle.book_format.specs.RowKinds.{row, row_or_default, optional, in_table}
 use Rattle.book_format.specs.Tokens.{IsToken, token_demands, token_tree}
 use Rattle.book_format.specs.reading.Tokens.{token_in}
 use Rattle.book_format.specs.declared.account.MechKeys.{MechKeys}
@@ -42,14 +42,14 @@ sha256_keys = mech (length_by ScramSha256)
 abbrev pub token : ValueType TokenFields
 token = record { Is = IsToken; demands = token_demands; read = token_in; write = token_tree }
 
--- an account: where `sha1` or `sha256` is missing it has no keys for that mechanism, and where `token` is missing no token
+-- an account: if `sha1` or `sha256` is missing, it has no keys for that mechanism; if `token` is missing, it has no token
 abbrev pub account : Table AccountFields
 account = record {
   marks = [];
   rows =
       optional "sha1" (in_table sha1_keys) (λ a. a.sha1)
       ∷ optional "sha256" (in_table sha256_keys) (λ a. a.sha256)
-      ∷ row_or [] "act_as" name_list (λ a. a.act_as)
+      ∷ row_or_default [] "act_as" name_list (λ a. a.act_as)
       ∷ optional "token" token (λ a. a.token)
       ∷ [];
   make = λ sha1 sha256 act_as token. record { sha1 = sha1; sha256 = sha256; act_as = act_as; token = token };

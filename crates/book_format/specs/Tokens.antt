@@ -1,4 +1,4 @@
--- The tables of tokens, of either kind. Rows stand in the order in which they are judged.
+-- The tables of tokens, of either kind. Rows are in the order in which they are judged.
 use Rattle.std.specs.Prelude.{ℕ, ◌+◌, ◌||◌, List, [], ◌∷◌, codes, if◌then◌else◌, option_and_then}
 use Rattle.std.specs.Str.{bytes_eq}
 use Rattle.toml.specs.Data.{Data, string, table, Members, get_member, as_str, as_table}
@@ -11,7 +11,7 @@ use Rattle.otp_core.specs.declared.token.kinds.TotpFields.{TotpFields}
 use Rattle.book_format.specs.Demands.{Demand, must, required}
 use Rattle.book_format.specs.ValueTypes.{number, signed, bytes, hash}
 use Rattle.book_format.specs.Rows.{Table, IsTableIn, table_demands, written}
-use Rattle.book_format.specs.RowKinds.{row, row_to, row_or, optional}
+use Rattle.book_format.specs.RowKinds.{row, row_up_to, row_or_default, optional}
 use Rattle.book_format.specs.declared.fault.BookWhy.{BookWhy}
 use Rattle.book_format.specs.declared.fault.BookWhy.TheVariants.{Key, Token}
 
@@ -24,9 +24,9 @@ hotp = record {
       ∷ row "digits" (number Token least_digits most_digits) (λ t. t.digits)
       ∷ row "next" (number Token 0 (most_counter + 1)) (λ t. t.next)
       ∷ row "look_ahead" (number Token 0 most_look_ahead) (λ t. t.look_ahead)
-      ∷ row_or 0 "sync_ahead" (number Token 0 most_sync_ahead) (λ t. t.sync_ahead)
+      ∷ row_or_default 0 "sync_ahead" (number Token 0 most_sync_ahead) (λ t. t.sync_ahead)
       ∷ row "limit" (number Token 1 most_limit) (λ t. t.limit)
-      ∷ row_to "failures" (number Token 0) "limit" (λ t. t.failures)
+      ∷ row_up_to "failures" (number Token 0) "limit" (λ t. t.failures)
       ∷ [];
   make = λ secret digits next look_ahead sync_ahead limit failures. record {
     secret = secret;
@@ -53,9 +53,9 @@ totp = record {
       ∷ row "ahead" (number Token 0 most_steps_aside) (λ t. t.ahead)
       ∷ row "max_drift" (number Token 0 most_drift) (λ t. t.max_drift)
       ∷ optional "last" (number Token 0 most_counter) (λ t. t.last)
-      ∷ row_to "drift" (signed Token) "max_drift" (λ t. t.drift)
+      ∷ row_up_to "drift" (signed Token) "max_drift" (λ t. t.drift)
       ∷ row "limit" (number Token 1 most_limit) (λ t. t.limit)
-      ∷ row_to "failures" (number Token 0) "limit" (λ t. t.failures)
+      ∷ row_up_to "failures" (number Token 0) "limit" (λ t. t.failures)
       ∷ [];
   make = λ hash secret digits t0 step back ahead max_drift last drift limit failures. record {
     hash = hash;
@@ -78,7 +78,7 @@ abbrev pub IsToken : Data → TokenFields → Type 0
 IsToken d (Hotp t) = IsTableIn hotp d t
 IsToken d (Totp t) = IsTableIn totp d t
 
--- the demands on a token's table whose kind has this name: it is a kind, and then those of this kind
+-- the demands on a token's table whose kind has this name: the name is that of a kind, and then those of this kind
 abbrev pub kind_demands : (name : List ℕ) → Members → List (Demand BookWhy)
 kind_demands name ms =
     must (bytes_eq name (codes "hotp") || bytes_eq name (codes "totp")) Token

@@ -17,7 +17,7 @@ AreAccountTrees (member name d ms) [] = ⊥
 AreAccountTrees (member name d ms) (entry ∷ entries) =
     (name ≡ entry.0) × IsPlainName entry.0 × IsTableIn account d entry.1 × AreAccountTrees ms entries
 
--- the accounts of a table, none where it is missing
+-- the accounts of a table, none if it is missing
 abbrev pub AreAccountsOf : Option Members → List (List ℕ × AccountFields) → Type 0
 AreAccountsOf None accounts = accounts ≡ []
 AreAccountsOf (Some named) accounts = AreAccountTrees named accounts

@@ -25,7 +25,7 @@ abbrev pub is_within : (least most : ℕ) → ℤ → Bool
 is_within least most (pos n) = nat_le least n && nat_le n most
 is_within least most (negsuc n) = false
 
--- whole numbers from `least` to `most`; `why` is the fault of another one
+-- whole numbers from `least` to `most`; `why` is the fault of any other
 abbrev pub number : (why : BookWhy) → (least most : ℕ) → ValueType ℕ
 number why least most = record {
   Is = IsNumber least most;
@@ -34,12 +34,12 @@ number why least most = record {
   write = λ n. integer (pos n);
 }
 
--- the value is the whole number z, which is at most `most` to either side of 0
+-- the value is the whole number z, which is at most `most` above or below 0
 pub record IsSigned (most : ℕ) (d : Data) (z : ℤ) : Type 0 where
   pub there : d ≡ integer z
   pub at_most : nat_abs z ≤ most
 
--- whole numbers of at most `most` to either side of 0; `why` is the fault of another one
+-- whole numbers at most `most` above or below 0; `why` is the fault of any other
 abbrev pub signed : (why : BookWhy) → (most : ℕ) → ValueType ℤ
 signed why most = record {
   Is = IsSigned most;
@@ -48,7 +48,7 @@ signed why most = record {
   write = integer;
 }
 
--- the value is the hexadecimal text, in either case, of the bytes, which are `least` to `most`
+-- the value is the hexadecimal text, in either case, of these bytes, of which there are `least` to `most`
 pub record IsHexText (least most : ℕ) (d : Data) (bytes : List ℕ) : Type 0 where
   pub text : List ℕ
   pub there : d ≡ string text
@@ -56,12 +56,12 @@ pub record IsHexText (least most : ℕ) (d : Data) (bytes : List ℕ) : Type 0 w
   pub at_least : least ≤ length bytes
   pub at_most : length bytes ≤ most
 
--- a text was decoded, to `least` to `most` bytes
+-- the decoding succeeded, and gave `least` to `most` bytes
 abbrev pub are_decoded : {E : Type 0} → (least most : ℕ) → Result (List ℕ) E → Bool
 are_decoded least most (Ok bytes) = nat_le least (length bytes) && nat_le (length bytes) most
 are_decoded least most (Err e) = false
 
--- `least` to `most` bytes, in lower-case hexadecimal; `why` is the fault of another text
+-- `least` to `most` bytes, in lower-case hexadecimal; `why` is the fault of any other text
 abbrev pub bytes : (why : BookWhy) → (least most : ℕ) → ValueType (List ℕ)
 bytes why least most = record {
   Is = IsHexText least most;
@@ -79,7 +79,7 @@ hash = record {
   write = λ h. string (hash_name h);
 }
 
--- lists of names that an account may act as: texts, not more than there may be, each a plain name
+-- lists of names that an account may act as: texts, at most 16 of them, each a plain name
 abbrev pub name_list : ValueType (List (List ℕ))
 name_list = record {
   Is = IsNameList;
@@ -89,7 +89,7 @@ name_list = record {
   write = names_tree;
 }
 
--- tables of any keys
+-- tables with any keys
 abbrev pub any_table : ValueType Members
 any_table = record {
   Is = λ d ms. d ≡ table ms;

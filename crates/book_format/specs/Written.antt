@@ -1,5 +1,4 @@
--- The tree that the text of a book is written from: the keys of each table in byte order, and bytes as
--- lower-case hexadecimal text.
+-- The tree that the text of a book is written from: the keys of each table in byte order, and bytes as lower-case hexadecimal text.
 use Rattle.std.specs.Prelude.{ℕ, List, [], ◌∷◌, Some}
 use Rattle.toml.specs.Data.{Members, no_members, member, table}
 use Rattle.book_format.specs.Account.{AccountFields}

@@ -1,4 +1,4 @@
--- How a book's text is read, step by step. For private functions alone: no public contract cites these files.
+-- How a book's text is read, step by step. For private functions only: no public contract cites these files.
 pub mod Steps
 pub mod Values
 pub mod Rows

@@ -1,4 +1,4 @@
-//! What a book keeps of an account.
+//! What a book keeps for an account.
 use mac_core::ScramKeys;
 use otp_core::Token;
 use scram_text::{PlainName, Salt};
@@ -10,20 +10,20 @@ pub(crate) const SHA1_KEY_LEN: usize = 20;
 /// The length in bytes of a key of SCRAM-SHA-256.
 pub(crate) const SHA256_KEY_LEN: usize = 32;
 
-/// What is kept of a password for one mechanism (RFC 5802, section 3).
+/// What is kept instead of a password, for one mechanism (RFC 5802, section 3).
 #[derive(Drop)]
 pub struct MechKeys {
-    /// The salt that the keys were made with, 1 to 64 bytes.
+    /// The salt that the keys were derived with, 1 to 64 bytes.
     pub salt: Salt,
 
-    /// The iteration count that the keys were made with, at least 1.
+    /// The iteration count that the keys were derived with, at least 1.
     pub count: u32,
 
     /// StoredKey and ServerKey: 20 bytes each for SCRAM-SHA-1, 32 for SCRAM-SHA-256.
     pub keys: ScramKeys,
 }
 
-/// An account. It may lack keys for either mechanism, and a token.
+/// An account. It may lack the keys of either mechanism, and the token.
 #[derive(Drop)]
 pub struct Account {
     /// The keys of SCRAM-SHA-1.

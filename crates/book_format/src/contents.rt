@@ -4,10 +4,10 @@ use scram_text::PlainName;
 use std::collections::BTreeMap;
 use std::marker::Model;
 
-/// The contents of an account book. Each account is in its ranges, as `Account` and `MechKeys` say.
+/// The contents of an account book. Each account is in the ranges that `Account` and `MechKeys` state.
 #[derive(Drop)]
 pub struct Contents {
-    /// The key that the salts of decoys are made from.
+    /// The key from which the salts of decoys are derived.
     pub decoy_key: [u8; 32],
 
     /// The iteration count of decoys, at least 1.

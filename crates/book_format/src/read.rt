@@ -38,16 +38,17 @@ struct Top<'a> {
 }
 
 impl Contents {
-    /// Reads the contents that `bytes` are the text of, or answers the first fault (60 to 67): of the
-    /// document, of `format`, of the document's keys, then of account after account in byte order of
-    /// names. In each table unknown keys come first, and then its keys in the order of the format; of
-    /// an account its name, and of a token `kind`, come before both. 99 NoMemory may come at any place;
-    /// no clause says that it comes only where memory runs out.
+    /// Reads the contents of the book whose text is `bytes`. Errors: the first fault (60 to 67), of the document, of `format`, of
+    /// the document's keys, then of account after account in byte order of names. In each table unknown keys come first, then its
+    /// keys in the order of the format; the name of an account and the `kind` of a token come before both. 99 NoMemory may come at
+    /// any place; no clause says that it comes only if memory runs out.
     pub fn read(alloc: Global, bytes: &[u8]) -> Result<Contents, BookFault>
+        // The text is that of a book with the contents that are returned.
         ensures found { IfOk result (λ c. IsBookText bytes.now c) }
-        ensures only { (c : BookFields) → IsBookText bytes.now c → (result ≡ Ok c) ⊎ IsErrAnd result (λ f. f.why ≡ NoMemory) }
+        // If the text is that of a book, its contents are returned, or 99 NoMemory.
+        ensures every { (c : BookFields) → IsBookText bytes.now c → (result ≡ Ok c) ⊎ IsErrAnd result (λ f. f.why ≡ NoMemory) }
         ensures first_fault { IfErr result (λ f. (f.why ≡ NoMemory) ⊎ IsFirstFault bytes.now f) }
-        ensures only_fault { (f : BookFault) → IsFirstFault bytes.now f → IsErrAnd result (λ e. (e.why ≡ NoMemory) ⊎ (e ≡ f)) }
+        ensures every_fault { (f : BookFault) → IsFirstFault bytes.now f → IsErrAnd result (λ e. (e.why ≡ NoMemory) ⊎ (e ≡ f)) }
     {
         contents_of(alloc, bytes)
     }
@@ -75,14 +76,14 @@ fn contents_of(alloc: Global, bytes: &[u8]) -> Result<Contents, BookFault>
     }
 }
 
-// The fault in no account.
+// A fault that is not in an account.
 fn at_top(why: BookWhy) -> BookFault
     ensures { result ≡ record { why = why; account = None } }
 {
     BookFault { why, account: None }
 }
 
-// The TOML document of the bytes. `Toml` where they are not UTF-8 or no document, and `NoMemory` where memory runs out.
+// The TOML document of the bytes. Errors: `Toml` if they are not UTF-8 or not a document; `NoMemory` if memory runs out.
 #[tactic(auto, unfolding(crate::specs::reading::Books::tree_in))]
 fn document_of(alloc: Global, bytes: &[u8]) -> Result<Table, BookWhy>
     ensures { IsReadAs table_view result (tree_in bytes.now) }
@@ -99,8 +100,8 @@ fn document_of(alloc: Global, bytes: &[u8]) -> Result<Table, BookWhy>
     }
 }
 
-// The keys of the document itself. `Format` where `format` is missing or not 1; `Key` where a key is unknown; then of the first
-// key at fault: `Key` where it is missing or its value has another type, else `KeyLength` or `Count`.
+// The keys of the document itself. Errors: `Format` if `format` is missing or not 1; `Key` if a key is unknown; then for the first
+// key at fault: `Key` if it is missing or its value has the wrong type, else `KeyLength` or `Count`.
 #[tactic(auto, unfolding(crate::specs::reading::Books::top_of, crate::specs::reading::Rows::read_table))]
 fn top_of(table: &Table) -> Result<Top<'_>, BookWhy>
     ensures { seen (λ t. record {
@@ -134,7 +135,7 @@ fn is_format(table: &Table) -> bool
     }
 }
 
-// The decoy key, of its 32 bytes.
+// The decoy key with these 32 bytes.
 fn decoy_key_of(bytes: &Tag) -> [u8; 32]
     requires { length bytes.now.items ≡ 32 }
     ensures { result ≡ bytes.now.items }
@@ -144,7 +145,7 @@ fn decoy_key_of(bytes: &Tag) -> [u8; 32]
     key
 }
 
-// The table at a key, or None where it is missing. `Key` for another value.
+// The table at a key, or None if the key is missing. Errors: `Key` if the value is not a table.
 fn table_if_any<'a>(table: &'a Table, key: &str) -> Result<Option<&'a Table>, BookWhy>
     ensures { seen (λ t. option_map (λ m. table_view m.now) t) result ≡ read_some key.now any_table (table_view table.now) }
 {
@@ -154,7 +155,7 @@ fn table_if_any<'a>(table: &'a Table, key: &str) -> Result<Option<&'a Table>, Bo
     }
 }
 
-// The accounts of a table, or none where it is missing. The faults are those of `accounts_from`.
+// The accounts of a table; none if it is missing. Errors: those of `accounts_from`.
 fn accounts_of_table(
     alloc: Global,
     table: Option<&Table>,

@@ -24,12 +24,12 @@ use toml::ser::Error;
 use toml::{Table, Value};
 
 impl Contents {
-    /// The book's text, which `read` reads as these contents unless memory runs out. It has each key that
-    /// has a value, in byte order of the keys, with bytes in lower-case hexadecimal; `act_as` is written even where
-    /// it is empty. `AllocError` comes only where memory runs out, which no clause says.
+    /// The book's text, which `read` reads as these contents unless memory runs out. It has each key that has a value, in byte
+    /// order of the keys, with bytes in lower-case hexadecimal; `act_as` is written even if it is empty. Errors: `AllocError`, only
+    /// if memory runs out (no clause says so).
     pub fn write(&self, alloc: Global) -> Result<String, AllocError>
         ensures stands { IfOk result (λ s. IsBookText (string_bytes s) self.now) }
-        // The text is the compact one of the crate toml: in IsDocumentText, `false` says that it is not pretty.
+        // The text is in the compact style of the crate toml: `false` in IsDocumentText means that it is not pretty.
         ensures text { IfOk result (λ s. IsDocumentText false (book_tree self.now) (string_bytes s)) }
     {
         match toml::table_to_string(alloc, &book_table(alloc, self)?) {
@@ -40,6 +40,7 @@ impl Contents {
     }
 }
 
+// The table of a whole book.
 #[tactic(auto, unfolding(crate::specs::Written::book_tree, crate::specs::Rows::written))]
 fn book_table(alloc: Global, book: &Contents) -> Result<Table, AllocError>
     ensures tree { IfOk result (λ t. table_view t ≡ book_tree book.now) }
@@ -58,7 +59,7 @@ fn book_table(alloc: Global, book: &Contents) -> Result<Table, AllocError>
     Ok(table)
 }
 
-// Puts the decoy key into the table; its type says its length.
+// Puts the decoy key into the table; its type gives its length.
 fn put_decoy_key(alloc: Global, table: &mut Table, key: &[u8; 32]) -> Result<(), AllocError>
     ensures tree { OnOk result (table_view table.new
         ≡ put_member (codes "decoy_key") (string (encode_lower key.now)) (table_view table.old)) }
@@ -68,6 +69,7 @@ fn put_decoy_key(alloc: Global, table: &mut Table, key: &[u8; 32]) -> Result<(),
     put_hex(alloc, table, "decoy_key", key)
 }
 
+// The table of the accounts, each at its name.
 fn accounts_table(
     alloc: Global,
     accounts: &BTreeMap<PlainName, Account>,

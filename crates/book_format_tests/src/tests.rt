@@ -1,5 +1,5 @@
-//! What no contract shows: that the definitions are those of the format, by books that a person wrote,
-//! and that each fault comes at each place that can have it.
+//! What no contract shows: that the definitions are those of the format, checked with books that a person
+//! wrote, and that each fault is found at each place that can have it.
 use book_format::{Account, BookFault, BookWhy, Contents, MechKeys};
 use otp_core::{OtpHash, TokenFields};
 use std::alloc::{AllocError, Global};
@@ -13,14 +13,14 @@ mod document;
 mod tokens;
 mod writing;
 
-// The keys of the document.
+// The document's own keys.
 const TOP: &str = concat!(
     "format = 1\n",
     "decoy_key = \"000102030405060708090a0b0c0d0e0f101112131415161718191a1b1c1d1e1f\"\n",
     "decoy_count = 4096\n\n",
 );
 
-// One account with keys of SCRAM-SHA-1: those of the user of RFC 5802, section 5, by Python's hashlib.
+// One account with keys of SCRAM-SHA-1: those of the user of RFC 5802, section 5, computed with Python's hashlib.
 const USER: &str = concat!(
     "[accounts.user]\n",
     "act_as = []\n\n",
@@ -43,7 +43,7 @@ const HOTP: &str = concat!(
     "failures = 0\n",
 );
 
-// A TOTP token in the place of the HOTP one.
+// A TOTP token instead of the HOTP one.
 const TOTP: &str = concat!(
     "[accounts.user.token]\n",
     "kind = \"totp\"\n",
@@ -60,7 +60,7 @@ const TOTP: &str = concat!(
     "failures = 0\n",
 );
 
-// A book's text: the document's keys and these parts, where the first `old` is replaced by `new`.
+// A book's text: the document's keys and these parts, with the first `old` replaced by `new`.
 fn edited(alloc: Global, parts: [&str; 2], old: &str, new: &str) -> Result<String, Fail> {
     let text = format!(in alloc; "{TOP}{}{}", parts[0], parts[1])?;
     let (front, back) = text
@@ -70,23 +70,27 @@ fn edited(alloc: Global, parts: [&str; 2], old: &str, new: &str) -> Result<Strin
     Ok(format!(in alloc; "{front}{new}{back}")?)
 }
 
-// The number and the account of the fault, or None where there is none.
+// The number and the account of the text's fault, or None if it has none.
 fn fault_of(alloc: Global, text: &[u8]) -> Option<(u16, Option<usize>)> {
     let fault = Contents::read(alloc, text).err()?;
     Some((fault.number(), fault.account))
 }
 
-// Asserts that the value is the one wanted, and says at what it is not.
+// Asserts that the value is the expected one; `at` says what it is for.
 fn check<T: PartialEq + Debug>(rt: &impl Abort, got: &T, want: &T, at: &str) {
     assert_eq!(rt; got, want, "{at}");
 }
 
-// Asserts that the bytes are those of the text, and says at what they are not.
+// Asserts that the bytes are those of the text; `at` says what they are for. A failure shows both as texts, or both as bytes
+// if the first are no UTF-8.
 fn check_text(rt: &impl Abort, got: &[u8], want: &str, at: &str) {
-    assert_eq!(rt; got, want.as_bytes(), "{at}");
+    match str::from_utf8(got) {
+        Ok(text) => assert_eq!(rt; text, want, "{at}"),
+        Err(_) => assert_eq!(rt; got, want.as_bytes(), "{at}"),
+    }
 }
 
-// Asserts the number and the account of the fault of the text, or None where there is none.
+// Asserts that the text's fault has this number and account, or that it has none if `want` is None.
 fn check_fault(
     rt: &(impl Abort + AllocGlobal),
     text: &[u8],
@@ -96,7 +100,7 @@ fn check_fault(
     assert_eq!(rt; fault_of(rt.alloc(), text), want, "{at}");
 }
 
-// Asserts so of the text of a book in which the first `old` is replaced by `new`.
+// As `check_fault`, for the text of a book with the first `old` replaced by `new`.
 fn check_edit(
     rt: &(impl Abort + AllocGlobal),
     parts: [&str; 2],

@@ -1,27 +1,27 @@
-//! The calls to the file system that a run makes.
+//! The calls for files and sockets that a run makes.
 use std::alloc::Global;
 use std::cell::{Cell, RefCell};
 use std::io;
 use std::io::ErrorKind;
 use std::time::Duration;
 
-/// The calls that were made, and the one that is to fail.
+/// The calls that were made, and the number of the one that is to fail.
 #[derive(Drop)]
 pub struct Calls {
-    // The calls until one fails: 1 where the next one does, 0 where none does.
+    // How many calls until one fails: 1 if the next one fails, 0 if no further one does.
     left: Cell<u32>,
 
-    /// The pauses so far.
+    /// The total time of the calls of `sleep` so far.
     pub(crate) paused: Cell<Duration>,
 
     alloc: Global,
 
-    // A line for each call, with the path that it is for; a row of equal calls has one line.
+    // A line for each call, with its name and its path. Equal calls in a row share one line.
     noted: RefCell<String>,
 }
 
 impl Calls {
-    /// Calls of which number `failing` fails, counted from 1, and no other; none where it is 0.
+    /// Calls of which only the one with the number `failing` fails, counted from 1; if `failing` is 0, none fails.
     pub fn new(alloc: Global, failing: u32) -> Calls {
         Calls {
             left: Cell::new(failing),
@@ -31,21 +31,20 @@ impl Calls {
         }
     }
 
-    /// Whether the call that was to fail has been made.
+    /// Whether the call that was to fail has been made, or none was to fail.
     pub fn are_over(&self) -> bool {
         self.left.get() == 0
     }
 
-    /// Whether the calls were these: a line for each, with its name and its path; a row of equal calls has one
-    /// line.
-    pub fn were(&self, calls: &str) -> bool {
+    /// The calls so far: a line for each, with its name and its path. Equal calls in a row share one line.
+    pub fn noted(&self) -> io::Result<String> {
         match self.noted.try_borrow() {
-            Ok(noted) => noted.as_str() == calls,
-            Err(_) => false,
+            Ok(noted) => Ok(format!(in self.alloc; "{}", noted.as_str())?),
+            Err(_) => Err(io::Error::from(ErrorKind::ResourceBusy)),
         }
     }
 
-    /// Notes a call, and fails where it is the one that is to fail.
+    /// Records a call, and fails if it is the one that is to fail.
     pub(crate) fn make(&self, call: &str, path: &str) -> io::Result<()> {
         if let Ok(mut noted) = self.noted.try_borrow_mut() {
             let line = format!(in self.alloc; "{call} {path}\n")?;

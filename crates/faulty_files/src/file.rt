@@ -1,4 +1,4 @@
-//! An open file, whose calls are noted.
+//! An open file whose calls are recorded.
 use crate::calls::Calls;
 use book_file::BookFileExt;
 use std::fs::{File, Metadata, OpenFile, Permissions};

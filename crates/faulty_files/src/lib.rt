@@ -1,5 +1,5 @@
-//! For tests of what works on files and sockets: a runtime that notes each call for one, and fails at one of these calls.
-//! Its monotonic clock advances only by the pauses, which take no time; the time of day is the host's.
+//! For tests of code that works on files and sockets: a runtime that records the calls for them, and fails one of these calls.
+//! Its monotonic clock advances only by the calls of `sleep`, which return at once. The time of day is the host's.
 #![tactic(auto)]
 
 mod calls;

@@ -1,4 +1,4 @@
-//! A runtime that notes its calls, and fails at one of them.
+//! A runtime that records its calls, and fails one of them.
 use crate::calls::Calls;
 use crate::file::FaultyFile;
 use std::alloc::{Alloc, Allocator, Global};
@@ -11,14 +11,21 @@ use std::os::unix::net::UnixStream;
 use std::path::PathBuf;
 use std::time::{Clock, Duration};
 
-/// A runtime that does what `rt` does, notes each call, and fails at one.
+/// A runtime that does what `rt` does, records each call, and fails one.
 #[derive(Drop)]
 pub struct Faulty<'a> {
     /// The runtime that does the work.
     pub rt: &'a HostRuntime,
 
-    /// What is noted, and which call fails.
+    /// The recorded calls, and which call fails.
     pub calls: &'a Calls,
+}
+
+impl<'a> Faulty<'a> {
+    /// A runtime that does what `rt` does, and whose calls are these.
+    pub fn new(rt: &'a HostRuntime, calls: &'a Calls) -> Faulty<'a> {
+        Faulty { rt, calls }
+    }
 }
 
 impl<'a> Files for Faulty<'a> {
@@ -95,7 +102,7 @@ impl<'a> Files for Faulty<'a> {
     }
 }
 
-// The path of a socket's file.
+// The path of a socket's file, or an empty text if it has none.
 fn path_of(at: &unix::SocketAddr) -> &str {
     match at.as_pathname() {
         Some(path) => path.as_str(),

@@ -1,4 +1,4 @@
--- What is changed, added or removed in the list of a book's accounts is so in their map.
+-- What is changed, added or removed in the list of a book's accounts is changed, added or removed in their map.
 use Rattle.std.proofs.Common.{◌≡◌, ◌∙◌, refl, ap, sym, subst, cond, List, [], ◌∷◌, ℕ, Bor, Option, IsSome, option_copied}
 use Rattle.std.specs.declared.option.Option.TheVariants.{None, Some}
 use Rattle.std.specs.declared.cmp.Ordering.{Ordering}
@@ -19,7 +19,7 @@ use Rattle.book_format.specs.Book.{BookFields}
 use Rattle.account_book.specs.Accounts.{name_cmp, account_at, accounts_of, with_account, with_changed, IsAdded, IsChanged, IsRemoved}
 use Rattle.account_book.specs.Laws.{AddedIsApart}
 
--- a look-up of a name by `find` and one by `lookup` give one result
+-- a look-up of a name by `find` and one by `lookup` give the same result
 find_is_lookup : (name : List ℕ) (es : List (List ℕ × AccountFields))
     → find name_cmp name es ≡ lookup (is_at (name_cmp name)) es
 find_is_lookup name [] = refl
@@ -35,13 +35,13 @@ pub account_is_in_map : (r : Option (Bor AccountFields)) (book : BookFields) (na
     → option_copied r ≡ map.get (accounts_of book) name
 account_is_in_map r book name found = found ∙ sym (map_get_is_lookup book.accounts name)
 
--- a list and a map that answer each look-up alike are the same map
+-- a list and a map that give the same result for each look-up are the same map
 maps_are_same : (es : List (List ℕ × AccountFields)) (m : map.FinMap name_cmp AccountFields)
     → ((name : List ℕ) → lookup (is_at (name_cmp name)) es ≡ map.get m name) → from_entries es ≡ m
 maps_are_same es m alike =
     same_map nat_list_cmp_total (slice_cmp-IsAntisymmetric nat_cmp-IsAntisymmetric) _ _ (λ name. map_get_is_lookup es name ∙ alike name)
 
--- where a list's look-ups are those of another but for one name, its map is the other's with this account inserted there
+-- if a list's look-ups are those of another except for one name, its map is the other's with this account inserted there
 map_follows_insert : (es new : List (List ℕ × AccountFields)) (name : List ℕ) (account : AccountFields)
     → ((other : List ℕ) → lookup (is_at (name_cmp other)) new
     ≡ cond (is_at (name_cmp name) other) (Some account) (lookup (is_at (name_cmp other)) es))
@@ -53,7 +53,7 @@ map_follows_insert es new name account alike =
     ((eq_by_cmp_equiv nat_list_cmp_total).symm other name)
     ∙ ap (cond (is_at (name_cmp name) other) (Some account)) (map_get_is_lookup es other)))
 
--- where a list's look-ups are those of another but for one name, which it has not, its map is the other's without this name
+-- if a list's look-ups are those of another except for one name, which it lacks, its map is the other's without this name
 map_follows_remove : (es new : List (List ℕ × AccountFields)) (name : List ℕ)
     → ((other : List ℕ) → lookup (is_at (name_cmp other)) new
     ≡ cond (is_at (name_cmp name) other) None (lookup (is_at (name_cmp other)) es))
@@ -64,7 +64,7 @@ map_follows_remove es new name alike =
     ∙ ap (λ b. cond b None (map.get (from_entries {R = name_cmp} es) other)) ((eq_by_cmp_equiv nat_list_cmp_total).symm other name)
     ∙ ap (cond (is_at (name_cmp name) other) None) (map_get_is_lookup es other)))
 
--- where the account that a look-up finds is changed in the list, it is changed in the map; where none is found, neither changes
+-- if the account that a look-up finds is changed in the list, it is changed in the map; if none is found, neither changes
 map_follows_change : (es : List (List ℕ × AccountFields)) (name : List ℕ) (change : AccountFields → AccountFields)
     (o : Option AccountFields) → lookup (is_at (name_cmp name)) es ≡ o
     → from_entries {R = name_cmp} (option_map_or (λ account. set_value (is_at (name_cmp name)) es (change account)) o es)

@@ -38,7 +38,7 @@ found_account_is_in_range test [] h = tt
 found_account_is_in_range test (e ∷ es) h =
     either_account_is_in_range (test e.0) e.1 (lookup test es) h.0 (found_account_is_in_range test es h.1)
 
--- where an option holds only an account in its ranges, so does a reference that shows the same
+-- if an option holds only an account in its ranges, so does a reference that shows the same
 pub shown_account_is_in_range : (r : Option (Bor AccountFields)) (o : Option AccountFields) → option_copied r ≡ o → IfSome o IsAccount
     → IfSome r (λ account. IsAccount account.now)
 shown_account_is_in_range None o e h = tt
@@ -51,7 +51,7 @@ remove_entry_keeps_ranges test [] h = tt
 remove_entry_keeps_ranges test (e ∷ es) h =
     either_list_is_in_range (test e.0) es (e ∷ remove_entry test es) h.1 (h.0, remove_entry_keeps_ranges test es h.1)
 
--- accounts remain in their ranges where one of them is replaced by one in its ranges
+-- accounts remain in their ranges if one of them is replaced by one in its ranges
 pub set_value_keeps_ranges : (test : List ℕ → Bool) (es : List (List ℕ × AccountFields)) (account : AccountFields)
     → AreAccounts es → IsAccount account → AreAccounts (set_value test es account)
 set_value_keeps_ranges test [] account h k = tt
@@ -80,11 +80,11 @@ insertion_keeps_ranges (Err fault) cmp es new name account e f h k = subst AreAc
 pub token_keeps_ranges : (token : TokenFields) (account : AccountFields) → IsAccount account → IsAccount (with_token token account)
 token_keeps_ranges token account h = record { sha1 = h.sha1; sha256 = h.sha256; names = h.names }
 
--- an account remains in its ranges with other names to act as, where there are not too many
+-- an account remains in its ranges with other names to act as, if there are not too many
 pub act_as_keeps_ranges : (names : List (List ℕ)) (account : AccountFields) → length names ≤ most_names → IsAccount account
     → IsAccount (with_act_as names account)
 act_as_keeps_ranges names account few h = record { sha1 = h.sha1; sha256 = h.sha256; names = few }
 
--- what holds of a value holds of what the option of that value holds
+-- what is true of a value is true of what the option of that value holds
 pub fact_holds_for_some : {X : Type 0} (P : X → Type 0) (x : X) → P x → ForSome (Some x) P
 fact_holds_for_some P x h y e = subst P (ap (λ o. unwrap_or o x) e) h

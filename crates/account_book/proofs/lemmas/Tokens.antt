@@ -24,7 +24,7 @@ use Rattle.account_book.specs.View.{mech_keys, keys_entry, decoy_entry, entry_in
 use Rattle.account_book.specs.Tokens.{token_at, with_token}
 use Rattle.account_book.specs.Laws.{TokensAreApart, EntriesStay, TokensStay, TokensGoBack}
 
--- where one account is changed, its name has the changed account, and each other name what it had
+-- if one account is changed, its name has the changed account, and each other name what it had
 account_at-with_changed : (old : BookFields) (name : List ℕ) (change : AccountFields → AccountFields) (account : AccountFields)
     → account_at old name ≡ Some account
     → (other : List ℕ) → account_at (with_changed old name change) other
@@ -52,13 +52,13 @@ token_keeps_entry ScramSha256 token account decoy = refl
 abbrev entry_by : Mechanism → Entry → Option AccountFields → Entry
 entry_by m decoy o = unwrap_or (option_and_then (λ account. option_map (keys_entry account.act_as) (mech_keys m account)) o) decoy
 
--- where an optional account has a token, the account is there
+-- if an optional account has a token, the account is there
 pub token_has_account : (o : Option AccountFields) (token : TokenFields) → option_and_then (λ account. account.token) o ≡ Some token
     → (account : AccountFields) × (o ≡ Some account)
 token_has_account None token has = absurd (cc has)
 token_has_account (Some account) token has = (account, refl)
 
--- where one account has another token, what a server keeps of each name is as before
+-- if one account has another token, what a server keeps of each name is as before
 pub token_keeps_entries : (old : BookFields) (name : List ℕ) (token : TokenFields) (account : AccountFields)
     → account_at old name ≡ Some account
     → (m : Mechanism) (other : List ℕ) → entry_in (with_changed old name (with_token token)) m other ≡ entry_in old m other
@@ -74,7 +74,7 @@ token_keeps_entries old name token account found m other =
           ≡ account_at old other = rw apart at changed in ap (entry_by m decoy) same
     ]
 
--- where the token of an account is replaced, its name has the new one
+-- if the token of an account is replaced, its name has the new one
 pub name_has_new_token : (old : BookFields) (name : List ℕ) (token : TokenFields) (account : AccountFields)
     → account_at old name ≡ Some account
     → (other : List ℕ) → bytes_eq name other ≡ true → token_at (with_changed old name (with_token token)) other ≡ Some token
@@ -83,7 +83,7 @@ name_has_new_token old name token account found other is =
     let there : account_at (with_changed old name (with_token token)) other ≡ Some (with_token token account) = rw is at changed in
     ap (option_and_then (λ account. account.token)) there
 
--- where the token of an account is replaced, each other name has the token that it had
+-- if the token of an account is replaced, each other name has the token that it had
 pub others_keep_tokens : (old : BookFields) (name : List ℕ) (token : TokenFields) (account : AccountFields)
     → account_at old name ≡ Some account
     → (other : List ℕ) → bytes_eq name other ≡ false → token_at (with_changed old name (with_token token)) other ≡ token_at old other
@@ -92,7 +92,7 @@ others_keep_tokens old name token account found other apart =
     let same : account_at (with_changed old name (with_token token)) other ≡ account_at old other = rw apart at changed in
     ap (option_and_then (λ account. account.token)) same
 
--- the law: where the token of one name is replaced, this name has the new one, and each other name the token that it had
+-- the law: if the token of one name is replaced, this name has the new one, and each other name the token that it had
 pub tokens_are_apart : TokensAreApart
 tokens_are_apart old name token next has other =
     let account = token_has_account (account_at old name) token has in
@@ -106,7 +106,7 @@ pub entries_stay : EntriesStay
 entries_stay old name token next has m other =
     let account = token_has_account (account_at old name) token has in token_keeps_entries old name next account.0 account.1 m other
 
--- where a value is set twice, the second stays
+-- if a value is set twice, the second stays
 set_value-set_value : {K X : Type 0} (test : K → Bool) (es : List (K × X)) (first second : X)
     → set_value test (set_value test es first) second ≡ set_value test es second
 set_value-set_value test [] first second = refl
@@ -128,7 +128,7 @@ own_token_keeps_accounts es name account token found has =
     set_value_same (is_at (name_cmp name)) es (with_token token account)
     (found ∙ ap (λ (a : AccountFields). Some a) (sym (own_token_keeps_account account token has)))
 
--- to change an account that is there is to set the changed one at its name
+-- changing an account that is there is setting the changed one at its name
 with_changed_is_set_value : (book : BookFields) (name : List ℕ) (change : AccountFields → AccountFields) (account : AccountFields)
     → account_at book name ≡ Some account
     → with_changed book name change ≡ record book { accounts = set_value (is_at (name_cmp name)) book.accounts (change account) }
@@ -146,7 +146,7 @@ account_has_token : (o : Option AccountFields) (token : TokenFields) (account : 
 account_has_token None token account has found = absurd (cc has)
 account_has_token (Some other) token account has found = cc
 
--- the law: a token that is put where it stands changes nothing
+-- the law: putting a token where it already is changes nothing
 pub tokens_stay : TokensStay
 tokens_stay old name token has =
     let owned = token_has_account (account_at old name) token has in
@@ -154,7 +154,7 @@ tokens_stay old name token has =
     ∙ ap (λ (es : List (List ℕ × AccountFields)). record old { accounts = es })
     (own_token_keeps_accounts old.accounts name owned.0 token owned.1 (account_has_token (account_at old name) token owned.0 has owned.1))
 
--- the law: where a token is replaced and then put back, the book is as it was
+-- the law: if a token is replaced and then put back, the book is as it was
 pub tokens_go_back : TokensGoBack
 tokens_go_back old name token next has =
     let owned = token_has_account (account_at old name) token has in

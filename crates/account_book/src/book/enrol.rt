@@ -14,14 +14,14 @@ use scram_text::{Password, PlainName, Salt};
 use std::alloc::Global;
 use thiserror::Error;
 
-/// Why no account is enrolled.
+/// Why an account is not enrolled.
 #[derive(Clone, Copy, Debug, PartialEq, Eq, Error)]
 pub enum EnrolFault {
-    /// 50: there is an account of this name.
-    #[error("there is an account of this name")]
+    /// 50: there already is an account of this name.
+    #[error("an account of this name exists already")]
     NameTaken = 50,
 
-    /// 99: memory ran out for the account.
+    /// 99: there was no memory for the account.
     #[error("no memory for the account")]
     NoMemory = 99,
 }
@@ -36,10 +36,10 @@ impl EnrolFault {
 }
 
 impl Book {
-    /// Adds an account of this name, with the keys of `password` for both mechanisms: those of SCRAM-SHA-1
-    /// under `salt1`, those of SCRAM-SHA-256 under `salt256`, and both under `count`, at least 1. It acts as
-    /// no other name and has no token. Answers 50 NameTaken where the name has an account, else 99 NoMemory,
-    /// only where memory runs out, which no clause says. After both nothing is changed.
+    /// Adds an account of this name, with the keys of `password` for both mechanisms: those of SCRAM-SHA-1 with `salt1`, those of
+    /// SCRAM-SHA-256 with `salt256`, and both with `count`, at least 1. It may act as no other name and has no token. Errors:
+    /// 50 NameTaken if the name has an account, else 99 NoMemory, only if memory runs out (no clause says so). After an error
+    /// nothing has changed.
     pub fn enrol(
         &mut self,
         alloc: Global,
@@ -71,6 +71,7 @@ impl Book {
     }
 }
 
+// What is kept for a mechanism: the salt, the count, and the keys that the password makes with them.
 fn made_keys(mechanism: Mechanism, password: &Password, salt: &Salt, count: u32) -> MechKeys
     requires { 1 ≤ count }
     ensures value { result ≡ keys_from mechanism password.now salt.now count }

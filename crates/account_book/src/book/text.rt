@@ -13,14 +13,16 @@ use book_format::{BookFault, Contents};
 use std::alloc::{AllocError, Global};
 
 impl Book {
-    /// Reads the book that `bytes` are the text of, or answers the first fault, as `Contents::read` does: 60 to 67, or 99
-    /// NoMemory, which may come at any place; no clause says that it comes only where memory runs out.
+    /// Reads the book whose text is `bytes`. Errors: the first fault, as in `Contents::read`: 60 to 67, or 99 NoMemory, which may
+    /// come at any place; no clause says that it comes only if memory runs out.
     pub fn read(alloc: Global, bytes: &[u8]) -> Result<Book, BookFault>
+        // The text is that of the book that is returned.
         ensures found { IfOk result (λ book. IsBookText bytes.now book) }
-        ensures only { (book : BookFields) → IsBookText bytes.now book
+        // If the text is that of a book, this book is returned, or 99 NoMemory.
+        ensures every { (book : BookFields) → IsBookText bytes.now book
             → (result ≡ Ok book) ⊎ IsErrAnd result (λ fault. fault.why ≡ NoMemory) }
         ensures first_fault { IfErr result (λ fault. (fault.why ≡ NoMemory) ⊎ IsFirstFault bytes.now fault) }
-        ensures only_fault { (first : BookFault) → IsFirstFault bytes.now first
+        ensures every_fault { (first : BookFault) → IsFirstFault bytes.now first
             → IsErrAnd result (λ fault. (fault.why ≡ NoMemory) ⊎ (fault ≡ first)) }
     {
         match Contents::read(alloc, bytes) {
@@ -29,12 +31,12 @@ impl Book {
         }
     }
 
-    /// The book's text, which `Book::read` reads as the same book unless memory runs out. It has every key
-    /// that has a value, one table for each account, mechanism and token, and bytes in lower-case
-    /// hexadecimal. `AllocError` comes only where memory runs out, which no clause says.
+    /// The book's text, which `Book::read` reads as the same book unless memory runs out. It has every key that has a value, one
+    /// table for each account, mechanism and token, and bytes in lower-case hexadecimal. Errors: `AllocError`, only if memory runs
+    /// out (no clause says so).
     pub fn write(&self, alloc: Global) -> Result<String, AllocError>
         ensures stands { IfOk result (λ text. IsBookText (string_bytes text) self.now) }
-        // The text is the compact one of the crate toml: in IsDocumentText, `false` says that it is not pretty.
+        // The text is in the compact style of the crate toml: `false` in IsDocumentText means that it is not pretty.
         ensures text { IfOk result (λ text. IsDocumentText false (book_tree self.now) (string_bytes text)) }
     {
         self.contents.write(alloc)

@@ -1,4 +1,4 @@
-//! The tokens of accounts, and attempts to pass with a code.
+//! The tokens of accounts, and attempts with codes.
 ghost use Rattle.std.specs.Prelude.{◌≡◌, is_some};
 ghost use Rattle.otp_core.specs.Attempt.CodeTexts.{OneText, TwoTexts};
 ghost use Rattle.otp_core.specs.Sent.{texts_of};
@@ -10,8 +10,7 @@ use otp_core::{Moment, Reply, Sent, Token};
 use scram_text::PlainName;
 
 impl Book {
-    /// A copy of the token of the account of this name, or None where there is no account of the name or it
-    /// has no token.
+    /// A copy of the token of the account of this name, or None if there is no such account or it has no token.
     pub fn token(&self, name: &PlainName) -> Option<Token>
         ensures { result ≡ token_at self.now name.now }
     {
@@ -20,8 +19,8 @@ impl Book {
         Some(token.copy())
     }
 
-    /// Gives the account of this name this token, in place of any that it had. Returns whether there is
-    /// such an account; else nothing changes.
+    /// Gives the account of this name this token, instead of any that it had. Returns whether there is such an account; if there is
+    /// none, nothing changes.
     pub fn put_token(&mut self, name: &PlainName, token: Token) -> bool
         ensures found { result ≡ is_some (account_at self.old name.now) }
         ensures put { IsChanged self.old name.now (with_token token) self.new }
@@ -35,18 +34,16 @@ impl Book {
         }
     }
 
-    /// Judges `text` as a code at `moment` by the token of the account of this name, as `Token::attempt`
-    /// does, and keeps the token as it is afterwards. None where there is no account of the name or it has
-    /// no token; then nothing changes.
+    /// Judges `text` as a code at `moment` with the token of the account of this name, as `Token::attempt` does, and keeps the
+    /// changed token. Returns None, and changes nothing, if there is no such account or it has no token.
     pub fn attempt(&mut self, name: &PlainName, moment: Moment, text: &[u8]) -> Option<Reply>
         ensures { IsBookAttempt self.old name.now moment (OneText text.now) result self.new }
     {
         self.judge(name, moment, Sent::One(text))
     }
 
-    /// Judges two texts as codes in a row at `moment` by the token of the account of this name, as `Token::sync` does, and
-    /// keeps the token as it is afterwards. None where there is no account of the name or it has no token; then nothing
-    /// changes.
+    /// Judges two texts as codes in a row at `moment` with the token of the account of this name, as `Token::sync` does, and keeps
+    /// the changed token. Returns None, and changes nothing, if there is no such account or it has no token.
     pub fn sync(
         &mut self,
         name: &PlainName,
@@ -59,8 +56,8 @@ impl Book {
         self.judge(name, moment, Sent::Two(first, second))
     }
 
-    /// Judges what was sent at `moment` by the token of the account of this name: one text as `attempt` does, and two as
-    /// `sync` does.
+    /// Judges what was sent, at `moment`, with the token of the account of this name: one text as `attempt` does, two as `sync`
+    /// does.
     pub fn judge(&mut self, name: &PlainName, moment: Moment, sent: Sent<'_>) -> Option<Reply>
         ensures { IsBookAttempt self.old name.now moment (texts_of sent.entry) result self.new }
     {
@@ -70,8 +67,8 @@ impl Book {
         Some(reply)
     }
 
-    /// Sets the failures of the token of the account of this name to 0. Returns whether there is an account
-    /// of the name that has a token; else nothing changes.
+    /// Sets the failures of the token of the account of this name to 0. Returns whether there is such an account and it has a
+    /// token; if not, nothing changes.
     pub fn unlock(&mut self, name: &PlainName) -> bool
         ensures found { result ≡ is_some (token_at self.old name.now) }
         ensures unlocked { IsUnlocked self.old name.now self.new }

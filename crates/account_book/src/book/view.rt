@@ -1,4 +1,4 @@
-//! What a SCRAM server sees of a name.
+//! What a SCRAM server sees for a name.
 ghost use Rattle.std.specs.Prelude.{◌≡◌, ◌≤◌, length, option_copied, IfSome};
 ghost use Rattle.mac_core.specs.Mechanism.{length_by};
 ghost use Rattle.scram_ends.specs.Entry.{entry_of};
@@ -12,14 +12,14 @@ use mac_core::{HSha256, Mechanism};
 use scram_ends::KeysView;
 use scram_text::{PlainName, Salt};
 
-/// The length in bytes of a decoy's salt, and so of each salt that is made for an account: by another length a client could tell
-/// the two apart.
+/// The length in bytes of a decoy's salt, and so of each salt that is made for an account: if the lengths differed, a client could
+/// tell the two apart.
 pub const SALT_LEN: usize = 16;
 
 impl Book {
-    /// What a server keeps of this name for this mechanism: the account of the name where it has keys for
-    /// the mechanism, else a decoy. A decoy's salt is the first 16 bytes of the HMAC-SHA-256, under the
-    /// decoy key, of the mechanism's name, a byte 00 and the name: a name has the same salt each time.
+    /// What a server keeps for this name and this mechanism: the account of the name if it has keys for the mechanism, else a
+    /// decoy. A decoy's salt is the first 16 bytes of the HMAC-SHA-256, under the decoy key, of the mechanism's name, a byte 00 and
+    /// the name: so a name has the same salt each time.
     pub fn view(&self, name: &PlainName, mechanism: Mechanism) -> KeysView<'_>
         ensures entry { entry_of result ≡ entry_in self.now mechanism name.now }
         ensures count { 1 ≤ result.count }
@@ -40,6 +40,7 @@ impl Book {
         }
     }
 
+    // What a server keeps for a name that has no keys for the mechanism.
     fn decoy(&self, name: &PlainName, mechanism: Mechanism) -> KeysView<'_>
         ensures entry { entry_of result ≡ decoy_entry self.now mechanism name.now }
         ensures count { 1 ≤ result.count }
@@ -53,6 +54,7 @@ impl Book {
         }
     }
 
+    // The salt of a name's decoy, which `view` describes.
     fn decoy_salt(&self, name: &PlainName, mechanism: Mechanism) -> Salt
         ensures { result ≡ decoy_salt self.now mechanism name.now }
     {
@@ -68,6 +70,7 @@ impl Book {
     }
 }
 
+// The account's keys for a mechanism, or None if it has none.
 fn keys_for(account: &Account, mechanism: Mechanism) -> Option<&MechKeys>
     requires { IsAccount account.now }
     ensures value { option_copied result ≡ mech_keys mechanism account.now }

@@ -5,51 +5,54 @@ use scram_text::PlainName;
 use std::process::Abort;
 use std::test::Fail;
 
-fn is_same(rt: &impl AllocGlobal, bytes: &[u8], text: &str) -> Result<bool, Fail> {
-    Ok(hex::encode(rt.alloc(), bytes)?.as_str() == text)
-}
-
-fn has_keys(
-    rt: &impl AllocGlobal,
+// Asserts that these are keys with the count 4096 and this salt, stored key and server key; `at` says whose they are.
+fn check_keys(
+    rt: &(impl Abort + AllocGlobal),
     keys: Option<&MechKeys>,
     salt: &str,
     stored: &str,
     server: &str,
-) -> Result<bool, Fail> {
-    let Some(keys) = keys else {
-        return Ok(false);
-    };
-    Ok(
-        keys.count == 4096
-            && is_same(rt, keys.salt.bytes(), salt)?
-            && is_same(rt, keys.keys.stored.as_slice(), stored)?
-            && is_same(rt, keys.keys.server.as_slice(), server)?,
-    )
+    at: &str,
+) -> Result<(), Fail> {
+    let keys = keys.ok_or("keys")?;
+    assert_eq!(rt; keys.count, 4096, "{at}");
+    check_hex(rt, keys.salt.bytes(), salt, at)?;
+    check_hex(rt, keys.keys.stored.as_slice(), stored, at)?;
+    check_hex(rt, keys.keys.server.as_slice(), server, at)
 }
 
-// Whether the account has the keys of the users of RFC 5802, section 5, and RFC 7677, section 3: by Python's hashlib, since
-// the RFCs print only the proofs and signatures that are made with them.
-fn is_published(rt: &impl AllocGlobal, account: Option<&Account>) -> Result<bool, Fail> {
-    let Some(account) = account else {
-        return Ok(false);
-    };
-    Ok(
-        account.act_as.is_empty()
-            && account.token.is_none()
-            && has_keys(
-                rt,
-                account.sha1.as_ref(),
-                "4125c247e43ab1e93c6dff76",
-                "e9d94660c39d65c38fbad91c358f14da0eef2bd6",
-                "0fe09258b3ac852ba502cc62ba903eaacdbf7d31",
-            )?
-            && has_keys(
-                rt,
-                account.sha256.as_ref(),
-                "5b6d99689d12358eeca04b141236fa81",
-                "586e5df283e6dceb5c3e791d8b8528ec191e664045ce971792e2e6b5bb13e2a6",
-                "c1f3cbc1c13a9d35a14c0990eed97629ea225863e566a4314ab99f3f00e5d9d5",
-            )?,
+// Asserts that these bytes are those that `want` spells in hexadecimal; `at` says what they are.
+fn check_hex(
+    rt: &(impl Abort + AllocGlobal),
+    bytes: &[u8],
+    want: &str,
+    at: &str,
+) -> Result<(), Fail> {
+    assert_eq!(rt; hex::encode(rt.alloc(), bytes)?.as_str(), want, "{at}");
+    Ok(())
+}
+
+// Asserts that the account has the keys of the users of RFC 5802, section 5, and RFC 7677, section 3, no token, and no names
+// to act as. The keys are computed with Python's hashlib, since the RFCs print only the proofs and signatures made with them.
+fn check_published(rt: &(impl Abort + AllocGlobal), account: Option<&Account>) -> Result<(), Fail> {
+    let account = account.ok_or("an account")?;
+    assert_eq!(rt; account.act_as.len(), 0);
+    assert!(rt; account.token.is_none());
+    check_keys(
+        rt,
+        account.sha1.as_ref(),
+        "4125c247e43ab1e93c6dff76",
+        "e9d94660c39d65c38fbad91c358f14da0eef2bd6",
+        "0fe09258b3ac852ba502cc62ba903eaacdbf7d31",
+        "SCRAM-SHA-1",
+    )?;
+    check_keys(
+        rt,
+        account.sha256.as_ref(),
+        "5b6d99689d12358eeca04b141236fa81",
+        "586e5df283e6dceb5c3e791d8b8528ec191e664045ce971792e2e6b5bb13e2a6",
+        "c1f3cbc1c13a9d35a14c0990eed97629ea225863e566a4314ab99f3f00e5d9d5",
+        "SCRAM-SHA-256",
     )
 }
 
@@ -58,7 +61,7 @@ fn a_password_is_enrolled(rt: HostRuntime) -> Result<(), Fail> {
     let mut book = Book::new(rt.alloc(), DECOY_KEY, 5000);
     assert!(rt; book.account(&name(&rt, b"user")).is_none());
     enrol(&rt, &mut book, b"user")?;
-    assert!(rt; is_published(&rt, book.account(&name(&rt, b"user")))?);
+    check_published(&rt, book.account(&name(&rt, b"user")))?;
     assert!(rt; book.account(&name(&rt, b"User")).is_none());
     Ok(())
 }
@@ -100,7 +103,7 @@ fn an_account_is_removed(rt: HostRuntime) -> Result<(), Fail> {
     assert!(rt; !book.remove(&name(&rt, b"nobody")));
     assert!(rt; book.remove(&name(&rt, b"user")));
     assert!(rt; book.account(&name(&rt, b"user")).is_none());
-    assert!(rt; is_published(&rt, book.account(&name(&rt, b"user2")))?);
+    check_published(&rt, book.account(&name(&rt, b"user2")))?;
     assert!(rt; !book.remove(&name(&rt, b"user")));
     Ok(())
 }
@@ -111,7 +114,7 @@ fn refusals_to_enrol(rt: HostRuntime) -> Result<(), Fail> {
         (
             EnrolFault::NameTaken,
             50,
-            "there is an account of this name",
+            "an account of this name exists already",
         ),
         (EnrolFault::NoMemory, 99, "no memory for the account"),
     ] {

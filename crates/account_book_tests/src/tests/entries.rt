@@ -1,4 +1,4 @@
-//! What a server sees of a name.
+//! What a server sees for a name.
 use crate::tests::{name, two_accounts};
 use account_book::{Book, KeysView, Mechanism};
 use std::process::Abort;
@@ -34,7 +34,7 @@ fn accounts_are_seen_by_mechanism(rt: HostRuntime) -> Result<(), Fail> {
     Ok(())
 }
 
-// Python's hmac: hmac.new(bytes(range(32)), mechanism + b"\0" + name, "sha256").digest()[:16].
+// Computed with Python: hmac.new(bytes(range(32)), mechanism + b"\0" + name, "sha256").digest()[:16].
 #[test]
 fn decoys(rt: HostRuntime) -> Result<(), Fail> {
     let book = Book::new(rt.alloc(), crate::tests::DECOY_KEY, 5000);

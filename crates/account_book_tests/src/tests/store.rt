@@ -1,10 +1,10 @@
-//! What the fault of a store says.
+//! The text of a store's fault.
 use account_book::StoreFault;
 use std::test::Fail;
 
 #[test]
 fn text_of_the_fault(rt: HostRuntime) -> Result<(), Fail> {
     let text = format!(in rt.alloc(); "{StoreFault}")?;
-    assert_eq!(rt; text.as_str(), "the store of the book has failed");
+    assert_eq!(rt; text.as_str(), "the book could not be saved");
     Ok(())
 }

@@ -5,7 +5,7 @@ use account_book::laws::written_is_read;
 use std::process::Abort;
 use std::test::Fail;
 
-// The account of RFC 5802, section 5, its keys by Python's hashlib, and a token of RFC 4226, appendix D.
+// The account of RFC 5802, section 5, its keys computed with Python's hashlib, and a token of RFC 4226, appendix D.
 const TEXT: &str = "format = 1
 decoy_key = \"000102030405060708090A0B0C0D0E0F101112131415161718191a1b1c1d1e1f\"
 decoy_count = 4096

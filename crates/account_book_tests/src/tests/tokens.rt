@@ -1,4 +1,4 @@
-//! Codes of RFC 4226, appendix D, by the tokens of accounts.
+//! Codes of RFC 4226, appendix D, judged by the tokens of accounts.
 use crate::tests::{name, two_accounts};
 use account_book::{Book, Reply, Token};
 use otp_core::{Digits, HotpFields, Moment, OtpFault, Secret, Sent, TokenFields};
@@ -6,7 +6,7 @@ use scram_text::PlainName;
 use std::process::Abort;
 use std::test::Fail;
 
-// A token with the RFC's secret: three failures lock it; it looks three counters ahead, and eight for two codes in a row.
+// A token with the RFC's secret. Three failures lock it; it looks ahead three counters, or eight for two codes in a row.
 fn token() -> Result<Token, OtpFault> {
     Token::hotp(HotpFields {
         secret: Secret::new(b"12345678901234567890")?,

@@ -21,23 +21,23 @@ use Rattle.book_format.proofs.lemmas.Demands.{Follows, read_fault_is_first, firs
 use Rattle.book_format.proofs.lemmas.Steps.{each_step_gives_value, option_holds_value}
 
 -- a text that has no tree is read as no book, for the tree's reason and with no account named
-pub tree_fault_is_books : (bytes : List ℕ) (why : BookWhy) → tree_in bytes ≡ Err why
+pub tree_fault_is_fault_of_book : (bytes : List ℕ) (why : BookWhy) → tree_in bytes ≡ Err why
     → book_in bytes ≡ Err (record { why = why; account = None })
 unfolding book_in
-tree_fault_is_books bytes why h = rw h refl
+tree_fault_is_fault_of_book bytes why h = rw h refl
 
 -- a text whose top table is refused is read as no book, for that reason and with no account named
-pub top_fault_is_books : (bytes : List ℕ) (ms : Members) (why : BookWhy) → tree_in bytes ≡ Ok ms → Err why ≡ top_of ms
+pub top_fault_is_fault_of_book : (bytes : List ℕ) (ms : Members) (why : BookWhy) → tree_in bytes ≡ Ok ms → Err why ≡ top_of ms
     → book_in bytes ≡ Err (record { why = why; account = None })
 unfolding book_in book_of
-top_fault_is_books bytes ms why read h = rw (read, ← h) refl
+top_fault_is_fault_of_book bytes ms why read h = rw (read, ← h) refl
 
 -- a text whose accounts are refused is read as no book, with their fault
-pub accounts_fault_is_books : (bytes : List ℕ) (ms : Members) (top : TopFields) (fault : BookFault) → tree_in bytes ≡ Ok ms
+pub accounts_fault_is_fault_of_book : (bytes : List ℕ) (ms : Members) (top : TopFields) (fault : BookFault) → tree_in bytes ≡ Ok ms
     → Ok top ≡ top_of ms
     → accounts_of_table top.accounts ≡ Err fault → book_in bytes ≡ Err fault
 unfolding book_in book_of
-accounts_fault_is_books bytes ms top fault read h accounts = rw (read, ← h, accounts) refl
+accounts_fault_is_fault_of_book bytes ms top fault read h accounts = rw (read, ← h, accounts) refl
 
 -- a text whose top table and accounts are read is read as the book of both
 pub parts_are_read_as_book : (bytes : List ℕ) (ms : Members) (top : TopFields) (entries : List (List ℕ × AccountFields))
@@ -47,7 +47,7 @@ pub parts_are_read_as_book : (bytes : List ℕ) (ms : Members) (top : TopFields)
 unfolding book_in book_of
 parts_are_read_as_book bytes ms top entries read h accounts = rw (read, ← h, accounts) refl
 
--- where a document is read from a text, the text is UTF-8, and the parser gives this document
+-- if a document is read from a text, the text is UTF-8, and the parser gives this document
 read_document_stands : (bytes : List ℕ) (ms : Members) → tree_in bytes ≡ Ok ms → IsUtf8 bytes × (parse_document bytes ≡ Some ms)
 unfolding tree_in
 read_document_stands bytes ms h = elim (cases_Bool (is_utf8 bytes)) [
@@ -56,7 +56,7 @@ read_document_stands bytes ms h = elim (cases_Bool (is_utf8 bytes)) [
       let none = rw not at h in absurd (cc none)
 ]
 
--- where a book is read from a text, the text is that of the book
+-- if a book is read from a text, the text is that of the book
 pub read_book_text_stands : (bytes : List ℕ) (book : BookFields) → book_in bytes ≡ Ok book → IsBookText bytes book
 unfolding book_in
 read_book_text_stands bytes book h =
@@ -69,7 +69,7 @@ pub book_text_is_read : (bytes : List ℕ) (book : BookFields) → IsBookText by
 unfolding book_in tree_in
 book_text_is_read bytes book h = rw (is_utf8-from_IsUtf8 bytes h.utf8, h.parsed) (book_tree_is_read h.tree book h.of_book)
 
--- a text is read as the demands on it are met
+-- reading a text follows the demands on it
 text_follows : (bytes : List ℕ) → Follows (book_demands bytes) (book_in bytes)
 unfolding book_demands book_in tree_in
 text_follows bytes = follows (is_utf8 bytes) (parse_document bytes)
@@ -83,7 +83,7 @@ text_follows bytes = follows (is_utf8 bytes) (parse_document bytes)
     follows true (Some ms) = book_follows ms
     follows false parsed = refl
 
--- the fault that a text is refused for is its first
+-- the fault for which a text is refused is its first
 pub text_fault_is_first : (bytes : List ℕ) (fault : BookFault) → book_in bytes ≡ Err fault → IsFirstFault bytes fault
 text_fault_is_first bytes fault h = read_fault_is_first (book_demands bytes) fault (book_in bytes) (text_follows bytes) h
 

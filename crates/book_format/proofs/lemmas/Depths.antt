@@ -23,20 +23,20 @@ use Rattle.book_format.specs.Written.{accounts_tree, book_tree}
 use Rattle.book_format.specs.declared.account.MechKeys.{MechKeys}
 use Rattle.book_format.proofs.lemmas.Put.{Entries}
 
--- a value of at most so many levels, without dates
+-- a value of at most `most` levels, without dates
 abbrev pub IsFlat : ℕ → Data → Type 0
 IsFlat most d = (depth d ≤ most) × (has_valid_dates d ≡ true)
 
--- a table whose values have at most so many levels, without dates
+-- a table whose values have at most `most` levels, without dates
 abbrev pub AreFlat : ℕ → Members → Type 0
 AreFlat most ms = (members_depth ms ≤ most) × (members_have_valid_dates ms ≡ true)
 
--- an optional value of at most so many levels, without dates, if there is one
+-- an optional value of at most `most` levels, without dates, if there is one
 abbrev pub IsFlatSome : ℕ → Option Data → Type 0
 IsFlatSome most None = Unit {0}
 IsFlatSome most (Some d) = IsFlat most d
 
--- entries each of whose values, if there is one, has at most so many levels, without dates
+-- entries each of whose values, if there is one, has at most `most` levels, without dates
 abbrev pub AllFlat : ℕ → Entries → Type 0
 AllFlat most [] = Unit {0}
 AllFlat most (e ∷ es) = IsFlatSome most e.1 × AllFlat most es
@@ -75,7 +75,7 @@ put_all_is_flat : (most : ℕ) (es : Entries) (ms : Members) → AllFlat most es
 put_all_is_flat most [] ms all h = h
 put_all_is_flat most (e ∷ es) ms all h = put_all_is_flat most es (put_some e.0 e.1 ms) all.1 (put_some_is_flat most e.0 e.1 ms all.0 h)
 
--- where whatever is written of a value is flat, so is what is written of an optional one
+-- if whatever is written of a value is flat, so is what is written of an optional one
 option_is_flat : {T : Type 0} (most : ℕ) (write : T → Data) (o : Option T) → ((v : T) → IsFlat most (write v))
     → IsFlatSome most (option_map write o)
 option_is_flat most write None each = tt

@@ -1,4 +1,4 @@
--- Hexadecimal texts of too few digits or of too many.
+-- Hexadecimal texts with too few or too many digits.
 use Rattle.std.proofs.Common.{◌≡◌, ◌<◌, ◌*◌, ◌/◌, ◌&&◌, nat_le, ℕ, List, length, false, Ok, Err, refl, arith}
 use Rattle.std.proofs.lemmas.Bool.Decides.{nat_tests}
 use Rattle.hex.specs.Hex.{decode_of}
@@ -15,7 +15,7 @@ digits_outside_are_refused why least most text fails =
       | Err e ↦ λ is. refl
     ] refl
 
--- a text of fewer digits than the least number of bytes has is refused
+-- a text with fewer digits than the least number of bytes needs is refused
 pub fewer_digits_are_refused : (why : BookWhy) (least most : ℕ) (text : List ℕ) → length text / 2 < least
     → decoded why least most (decode_of text) ≡ Err why
 fewer_digits_are_refused why least most text h =
@@ -24,7 +24,7 @@ fewer_digits_are_refused why least most text h =
     few : (least most n : ℕ) → n < least → (nat_le least n && nat_le n most) ≡ false
     few least most n h = grind (arith, nat_tests)
 
--- a text of more digits than the largest number of bytes has is refused
+-- a text with more digits than the greatest number of bytes needs is refused
 pub more_digits_are_refused : (why : BookWhy) (least most : ℕ) (text : List ℕ) → most < length text / 2
     → decoded why least most (decode_of text) ≡ Err why
 more_digits_are_refused why least most text h =

@@ -1,4 +1,4 @@
--- Each text is that of one book, or has one first fault, and never both: what it is read as says which.
+-- Each text is that of exactly one book or has exactly one first fault, and never both: what it is read as says which.
 use Rattle.std.proofs.Common.{◌≡◌, ◌⊎◌, inl, inr, Result, Ok, Err, refl, sym, ◌∙◌}
 use Rattle.book_format.specs.Book.{BookFields}
 use Rattle.book_format.specs.FirstFault.{IsFirstFault}
@@ -6,7 +6,7 @@ use Rattle.book_format.specs.Laws.{IsBookOrAtFault, BookIsNotAtFault, HasOneBook
 use Rattle.book_format.specs.Trees.{IsBookText}
 use Rattle.book_format.specs.reading.Books.{book_in}
 use Rattle.book_format.specs.declared.fault.BookFault.{BookFault}
-use Rattle.book_format.proofs.lemmas.Steps.{same_Ok, same_Err}
+use Rattle.book_format.proofs.lemmas.Steps.{same_ok_has_same_value, same_err_has_same_fault}
 use Rattle.book_format.proofs.lemmas.BookTexts.{read_book_text_stands, book_text_is_read, text_fault_is_first, text_first_fault_is_read}
 
 -- a text is that of a book, or it has a first fault
@@ -24,11 +24,12 @@ book_is_not_at_fault text book fault is first =
     let both = sym (book_text_is_read text book is) ∙ text_first_fault_is_read text fault first in
     cc both
 
--- a text is that of one book at most
+-- a text is that of at most one book
 pub has_one_book : HasOneBook
-has_one_book text one other is also = same_Ok one other (sym (book_text_is_read text one is) ∙ book_text_is_read text other also)
+has_one_book text one other is also = same_ok_has_same_value one other (sym (book_text_is_read text one is) ∙ book_text_is_read text other
+    also)
 
--- a text has one first fault at most
+-- a text has at most one first fault
 pub has_one_first_fault : HasOneFirstFault
 has_one_first_fault text one other first also =
-    same_Err one other (sym (text_first_fault_is_read text one first) ∙ text_first_fault_is_read text other also)
+    same_err_has_same_fault one other (sym (text_first_fault_is_read text one first) ∙ text_first_fault_is_read text other also)

@@ -1,4 +1,4 @@
--- How a list of names is read: by whether all are texts, and by how many there are.
+-- How a list of names is read, depending on whether all are texts and on how many there are.
 use Rattle.std.proofs.Common.{◌≡◌, ◌<◌, ◌≤◌, nat_le, le-leb, ℕ, List, [], ◌∷◌, ◌++◌, length, true, false, Result, Ok, Err, refl}
 use Rattle.std.proofs.Common.{append_assoc, arith}
 use Rattle.std.proofs.lemmas.Bool.Decides.{nat_tests}
@@ -11,14 +11,14 @@ use Rattle.book_format.specs.reading.Values.{names_in, names_of}
 use Rattle.book_format.specs.reading.Steps.{◌>>=◌}
 use Rattle.book_format.specs.declared.fault.BookWhy.TheVariants.{Key, Name}
 
--- as many items are counted in the view of a list of values as it has
+-- the view of a list of values has as many items as the list has
 pub item_count-view : (vs : List Value) → item_count (items_view vs) ≡ length vs
 item_count-view [] = refl
 item_count-view (v ∷ vs) =
     let rest = item_count-view vs in
     omega (arith, rest)
 
--- to put a value before what is left to read, and others before both, is to put it at the end of those others
+-- putting a value before what is left to read, and others before both, is putting it at the end of those others
 pub value_moves_to_front : {A E : Type 0} (front : List A) (x : A) (rest : Result (List A) E)
     → ((rest >>= λ xs. Ok (x ∷ xs)) >>= λ xs. Ok (front ++ xs)) ≡ (rest >>= λ xs. Ok ((front ++ x ∷ []) ++ xs))
 value_moves_to_front front x (Ok xs) = rw append_assoc refl
@@ -37,7 +37,7 @@ many_names_are_refused list typed many = rw (typed, too_many (item_count list) m
     too_many : (n : ℕ) → most_names < n → nat_le n most_names ≡ false
     too_many n h = grind (arith, nat_tests)
 
--- a list of no more texts than an account may have names is read name by name
+-- a list of at most as many texts as an account may have names is read name by name
 pub few_names_are_read : (list : Items) → are_texts list ≡ true → item_count list ≤ most_names → names_of list ≡ names_in list
 unfolding names_of
 few_names_are_read list typed few = rw (typed, le-leb (item_count list) most_names few) refl

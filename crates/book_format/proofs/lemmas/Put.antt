@@ -21,14 +21,14 @@ use Rattle.book_format.specs.Rows.{written}
 use Rattle.book_format.specs.Tables.{account}
 use Rattle.book_format.specs.Written.{accounts_tree}
 
--- the view of a list that an ordering chooses is the view that it chooses
+-- the view of the list that an ordering chooses is what it chooses among the views
 members_view-match_ordering : (o : Ordering) (a b c : List Entry)
     → members_view (match_ordering o a b c) ≡ match_ordering o (members_view a) (members_view b) (members_view c)
 members_view-match_ordering Less a b c = refl
 members_view-match_ordering Equal a b c = refl
 members_view-match_ordering Greater a b c = refl
 
--- to insert a value into a table's entries is to put it among their members
+-- inserting a value into a table's entries is putting it among their members
 pub members_view-insert_entry : (es : List Entry) (k : String Global) (v : Value)
     → members_view (insert_entry string_cmp es k v) ≡ put_member (string_bytes k) (view v) (members_view es)
 members_view-insert_entry [] k v = refl
@@ -54,7 +54,7 @@ put_account_goes_last (first ∷ done) e more h =
 
 -- Look-ups.
 
--- where both sides are the same, an ordering that is not Equal chooses that side, whatever stands in the middle
+-- if both sides are the same, an ordering that is not Equal chooses that side, whatever is in the middle
 pub ordering_chooses_side : {X : Type 0} (o : Ordering) (side middle : X) → is_eq o ≡ false → match_ordering o side middle side ≡ side
 ordering_chooses_side Less side middle h = refl
 ordering_chooses_side Equal side middle h = absurd (false≢true (sym h))
@@ -70,7 +70,7 @@ own_reverse_is_equal Greater h = absurd (cc h)
 key_equals_itself : (key : List ℕ) → slice_cmp nat_cmp key key ≡ Equal
 key_equals_itself key = own_reverse_is_equal (slice_cmp nat_cmp key key) (nat_list_cmp_total.antisymm key key)
 
--- a look-up passes a first member of another key
+-- a look-up passes over a first member with another key
 look_up_passes_member : (key other : List ℕ) (d : Data) (rest : Members) → same_key key other ≡ false
     → get_member key (member other d rest) ≡ get_member key rest
 look_up_passes_member key other d rest differ = ordering_chooses_side (slice_cmp nat_cmp key other) (get_member key rest) (Some d) differ
@@ -86,7 +86,7 @@ put_member_is_found key d (member k e rest) =
       | Greater ↦ λ is. rw is (put_member_is_found key d rest)
     ] refl
 
--- a look-up of another key than the one that was put finds what it found before
+-- a look-up of a key other than the one that was put finds what it found before
 put_member_leaves_others : (key other : List ℕ) (d : Data) (ms : Members) → same_key key other ≡ false
     → get_member key (put_member other d ms) ≡ get_member key ms
 put_member_leaves_others key other d no_members differ = look_up_passes_member key other d no_members differ
@@ -102,7 +102,7 @@ put_member_leaves_others key other d (member k e rest) differ =
       | Greater ↦ λ is. ap (λ o. match_ordering (slice_cmp nat_cmp key k) o (Some e) o) (put_member_leaves_others key other d rest differ)
     ] refl
 
--- a look-up of another key than the one at which an optional value was put finds what it found before
+-- a look-up of a key other than the one at which an optional value was put finds what it found before
 put_some_leaves_others : (key other : List ℕ) (o : Option Data) (ms : Members) → same_key key other ≡ false
     → get_member key (put_some other o ms) ≡ get_member key ms
 put_some_leaves_others key other None ms differ = refl
@@ -112,7 +112,7 @@ put_some_leaves_others key other (Some d) ms differ = put_member_leaves_others k
 abbrev pub Entries : Type 0
 Entries = List (List ℕ × Option Data)
 
--- the table has what is to be at each key
+-- the table has at each key what is to be there
 abbrev pub HasAll : Entries → Members → Type 0
 HasAll [] ms = Unit {0}
 HasAll (e ∷ es) ms = (get_member e.0 ms ≡ e.1) × HasAll es ms
@@ -127,7 +127,7 @@ abbrev pub is_new : List ℕ → Entries → Bool
 is_new key [] = true
 is_new key (e ∷ es) = not (same_key key e.0) && not (same_key e.0 key) && is_new key es
 
--- no key stands twice among these entries
+-- no key appears twice among these entries
 abbrev pub are_distinct : Entries → Bool
 are_distinct [] = true
 are_distinct (e ∷ es) = is_new e.0 es && are_distinct es
@@ -150,7 +150,7 @@ table_still_has_none key o (e ∷ es) ms new h =
     let (one, two) = and_parts (not (same_key key e.0)) (not (same_key e.0 key)) here in
     (put_some_leaves_others e.0 key o ms (not-true (same_key e.0 key) two) ∙ h.0, table_still_has_none key o es ms others h.1)
 
--- a key that had nothing has, after an optional value is put there, this value, or nothing still
+-- a key that had nothing has, after an optional value is put there, this value, or still nothing
 put_some_is_found : (key : List ℕ) (o : Option Data) (ms : Members) → get_member key ms ≡ None → get_member key (put_some key o ms) ≡ o
 put_some_is_found key None ms h = h
 put_some_is_found key (Some d) ms h = put_member_is_found key d ms

@@ -9,11 +9,11 @@ use Rattle.book_format.specs.Rows.{table_demands}
 use Rattle.book_format.specs.Demands.{required, if_there}
 use Rattle.book_format.specs.reading.Rows.{read_rows, read_table, table_in, read_or, read_some}
 use Rattle.book_format.specs.reading.Values.{table_of}
-use Rattle.book_format.specs.RowKinds.{in_table, HasAt, HasSome, row, row_to, row_or, optional, bound_at}
+use Rattle.book_format.specs.RowKinds.{in_table, HasAt, HasSome, row, row_up_to, row_or_default, optional, bound_at}
 use Rattle.book_format.specs.declared.fault.BookWhy.{BookWhy}
 use Rattle.book_format.specs.declared.fault.BookWhy.TheVariants.{Key}
 use Rattle.book_format.proofs.lemmas.Demands.{Follows, both_follow, test_follows, required_follows, making_keeps_faults}
-use Rattle.book_format.proofs.lemmas.Steps.{each_step_gives_value, test_was_passed, same_Ok}
+use Rattle.book_format.proofs.lemmas.Steps.{each_step_gives_value, test_was_passed, same_ok_has_same_value}
 
 -- the values of all rows
 abbrev pub Values : {T : Type 0} → List (Row T) → Type 0
@@ -35,7 +35,7 @@ abbrev pub HasValues : {T : Type 0} (rows : List (Row T)) → Members → Values
 HasValues [] ms vs = Unit {0}
 HasValues (r ∷ rows) ms vs = r.Has ms vs.0 × HasValues rows ms vs.1
 
--- a row is exact: it reads the value that the table has there and no other, and else refuses for the first demand that is not met
+-- a row is exact: it reads the value that the table has there and no other, and otherwise refuses for the first demand that is not met
 pub record IsExactRow {T : Type 0} (r : Row T) : Type 0 where
   pub found : (ms : Members) (v : r.V) → r.read ms ≡ Ok v → r.Has ms v
   pub held : (ms : Members) (v : r.V) → r.Has ms v → r.read ms ≡ Ok v
@@ -56,20 +56,20 @@ pub record IsExactTable {T : Type 0} (t : Table T) : Type 0 where
 read_rows_stand : {T X : Type 0} (rows : List (Row T)) (make : Maker rows X) (ms : Members) (x : X) → AreExactRows rows
     → read_rows rows make ms ≡ Ok x
     → (vs : Values rows) × HasValues rows ms vs × (made rows make vs ≡ x)
-read_rows_stand [] make ms x sound h = (tt, tt, same_Ok make x h)
+read_rows_stand [] make ms x sound h = (tt, tt, same_ok_has_same_value make x h)
 read_rows_stand (r ∷ rows) make ms x sound h =
     let (v, read, rest) = each_step_gives_value (r.read ms) (λ v. read_rows rows (make v) ms) x h in
     let (vs, has, same) = read_rows_stand rows (make v) ms x sound.1 rest in
     ((v, vs), (sound.0.found ms v read, has), same)
 
--- where the table has the values of exact rows, what is made of them is read
+-- if the table has the values of exact rows, what is made of them is read
 rows_are_read : {T X : Type 0} (rows : List (Row T)) (make : Maker rows X) (ms : Members) (vs : Values rows) → AreExactRows rows
     → HasValues rows ms vs
     → read_rows rows make ms ≡ Ok (made rows make vs)
 rows_are_read [] make ms vs sound h = refl
 rows_are_read (r ∷ rows) make ms vs sound h = rw (sound.0.held ms vs.0 h.0) (rows_are_read rows (make vs.0) ms vs.1 sound.1 h.1)
 
--- to have the fields of a value row by row is to have the rows of the value, and back:
+-- having the fields of a value row by row is having the rows of the value, and back:
 fields_fill_rows : {T : Type 0} (rows : List (Row T)) (ms : Members) (x : T) → HasValues rows ms (fields_of rows x) → HasRows rows ms x
 fields_fill_rows [] ms x h = tt
 fields_fill_rows (r ∷ rows) ms x h = (h.0, fields_fill_rows rows ms x h.1)
@@ -78,7 +78,7 @@ rows_hold_fields : {T : Type 0} (rows : List (Row T)) (ms : Members) (x : T) →
 rows_hold_fields [] ms x h = tt
 rows_hold_fields (r ∷ rows) ms x h = (h.0, rows_hold_fields rows ms x h.1)
 
--- where a value is read of a table that has its marks, the table is that of the value
+-- if a value is read from a table that has its marks, the table is that of the value
 pub read_table_stands : {T : Type 0} (t : Table T) → IsExactTable t → (ms : Members) (x : T) → HasMarks t.marks ms → read_table t ms ≡ Ok x
     → IsTable t ms x
 unfolding read_table
@@ -100,14 +100,14 @@ table_is_read t sound ms x h =
     rw h.known (rows_are_read t.rows t.make ms (fields_of t.rows x) sound.rows (rows_hold_fields t.rows ms x h.rows)
     ∙ ap Ok (sound.keeps x))
 
--- rows are read as their demands are met
+-- reading rows follows their demands
 rows_follow : {T : Type 0} (X : Type 0) (rows : List (Row T)) (make : Maker rows X) (ms : Members) → AreExactRows rows
     → Follows (row_demands rows ms) (read_rows rows make ms)
 rows_follow X [] make ms sound = refl
 rows_follow X (r ∷ rows) make ms sound = both_follow (r.demands ms) (row_demands rows ms) (r.read ms) (λ v. read_rows rows (make v) ms)
     (sound.0.follows ms) (λ v is. rows_follow X rows (make v) ms sound.1)
 
--- a table is read as its demands are met
+-- reading a table follows its demands
 pub table_follows : {T : Type 0} (t : Table T) → IsExactTable t → (ms : Members) → Follows (table_demands t ms) (read_table t ms)
 unfolding read_table table_demands
 table_follows t sound ms = test_follows (has_only (is_among (table_keys t)) ms) Key (row_demands t.rows ms)
@@ -115,7 +115,7 @@ table_follows t sound ms = test_follows (has_only (is_among (table_keys t)) ms) 
 
 -- Types of values.
 
--- a type of values is exact: it reads the values of its own and no other, and else refuses for the first demand that is not met
+-- a type of values is exact: it reads its own values and no other, and otherwise refuses for the first demand that is not met
 pub record IsExactType {V : Type 0} (values : ValueType V) : Type 0 where
   pub found : (d : Data) (v : V) → values.read d ≡ Ok v → values.Is d v
   pub held : (d : Data) (v : V) → values.Is d v → values.read d ≡ Ok v
@@ -123,7 +123,7 @@ pub record IsExactType {V : Type 0} (values : ValueType V) : Type 0 where
 
 -- a value that is read as a table is that table
 pub read_members_stand : (d : Data) (ms : Members) → table_of d ≡ Ok ms → d ≡ table ms
-read_members_stand (table ns) ms h = ap table (same_Ok ns ms h)
+read_members_stand (table ns) ms h = ap table (same_ok_has_same_value ns ms h)
 read_members_stand d ms h = absurd (cc h)
 
 -- an exact table without marks makes an exact type of values
@@ -139,25 +139,25 @@ in_table_is_exact t sound marks = record {
 
 -- Rows of each kind.
 
--- a value that was read at a key that must be there stands there
+-- a value that was read at a key that must be there is there
 pub read_at_stands : {V : Type 0} (values : ValueType V) → IsExactType values → (v : V) (o : Option Data)
     → read_or (Err Key) values.read o ≡ Ok v
     → (d : Data) × (o ≡ Some d) × values.Is d v
 read_at_stands values sound v None h = absurd (cc h)
 read_at_stands values sound v (Some d) h = (d, refl, sound.found d v h)
 
--- where a key has a value of the type, it is read, whatever a missing key would give
+-- if a key has a value of the type, it is read, whatever a missing key would give
 pub value_at_is_read : {V : Type 0} (values : ValueType V) (missing : Result V BookWhy) → IsExactType values
     → (key : List ℕ) (ms : Members) (v : V)
     → HasAt key values ms v
     → read_or missing values.read (get_member key ms) ≡ Ok v
 value_at_is_read values missing sound key ms v h = rw h.1 (sound.held h.0 v h.2)
 
--- where a key was read that may be missing, it is missing and the default was read, or its value was
+-- if a key was read that may be missing, either it is missing and the default was read, or its value was
 pub read_or_stands : {V : Type 0} (values : ValueType V) → IsExactType values
     → (other v : V) (o : Option Data) → read_or (Ok other) values.read o ≡ Ok v
     → ((o ≡ None) × (v ≡ other)) ⊎ ((d : Data) × (o ≡ Some d) × values.Is d v)
-read_or_stands values sound other v None h = inl (refl, sym (same_Ok other v h))
+read_or_stands values sound other v None h = inl (refl, sym (same_ok_has_same_value other v h))
 read_or_stands values sound other v (Some d) h = inr (d, refl, sound.found d v h)
 
 -- an optional value that was read is what the key has
@@ -168,15 +168,15 @@ read_some_stands values sound key ms None None at h = at
 read_some_stands values sound key ms (Some v) None at h = absurd (cc h)
 read_some_stands values sound key ms v (Some d) at h =
     let (x, said, same) = each_step_gives_value (values.read d) (λ v. Ok (Some v)) v h in
-    subst (λ o. HasSome key values ms o) (same_Ok (Some x) v same) (d, at, sound.found d x said)
+    subst (λ o. HasSome key values ms o) (same_ok_has_same_value (Some x) v same) (d, at, sound.found d x said)
 
--- where a key has an optional value, it is read
+-- if a key has an optional value, it is read
 optional_value_is_read : {V : Type 0} (values : ValueType V) → IsExactType values → (key : List ℕ) (ms : Members) (v : Option V)
     → HasSome key values ms v → read_some key values ms ≡ Ok v
 optional_value_is_read values sound key ms None h = rw h refl
 optional_value_is_read values sound key ms (Some v) h = rw (h.1, sound.held h.0 v h.2) refl
 
--- what is read at a key follows the demands there: where the key has to be there, where it has a default, and where it is optional:
+-- what is read at a key follows the demands there: if the key must be there, if it has a default, and if it is optional:
 read_at_follows : {V : Type 0} (values : ValueType V) → IsExactType values → (o : Option Data)
     → Follows (required Key values.demands o) (read_or (Err Key) values.read o)
 read_at_follows values sound None = refl
@@ -192,7 +192,7 @@ read_some_follows : {V : Type 0} (values : ValueType V) → IsExactType values �
 read_some_follows values sound None = refl
 read_some_follows values sound (Some d) = sound.follows d ∙ making_keeps_faults (values.read d) Some
 
--- a row whose key has to be there is exact, where its type is
+-- a row whose key must be there is exact, if its type is
 pub row_is_exact : {T V : Type 0} (name : String) (values : ValueType V) (field : T → V) → IsExactType values
     → IsExactRow (row name values field)
 row_is_exact name values field sound = record {
@@ -201,9 +201,9 @@ row_is_exact name values field sound = record {
   follows = λ ms. read_at_follows values sound (get_member (codes name) ms);
 }
 
--- a row whose type depends on the number at another key is exact, where the type is exact for each number
+-- a row whose type depends on the number at another key is exact, if the type is exact for each number
 pub row_to_is_exact : {T V : Type 0} (name : String) (values : ℕ → ValueType V) (bound : String) (field : T → V)
-    → ((n : ℕ) → IsExactType (values n)) → IsExactRow (row_to name values bound field)
+    → ((n : ℕ) → IsExactType (values n)) → IsExactRow (row_up_to name values bound field)
 row_to_is_exact name values bound field sound = record {
   found = λ ms v h. read_at_stands (values (bound_at (codes bound) ms)) (sound (bound_at (codes bound) ms)) v (get_member (codes name) ms)
       h;
@@ -211,9 +211,9 @@ row_to_is_exact name values bound field sound = record {
   follows = λ ms. read_at_follows (values (bound_at (codes bound) ms)) (sound (bound_at (codes bound) ms)) (get_member (codes name) ms);
 }
 
--- a row with a default is exact, where its type is
+-- a row with a default is exact, if its type is
 pub row_or_is_exact : {T V : Type 0} (other : V) (name : String) (values : ValueType V) (field : T → V) → IsExactType values
-    → IsExactRow (row_or other name values field)
+    → IsExactRow (row_or_default other name values field)
 row_or_is_exact other name values field sound = record {
   found = λ ms v h. read_or_stands values sound other v (get_member (codes name) ms) h;
   held = λ ms v h. elim h [
@@ -223,7 +223,7 @@ row_or_is_exact other name values field sound = record {
   follows = λ ms. read_or_follows values sound other (get_member (codes name) ms);
 }
 
--- a row that may be missing is exact, where its type is
+-- a row that may be missing is exact, if its type is
 pub optional_is_exact : {T V : Type 0} (name : String) (values : ValueType V) (field : T → Option V) → IsExactType values
     → IsExactRow (optional name values field)
 optional_is_exact name values field sound = record {

@@ -35,7 +35,7 @@ use Rattle.book_format.specs.declared.fault.BookFault.{BookFault}
 use Rattle.book_format.specs.declared.fault.BookWhy.{BookWhy}
 use Rattle.book_format.specs.declared.fault.BookWhy.TheVariants.{Format, Key, Name}
 use Rattle.book_format.proofs.lemmas.Demands.{judged, Follows, both_follow, test_follows, required_follows, making_keeps_faults}
-use Rattle.book_format.proofs.lemmas.Steps.{each_step_gives_value, test_was_passed, same_Ok}
+use Rattle.book_format.proofs.lemmas.Steps.{each_step_gives_value, test_was_passed, same_ok_has_same_value}
 use Rattle.book_format.proofs.lemmas.ValueTypes.{number_is_exact, signed_is_exact, bytes_are_exact, hash_is_exact, any_table_is_exact}
 use Rattle.book_format.proofs.lemmas.ValueTypes.{read_name_stands, name_is_read, name_list_is_exact}
 use Rattle.book_format.proofs.lemmas.Rows.{IsExactTable, IsExactType, read_table_stands, table_is_read, table_follows, read_members_stand, in_table_is_exact}
@@ -62,11 +62,11 @@ totp_is_exact = record {
 
 -- A token.
 
--- a text that was read at a key stands there
+-- a text that was read at a key is there
 read_text_at_stands : (o : Option Data) (name : List ℕ) → read_or (Err Key) text_in o ≡ Ok name → o ≡ Some (string name)
 unfolding text_in
 read_text_at_stands None name h = absurd (cc h)
-read_text_at_stands (Some (string s)) name h = ap (λ s. Some (string s)) (same_Ok s name h)
+read_text_at_stands (Some (string s)) name h = ap (λ s. Some (string s)) (same_ok_has_same_value s name h)
 read_text_at_stands (Some d) name h = absurd (cc h)
 
 -- a table that was read as a token of a kind is that of the token
@@ -78,18 +78,28 @@ read_token_of_kind_stands d ms name fields is_table there h = elim (cases_Bool (
   | inl is ↦
       let (t, read, same) = each_step_gives_value (read_table hotp ms) _ fields (rw is at h) in
       let named = there ∙ ap (λ n. Some (string n)) ((bytes_eq-Decides name (codes "hotp")).0 is) in
-      subst (λ f. IsToken d f) (same_Ok (Hotp t) fields same) (ms, is_table, read_table_stands hotp hotp_is_exact ms t (named, tt) read)
+      subst (λ f. IsToken d f) (same_ok_has_same_value (Hotp t) fields same) (
+        ms,
+        is_table,
+        read_table_stands hotp hotp_is_exact ms t
+            (named, tt) read,
+      )
   | inr not_hotp ↦ elim (cases_Bool (bytes_eq name (codes "totp"))) [
     | inl is ↦
         let (t, read, same) = each_step_gives_value (read_table totp ms) _ fields (rw (not_hotp, is) at h) in
         let named = there ∙ ap (λ n. Some (string n)) ((bytes_eq-Decides name (codes "totp")).0 is) in
-        subst (λ f. IsToken d f) (same_Ok (Totp t) fields same) (ms, is_table, read_table_stands totp totp_is_exact ms t (named, tt) read)
+        subst (λ f. IsToken d f) (same_ok_has_same_value (Totp t) fields same) (
+          ms,
+          is_table,
+          read_table_stands totp totp_is_exact ms t
+              (named, tt) read,
+        )
     | inr not_totp ↦
         let none = rw (not_hotp, not_totp) at h in absurd (cc none)
   ]
 ]
 
--- a value is read as a token exactly where it is that token's table:
+-- a value is read as a token if and only if it is that token's table:
 read_token_stands : (d : Data) (fields : TokenFields) → token_in d ≡ Ok fields → IsToken d fields
 unfolding token_in
 read_token_stands d fields h =
@@ -102,7 +112,7 @@ unfolding token_in token_of_kind text_in
 token_is_read d (Hotp t) h = rw (h.1, h.2.marks.0, table_is_read hotp hotp_is_exact h.0 t h.2) refl
 token_is_read d (Totp t) h = rw (h.1, h.2.marks.0, table_is_read totp totp_is_exact h.0 t h.2) refl
 
--- a table is read as a token of a kind as the demands of the kind are met
+-- reading a table as a token of a kind follows the demands of the kind
 token_of_kind_follows : (name : List ℕ) (ms : Members) → Follows (kind_demands name ms) (token_of_kind name ms)
 unfolding token_of_kind
 token_of_kind_follows name ms = elim (cases_Bool (bytes_eq name (codes "hotp"))) [
@@ -113,13 +123,13 @@ token_of_kind_follows name ms = elim (cases_Bool (bytes_eq name (codes "hotp")))
   ]
 ]
 
--- to demand a text of an option and to read it there give one result
+-- demanding a text of an option and reading it there give the same result
 text_readings_are_same : (o : Option Data) → ok_or (option_and_then as_str o) Key ≡ read_or (Err Key) text_in o
 unfolding text_in
 text_readings_are_same None = refl
 text_readings_are_same (Some d) = refl
 
--- a value is read as a token as the demands on tokens are met
+-- reading a value as a token follows the demands on tokens
 token_follows : (d : Data) → Follows (token_demands d) (token_in d)
 unfolding token_in token_demands
 token_follows d = required_follows Key _ (as_table d) _ (λ ms.
@@ -129,7 +139,7 @@ token_follows d = required_follows Key _ (as_table d) _ (λ ms.
     (required_follows Key (λ name. kind_demands name ms) (option_and_then as_str kind) (λ name. token_of_kind name ms)
     (λ name. token_of_kind_follows name ms)))
 
--- the type of tokens reads exactly the tables of tokens
+-- the type of tokens reads the tables of tokens, and only those
 pub token_is_exact : IsExactType token
 token_is_exact = record { found = read_token_stands; held = token_is_read; follows = token_follows }
 
@@ -157,10 +167,10 @@ read_entry_stands key d entry h =
     let (name, said, h0) = each_step_gives_value (plain_name_of key) _ entry h in
     let (fields, read, h1) = each_step_gives_value (table_in account d) _ entry h0 in
     let (same, plain) = read_name_stands key name said in
-    subst (λ e. (key ≡ e.0) × IsPlainName e.0 × IsTableIn account d e.1) (same_Ok (name, fields) entry h1)
+    subst (λ e. (key ≡ e.0) × IsPlainName e.0 × IsTableIn account d e.1) (same_ok_has_same_value (name, fields) entry h1)
     (same, plain, account_in_table_is_exact.found d fields read)
 
--- an account and its name are read as the demands on them are met
+-- reading an account and its name follows the demands on them
 entry_follows : (key : List ℕ) (d : Data) → Follows (account_demands key d) (named_account_of key d)
 unfolding named_account_of account_demands
 entry_follows key d =
@@ -179,21 +189,21 @@ entry_name_is_key key d entry h = sym (read_entry_stands key d entry h).0
 
 -- The accounts.
 
--- a value that is read in an account is also read where no account is named with the fault
+-- a value that is read in an account is also read if no account is named with the fault
 in_account_keeps_value : {A : Type 0} (index : ℕ) (r : Result A BookWhy) (x : A) → in_account index r ≡ Ok x → r ≡ Ok x
 in_account_keeps_value index (Ok y) x h = cc h
 in_account_keeps_value index (Err why) x h = absurd (cc h)
 
--- a table is read as accounts exactly where its members are their tables, one by one:
+-- a table is read as accounts if and only if its members are their tables, one by one:
 read_accounts_stand : (index : ℕ) (ms : Members) (entries : List (List ℕ × AccountFields)) → accounts_from index ms ≡ Ok entries
     → AreAccountTrees ms entries
 unfolding accounts_from
-read_accounts_stand index no_members entries h = subst (λ es. AreAccountTrees no_members es) (same_Ok [] entries h) tt
+read_accounts_stand index no_members entries h = subst (λ es. AreAccountTrees no_members es) (same_ok_has_same_value [] entries h) tt
 read_accounts_stand index (member key d ms) entries h =
     let (entry, read, h0) = each_step_gives_value (in_account index (named_account_of key d)) _ entries h in
     let (others, more, h1) = each_step_gives_value (accounts_from (index + 1) ms) _ entries h0 in
     let (same, plain, tree) = read_entry_stands key d entry (in_account_keeps_value index _ entry read) in
-    subst (λ es. AreAccountTrees (member key d ms) es) (same_Ok (entry ∷ others) entries h1)
+    subst (λ es. AreAccountTrees (member key d ms) es) (same_ok_has_same_value (entry ∷ others) entries h1)
     (same, plain, tree, read_accounts_stand (index + 1) ms others more)
 
 accounts_are_read : (index : ℕ) (ms : Members) (entries : List (List ℕ × AccountFields)) → AreAccountTrees ms entries
@@ -205,10 +215,10 @@ accounts_are_read index (member name d ms) [] h = absurd h
 accounts_are_read index (member name d ms) (entry ∷ entries) h =
     rw (h.0, name_is_read entry.0 h.1, account_in_table_is_exact.held d entry.1 h.2, accounts_are_read (index + 1) ms entries h.3) refl
 
--- an optional table is read as accounts exactly where it is theirs, or where it is missing and there are none:
+-- an optional table is read as accounts if and only if it is theirs, or it is missing and there are none:
 read_optional_accounts_stand : (named : Option Members) (entries : List (List ℕ × AccountFields)) → accounts_of_table named ≡ Ok entries
     → AreAccountsOf named entries
-read_optional_accounts_stand None entries h = sym (same_Ok [] entries h)
+read_optional_accounts_stand None entries h = sym (same_ok_has_same_value [] entries h)
 read_optional_accounts_stand (Some ms) entries h = read_accounts_stand 0 ms entries h
 
 optional_accounts_are_read : (named : Option Members) (entries : List (List ℕ × AccountFields)) → AreAccountsOf named entries
@@ -232,7 +242,7 @@ judged-placed place (demand ∷ demands) = step demand.met demand.fault (judged-
     step true why h = h
     step false why h = refl
 
--- a reading follows demands with a place where it follows them without, in an account and at the top:
+-- a reading follows demands with a place if it follows them without, in an account and at the top:
 in_account_follows : {A : Type 0} (index : ℕ) (demands : List (Demand BookWhy)) (r : Result A BookWhy) → Follows demands r
     → Follows (placed (Some index) demands) (in_account index r)
 in_account_follows index demands (Ok x) h = judged-placed (Some index) demands ∙ ap (located (Some index)) h
@@ -243,7 +253,7 @@ at_top_follows : {A : Type 0} (demands : List (Demand BookWhy)) (r : Result A Bo
 at_top_follows demands (Ok x) h = judged-placed None demands ∙ ap (located None) h
 at_top_follows demands (Err why) h = judged-placed None demands ∙ ap (located None) h
 
--- the accounts of a table are read as the demands on them are met:
+-- reading the accounts of a table follows the demands on them:
 accounts_follow : (index : ℕ) (ms : Members) → Follows (accounts_demands index ms) (accounts_from index ms)
 unfolding accounts_demands accounts_from
 accounts_follow index no_members = refl
@@ -267,7 +277,7 @@ document_is_exact = record {
   rows = search (row_is_exact, optional_is_exact, bytes_are_exact, number_is_exact, any_table_is_exact) parts 8;
 }
 
--- a value that is read at the top is also read where nothing is said of an account
+-- a value that is read at the top is also read if nothing is said of an account
 pub at_top_keeps_value : {A : Type 0} (r : Result A BookWhy) (x : A) → at_top r ≡ Ok x → r ≡ Ok x
 at_top_keeps_value (Ok y) x h = cc h
 at_top_keeps_value (Err why) x h = absurd (cc h)
@@ -282,7 +292,7 @@ value_is_one (Some (integer (pos n))) h = ap (λ n. Some (integer (pos n))) (is_
 value_is_one (Some (integer (negsuc n))) h = absurd (cc h)
 value_is_one (Some d) h = absurd (cc h)
 
--- where the document's own keys are read of a table, it is the table of their values
+-- if the document's own keys are read from a table, it is the table of their values
 read_top_stands : (ms : Members) (top : TopFields) → top_of ms ≡ Ok top → IsTable document ms top
 unfolding top_of
 read_top_stands ms top h =
@@ -291,13 +301,13 @@ read_top_stands ms top h =
     let is_format = value_is_one (get_member (codes "format") ms) (test_was_passed _ Format u format) in
     read_table_stands document document_is_exact ms top (is_format, tt) read
 
--- the tree that a book is read from is that of the book
+-- the tree from which a book is read is that of the book
 pub read_book_tree_stands : (ms : Members) (book : BookFields) → book_of ms ≡ Ok book → IsBookTree ms book
 unfolding book_of
 read_book_tree_stands ms book h =
     let (top, top_read, h0) = each_step_gives_value (at_top (top_of ms)) _ book h in
     let (entries, entries_read, h1) = each_step_gives_value (accounts_of_table top.accounts) _ book h0 in
-    subst (λ b. IsBookTree ms b) (same_Ok _ book h1) (record {
+    subst (λ b. IsBookTree ms b) (same_ok_has_same_value _ book h1) (record {
       named = top.accounts;
       top = read_top_stands ms top (at_top_keeps_value (top_of ms) top top_read);
       accounts = read_optional_accounts_stand top.accounts entries entries_read;
@@ -310,19 +320,19 @@ book_tree_is_read ms book h =
     rw (h.top.marks.0, table_is_read document document_is_exact ms _ h.top, optional_accounts_are_read h.named book.accounts h.accounts)
     refl
 
--- the document's own keys are read as the demands on them are met
+-- reading the document's own keys follows the demands on them
 top_follows : (ms : Members) → Follows (top_demands ms) (top_of ms)
 unfolding top_demands top_of
 top_follows ms = test_follows (is_one (option_and_then as_integer (get_member (codes "format") ms))) Format (table_demands document ms)
     (λ u. read_table document ms) (λ is. table_follows document document_is_exact ms)
 
--- an optional table is what stands at its key
+-- an optional table is what is at its key
 optional_table_is_there : (key : List ℕ) (ms : Members) (o : Option Members) → HasSome key any_table ms o
     → option_and_then as_table (get_member key ms) ≡ o
 optional_table_is_there key ms None h = rw h refl
 optional_table_is_there key ms (Some m) h = rw (h.1, h.2) refl
 
--- a document is read as a book as the demands on it are met
+-- reading a document as a book follows the demands on it
 pub book_follows : (ms : Members) → Follows (document_demands ms) (book_of ms)
 unfolding document_demands book_of
 book_follows ms = both_follow (placed None (top_demands ms)) _ (at_top (top_of ms)) _
@@ -334,7 +344,7 @@ book_follows ms = both_follow (placed None (top_demands ms)) _ (at_top (top_of m
 
 -- Ranges.
 
--- the keys that are read of a mechanism's table are in their ranges:
+-- the keys that are read from a mechanism's table are in their ranges:
 keys_are_in_range : (len : ℕ) (d : Data) (keys : MechKeys) → IsTableIn (mech len) d keys → AreKeys len keys
 keys_are_in_range len d keys h =
     let salt = h.2.rows.0 in
@@ -359,13 +369,13 @@ optional_keys_are_in_range len key (Some held) ms h keys is =
     some_same : (a b : MechKeys) → Some a ≡ Some b → a ≡ b
     some_same a b h = cc h
 
--- the names that an account's table has are not more than an account may have
+-- the names in an account's table are at most as many as an account may have
 names_are_in_range : (names : List (List ℕ)) (key : List ℕ) (ms : Members) → ((get_member key ms ≡ None) × (names ≡ []))
     ⊎ HasAt key name_list ms names → length names ≤ most_names
 names_are_in_range names key ms (inl h) = rw h.1 (omega arith)
 names_are_in_range names key ms (inr h) = h.2.few
 
--- each account that a table is of is in its ranges:
+-- each account whose table was read is in its ranges:
 account_is_in_range : (d : Data) (a : AccountFields) → IsTableIn account d a → IsAccount a
 account_is_in_range d a h = record {
   sha1 = optional_keys_are_in_range (length_by ScramSha1) (codes "sha1") a.sha1 h.0 h.2.rows.0;

@@ -1,4 +1,4 @@
--- Each type of values reads the values of its own, in their range; any other is refused for the first demand that it does not meet.
+-- Each type of values reads its own values, in their range; any other is refused for the first demand that it does not meet.
 use Rattle.std.proofs.Common.{◌≡◌, ◌≤◌, ◌&&◌, nat_le, le-leb, ℤ, pos, negsuc, nat_abs, ℕ, List, [], ◌∷◌, length, map, Bool, true, false}
 use Rattle.std.proofs.Common.{Some, is_some, ok_or, Result, Ok, Err, refl, ap, subst, ◌∙◌, arith, inl, inr}
 use Rattle.std.proofs.lemmas.Bool.{and_parts, cases_Bool}
@@ -23,15 +23,15 @@ use Rattle.book_format.specs.reading.Steps.{◌>>=◌, pass_or}
 use Rattle.book_format.specs.declared.fault.BookWhy.{BookWhy}
 use Rattle.book_format.specs.declared.fault.BookWhy.TheVariants.{Key, Name, Token}
 use Rattle.book_format.proofs.lemmas.Demands.{Follows, test_follows, required_follows, presence_follows, making_keeps_faults}
-use Rattle.book_format.proofs.lemmas.Steps.{each_step_gives_value, option_holds_value, test_was_passed, same_Ok}
+use Rattle.book_format.proofs.lemmas.Steps.{each_step_gives_value, option_holds_value, test_was_passed, same_ok_has_same_value}
 use Rattle.book_format.proofs.lemmas.Rows.{IsExactType, read_members_stand}
 
--- a value that was let through by a test passed it, and is the one that came through
+-- a value that a test let through passed it, and is the one that came through
 value_passed_test : {V : Type 0} (fits : Bool) (v x : V) (why : BookWhy) → value_or fits v why ≡ Ok x → (fits ≡ true) × (v ≡ x)
-value_passed_test true v x why h = (refl, same_Ok v x h)
+value_passed_test true v x why h = (refl, same_ok_has_same_value v x h)
 value_passed_test false v x why h = absurd (cc h)
 
--- two tests of bounds pass exactly where a number is within them:
+-- two tests of bounds pass if and only if a number is within them:
 bounds_are_passed : (least n most : ℕ) → least ≤ n → n ≤ most → (nat_le least n && nat_le n most) ≡ true
 bounds_are_passed least n most a b = grind (arith, nat_tests)
 
@@ -48,12 +48,12 @@ number_is_within least n most h = (low least n most h, high least n most h)
 number_is_at_most : (n most : ℕ) → nat_le n most ≡ true → n ≤ most
 number_is_at_most n most h = grind (arith, nat_tests)
 
--- a value that passes a test is let through, and else its fault comes
+-- a value that passes a test is let through, and any other is refused with its fault
 value_or_follows : {V : Type 0} (fits : Bool) (v : V) (why : BookWhy) → Follows (must fits why ∷ []) (value_or fits v why)
 value_or_follows true v why = refl
 value_or_follows false v why = refl
 
--- whole numbers are read exactly where they are in their range:
+-- whole numbers are read if and only if they are in their range:
 read_number_stands : (why : BookWhy) (least most : ℕ) (d : Data) (n : ℕ) → number_in why least most d ≡ Ok n → IsNumber least most d n
 unfolding number_in
 read_number_stands why least most (integer (pos m)) n h =
@@ -85,7 +85,7 @@ number_is_exact why least most = record {
 pub written_number_stands : (least most n : ℕ) → least ≤ n → n ≤ most → IsNumber least most (integer (pos n)) n
 written_number_stands least most n enough few = record { there = refl; at_least = enough; at_most = few }
 
--- signed numbers are read exactly where they are in their range:
+-- signed numbers are read if and only if they are in their range:
 read_signed_stands : (why : BookWhy) (most : ℕ) (d : Data) (z : ℤ) → signed_in why most d ≡ Ok z → IsSigned most d z
 unfolding signed_in
 read_signed_stands why most (integer y) z h =
@@ -105,7 +105,7 @@ signed_follows why most d = refl
 pub signed_is_exact : (why : BookWhy) (most : ℕ) → IsExactType (signed why most)
 signed_is_exact why most = record { found = read_signed_stands why most; held = signed_is_read why most; follows = signed_follows why most }
 
--- bytes are read exactly where they are those of a hexadecimal text, and as many as they may be:
+-- bytes are read if and only if they are those of a hexadecimal text, and as many as there may be:
 read_bytes_stand : (why : BookWhy) (least most : ℕ) (d : Data) (bytes : List ℕ) → bytes_in why least most d ≡ Ok bytes
     → IsHexText least most d bytes
 unfolding bytes_in
@@ -155,10 +155,10 @@ written_bytes_stand least most bytes back enough few =
 
 -- a value that is read as a text is that text
 read_text_stands : (d : Data) (t : List ℕ) → ok_or (as_str d) Key ≡ Ok t → d ≡ string t
-read_text_stands (string s) t h = ap string (same_Ok s t h)
+read_text_stands (string s) t h = ap string (same_ok_has_same_value s t h)
 read_text_stands d t h = absurd (cc h)
 
--- a hash function is read exactly from its name:
+-- a hash function is read from its name and from nothing else:
 hash_name_is_read : (hash : OtpHash) → hash_in (string (hash_name hash)) ≡ Ok hash
 unfolding hash_in text_in
 hash_name_is_read Sha1 = refl
@@ -198,7 +198,7 @@ hash_follows d = required_follows Key (λ name. must (is_some (hash_named name))
 pub hash_is_exact : IsExactType hash
 hash_is_exact = record { found = read_hash_stands; held = λ d h is. rw is (hash_name_is_read h); follows = hash_follows }
 
--- a value is read as a table exactly where it is that table
+-- a value is read as a table if and only if it is that table
 pub any_table_is_exact : IsExactType any_table
 any_table_is_exact = record { found = read_members_stand; held = λ d ms is. rw is refl; follows = λ d. presence_follows Key (as_table d) }
 
@@ -232,23 +232,24 @@ read_name_stands text name h =
     let (least, most) = number_is_within 1 (length text) 255 length_fits in
     (same, subst IsPlainName same (record { at_least = least; at_most = most; each = each }))
 
--- two items are the same where their first texts and their rests are
+-- two items are the same if their first texts and their rests are
 items_are_same : (d : Data) (ds : Items) (text name : List ℕ) (rest : List (List ℕ)) → d ≡ string text → text ≡ name
     → ds ≡ items_of (map string rest)
     → item d ds ≡ items_of (map string (name ∷ rest))
 items_are_same d ds text name rest is same others = rw (is, same, others) refl
 
--- names that were read from a list are plain, and the list is that of them:
+-- names that were read from a list are plain, and the list is theirs:
 read_names_stand : (list : Items) (names : List (List ℕ)) → names_in list ≡ Ok names → (list ≡ items_of (map string names)) × AreNames names
 unfolding names_in text_in
-read_names_stand no_items names h = subst (λ ns. (no_items ≡ items_of (map string ns)) × AreNames ns) (same_Ok [] names h) (refl, tt)
+read_names_stand no_items names h = subst (λ ns. (no_items ≡ items_of (map string ns)) × AreNames ns) (same_ok_has_same_value [] names h)
+    (refl, tt)
 read_names_stand (item d ds) names h =
     let (text, said, h0) = each_step_gives_value (ok_or (as_str d) Key) _ names h in
     let (name, plain, h1) = each_step_gives_value (plain_name_of text) _ names h0 in
     let (rest, more, h2) = each_step_gives_value (names_in ds) _ names h1 in
     let (same, is_plain_name) = read_name_stands text name plain in
     let (others, plain_others) = read_names_stand ds rest more in
-    subst (λ ns. (item d ds ≡ items_of (map string ns)) × AreNames ns) (same_Ok (name ∷ rest) names h2)
+    subst (λ ns. (item d ds ≡ items_of (map string ns)) × AreNames ns) (same_ok_has_same_value (name ∷ rest) names h2)
     (items_are_same d ds text name rest (read_text_stands d text said) same others, (is_plain_name, plain_others))
 
 read_list_stands : (list : Items) (names : List (List ℕ)) → names_of list ≡ Ok names → IsNameList (array list) names
@@ -279,7 +280,7 @@ name_list_is_read d names h =
           h.plain,
     ) refl
 
--- the names of texts are read where each is plain:
+-- reading names follows the demand that each is plain: one name and those after it, and a list:
 name_follows : (plain others : Bool) (text : List ℕ) (rest : Result (List (List ℕ)) BookWhy) → Follows (must others Name ∷ []) rest
     → Follows (must (plain && others) Name ∷ []) (value_or plain text Name >>= λ name. rest >>= λ names. Ok (name ∷ names))
 name_follows true others text rest h = h ∙ making_keeps_faults rest (λ names. text ∷ names)
@@ -292,12 +293,13 @@ names_follow (item (string text) ds) typed =
     name_follows (is_plain_name text) (are_names ds) text (names_in ds) (names_follow ds typed)
 names_follow (item d ds) typed = absurd (cc typed)
 
--- where names may be too many, they are read where they are not
+-- reading names after the test that they are few enough follows the demand for both
 few_names_follow : (few plain : Bool) (names : Result (List (List ℕ)) BookWhy) → Follows (must plain Name ∷ []) names
     → Follows (must (few && plain) Name ∷ []) (pass_or few Name >>= λ u. names)
 few_names_follow true plain names h = h
 few_names_follow false plain names h = refl
 
+-- reading a list of names follows its demands
 name_list_follows : (d : Data) → Follows (name_list.demands d) (name_list_in d)
 unfolding name_list_in names_of
 name_list_follows (array list) = test_follows (are_texts list) Key
@@ -306,6 +308,6 @@ name_list_follows (array list) = test_follows (are_texts list) Key
     (λ typed. few_names_follow (nat_le (item_count list) most_names) (are_names list) (names_in list) (names_follow list typed))
 name_list_follows d = refl
 
--- the type of lists of names reads exactly the lists of plain names
+-- the type of lists of names reads the lists of plain names, and only those
 pub name_list_is_exact : IsExactType name_list
 name_list_is_exact = record { found = read_name_list_stands; held = name_list_is_read; follows = name_list_follows }

@@ -30,7 +30,7 @@ use Rattle.book_format.specs.declared.fault.BookWhy.TheVariants.{Token}
 use Rattle.book_format.proofs.lemmas.ValueTypes.{ComesBack, written_number_stands, written_bytes_stand}
 use Rattle.book_format.proofs.lemmas.Put.{HasAll, are_distinct, put_all_is_found, empty_table_has_none, all_known, put_all_keeps_known}
 
--- a table is written as that of its T, where what is written at each key makes it so
+-- a table is written as that of its T, if what is written at each key makes it so
 table_writes_itself : {T : Type 0} (t : Table T) (x : T) → are_distinct (entries t x) ≡ true
     → all_known (is_among (table_keys t)) (entries t x) ≡ true
     → ((ms : Members) → HasAll (entries t x) ms → HasMarks t.marks ms × HasRows t.rows ms x) → IsTable t (written t x) x
@@ -45,17 +45,17 @@ optional_writes_itself : {V : Type 0} (values : ValueType V) (key : List ℕ) (m
 optional_writes_itself values key ms None at h = at
 optional_writes_itself k key ms (Some v) at h = (k.write v, at, h v refl)
 
--- where the bound stands at another key, a number from 0 to it is that of the value that it is written as
+-- if the bound is at another key, a number from 0 to it is that of the value that it is written as
 bounded_number_stands : (key : List ℕ) (ms : Members) (most n : ℕ) → get_member key ms ≡ Some (integer (pos most)) → n ≤ most
     → IsNumber 0 (bound_at key ms) (integer (pos n)) n
 bounded_number_stands key ms most n there few = rw there (written_number_stands 0 most n (omega arith) few)
 
--- where the bound stands at another key, a number within it to either side of 0 is that of the value that it is written as
+-- if the bound is at another key, a number at most that far above or below 0 is that of the value that it is written as
 bounded_signed_stands : (key : List ℕ) (ms : Members) (most : ℕ) (z : ℤ) → get_member key ms ≡ Some (integer (pos most)) → nat_abs z ≤ most
     → IsSigned (bound_at key ms) (integer z) z
 bounded_signed_stands key ms most z there few = rw there (record { there = refl; at_most = few })
 
--- keys in their ranges whose bytes come back from their texts are written as their table
+-- keys in their ranges whose bytes can be read back from their texts are written as their table
 pub mech_writes_itself : (len : ℕ) (m : MechKeys) → AreKeys len m → ComesBack m.salt → ComesBack m.keys.stored.items
     → ComesBack m.keys.server.items
     → WritesItself (in_table (mech len)) m
@@ -78,7 +78,7 @@ mech_writes_itself len m fits salt stored server =
       )),
     )
 
--- a HOTP token in its ranges whose secret comes back from its text is written as its table
+-- a HOTP token in its ranges whose secret can be read back from its text is written as its table
 pub hotp_writes_itself : (t : HotpFields) → IsHotpInRange t → IsSecretLength (length t.secret) → IsDigitCount t.digits → ComesBack t.secret
     → WritesItself (in_table hotp) t
 hotp_writes_itself t (next, (look_ahead, (sync_ahead, (limit, (failures, end))))) secret digits back = (
@@ -109,14 +109,14 @@ hotp_writes_itself t (next, (look_ahead, (sync_ahead, (limit, (failures, end))))
       )),
 )
 
--- the last step is written as the key that may be missing, where it is in its range
-last_writes_itself : (ms : Members) (last : Option ℕ) → get_member (codes "last") ms ≡ option_map (λ n. integer (pos n)) last
+-- the last step is written as the key that may be missing, if it is in its range
+last_step_writes_itself : (ms : Members) (last : Option ℕ) → get_member (codes "last") ms ≡ option_map (λ n. integer (pos n)) last
     → ForSome last (λ l. l ≤ most_counter)
     → HasSome (codes "last") (number Token 0 most_counter) ms last
-last_writes_itself ms last there few = optional_writes_itself (number Token 0 most_counter) (codes "last") ms last there
+last_step_writes_itself ms last there few = optional_writes_itself (number Token 0 most_counter) (codes "last") ms last there
     (λ l is. written_number_stands 0 _ l (omega arith) (few l is))
 
--- a TOTP token in its ranges whose secret comes back from its text is written as its table
+-- a TOTP token in its ranges whose secret can be read back from its text is written as its table
 pub totp_writes_itself : (t : TotpFields) → IsTotpInRange t → IsSecretLength (length t.secret) → IsDigitCount t.digits → IsMoment t.t0
     → ComesBack t.secret
     → WritesItself (in_table totp) t
@@ -144,7 +144,7 @@ totp_writes_itself t (step, (back, (ahead, (max_drift, (last, (drift, (limit, (f
                       (
                         (_, then.0, written_number_stands 0 most_drift t.max_drift (omega arith) max_drift),
                         (
-                          last_writes_itself ms t.last then.1.0 last,
+                          last_step_writes_itself ms t.last then.1.0 last,
                           (
                             (_, then.1.1.0, bounded_signed_stands (codes "max_drift") ms t.max_drift t.drift then.0 drift),
                             (
@@ -164,19 +164,19 @@ totp_writes_itself t (step, (back, (ahead, (max_drift, (last, (drift, (limit, (f
       )),
 )
 
--- to put the last step after all other keys is to write the token with it
-any_last_goes_last : (t : TotpFields) (last : Option ℕ)
+-- putting the last step after all other keys is writing the token with it
+any_last_step_goes_last : (t : TotpFields) (last : Option ℕ)
     → put_some (codes "last") (option_map (λ n. integer (pos n)) last) (written totp (record t { last = None }))
     ≡ written totp (record t { last = last })
 unfolding written
-any_last_goes_last t None = refl
-any_last_goes_last t (Some last) = refl
+any_last_step_goes_last t None = refl
+any_last_step_goes_last t (Some last) = refl
 
--- to put the last step of a TOTP token after all its other keys is to write the token
-pub last_goes_last : (t : TotpFields) → put_some (codes "last") (option_map (λ n. integer (pos n)) t.last)
+-- putting the last step of a TOTP token after all its other keys is writing the token
+pub last_step_goes_last : (t : TotpFields) → put_some (codes "last") (option_map (λ n. integer (pos n)) t.last)
     (written totp (record t { last = None }))
     ≡ written totp t
-last_goes_last t = any_last_goes_last t t.last
+last_step_goes_last t = any_last_step_goes_last t t.last
 
 -- an account in its ranges each of whose parts writes itself is written as its table
 pub account_writes_itself : (a : AccountFields) → IsAccount a → AreNames a.act_as

@@ -1,5 +1,5 @@
--- For private functions alone: no public contract cites this file, and what a book's text is does not depend on it.
--- How a book's text is read: the text, `format`, the document's keys, then account after account.
+-- How a book's text is read: the text, `format`, the document's keys, then each account. For private functions only: no public
+-- contract cites this file, and the definition of a book's text does not depend on it.
 use Rattle.std.specs.Prelude.{ℕ, ◌+◌, if◌then◌else◌, List, [], ◌∷◌, codes, Option, Some, None, option_and_then, ok_or, Result, Ok, Err}
 use Rattle.std.specs.Str.{is_utf8}
 use Rattle.toml.specs.Data.{Data, Members, no_members, member, get_member, as_integer}
@@ -32,7 +32,7 @@ abbrev pub at_top : {A : Type 0} → Result A BookWhy → Result A BookFault
 at_top (Ok x) = Ok x
 at_top (Err why) = Err (record { why = why; account = None })
 
--- the accounts of a table, from an index on, each wholly before the next
+-- the accounts of a table, from an index on, each read completely before the next
 unfoldable pub accounts_from : ℕ → Members → Result (List (List ℕ × AccountFields)) BookFault
 accounts_from index no_members = Ok []
 accounts_from index (member key d ms) = do
@@ -40,7 +40,7 @@ accounts_from index (member key d ms) = do
   entries ← accounts_from (index + 1) ms
   Ok (entry ∷ entries)
 
--- the accounts of a table, none where it is missing
+-- the accounts of a table, none if it is missing
 abbrev pub accounts_of_table : Option Members → Result (List (List ℕ × AccountFields)) BookFault
 accounts_of_table None = Ok []
 accounts_of_table (Some ms) = accounts_from 0 ms
@@ -58,7 +58,7 @@ book_of ms = do
   accounts ← accounts_of_table top.accounts
   Ok (record { decoy_key = top.decoy_key; decoy_count = top.decoy_count; accounts = accounts })
 
--- the document that a text is, or Toml where it is not UTF-8 or no TOML document
+-- the document that a text is, or Toml if it is not UTF-8 or not a TOML document
 unfoldable pub tree_in : List ℕ → Result Members BookWhy
 tree_in bytes = if is_utf8 bytes then ok_or (parse_document bytes) Toml else Err Toml
 

@@ -1,5 +1,5 @@
--- For private functions alone: no public contract cites this file, and what a book's text is does not depend on it.
--- How the rows of a table are read.
+-- How the rows of a table are read. For private functions only: no public contract cites this file, and the definition of a book's
+-- text does not depend on it.
 use Rattle.std.specs.Prelude.{ℕ, List, [], ◌∷◌, Option, Some, None, Result, Ok, Err}
 use Rattle.toml.specs.Data.{Data, Members, get_member}
 use Rattle.book_format.specs.Keys.{is_among, has_only}
@@ -14,23 +14,23 @@ abbrev pub read_rows : {T X : Type 0} (rows : List (Row T)) → Maker rows X →
 read_rows [] x ms = Ok x
 read_rows (r ∷ rows) make ms = r.read ms >>= λ value. read_rows rows (make value) ms
 
--- the T of a table whose marks were checked before, or the first fault: unknown keys come before the rows
+-- the record of a table whose marks were checked before, or the first fault: unknown keys come before the rows
 unfoldable pub read_table : {T : Type 0} → Table T → Members → Result T BookWhy
 read_table t ms = pass_or (has_only (is_among (table_keys t)) ms) Key >>= λ known. read_rows t.rows t.make ms
 
--- the table of a T, read of a value
+-- the record whose table this TOML value is, or the first fault
 unfoldable pub table_in : {T : Type 0} → Table T → Data → Result T BookWhy
 table_in t d = table_of d >>= read_table t
 
--- what `read` reads of a value where there is one, else `missing`
+-- what `read` makes of a value if there is one, else `missing`
 abbrev pub read_or : {V : Type 0} → Result V BookWhy → (Data → Result V BookWhy) → Option Data → Result V BookWhy
 read_or missing read None = missing
 read_or missing read (Some d) = read d
 
--- the value at a key, or the fault: a missing key is one
+-- the value at a key, or the fault, which is Key if the key is missing
 abbrev pub read_at : {V : Type 0} → List ℕ → ValueType V → Members → Result V BookWhy
 read_at key values ms = read_or (Err Key) values.read (get_member key ms)
 
--- the value at a key, or None where the key is missing
+-- the value at a key, or None if the key is missing
 abbrev pub read_some : {V : Type 0} → List ℕ → ValueType V → Members → Result (Option V) BookWhy
 read_some key values ms = read_or (Ok None) (λ d. values.read d >>= λ v. Ok (Some v)) (get_member key ms)

@@ -1,5 +1,5 @@
--- For private functions alone: no public contract cites this file, and what a book's text is does not depend on it.
--- How a token is read.
+-- How a token is read. For private functions only: no public contract cites this file, and the definition of a book's text does not
+-- depend on it.
 use Rattle.std.specs.Prelude.{ℕ, List, codes, if◌then◌else◌, Result, Ok, Err}
 use Rattle.std.specs.Str.{bytes_eq}
 use Rattle.toml.specs.Data.{Data, Members, get_member}
@@ -12,14 +12,14 @@ use Rattle.book_format.specs.reading.Rows.{read_or, read_table}
 use Rattle.book_format.specs.declared.fault.BookWhy.{BookWhy}
 use Rattle.book_format.specs.declared.fault.BookWhy.TheVariants.{Key, Token}
 
--- a token of the kind of this name
+-- a token of the kind with this name
 unfoldable pub token_of_kind : List ℕ → Members → Result TokenFields BookWhy
 token_of_kind name ms =
     if bytes_eq name (codes "hotp") then (read_table hotp ms >>= λ t. Ok (Hotp t))
     else if bytes_eq name (codes "totp") then (read_table totp ms >>= λ t. Ok (Totp t))
     else Err Token
 
--- a token: its kind comes before all else
+-- a token: its kind is read before all else
 unfoldable pub token_in : Data → Result TokenFields BookWhy
 token_in d = do
   ms ← table_of d

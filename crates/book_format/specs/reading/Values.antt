@@ -1,5 +1,5 @@
--- For private functions alone: no public contract cites this file, and what a book's text is does not depend on it.
--- How values are read.
+-- How values are read. For private functions only: no public contract cites this file, and the definition of a book's text does not
+-- depend on it.
 use Rattle.std.specs.Prelude.{ℕ, ◌&&◌, nat_le, ℤ, pos, negsuc, nat_abs, Bool, if◌then◌else◌, List, [], ◌∷◌, length, ok_or, Result, Ok, Err}
 use Rattle.hex.specs.Hex.{decode_of}
 use Rattle.toml.specs.Data.{Data, string, integer, array, Items, no_items, item, Members, as_str, as_table}
@@ -11,7 +11,7 @@ use Rattle.book_format.specs.reading.Steps.{◌>>=◌, pass_or}
 use Rattle.book_format.specs.declared.fault.BookWhy.{BookWhy}
 use Rattle.book_format.specs.declared.fault.BookWhy.TheVariants.{Key, Name, Token}
 
--- the value where it passes a test, else the fault
+-- the value if it passes a test, else the fault
 abbrev pub value_or : {V : Type 0} → (fits : Bool) → V → BookWhy → Result V BookWhy
 value_or fits v why = if fits then Ok v else Err why
 
@@ -21,7 +21,7 @@ number_in why least most (integer (pos n)) = value_or (nat_le least n && nat_le 
 number_in why least most (integer (negsuc n)) = Err why
 number_in why least most d = Err Key
 
--- a whole number of at most `most` to either side of 0
+-- a whole number at most `most` above or below 0
 unfoldable pub signed_in : (why : BookWhy) → (most : ℕ) → Data → Result ℤ BookWhy
 signed_in why most (integer z) = value_or (nat_le (nat_abs z) most) z why
 signed_in why most d = Err Key
@@ -40,11 +40,11 @@ bytes_in why least most d = Err Key
 unfoldable pub text_in : Data → Result (List ℕ) BookWhy
 text_in d = ok_or (as_str d) Key
 
--- the hash function of this name
+-- the hash function with this name
 unfoldable pub hash_in : Data → Result OtpHash BookWhy
 hash_in d = text_in d >>= λ name. ok_or (hash_named name) Token
 
--- the name, where it is plain
+-- the name, if it is plain
 abbrev pub plain_name_of : List ℕ → Result (List ℕ) BookWhy
 plain_name_of name = value_or (is_plain_name name) name Name
 
@@ -57,8 +57,7 @@ names_in (item d ds) = do
   names ← names_in ds
   Ok (name ∷ names)
 
--- the names of a list. First each item has to be a text, then there may be at most most_names, then each has to be a plain
--- name.
+-- the names of a list. First each item must be a text, then there may be at most most_names, then each must be a plain name.
 unfoldable pub names_of : Items → Result (List (List ℕ)) BookWhy
 names_of list = do
   typed ← pass_or (are_texts list) Key

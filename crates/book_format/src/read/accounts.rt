@@ -1,4 +1,4 @@
-//! The accounts of a book.
+//! Reads the accounts of a book.
 ghost use Rattle.std.specs.Prelude.{◌≡◌, ◌≤◌, codes, [], Ok, Some};
 ghost use Rattle.toml.specs.Data.{get_member};
 ghost use Rattle.toml.specs.View.{view, items_view, table_view};
@@ -25,8 +25,8 @@ use toml::{Table, Value};
 // The most names that an account may act as.
 const MOST_NAMES: usize = 16;
 
-/// The accounts of a table in byte order of names, each wholly read before the next. The fault is that of the first account at
-/// fault, with its index; or, at any place, `NoMemory`.
+/// The accounts of a table, in byte order of names, each read as a whole before the next. Errors: the fault of the first account at
+/// fault, with its index; `NoMemory` at any place.
 #[tactic(auto, unfolding(crate::specs::reading::Books::accounts_from))]
 pub(crate) fn accounts_from(
     alloc: Global,
@@ -49,7 +49,7 @@ pub(crate) fn accounts_from(
     Ok(accounts)
 }
 
-// The fault in the account of this index.
+// A fault in the account with this index.
 fn in_account(why: BookWhy, index: usize) -> BookFault
     ensures { result ≡ record { why = why; account = Some index } }
 {
@@ -59,7 +59,7 @@ fn in_account(why: BookWhy, index: usize) -> BookFault
     }
 }
 
-// An account and its name. `Name` where the key is no plain name, then the fault of the account.
+// An account and its name. Errors: `Name` if the key is not a plain name; then those of `account_of`.
 #[tactic(auto, unfolding(crate::specs::reading::Books::named_account_of))]
 fn named_account_of(
     alloc: Global,
@@ -73,15 +73,15 @@ fn named_account_of(
     Ok((name, account))
 }
 
-// The name. `Name` where the text is not 1 to 255 bytes of 20 to 7E hex.
+// The name. Errors: `Name` if the text is not 1 to 255 bytes of 20 to 7E hex.
 fn plain_name_of(text: &str) -> Result<PlainName, BookWhy>
     ensures { result ≡ plain_name_of text.now }
 {
     PlainName::new(text.as_bytes()).ok_or(BookWhy::Name)
 }
 
-// The account of a table. `Key` where the value is no table or a key is unknown; then the fault of the first of `sha1`,
-// `sha256`, `act_as` and `token` at fault. Each may be missing.
+// The account of a table. Each of its keys may be missing. Errors: `Key` if the value is not a table or a key is unknown; then the
+// fault of the first of `sha1`, `sha256`, `act_as` and `token` at fault.
 #[tactic(auto, unfolding(crate::specs::reading::Rows::table_in, crate::specs::reading::Rows::read_table))]
 fn account_of(alloc: Global, value: &Value) -> Result<Account, BookWhy>
     ensures { IsReadAs (λ a. a) result (table_in account (view value.now)) }
@@ -100,7 +100,7 @@ fn account_of(alloc: Global, value: &Value) -> Result<Account, BookWhy>
     })
 }
 
-// What is kept for a mechanism, or None where its key is missing. The faults are those of `mech_of`.
+// What is kept for a mechanism, or None if its key is missing. Errors: those of `mech_of`.
 fn keys_if_any(len: usize, table: &Table, key: &str) -> Result<Option<MechKeys>, BookWhy>
     requires { len ≤ 64 }
     ensures { result ≡ read_some key.now (in_table (mech len)) (table_view table.now) }
@@ -111,7 +111,7 @@ fn keys_if_any(len: usize, table: &Table, key: &str) -> Result<Option<MechKeys>,
     }
 }
 
-// The token, or None where there is no key `token`. The faults are those of `token_of`.
+// The token, or None if there is no key `token`. Errors: those of `token_of`.
 fn token_if_any(table: &Table) -> Result<Option<Token>, BookWhy>
     ensures { result ≡ read_some (codes "token") token (table_view table.now) }
 {
@@ -121,7 +121,7 @@ fn token_if_any(table: &Table) -> Result<Option<Token>, BookWhy>
     }
 }
 
-// The names that the account may act as: none where there is no key `act_as`. The faults are those of `act_as_of`.
+// The names that the account may act as; none if there is no key `act_as`. Errors: those of `act_as_of`.
 fn act_as_if_any(alloc: Global, table: &Table) -> Result<Vec<PlainName>, BookWhy>
     ensures { IsReadAs (λ v. v.items) result (read_or (Ok []) name_list_in (get_member (codes "act_as") (table_view table.now))) }
 {
@@ -131,8 +131,8 @@ fn act_as_if_any(alloc: Global, table: &Table) -> Result<Vec<PlainName>, BookWhy
     }
 }
 
-// The names of a list. `Key` where the value is no list or has a value that is no text, then `Name` where there are more than
-// 16 or one is not plain.
+// The names of a list. Errors: `Key` if the value is not a list or contains a value that is not a text; then `Name` if there are
+// more than 16 or one is not plain.
 #[tactic(auto, unfolding(crate::specs::reading::Values::name_list_in))]
 fn act_as_of(alloc: Global, value: &Value) -> Result<Vec<PlainName>, BookWhy>
     ensures { IsReadAs (λ v. v.items) result (name_list_in (view value.now)) }
@@ -141,8 +141,8 @@ fn act_as_of(alloc: Global, value: &Value) -> Result<Vec<PlainName>, BookWhy>
     names_of(alloc, list.as_slice())
 }
 
-// The names: the types of all are judged before the value of any. Their number is judged before their
-// values too, since both faults are `Name`.
+// The names. The types of all are checked before the value of any. Their number may be checked before their values, since both
+// faults are `Name`.
 fn names_of(alloc: Global, list: &[Value]) -> Result<Vec<PlainName>, BookWhy>
     ensures { IsReadAs (λ v. v.items) result (names_of (items_view list.now)) }
 {
@@ -167,7 +167,7 @@ fn are_texts(list: &[Value]) -> bool
     true
 }
 
-// The names of texts. `Key` at the first value that is no text, and `Name` at the first that is no plain name.
+// The names of texts. Errors: `Key` at the first value that is not a text; `Name` at the first that is not a plain name.
 #[tactic(auto, unfolding(crate::specs::reading::Values::names_in, crate::specs::reading::Values::text_in))]
 fn names_in(alloc: Global, list: &[Value]) -> Result<Vec<PlainName>, BookWhy>
     ensures { IsReadAs (λ v. v.items) result (names_in (items_view list.now)) }

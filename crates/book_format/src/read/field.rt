@@ -1,4 +1,4 @@
-//! The values of a table: texts, whole numbers, bytes, tables.
+//! Reads the values of a table: texts, whole numbers, bytes, tables.
 ghost use Rattle.std.specs.Prelude.{◌≡◌, ◌≤◌, Err, Ok, option_map, ok_or, IfOk, IfSome, length};
 ghost use Rattle.std.specs.List.{list_any};
 ghost use Rattle.std.specs.Str.{bytes_eq};
@@ -19,28 +19,28 @@ use arrayvec::ArrayVec;
 use mac_core::Tag;
 use toml::{Table, Value};
 
-/// The value at a key.
+/// The value at a key, or None if the key is missing.
 pub(crate) fn at<'a>(table: &'a Table, key: &str) -> Option<&'a Value>
     ensures { option_map (λ v. view v.now) result ≡ get_member key.now (table_view table.now) }
 {
     table.get(key)
 }
 
-/// The value at a key, or `Key` where it is missing.
+/// The value at a key. Errors: `Key` if the key is missing.
 pub(crate) fn required<'a>(table: &'a Table, key: &str) -> Result<&'a Value, BookWhy>
     ensures { seen (λ v. view v.now) result ≡ ok_or (get_member key.now (table_view table.now)) Key }
 {
     at(table, key).ok_or(BookWhy::Key)
 }
 
-/// The members of a table. `Key` for another value.
+/// The value as a table. Errors: `Key` if it is not one.
 pub(crate) fn table_of(value: &Value) -> Result<&Table, BookWhy>
     ensures { seen (λ t. table_view t.now) result ≡ table_of (view value.now) }
 {
     value.as_table().ok_or(BookWhy::Key)
 }
 
-/// Answers `Key` where the table has a key that is not among these.
+/// Checks the keys of a table. Errors: `Key` if it has a key that is not among these.
 pub(crate) fn check_keys(table: &Table, keys: &[&str]) -> Result<(), BookWhy>
     ensures { result ≡ pass_or (has_only (λ key. list_any (λ k. bytes_eq k.now key) keys.now) (table_view table.now)) Key }
 {
@@ -71,7 +71,7 @@ fn is_among(keys: &[&str], key: &str) -> bool
     keys.iter().any(|known| *known == key)
 }
 
-/// The text at a key. `Key` where it is missing or the value has another type.
+/// The text at a key. Errors: `Key` if the key is missing or its value has the wrong type.
 #[tactic(auto, unfolding(crate::specs::reading::Values::text_in))]
 pub(crate) fn text_at<'a>(table: &'a Table, key: &str) -> Result<&'a str, BookWhy>
     ensures { seen (λ t. t.now) result ≡ read_or (Err Key) text_in (get_member key.now (table_view table.now)) }
@@ -79,7 +79,7 @@ pub(crate) fn text_at<'a>(table: &'a Table, key: &str) -> Result<&'a str, BookWh
     required(table, key)?.as_str().ok_or(BookWhy::Key)
 }
 
-/// The whole number, from `least` to `most`. `Key` for a value of another type, and `why` for another number.
+/// The value as a whole number from `least` to `most`. Errors: `Key` if it has the wrong type; `why` if it is another number.
 #[tactic(auto, unfolding(crate::specs::reading::Values::number_in))]
 pub(crate) fn number_of(value: &Value, least: u64, most: u64, why: BookWhy) -> Result<u64, BookWhy>
     ensures value { result ≡ number_in why least most (view value.now) }
@@ -98,8 +98,8 @@ pub(crate) fn number_of(value: &Value, least: u64, most: u64, why: BookWhy) -> R
     }
 }
 
-/// The whole number from `least` to `most` at a key. `Key` where it is missing or the value has another
-/// type, and `why` where it is another number.
+/// The whole number from `least` to `most` at a key. Errors: `Key` if the key is missing or its value has the wrong type; `why` if
+/// it is another number.
 #[tactic(auto, unfolding(crate::specs::reading::Values::number_in))]
 pub(crate) fn number_at(
     table: &Table,
@@ -116,8 +116,8 @@ pub(crate) fn number_at(
     number_of(required(table, key)?, least, most, why)
 }
 
-/// The whole number at a key, at most `most`, or 0 where the key is missing. `Key` where the value has another
-/// type, and `why` where it is another number.
+/// The whole number at a key, at most `most`, or 0 if the key is missing. Errors: `Key` if the value has the wrong type; `why` if
+/// it is another number.
 pub(crate) fn number_or_zero(
     table: &Table,
     key: &str,
@@ -133,7 +133,7 @@ pub(crate) fn number_or_zero(
     }
 }
 
-// The bytes of a hexadecimal text in either case, or None where it is not one of `least` to `most` bytes.
+// The bytes of a hexadecimal text in either case, or None if it is not one of `least` to `most` bytes.
 fn bytes_within(least: usize, most: usize, text: &str) -> Option<Tag>
     requires { most ≤ 64 }
     ensures value { (why : BookWhy) → ok_or (option_map (λ bytes. bytes.items) result) why ≡ decoded why least most (decode_of text.now) }
@@ -149,8 +149,8 @@ fn bytes_within(least: usize, most: usize, text: &str) -> Option<Tag>
     ArrayVec::try_from(&buffer[..count]).ok()
 }
 
-/// The bytes, `least` to `most` of them, whose hexadecimal text, in either case, is at a key. `Key`
-/// where it is missing or the value has another type, and `why` for another text.
+/// The `least` to `most` bytes whose hexadecimal text, in either case, is at a key. Errors: `Key` if the key is missing or its
+/// value has the wrong type; `why` if it is another text.
 #[tactic(auto, unfolding(crate::specs::reading::Values::bytes_in, crate::specs::reading::Values::text_in))]
 pub(crate) fn bytes_at(
     table: &Table,

@@ -1,4 +1,4 @@
-//! What is kept for one mechanism: `salt`, `count`, `stored`, `server`.
+//! Reads what is kept for one mechanism: `salt`, `count`, `stored`, `server`.
 ghost use Rattle.std.specs.Prelude.{◌≡◌, ◌≤◌, length};
 ghost use Rattle.toml.specs.View.{view};
 ghost use Rattle.book_format.specs.reading.Rows.{table_in};
@@ -11,9 +11,9 @@ use mac_core::{ScramKeys, Tag};
 use scram_text::{LONGEST_SALT, MOST_COUNT, Salt};
 use toml::Value;
 
-/// What is kept for a mechanism whose keys have `len` bytes. `Key` where the value is no table or a key is unknown; then of the
-/// first key at fault, in the order above: `Key` where it is missing or its value has another type, else `Salt`, `Count` or
-/// `KeyLength` where the value is out of its range.
+/// What is kept for a mechanism whose keys have `len` bytes. Errors: `Key` if the value is not a table or a key is unknown; then
+/// for the first key at fault, in the order of the keys at the head of this file: `Key` if it is missing or its value has the wrong
+/// type, else `Salt`, `Count` or `KeyLength` if the value is out of its range.
 #[tactic(auto, unfolding(crate::specs::reading::Rows::table_in, crate::specs::reading::Rows::read_table))]
 pub(crate) fn mech_of(len: usize, value: &Value) -> Result<MechKeys, BookWhy>
     requires { len ≤ 64 }
@@ -32,7 +32,7 @@ pub(crate) fn mech_of(len: usize, value: &Value) -> Result<MechKeys, BookWhy>
     })
 }
 
-// The salt of 1 to 64 bytes.
+// The salt with these bytes, 1 to 64.
 fn salt_of(bytes: &Tag) -> Salt
     requires { 1 ≤ length bytes.now.items }
     ensures { result ≡ bytes.now.items }

@@ -1,4 +1,4 @@
-//! The values that an account is written as.
+//! Writes an account as TOML values.
 ghost use Rattle.std.specs.Prelude.{◌≡◌, ℕ, IfOk, OnOk, codes, option_map};
 ghost use Rattle.std.specs.Option.{ForSome};
 ghost use Rattle.toml.specs.View.{view, table_view};
@@ -17,9 +17,9 @@ use scram_text::PlainName;
 use std::alloc::{AllocError, Global};
 use toml::{Table, Value};
 
-/// The TOML value that an account is written as. `AllocError` where memory runs out.
+/// The TOML value of an account. Errors: `AllocError` if memory runs out.
 #[tactic(auto, unfolding(crate::specs::Rows::written))]
-pub(super) fn account_value(alloc: Global, account: &Account) -> Result<Value, AllocError>
+pub(crate) fn account_value(alloc: Global, account: &Account) -> Result<Value, AllocError>
     ensures tree { IfOk result (λ v. view v ≡ (in_table tables.account).write account.now) }
     ensures itself { OnOk result (IsAccount account.now → WritesItself (in_table tables.account) account.now) }
 {
@@ -36,7 +36,7 @@ pub(super) fn account_value(alloc: Global, account: &Account) -> Result<Value, A
     Ok(Value::Table(table))
 }
 
-// Keys of either mechanism are written alike: the table of each length writes the same tree.
+// Puts the keys of either mechanism: the tables of both key lengths write the same tree.
 fn put_keys(
     alloc: Global,
     table: &mut Table,
@@ -54,6 +54,7 @@ fn put_keys(
     }
 }
 
+// Puts the token, if there is one.
 fn put_token(alloc: Global, table: &mut Table, token: &Option<Token>) -> Result<(), AllocError>
     ensures tree { OnOk result (table_view table.new
         ≡ put_some (codes "token") (option_map tables.token.write token.now) (table_view table.old)) }
@@ -65,6 +66,7 @@ fn put_token(alloc: Global, table: &mut Table, token: &Option<Token>) -> Result<
     }
 }
 
+// The TOML value of what is kept for a mechanism.
 #[tactic(auto, unfolding(crate::specs::Rows::written))]
 fn mech_value(alloc: Global, keys: &MechKeys) -> Result<Value, AllocError>
     ensures tree { IfOk result (λ v. view v ≡ (in_table tables.sha1_keys).write keys.now) }
@@ -78,6 +80,7 @@ fn mech_value(alloc: Global, keys: &MechKeys) -> Result<Value, AllocError>
     Ok(Value::Table(table))
 }
 
+// The TOML value of the names: an array of texts.
 fn names_value(alloc: Global, names: &[PlainName]) -> Result<Value, AllocError>
     ensures tree { IfOk result (λ v. view v ≡ names_tree names.now) }
     ensures plain { OnOk result (AreNames names.now) }

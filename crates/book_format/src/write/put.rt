@@ -1,4 +1,4 @@
-//! Puts values into a table.
+//! Puts values into a table. Errors of all: `AllocError` if memory runs out.
 ghost use Rattle.std.specs.Prelude.{◌≡◌, OnOk, Ok, pos};
 ghost use Rattle.hex.specs.Hex.{decode_of, encode_lower};
 ghost use Rattle.toml.specs.Data.{string, integer};
@@ -8,8 +8,8 @@ ghost use Rattle.book_format.specs.Put.{put_member};
 use std::alloc::{AllocError, Global};
 use toml::{Table, Value};
 
-/// Puts a value at a key, in place of any that stood there. `AllocError` where memory runs out, here and below.
-pub(super) fn put(
+/// Puts a value at a key, instead of any that was there.
+pub(crate) fn put(
     alloc: Global,
     table: &mut Table,
     key: &str,
@@ -23,7 +23,7 @@ pub(super) fn put(
 }
 
 /// Puts a text at a key.
-pub(super) fn put_text(
+pub(crate) fn put_text(
     alloc: Global,
     table: &mut Table,
     key: &str,
@@ -35,7 +35,7 @@ pub(super) fn put_text(
 }
 
 /// Puts a number at a key.
-pub(super) fn put_number(
+pub(crate) fn put_number(
     alloc: Global,
     table: &mut Table,
     key: &str,
@@ -47,7 +47,7 @@ pub(super) fn put_number(
 }
 
 /// Puts an iteration count at a key.
-pub(super) fn put_count(
+pub(crate) fn put_count(
     alloc: Global,
     table: &mut Table,
     key: &str,
@@ -59,7 +59,7 @@ pub(super) fn put_count(
 }
 
 /// Puts bytes at a key as lower-case hexadecimal text, which is read as the same bytes.
-pub(super) fn put_hex(
+pub(crate) fn put_hex(
     alloc: Global,
     table: &mut Table,
     key: &str,

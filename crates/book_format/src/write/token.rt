@@ -1,4 +1,4 @@
-//! The values that a token is written as.
+//! Writes a token as TOML values.
 ghost use Rattle.std.specs.Prelude.{◌≡◌, ◌≤◌, None, IfOk, OnOk, codes, option_map, pos};
 ghost use Rattle.std.specs.Option.{ForSome};
 ghost use Rattle.toml.specs.Data.{integer};
@@ -16,8 +16,8 @@ use otp_core::{HotpFields, Token, TokenFields, TotpFields};
 use std::alloc::{AllocError, Global};
 use toml::{Table, Value};
 
-/// The TOML value that a token is written as. `AllocError` where memory runs out.
-pub(super) fn token_value(alloc: Global, token: &Token) -> Result<Value, AllocError>
+/// The TOML value of a token. Errors: `AllocError` if memory runs out.
+pub(crate) fn token_value(alloc: Global, token: &Token) -> Result<Value, AllocError>
     ensures tree { IfOk result (λ v. view v ≡ tables.token.write token.now) }
     ensures itself { OnOk result (WritesItself tables.token token.now) }
 {
@@ -27,6 +27,7 @@ pub(super) fn token_value(alloc: Global, token: &Token) -> Result<Value, AllocEr
     }
 }
 
+// The TOML value of a HOTP token.
 #[tactic(auto, unfolding(crate::specs::Rows::written))]
 fn hotp_value(alloc: Global, fields: &HotpFields) -> Result<Value, AllocError>
     requires { IsHotpInRange fields.now }
@@ -50,6 +51,7 @@ fn hotp_value(alloc: Global, fields: &HotpFields) -> Result<Value, AllocError>
     Ok(Value::Table(table))
 }
 
+// The TOML value of a TOTP token.
 fn totp_value(alloc: Global, fields: &TotpFields) -> Result<Value, AllocError>
     requires { IsTotpInRange fields.now }
     ensures tree { IfOk result (λ v. view v ≡ (in_table tokens.totp).write fields.now) }
@@ -60,7 +62,7 @@ fn totp_value(alloc: Global, fields: &TotpFields) -> Result<Value, AllocError>
     Ok(Value::Table(table))
 }
 
-// The table of a TOTP token, except its last step.
+// The table of a TOTP token, without its last step.
 #[tactic(auto, unfolding(crate::specs::Rows::written))]
 fn settings_table(alloc: Global, fields: &TotpFields) -> Result<Table, AllocError>
     requires { IsTotpInRange fields.now }
@@ -88,6 +90,7 @@ fn settings_table(alloc: Global, fields: &TotpFields) -> Result<Table, AllocErro
     Ok(table)
 }
 
+// Puts the last step that passed, if there is one.
 fn put_last(alloc: Global, table: &mut Table, last: Option<u64>) -> Result<(), AllocError>
     requires { ForSome last (λ l. l ≤ most_counter) }
     ensures { OnOk result (table_view table.new

@@ -59,7 +59,7 @@ fn faults_of_an_account(rt: HostRuntime) -> Result<(), Fail> {
     Ok(())
 }
 
-// Keys of SCRAM-SHA-1 have another length than those of SCRAM-SHA-256.
+// The keys of SCRAM-SHA-1 and of SCRAM-SHA-256 have different lengths.
 #[test]
 fn keys_of_the_other_length(rt: HostRuntime) -> Result<(), Fail> {
     let want = Some((66, Some(0)));

@@ -6,16 +6,28 @@ fn book_of(alloc: Global, text: &str) -> Result<Contents, Fail> {
     Ok(Contents::read(alloc, text.as_bytes())?)
 }
 
-fn has_users_keys(keys: &MechKeys, alloc: Global) -> Result<bool, Fail> {
-    let salt = hex::encode(alloc, keys.salt.bytes())?;
-    let stored = hex::encode(alloc, keys.keys.stored.as_slice())?;
-    let server = hex::encode(alloc, keys.keys.server.as_slice())?;
-    Ok(
-        keys.count == 4096
-            && salt.as_str() == "4125c247e43ab1e93c6dff76"
-            && stored.as_str() == "e9d94660c39d65c38fbad91c358f14da0eef2bd6"
-            && server.as_str() == "0fe09258b3ac852ba502cc62ba903eaacdbf7d31",
-    )
+// Asserts that the keys are those of USER; `at` says whose they are.
+fn check_users_keys(
+    rt: &(impl Abort + AllocGlobal),
+    keys: &MechKeys,
+    at: &str,
+) -> Result<(), Fail> {
+    assert_eq!(rt; keys.count, 4096, "{at}");
+    let salt = hex::encode(rt.alloc(), keys.salt.bytes())?;
+    assert_eq!(rt; salt.as_str(), "4125c247e43ab1e93c6dff76", "{at}");
+    let stored = hex::encode(rt.alloc(), keys.keys.stored.as_slice())?;
+    assert_eq!(rt;
+        stored.as_str(),
+        "e9d94660c39d65c38fbad91c358f14da0eef2bd6",
+        "{at}"
+    );
+    let server = hex::encode(rt.alloc(), keys.keys.server.as_slice())?;
+    assert_eq!(rt;
+        server.as_str(),
+        "0fe09258b3ac852ba502cc62ba903eaacdbf7d31",
+        "{at}"
+    );
+    Ok(())
 }
 
 fn only_account(book: &Contents) -> Option<(&[u8], &Account)> {
@@ -44,7 +56,7 @@ fn account_with_keys(rt: HostRuntime) -> Result<(), Fail> {
     let (name, account) = only_account(&book).ok_or("one account")?;
     check_text(&rt, name, "user", "the name");
     let keys = account.sha1.as_ref().ok_or("its keys")?;
-    assert!(rt; has_users_keys(keys, rt.alloc())?);
+    check_users_keys(&rt, keys, "USER")?;
     assert!(rt; account.sha256.is_none());
     assert!(rt; account.act_as.is_empty());
     assert!(rt; account.token.is_none());
@@ -149,7 +161,7 @@ fn hex_in_upper_case(rt: HostRuntime) -> Result<(), Fail> {
         let book = book_of(rt.alloc(), text.as_str())?;
         let (_, account) = only_account(&book).ok_or("one account")?;
         let keys = account.sha1.as_ref().ok_or("its keys")?;
-        assert!(rt; has_users_keys(keys, rt.alloc())?, "{new}");
+        check_users_keys(&rt, keys, new)?;
     }
     Ok(())
 }

@@ -71,7 +71,7 @@ fn faults_of_the_document(rt: HostRuntime) -> Result<(), Fail> {
     Ok(())
 }
 
-// A fault of the document belongs to no account, even where the document has one.
+// A fault of the document belongs to no account, even if the document has one.
 #[test]
 fn faults_before_those_of_an_account(rt: HostRuntime) -> Result<(), Fail> {
     for (old, new, number) in [
@@ -86,7 +86,7 @@ fn faults_before_those_of_an_account(rt: HostRuntime) -> Result<(), Fail> {
     Ok(())
 }
 
-// Asserts what is printed of a fault.
+// Asserts that a fault is printed as `want`.
 fn check_words(rt: &(impl Abort + AllocGlobal), fault: BookFault, want: &str) -> Result<(), Fail> {
     let words = format!(in rt.alloc(); "{fault}")?;
     check_text(rt, words.as_bytes(), want, want);
@@ -105,20 +105,17 @@ fn texts_of_faults(rt: HostRuntime) -> Result<(), Fail> {
         ),
         (
             BookWhy::Name,
-            "a name is not 1 to 255 bytes of 20 to 7E hex, or `act_as` has more than 16",
+            "a name is not 1 to 255 printable ASCII characters, or `act_as` has more than 16 names",
         ),
-        (
-            BookWhy::Salt,
-            "a salt is not the hexadecimal text of 1 to 64 bytes",
-        ),
+        (BookWhy::Salt, "a salt is not 1 to 64 bytes in hexadecimal"),
         (BookWhy::Count, "a count is not 1 to 4294967295"),
         (
             BookWhy::KeyLength,
-            "a key is not the hexadecimal text of as many bytes as it has to have",
+            "a key is not in hexadecimal, or not of the right length",
         ),
         (
             BookWhy::Token,
-            "a token is of another kind, or a setting of it is out of its range",
+            "a token is of an unknown kind, or a value in it is out of range",
         ),
         (BookWhy::NoMemory, "no memory for the book"),
     ];

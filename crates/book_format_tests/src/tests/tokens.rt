@@ -1,7 +1,7 @@
 //! Faults of tokens.
 use super::*;
 
-// Faults of each key: missing, of another type, or out of its range.
+// Faults of each key: missing, with a value of the wrong type, or out of its range.
 const HOTP_EDITS: [(&str, &str, u16); 39] = [
     ("kind = \"hotp\"\n", "", 62),
     ("kind = \"hotp\"", "kind = 1", 62),
@@ -99,7 +99,7 @@ fn faults_of_a_totp_token(rt: HostRuntime) -> Result<(), Fail> {
     Ok(())
 }
 
-// The first and last values in each range.
+// The first and the last value of each range.
 #[test]
 fn settings_at_their_ends(rt: HostRuntime) -> Result<(), Fail> {
     let rows = [

@@ -1,4 +1,4 @@
-//! Texts that were worked out by hand from the rules of the format.
+//! Written texts, worked out by hand from the rules of the format.
 use super::{HOTP, TOP, TOTP};
 use book_format::Contents;
 use std::collections::BTreeMap;
@@ -44,7 +44,7 @@ fn names_in_quotes(rt: HostRuntime) -> Result<(), Fail> {
     Ok(())
 }
 
-// An account with every key: in each table they stand in the order of docs/FORMATS.md, and bytes are in upper case.
+// An account with every key, in each table in the order of docs/FORMATS.md, and with bytes in upper case.
 const EVERYTHING: &str = "
 [accounts.user]
 act_as = [ \"root\", 'adm in' ]
@@ -114,7 +114,7 @@ fn account_with_everything(rt: HostRuntime) -> Result<(), Fail> {
     writes(&rt, text.as_str(), want.as_str())
 }
 
-// The greatest `next`, at which no counter can pass any more.
+// The greatest `next`, at which no counter can pass.
 const HOTP_ENDED: &str = "
 [accounts.user.token]
 kind = \"hotp\"
@@ -145,7 +145,7 @@ decoy_key = \"000102030405060708090a0b0c0d0e0f101112131415161718191a1b1c1d1e1f\"
 format = 1
 ";
 
-// The keys of RFC 5802's user by Python's hashlib, some in upper case.
+// The keys of RFC 5802's user, computed with Python's hashlib, some in upper case.
 const USER_IN_UPPER_CASE: &str = "
 [accounts.user]
 act_as = []
@@ -180,7 +180,7 @@ secret = \"3132333435363738393031323334353637383930\"
 sync_ahead = 0
 ";
 
-// That token, with a key that may be missing.
+// The HOTP token, with a key that may be missing.
 const HOTP_SYNC: &str = "
 [accounts.user.token]
 kind = \"hotp\"
@@ -221,7 +221,7 @@ step = 30
 t0 = 0
 ";
 
-// Checks that the text, read and written, is `want`, and that `want` is written again as it is.
+// Checks that the text, read and written, is `want`, and that `want`, read and written, stays the same.
 fn writes(rt: &(impl AllocGlobal + Abort), text: &str, want: &str) -> Result<(), Fail> {
     let alloc = rt.alloc();
     let written = Contents::read(alloc, text.as_bytes())?.write(alloc)?;

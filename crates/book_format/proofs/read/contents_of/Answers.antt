@@ -1,18 +1,18 @@
 use Rattle.std.proofs.Common.{inl, inr, option_map}
 use Rattle.toml.specs.View.{table_view}
 use Rattle.book_format.specs.Tables.{TopFields}
-use Rattle.book_format.proofs.lemmas.BookTexts.{tree_fault_is_books, top_fault_is_books, accounts_fault_is_books, parts_are_read_as_book, read_book_is_in_range}
+use Rattle.book_format.proofs.lemmas.BookTexts.{tree_fault_is_fault_of_book, top_fault_is_fault_of_book, accounts_fault_is_fault_of_book, parts_are_read_as_book, read_book_is_in_range}
 use Rattle.book_format.proofs.read.contents_of.Goals as goal
 
 pub returns-in-Err : goal.returns-in-Err
 returns-in-Err c = elim c.in-Err.ensures [
   | inl memory ↦ inl (rw c.at_top.ensures memory)
-  | inr read ↦ inr (rw c.at_top.ensures (tree_fault_is_books c.args.bytes.now c.in-Err.why read))
+  | inr read ↦ inr (rw c.at_top.ensures (tree_fault_is_fault_of_book c.args.bytes.now c.in-Err.why read))
 ]
 
 pub returns-in-Err-top_of : goal.returns-in-Err-top_of
 returns-in-Err-top_of c = inr (rw c.at_top-in-Err-top_of.ensures
-    (top_fault_is_books c.args.bytes.now _ c.in-Err-top_of.why c.in-Ok.ensures c.in-Err-top_of.ensures))
+    (top_fault_is_fault_of_book c.args.bytes.now _ c.in-Err-top_of.why c.in-Ok.ensures c.in-Err-top_of.ensures))
 
 pub invariant_of-result : goal.invariant_of-result
 invariant_of-result c =
@@ -47,6 +47,6 @@ returns c =
     } in
     elim c.in-Err-accounts_of_table.ensures [
       | inl memory ↦ inl memory
-      | inr read ↦ inr (accounts_fault_is_books c.args.bytes.now _ seen c.in-Err-accounts_of_table.fault c.in-Ok.ensures
+      | inr read ↦ inr (accounts_fault_is_fault_of_book c.args.bytes.now _ seen c.in-Err-accounts_of_table.fault c.in-Ok.ensures
           c.in-Ok-top_of.ensures read)
     ]

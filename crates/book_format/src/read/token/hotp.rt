@@ -1,4 +1,4 @@
-//! A HOTP token: `secret`, `digits`, `next`, `look_ahead`, `sync_ahead`, `limit`, `failures`.
+//! Reads a HOTP token: `secret`, `digits`, `next`, `look_ahead`, `sync_ahead`, `limit`, `failures`.
 ghost use Rattle.std.specs.Prelude.{◌≡◌, IfOk};
 ghost use Rattle.toml.specs.View.{table_view};
 ghost use Rattle.otp_core.specs.TokenRanges.{IsHotpInRange};
@@ -15,11 +15,11 @@ use otp_core::{
 };
 use toml::Table;
 
-/// The settings and the state of a HOTP token, of a table whose `kind` says that it is one. `Key` where a key is unknown;
-/// then of the first key at fault, in the order above: `Key` where it is missing or its value has another type, and `Token`
-/// where the value is out of its range. `sync_ahead` may be missing.
+/// The settings and the state of a HOTP token, from a table whose `kind` says that it is one. `sync_ahead` may be missing. Errors:
+/// `Key` if a key is unknown; then for the first key at fault, in the order of the keys at the head of this file: `Key` if it is
+/// missing or its value has the wrong type, else `Token` if the value is out of its range.
 #[tactic(auto, unfolding(crate::specs::reading::Rows::read_table))]
-pub(super) fn hotp_of(table: &Table) -> Result<HotpFields, BookWhy>
+pub(crate) fn hotp_of(table: &Table) -> Result<HotpFields, BookWhy>
     ensures value { result ≡ read_table hotp (table_view table.now) }
     ensures range { IfOk result IsHotpInRange }
 {
@@ -60,8 +60,8 @@ pub(super) fn hotp_of(table: &Table) -> Result<HotpFields, BookWhy>
     })
 }
 
-/// The token of settings that are in their ranges.
-pub(super) fn hotp_token(fields: HotpFields) -> Token
+/// The token with these settings, which are in their ranges.
+pub(crate) fn hotp_token(fields: HotpFields) -> Token
     requires { IsHotpInRange fields }
     ensures { result ≡ Hotp fields }
 {

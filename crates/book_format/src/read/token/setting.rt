@@ -1,12 +1,12 @@
-//! Settings with types of their own, from values in their ranges.
+//! Makes the settings that have types of their own, from values in their ranges.
 ghost use Rattle.std.specs.Prelude.{◌≡◌, ◌≤◌, length};
 ghost use Rattle.otp_core.specs.Ranges.{least_secret, IsDigitCount, IsMoment};
 
 use mac_core::Tag;
 use otp_core::{Digits, Moment, Secret};
 
-/// The secret of 10 bytes or more.
-pub(super) fn secret_of(bytes: &Tag) -> Secret
+/// The secret with these bytes, at least 10.
+pub(crate) fn secret_of(bytes: &Tag) -> Secret
     requires { least_secret ≤ length bytes.now.items }
     ensures { result ≡ bytes.now.items }
 {
@@ -16,8 +16,8 @@ pub(super) fn secret_of(bytes: &Tag) -> Secret
     secret
 }
 
-/// The number of digits, 6 to 8.
-pub(super) fn digits_of(count: u64) -> Digits
+/// `count` as a number of digits, 6 to 8.
+pub(crate) fn digits_of(count: u64) -> Digits
     requires { IsDigitCount count }
     ensures { result ≡ count }
 {
@@ -28,7 +28,7 @@ pub(super) fn digits_of(count: u64) -> Digits
 }
 
 /// The moment `seconds` after the start of 1970.
-pub(super) fn moment_of(seconds: u64) -> Moment
+pub(crate) fn moment_of(seconds: u64) -> Moment
     requires { IsMoment seconds }
     ensures { result ≡ seconds }
 {

@@ -1,5 +1,5 @@
-//! A TOTP token: `hash`, `secret`, `digits`, `t0`, `step`, `back`, `ahead`, `max_drift`, `last`, `drift`,
-//! `limit`, `failures`.
+//! Reads a TOTP token: `hash`, `secret`, `digits`, `t0`, `step`, `back`, `ahead`, `max_drift`, `last`, `drift`, `limit`,
+//! `failures`.
 ghost use Rattle.std.specs.Prelude.{◌≡◌, ◌≤◌, codes, nat_abs, IfOk};
 ghost use Rattle.std.specs.Option.{ForSome};
 ghost use Rattle.toml.specs.View.{table_view};
@@ -23,11 +23,11 @@ use otp_core::{
 };
 use toml::Table;
 
-/// The settings and the state of a TOTP token, of a table whose `kind` says that it is one. `Key` where a key is unknown;
-/// then of the first key at fault, in the order above: `Key` where it is missing or its value has another type, and `Token`
-/// where the value is out of its range. `last` may be missing.
+/// The settings and the state of a TOTP token, from a table whose `kind` says that it is one. `last` may be missing. Errors: `Key`
+/// if a key is unknown; then for the first key at fault, in the order of the keys at the head of this file: `Key` if it is missing
+/// or its value has the wrong type, else `Token` if the value is out of its range.
 #[tactic(auto, unfolding(crate::specs::reading::Rows::read_table))]
-pub(super) fn totp_of(table: &Table) -> Result<TotpFields, BookWhy>
+pub(crate) fn totp_of(table: &Table) -> Result<TotpFields, BookWhy>
     ensures value { result ≡ read_table totp (table_view table.now) }
     ensures range { IfOk result IsTotpInRange }
 {
@@ -66,7 +66,7 @@ pub(super) fn totp_of(table: &Table) -> Result<TotpFields, BookWhy>
     })
 }
 
-// Answers `Key` where the table has a key that a TOTP token does not have.
+// Checks the keys of a table. Errors: `Key` if it has a key that a TOTP token does not have.
 fn check_totp_keys(table: &Table) -> Result<(), BookWhy>
     ensures { result ≡ pass_or (has_only (is_among (table_keys totp)) (table_view table.now)) why.Key }
 {
@@ -90,8 +90,8 @@ fn check_totp_keys(table: &Table) -> Result<(), BookWhy>
     )
 }
 
-/// The token of settings that are in their ranges.
-pub(super) fn totp_token(fields: TotpFields) -> Token
+/// The token with these settings, which are in their ranges.
+pub(crate) fn totp_token(fields: TotpFields) -> Token
     requires { IsTotpInRange fields }
     ensures { result ≡ Totp fields }
 {
@@ -101,7 +101,8 @@ pub(super) fn totp_token(fields: TotpFields) -> Token
     token
 }
 
-// The hash function at a key. `Key` where it is missing or no text, and `Token` where no hash function has the name.
+// The hash function at a key. Errors: `Key` if the key is missing or its value not a text; `Token` if no hash function has the
+// name.
 #[tactic(auto, unfolding(crate::specs::reading::Values::hash_in))]
 fn hash_at(table: &Table, key: &str) -> Result<OtpHash, BookWhy>
     ensures { result ≡ read_at key.now hash (table_view table.now) }
@@ -110,7 +111,7 @@ fn hash_at(table: &Table, key: &str) -> Result<OtpHash, BookWhy>
     OtpHash::of_name(name).ok_or(BookWhy::Token)
 }
 
-// The last step, or None where there is no key `last`. `Key` for a value of another type, and `Token` for one out of its range.
+// The last step, or None if there is no key `last`. Errors: `Key` if it has the wrong type; `Token` if it is out of its range.
 fn last_if_any(table: &Table) -> Result<Option<u64>, BookWhy>
     ensures value { result ≡ read_some (codes "last") (number why.Token 0 most_counter) (table_view table.now) }
     ensures range { IfOk result (λ last. ForSome last (λ l. l ≤ most_counter)) }
@@ -121,8 +122,8 @@ fn last_if_any(table: &Table) -> Result<Option<u64>, BookWhy>
     }
 }
 
-// The drift at a key, at most `most` steps to either side. `Key` where it is missing or no whole number, and `Token` where it
-// is further off.
+// The drift at a key, at most `most` steps to either side. Errors: `Key` if the key is missing or its value not a whole number;
+// `Token` if the drift is greater.
 #[tactic(auto, unfolding(crate::specs::reading::Values::signed_in))]
 fn drift_at(table: &Table, key: &str, most: u64) -> Result<i64, BookWhy>
     ensures value { result ≡ read_at key.now (signed why.Token most) (table_view table.now) }

@@ -8,10 +8,10 @@ use Rattle.book_format.specs.Trees.{IsBookText}
 use Rattle.book_format.specs.declared.fault.BookFault.{BookFault}
 use Rattle.book_format.specs.declared.fault.BookWhy.TheVariants.{NoMemory}
 use Rattle.book_format.proofs.lemmas.BookTexts.{read_book_text_stands, book_text_is_read, text_fault_is_first, text_first_fault_is_read}
-use Rattle.book_format.proofs.lemmas.Steps.{same_Err}
+use Rattle.book_format.proofs.lemmas.Steps.{same_err_has_same_fault}
 use Rattle.book_format.proofs.contents.Contents.read.Goals as goal
 
--- what was read of some bytes is a book that they are the text of, and the only one; a fault is their first, and the only one:
+-- a book that was read from some bytes is one whose text they are, and the only one; a fault is their first, and the only one:
 result_book_stands : (bytes : List ℕ) (r : Result BookFields BookFault) → IsReadOrFault (λ b. b) r (book_in bytes)
     → IfOk r (λ book. IsBookText bytes book)
 result_book_stands bytes (Ok book) h = read_book_text_stands bytes book h
@@ -39,16 +39,16 @@ result_is_only_fault bytes (Ok book) h fault first =
     absurd (cc both)
 result_is_only_fault bytes (Err own) (inl memory) fault first = inl memory
 result_is_only_fault bytes (Err own) (inr read) fault first =
-    inr (same_Err own fault (sym read ∙ text_first_fault_is_read bytes fault first))
+    inr (same_err_has_same_fault own fault (sym read ∙ text_first_fault_is_read bytes fault first))
 
 pub returns-clause-found : goal.returns-clause-found
 returns-clause-found c = result_book_stands c.args.bytes.now c.contents_of.result c.contents_of.ensures
 
-pub returns-clause-only : goal.returns-clause-only
-returns-clause-only c = result_is_only_book c.args.bytes.now c.contents_of.result c.contents_of.ensures
+pub returns-clause-every : goal.returns-clause-every
+returns-clause-every c = result_is_only_book c.args.bytes.now c.contents_of.result c.contents_of.ensures
 
 pub returns-clause-first_fault : goal.returns-clause-first_fault
 returns-clause-first_fault c = result_fault_is_first c.args.bytes.now c.contents_of.result c.contents_of.ensures
 
-pub returns-clause-only_fault : goal.returns-clause-only_fault
-returns-clause-only_fault c = result_is_only_fault c.args.bytes.now c.contents_of.result c.contents_of.ensures
+pub returns-clause-every_fault : goal.returns-clause-every_fault
+returns-clause-every_fault c = result_is_only_fault c.args.bytes.now c.contents_of.result c.contents_of.ensures

@@ -8,7 +8,7 @@ use Rattle.book_format.specs.Tables.{mech}
 use Rattle.book_format.specs.declared.account.MechKeys.{MechKeys}
 use Rattle.book_format.proofs.write.account.put_keys.Goals as goal
 
--- what holds anyway holds where a result is Ok
+-- what is true anyway is true if a result is Ok
 fact_holds_on_ok : {A E : Type 0} (P : Type 0) (r : Result A E) → P → OnOk r P
 fact_holds_on_ok P (Ok x) p = p
 fact_holds_on_ok P (Err e) p = tt
