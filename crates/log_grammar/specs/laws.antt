@@ -1,5 +1,5 @@
--- What follows from the definitions in the folder above, and that the state machine is the grammar: each law is the promise
--- of a function that does nothing.
+-- What follows from the definitions in the folder above, and that the state machine agrees with the grammar: each law is promised
+-- by a function that does nothing.
 pub mod LineLaws
 pub mod Histories
 pub mod LogLaws

@@ -1,5 +1,5 @@
-//! The laws of logs, for account books: for all fields of a book that are in their ranges, as those of every `Book`
-//! are (`account_book::laws::books_are_in_range`).
+//! The laws of logs, for account books: for the fields of any book that are in their ranges, as those of every `Book` are
+//! (`account_book::laws::books_are_in_range`).
 ghost use Rattle.std.specs.Prelude.{ℕ, ◌↔◌, List, []};
 ghost use Rattle.book_format.specs.Book.{BookFields, IsBook};
 ghost use Rattle.log_grammar.specs.Bytes.{IsSplit};
@@ -15,7 +15,8 @@ pub fn books_can_be_challenged()
     ensures { (book : BookFields) → IsBook book → AllCanBeChallenged (accounts_in book) }
 {}
 
-/// Each front begins a clean log, for every account book: what a log may begin with can be completed to a clean log.
+/// Each front begins a clean log, for every account book: what a log may begin with can be completed to a clean log. Follows from
+/// `fronts_of_books_are_what_begins_clean_logs`, since a front is whole lines.
 pub fn fronts_of_books_begin_clean()
     ensures { (book : BookFields) → IsBook book → (bytes : List ℕ) → IsFront (accounts_in book) bytes
         → BeginsClean (accounts_in book) bytes }
@@ -24,7 +25,7 @@ pub fn fronts_of_books_begin_clean()
     books_can_be_challenged();
 }
 
-/// Whole lines are a front exactly where they begin a clean log, for every account book.
+/// Whole lines are a front if and only if they begin a clean log, for every account book.
 pub fn fronts_of_books_are_what_begins_clean_logs()
     ensures { (book : BookFields) → IsBook book → (bytes : List ℕ) (texts : List (List ℕ)) → IsSplit bytes texts []
         → IsFront (accounts_in book) bytes ↔ BeginsClean (accounts_in book) bytes }
@@ -33,7 +34,7 @@ pub fn fronts_of_books_are_what_begins_clean_logs()
     books_can_be_challenged();
 }
 
-/// The fault line is the first line that begins no clean log, for every account book.
+/// The fault line is the first with which the lines begin no clean log, for every account book.
 pub fn fault_lines_of_books_begin_no_clean_log()
     ensures { (book : BookFields) → IsBook book → (bytes : List ℕ) (texts : List (List ℕ)) (rest : List ℕ) (k : ℕ)
         → IsSplit bytes texts rest

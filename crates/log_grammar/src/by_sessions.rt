@@ -1,14 +1,17 @@
-//! What an audit's answer means: a clean log is that of sessions, and the line at fault is the first that begins no
+//! What an audit's answer means: a clean log is that of sessions, and the line at fault is the first with which the lines begin no
 //! clean log.
 ghost use Rattle.log_grammar.specs.laws.BySessions.{CleanLogsAreThoseOfSessions, FrontsAreWhatBeginsCleanLogs, FaultLinesBeginNoCleanLog};
 ghost use Rattle.log_grammar.specs.laws.BySessions.{EachCodeIsOfItsLogin, EachReplyDueFollowsItsLogin};
 
 use crate::laws::fronts_begin_clean;
 
-/// A log of version 1 is clean exactly where it is the first line and the lines of some sessions, each ended by an LF: each
-/// session but the last is closed, and the last is closed or halted; each meets its demands; and what was told of
-/// each account in all of them, in their order, is a legal history of its token, or no reply to each code where the
-/// account has no token.
+/// A log of version 1 is clean if and only if all of these hold:
+///
+/// - It is the first line and the lines of some sessions, each ended by an LF.
+/// - Each session except the last is closed; the last is closed or halted.
+/// - Each session meets its demands.
+/// - For each account that has a token, the replies recorded in all sessions, in their order, are a legal history of it.
+/// - No code of an account without a token has a reply.
 pub fn clean_logs_are_those_of_sessions()
     ensures { CleanLogsAreThoseOfSessions }
 {}
@@ -18,23 +21,22 @@ pub fn each_code_is_of_its_login()
     ensures { EachCodeIsOfItsLogin }
 {}
 
-/// Where the reply to a code is due, the lines end with those of a session, and the account of the code is the one
-/// that the `n=` of the session's client-first message names.
+/// If the reply to a code is due, the lines end with those of a session, and the account of the code is the one that the `n=` of
+/// the session's client-first message names.
 pub fn each_reply_due_follows_its_login()
     ensures { EachReplyDueFollowsItsLogin }
 {}
 
-/// Whole lines are a front exactly where they begin a clean log, where a challenge can be written for each account and
-/// decoy.
+/// If a challenge can be written for each account and decoy, whole lines are a front if and only if they begin a clean log.
 pub fn fronts_are_what_begins_clean_logs()
     ensures { FrontsAreWhatBeginsCleanLogs }
 {
     fronts_begin_clean();
 }
 
-/// Where a challenge can be written for each account and decoy, the fault line is the first that begins no clean log: the lines
-/// before it begin one, and with it they do not. Where all lines begin one, and the bytes are not clean, it is the line after the
-/// last.
+/// If a challenge can be written for each account and decoy, line k is the fault line if and only if k is the least number such
+/// that the first k lines begin no clean log. If all lines begin one but the bytes are not clean, k is the number after that of the
+/// last line.
 pub fn fault_lines_begin_no_clean_log()
     ensures { FaultLinesBeginNoCleanLog }
 {

@@ -1,4 +1,4 @@
-//! What follows from several laws together, as those who use the crate need it.
+//! Consequences of several laws together, in the form that users of the crate need.
 ghost use Rattle.std.specs.Prelude.{ℕ, ◌≡◌, ◌⊎◌, ◌↔◌, List, [], ◌∷◌, ◌++◌, reverse, take};
 ghost use Rattle.log_grammar.specs.Payload.{IsMessage};
 ghost use Rattle.log_grammar.specs.Lines.{Line, LogLine, client_text, resp, IsLine, IsLogLine, IsNoLogLine};
@@ -42,15 +42,15 @@ pub fn bytes_are_split_in_exactly_one_way()
     bytes_are_split_one_way();
 }
 
-/// A RESP line has one message: no two messages are spelled alike in one.
+/// A RESP line has one message: no two messages have the same spelling in one.
 pub fn lines_bear_one_message()
     ensures { (one other : List ℕ) → IsMessage one → IsMessage other → client_text (resp one) ≡ client_text (resp other) → one ≡ other }
 {
     escapes_one_message();
 }
 
-/// What a log begins with goes on by a line exactly where the line may stand at its place, with the reply that is
-/// due where it is one: what a reader and a writer of a log have to decide at each line, its ranges aside.
+/// What a log begins with can continue with a line if and only if the line may stand at its place and, if it is a reply, is the one
+/// due. This is what a reader or a writer of a log has to decide at each line, its ranges aside.
 pub fn logs_go_on_exactly_so()
     ensures { (accounts : Accounts) (log : List LogLine) (place : Place) (told : List LoggedReply) (line : LogLine) (next : Place)
         (all : List LoggedReply)
@@ -73,7 +73,7 @@ pub fn first_lines_of_clean_logs_are_fronts()
     fronts_begin_with_fronts();
 }
 
-/// A clean log has no line at fault, so that no log is both.
+/// A clean log has no line at fault.
 pub fn clean_logs_have_no_fault()
     ensures { (accounts : Accounts) (bytes : List ℕ) (k : ℕ) → IsClean accounts bytes → IsFaultLine accounts bytes k → ⊥ }
 {
@@ -81,7 +81,7 @@ pub fn clean_logs_have_no_fault()
     first_lines_of_clean_logs_are_fronts();
 }
 
-/// A log has one judgement: two that name a line and a reason are the same.
+/// A log is at fault in at most one line, for at most one reason.
 pub fn logs_have_one_judgement()
     ensures { (accounts : Accounts) (bytes : List ℕ) (k j : ℕ) (why other : Why)
         → IsWhy accounts bytes k why → IsWhy accounts bytes j other → (k ≡ j) × (why ≡ other) }
@@ -102,8 +102,8 @@ pub fn each_log_has_one_answer()
     logs_have_one_judgement();
 }
 
-/// In a log that is read from bytes, what was told of each account is a legal history of its token; where it has no token, none of its
-/// codes has a reply.
+/// In a log that is read from bytes, the replies recorded for each account are a legal history of its token; if it has no token,
+/// none of its codes has a reply.
 pub fn logs_have_legal_histories()
     ensures { (accounts : Accounts) (bytes : List ℕ) (lines : List LogLine) (rest : List ℕ) (place : Place) (told : List LoggedReply)
         → AreLines bytes lines rest → Spells (demands accounts) lines place told

@@ -1,5 +1,5 @@
-//! Small logs, judged by the definitions: which are clean, and where a log is at fault and why. Each is a theorem,
-//! on lines that need no hash.
+//! Small logs, judged by the definitions: which are clean, and where a log is at fault and why. Each is a theorem, on lines that
+//! need no hash.
 ghost use Rattle.std.specs.Prelude.{ℕ, ◌≡◌, ◌<◌, ◌≤◌, ◌+◌, List, [], ◌∷◌, ◌++◌, length, codes, flat_map, Some};
 ghost use Rattle.otp_core.specs.Ranges.{IsDigitCount, IsMoment};
 ghost use Rattle.otp_core.specs.declared.token.reply.Reply.TheVariants.{Pass, Fail};
@@ -21,7 +21,7 @@ ghost use Rattle.log_grammar.specs.Why.{LineClass, IsClassDue, is_cut, no_line, 
 ghost use Rattle.log_grammar.specs.Why.{other_reply, refused_with};
 ghost use Rattle.log_grammar.specs.Upgrades.{original_bytes};
 ghost use Rattle.log_grammar.specs.laws.Logins.{Exchange, IsLoginTo, login_session};
-ghost use Rattle.log_grammar.specs.laws.Replies.{passes, next_two};
+ghost use Rattle.log_grammar.specs.laws.Replies.{pass_line, next_two};
 ghost use Rattle.log_grammar.specs.laws.Examples.{header_one_text, offer_text, first_alone, one_session, bare_no, AreWhole};
 
 use crate::laws::classes_follow_the_place;
@@ -29,9 +29,9 @@ use crate::logins::other_answers_to_logins_are_at_fault;
 use crate::replies::next_two_hotp_codes_pass;
 use scram_text::laws::{has_one_client_first, spells_one_name};
 
-/// These logs are clean: the first line alone; sessions that the client ends by `ABORT`, by a line that was not
-/// due, or by going away; one of a mechanism that is not offered; one whose first message is refused; one that ends
-/// after the empty challenge; and two sessions, one after the other.
+/// These logs are clean: only the first line; sessions that the client ends with `ABORT`, with a line that was not due, or by going
+/// away; one with a mechanism that is not offered; one whose first message is refused; one that ends after the empty challenge; and
+/// two sessions, one after the other.
 pub fn clean_logs()
     ensures first { (accounts : Accounts) → IsClean accounts first_alone }
     ensures aborted { (accounts : Accounts) → IsClean accounts (one_session (codes "C ABORT" ∷ bare_no)) }
@@ -45,7 +45,7 @@ pub fn clean_logs()
         (one_session (codes "C GONE" ∷ codes "E" ∷ offer_text ∷ codes "C ABORT" ∷ bare_no)) }
 {}
 
-/// A log is cut where it is empty, and where a session of the clean logs above stops before its last line.
+/// A log is cut if it is empty, or if a session of the clean logs above stops before its last line.
 pub fn cut_logs()
     ensures empty { (accounts : Accounts) → IsWhy accounts [] 1 is_cut }
     ensures offer { (accounts : Accounts) → IsWhy accounts (one_session []) 3 is_cut }
@@ -74,9 +74,9 @@ pub fn cut_logs()
     spells_one_name();
 }
 
-/// These lines are at fault: another first line; a line whose class is not due, as a session that begins where `E` is
-/// due, or the first line again; other names of mechanisms; a challenge where none is due, and none where one is; and
-/// an `S OK`, or an `S NO` with a message, where a bare `S NO` is due.
+/// These lines are at fault: another first line; a line whose class is not due, such as a session that begins where `E` is due, or
+/// the first line again; other names of mechanisms; a challenge where none is due, and another line where one is; and an `S OK`, or
+/// an `S NO` with a message, where a bare `S NO` is due.
 pub fn faulty_logs()
     ensures first { (accounts : Accounts) → IsWhy accounts (ended_by_lf (codes "E" ∷ [])) 1 no_line }
     ensures order { (accounts : Accounts) → IsWhy accounts (ended_by_lf (header_one_text ∷ codes "C ABORT" ∷ [])) 2 out_of_order }
@@ -100,7 +100,7 @@ pub fn faulty_logs()
     spells_one_name();
 }
 
-/// A log that ends with a halt is clean, and whatever line follows one is at fault: nothing is due after it.
+/// A log that ends with a halt is clean, and any line that follows a halt is at fault: nothing is due after it.
 pub fn halt_is_last()
     ensures clean { (accounts : Accounts) (texts : List (List ℕ)) (log : List LogLine) (told : List LoggedReply)
         → AreWhole texts log → Begins (demands accounts) log halted told → IsClean accounts (ended_by_lf texts) }
@@ -116,14 +116,14 @@ pub fn halt_is_last()
     classes_follow_the_place();
 }
 
-/// Bytes without an LF are a log that is cut, up to the 6202 bytes that a line may have, and then no line.
+/// Bytes without an LF are a log that is cut if there are at most 6202, as many as a line may have; else they are no line.
 pub fn lines_end_with_lf()
     ensures short { (accounts : Accounts) (rest : List ℕ) → LacksLf rest → length rest ≤ 6202 → IsWhy accounts rest 1 is_cut }
     ensures long { (accounts : Accounts) (rest : List ℕ) → LacksLf rest → 6203 ≤ length rest → IsWhy accounts rest 1 no_line }
 {}
 
-/// After whole lines that a log of version 1 may begin with, bytes without an LF are a log that is cut, up to 6202 bytes, and
-/// then no line; and a whole line of more bytes is none. A part of a line after a halt is cut in the same way.
+/// After whole lines that a log of version 1 may begin with, bytes without an LF are a log that is cut if there are at most 6202,
+/// else they are no line; nor is a whole line with more bytes. This also holds for a part of a line after a halt.
 pub fn lines_have_6202_bytes_at_most()
     ensures part { (accounts : Accounts) (texts : List (List ℕ)) (log : List LogLine) (place : Place) (told : List LoggedReply)
         (rest : List ℕ)
@@ -145,8 +145,8 @@ pub fn lines_have_6202_bytes_at_most()
         → IsWhy accounts (first_alone ++ rest) 2 is_cut }
 {}
 
-/// Each session is counted once, by its first line; in a log of one login, its acceptance is counted, and the code
-/// that passed, and not the one that failed; and two codes in a row that passed are counted once.
+/// Each session is counted once, at its first line. In a log of one login, its acceptance is counted, and the code that passed, but
+/// not the one that failed. Two codes in a row that passed are counted once.
 pub fn counted_logs()
     ensures sessions { (sessions : List Session)
         → (counts_of (header ∷ flat_map session_lines sessions)).sessions ≡ length sessions }
@@ -162,24 +162,24 @@ pub fn counted_logs()
         ≡ record { sessions = 1; accepted = 1; passed = 1 } }
 {}
 
-/// After a valid login, the next two codes in a row of a HOTP token pass by the counter of the second: with that reply
-/// the log is clean, and with the counter of the first it is at fault there, and the reason names the pass that is due.
-/// A TOTP token has no two codes in a row that pass: a pass of two is at fault, and FAIL is due.
+/// After a valid login, the next two codes in a row of a HOTP token pass with the counter of the second. With that reply the log is
+/// clean; with the counter of the first it is at fault there, and the reason names the pass that is due. Two codes in a row never
+/// pass with a TOTP token: a pass of two is at fault, and FAIL is due.
 pub fn logs_of_two_codes()
     ensures passes { (accounts : Accounts) (mechanism name : List ℕ) (exchange : Exchange) (moment : ℕ) (t : HotpFields)
         → IsLoginTo accounts mechanism name exchange → IsMoment moment → accounts.token name ≡ Some (Hotp t)
         → t.failures < t.limit → IsDigitCount t.digits → IsCounter (t.next + 1) → IsClean accounts
-        (original_bytes (login_session mechanism exchange ++ next_two t ∷ passes moment (t.next + 1) ∷ gone ∷ ended ∷ [])) }
+        (original_bytes (login_session mechanism exchange ++ next_two t ∷ pass_line moment (t.next + 1) ∷ gone ∷ ended ∷ [])) }
     ensures first_counter { (accounts : Accounts) (mechanism name : List ℕ) (exchange : Exchange) (moment : ℕ) (t : HotpFields)
         → IsLoginTo accounts mechanism name exchange → IsMoment moment → accounts.token name ≡ Some (Hotp t)
         → t.failures < t.limit → IsDigitCount t.digits → IsCounter (t.next + 1) → IsWhy accounts
-        (original_bytes (login_session mechanism exchange ++ next_two t ∷ passes moment t.next ∷ [])) 8
+        (original_bytes (login_session mechanism exchange ++ next_two t ∷ pass_line moment t.next ∷ [])) 8
         (other_reply moment (Some (Pass (t.next + 1)))) }
     ensures of_totp { (accounts : Accounts) (mechanism name : List ℕ) (exchange : Exchange) (first second : List ℕ) (moment counter : ℕ)
         (t : TotpFields)
         → IsLoginTo accounts mechanism name exchange → IsMoment moment → accounts.token name ≡ Some (Totp t)
         → t.failures < t.limit → IsCodeWord first → IsCodeWord second → IsCounter counter → IsWhy accounts
-        (original_bytes (login_session mechanism exchange ++ heard (sync first second) ∷ passes moment counter ∷ [])) 8
+        (original_bytes (login_session mechanism exchange ++ heard (sync first second) ∷ pass_line moment counter ∷ [])) 8
         (other_reply moment (Some Fail)) }
 {
     next_two_hotp_codes_pass();

@@ -1,4 +1,4 @@
-//! Laws of lines and logs, for proofs that rest on this crate. Each is the promise of a function that does nothing.
+//! Laws of lines and logs, for proofs that build on this crate. Each is the contract of a function that does nothing.
 ghost use Rattle.log_grammar.specs.laws.LineLaws.{EscapesOneMessage, EachTextIsAtMostOneLine, EachTextIsAtMostOneLogLine, LineIsDecided};
 ghost use Rattle.log_grammar.specs.laws.LineLaws.{LogLineIsDecided, WrittenLinesAreRead, LinesLackLf, BytesAreSplit, BytesAreSplitOneWay};
 ghost use Rattle.log_grammar.specs.laws.LogLaws.{GoesOnByALine, GoesOnByNoOther, LogsHaveOneReading, FrontsBeginWithFronts};
@@ -12,7 +12,7 @@ use scram_text::laws::{
     name_is_decided, server_final_is_decided, server_first_is_decided, spells_one_name,
 };
 
-/// A spelling is that of one message: a reader of a line knows which bytes were sent.
+/// A text is the spelling of at most one message, so a reader of a line knows which bytes were sent.
 pub fn escapes_one_message()
     ensures { EscapesOneMessage }
 {}
@@ -27,18 +27,18 @@ pub fn each_text_is_at_most_one_log_line()
     ensures { EachTextIsAtMostOneLogLine }
 {}
 
-/// For every text there is a line of the protocol that it is, or there is none.
+/// It is decidable whether a text is a line of the protocol.
 pub fn line_is_decided()
     ensures { LineIsDecided }
 {}
 
-/// For every text there is a line of a log that it is, or there is none.
+/// It is decidable whether a text is a line of a log.
 pub fn log_line_is_decided()
     ensures { LogLineIsDecided }
 {}
 
-/// A written line is read as the same line: the text of a line in its ranges, of at most 6202 bytes, is this line
-/// and no other, and has no LF.
+/// A written line is read as the same line: the text of a line in its ranges, if it has at most 6202 bytes, is this line and no
+/// other, and contains no LF.
 pub fn written_lines_are_read()
     ensures { WrittenLinesAreRead }
 {
@@ -46,32 +46,32 @@ pub fn written_lines_are_read()
     lines_lack_lf();
 }
 
-/// No text of a line has an LF.
+/// The text of a line contains no LF.
 pub fn lines_lack_lf()
     ensures { LinesLackLf }
 {}
 
-/// All bytes are lines, each with its LF, and what follows the last LF.
+/// Any bytes are lines, each with its LF, and what follows the last LF.
 pub fn bytes_are_split()
     ensures { BytesAreSplit }
 {}
 
-/// Bytes are split into lines in one way.
+/// Bytes are split into lines in at most one way.
 pub fn bytes_are_split_one_way()
     ensures { BytesAreSplitOneWay }
 {}
 
-/// At a place where a line may stand, with the reply that is due where it is one, a log goes on with it.
+/// A log can continue with each line that may stand at its place; a reply also has to be the one due.
 pub fn goes_on_by_a_line()
     ensures { GoesOnByALine }
 {}
 
-/// A log goes on in no other way: before its last line it has a place where the line may stand.
+/// A log can continue in no other way: the lines before its last one lead to a place where that line may stand.
 pub fn goes_on_by_no_other()
     ensures { GoesOnByNoOther }
 {}
 
-/// The place after a log's lines, and what was told in them, follow from the lines.
+/// The place after a log's lines, and the replies in them, follow from the lines.
 pub fn logs_have_one_reading()
     ensures { LogsHaveOneReading }
 {
@@ -79,28 +79,28 @@ pub fn logs_have_one_reading()
     spells_one_name();
 }
 
-/// The first lines of a front are a front.
+/// The first lines of a front, which is whole lines that a log may begin with, are a front too.
 pub fn fronts_begin_with_fronts()
     ensures { FrontsBeginWithFronts }
 {}
 
-/// A clean log is a front, so that all first lines of it are fronts.
+/// A clean log is a front, so its first lines, however many, are one too.
 pub fn clean_logs_are_fronts()
     ensures { CleanLogsAreFronts }
 {}
 
-/// Where their moments are in range, as in every log that was read, replies are due exactly where each account's own
-/// replies are due to it alone.
+/// If their moments are in range, as in every log that was read, a log's replies are due if and only if, for each account, its own
+/// replies, taken by themselves, are due.
 pub fn each_account_has_its_history()
     ensures { EachAccountHasItsHistory }
 {}
 
-/// What was told in a log that is read from bytes was told at moments in their range.
+/// The replies in a log that is read from bytes have moments in their range.
 pub fn moments_are_in_range()
     ensures { MomentsAreInRange }
 {}
 
-/// Bytes have one fault line at most.
+/// Bytes have at most one fault line.
 pub fn has_one_fault_line()
     ensures { HasOneFaultLine }
 {}
@@ -138,8 +138,8 @@ pub fn classes_follow_the_place()
     ensures { ClassesFollowThePlace }
 {}
 
-/// Each front begins a clean log, where a challenge can be written for each account and decoy: whatever a log may
-/// begin with can be completed to a clean log.
+/// Each front begins a clean log, if a challenge can be written for each account and decoy: whatever a log may begin with can be
+/// completed to a clean log.
 pub fn fronts_begin_clean()
     ensures { FrontsBeginClean }
 {

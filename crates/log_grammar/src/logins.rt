@@ -14,8 +14,8 @@ use scram_ends::honest_login;
 use scram_ends::laws::{accepts_exactly_valid, at_most_one_verdict_is_due};
 use scram_text::laws::{has_one_client_first, spells_one_name};
 
-/// An `S OK` may stand in a log exactly where the messages of its session before it, and its own, are a valid login
-/// (RFC 5802, sections 3 and 5) to the account that the first of them names, by its session's mechanism.
+/// An `S OK` may stand in a log if and only if its message and the messages of its session before it are a valid login (RFC 5802,
+/// sections 3 and 5) to the account that the first of them names, with the session's mechanism.
 pub fn each_ok_ends_a_login()
     ensures { EachOkEndsALogin }
 {
@@ -24,8 +24,8 @@ pub fn each_ok_ends_a_login()
     spells_one_name();
 }
 
-/// A log of a valid login is clean where the client then goes away, where a code, or two in a row, is answered by a
-/// halt, and where it is answered by the reply that is due to it, or, where the account has no token, that it has none.
+/// A log of a valid login is clean if the client then goes away, if a code, or two in a row, is followed by a halt, and if it is
+/// followed by the reply that is due, which is NOCODE if the account has no token.
 pub fn logins_are_clean()
     ensures gone { LoginsAreClean original_bytes }
     ensures halted { LoginsMayHalt original_bytes }
@@ -34,8 +34,8 @@ pub fn logins_are_clean()
     accepts_exactly_valid();
 }
 
-/// A log that has a valid login as refused is at fault there, and so is one that has a code, or two in a row, after it
-/// answered by a reply other than the one due. The reason names the acceptance, by its signature, and the reply that is due.
+/// A log that records a valid login as refused is at fault there, and so is one in which a code, or two in a row, after the login
+/// has a reply other than the one due. The reason names what is due: the acceptance, with its signature, or the reply.
 pub fn other_answers_to_logins_are_at_fault()
     ensures refused { RefusedLoginsAreAtFault original_bytes }
     ensures answered { OtherRepliesAreAtFault original_bytes }
@@ -47,8 +47,8 @@ pub fn other_answers_to_logins_are_at_fault()
     spells_one_name();
 }
 
-/// There is a valid login to each account with a plain name whose keys are those of a password, with a salt and a
-/// count that a challenge can show, as those of every account book are.
+/// There is a valid login to each account with a plain name whose keys are those of a password, with a salt and a count that fit
+/// into a challenge, as those of every account book do.
 pub fn passwords_log_in()
     ensures { PasswordsLogIn }
 {
@@ -57,7 +57,7 @@ pub fn passwords_log_in()
     spells_one_name();
 }
 
-/// Some clean log ends with a halt, wherever one account has a password.
+/// If an account with a plain name can be challenged and has a password, some clean log ends with a halt.
 pub fn some_log_halts()
     ensures { (accounts : Accounts) (m : Mechanism) (name password : List ℕ) → CanBeChallenged (accounts.entry m name) → IsPlainName name
         → HasPassword (accounts.entry m name) m password → (lines : List LogLine) × IsClean accounts (log_bytes (lines ++ said halt ∷ [])) }

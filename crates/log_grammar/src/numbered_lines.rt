@@ -1,4 +1,4 @@
-//! Laws of the lines of a log of version 2: each is the promise of a function that does nothing.
+//! Laws of the lines of a log of version 2. Each is the contract of a function that does nothing.
 ghost use Rattle.log_grammar.specs.laws.NumberedLineLaws.{IsOneNumberedLineOrNone, UnnumberedLinesAreNone, WrittenNumberedLinesAreRead};
 ghost use Rattle.log_grammar.specs.laws.NumberedLineLaws.{NumbersGoBeforeLines};
 
@@ -7,19 +7,19 @@ pub fn is_one_numbered_line_or_none()
     ensures { IsOneNumberedLineOrNone }
 {}
 
-/// A line of a log without a number, as the first line of a log, is no numbered line.
+/// A line of a log without a number, such as the first line of a log, is not a numbered line.
 pub fn unnumbered_lines_are_none()
     ensures { UnnumberedLinesAreNone }
 {}
 
-/// A written line is read as the same line: the text of a number in its range and of a line that can be written is read as
-/// them and as no other, has no LF, and has at most 6222 bytes.
+/// A written line is read as the same line: the text of a number in its range and of a line that can be written is read as this
+/// numbered line and no other, contains no LF, and has at most 6222 bytes.
 pub fn written_numbered_lines_are_read()
     ensures { WrittenNumberedLinesAreRead }
 {}
 
-/// A number in its range, a space and a text are a numbered line exactly where the text is a line that may have a number;
-/// they have this number.
+/// A number in its range, a space and a text are a numbered line if and only if the text is a line that may have a number; the
+/// numbered line then has this number.
 pub fn numbers_go_before_lines()
     ensures { NumbersGoBeforeLines }
 {}

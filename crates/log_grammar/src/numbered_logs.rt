@@ -1,5 +1,5 @@
-//! Laws of whole logs of version 2, as bytes, for every limit of open sessions: each is the promise of a function that
-//! does nothing.
+//! Laws of whole logs of version 2, as bytes, for every limit of open sessions. Each is the contract of a function that does
+//! nothing.
 ghost use Rattle.log_grammar.specs.laws.NumberedLogLaws.{EachNumberedLogIsJudged, NumberedLogsHaveOneWhy, NumberedFrontsBeginWithFronts};
 ghost use Rattle.log_grammar.specs.laws.NumberedLogLaws.{NumberedFrontsBeginClean};
 
@@ -38,13 +38,13 @@ pub fn numbered_logs_have_one_why()
     only_one_reply_is_due();
 }
 
-/// The first lines of a front are a front.
+/// The first lines of a front, which is whole lines that a log may begin with, are a front too.
 pub fn numbered_fronts_begin_with_fronts()
     ensures { NumberedFrontsBeginWithFronts }
 {}
 
-/// Each front begins a clean log, where a challenge can be written for each account and decoy: the sessions that are open
-/// are closed one by one, or a halt ends all.
+/// Each front begins a clean log, if a challenge can be written for each account and decoy: the sessions that are open are closed
+/// one by one, or a halt ends them all.
 pub fn numbered_fronts_begin_clean()
     ensures { NumberedFrontsBeginClean }
 {

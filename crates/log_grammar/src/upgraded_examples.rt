@@ -1,4 +1,4 @@
-//! The small logs as upgraded logs: each is judged as the log of version 1 is.
+//! The small logs as upgraded logs: each is judged like the log of version 1.
 ghost use Rattle.std.specs.Prelude.{[], ◌∷◌, codes};
 ghost use Rattle.log_grammar.specs.Bytes.{ended_by_lf};
 ghost use Rattle.log_grammar.specs.Demands.{Accounts};
@@ -9,9 +9,9 @@ ghost use Rattle.log_grammar.specs.laws.UpgradedExamples.{header_two_text, one_n
 
 use scram_text::laws::{has_one_client_first, spells_one_name};
 
-/// These logs of version 2 are clean: the first line alone; sessions that the client ends by `ABORT`, by a line that was not
-/// due, or by going away; one of a mechanism that is not offered; one whose first message is refused; one that ends
-/// after the empty challenge; and two sessions, one after the other.
+/// These logs of version 2 are clean: only the first line; sessions that the client ends with `ABORT`, with a line that was not
+/// due, or by going away; one with a mechanism that is not offered; one whose first message is refused; one that ends after the
+/// empty challenge; and two sessions, one after the other.
 pub fn clean_upgraded_logs()
     ensures first { (accounts : Accounts) → IsClean accounts (ended_by_lf (header_two_text ∷ [])) }
     ensures aborted { (accounts : Accounts) → IsClean accounts (one_numbered (codes "1 C ABORT" ∷ numbered_no)) }
@@ -26,7 +26,7 @@ pub fn clean_upgraded_logs()
         ∷ codes "2 S NO :" ∷ codes "2 E" ∷ [])) }
 {}
 
-/// A log of version 2 is cut where a session of the clean logs above stops before its last line.
+/// A log of version 2 is cut if a session of the clean logs above stops before its last line.
 pub fn cut_upgraded_logs()
     ensures offer { (accounts : Accounts) → IsWhy accounts (one_numbered []) 3 is_cut }
     ensures aborted { (accounts : Accounts) → IsWhy accounts (one_numbered (codes "1 C ABORT" ∷ [])) 4 is_cut }
@@ -51,10 +51,9 @@ pub fn cut_upgraded_logs()
     spells_one_name();
 }
 
-/// These lines are at fault in a log of version 2: a line whose class is not due, as a session that begins where `E` is
-/// due; other names of mechanisms; a challenge where none is due, and none where one is; an `S OK`, or an `S NO` with a
-/// message, where a bare `S NO` is due; a first line of either version again; and a line without a number, or a first line
-/// with one.
+/// These lines are at fault in a log of version 2: a line whose class is not due, such as a session that begins where `E` is due;
+/// other names of mechanisms; a challenge where none is due, and another line where one is; an `S OK`, or an `S NO` with a message,
+/// where a bare `S NO` is due; a first line of either version again; and a line without a number, or a first line with one.
 pub fn faulty_upgraded_logs()
     ensures order { (accounts : Accounts) → IsWhy accounts (ended_by_lf (header_two_text ∷ codes "1 C ABORT" ∷ [])) 2 out_of_order }
     ensures end { (accounts : Accounts) → IsWhy accounts

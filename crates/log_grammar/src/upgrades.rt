@@ -1,4 +1,4 @@
-//! Laws of upgraded logs, whole logs of version 1 with the numbers of their sessions, as bytes: each is the promise of a
+//! Laws of upgraded logs: whole logs of version 1 with the numbers of their sessions added, as bytes. Each is the contract of a
 //! function that does nothing.
 ghost use Rattle.log_grammar.specs.laws.UpgradedLogs.{LogsWithNumbersAreClean, UpgradedLogsAreClean, UpgradedLogsHaveTheSameFault};
 ghost use Rattle.log_grammar.specs.laws.UpgradedLogs.{UpgradedLogsHaveTheSameCounts};
@@ -6,20 +6,22 @@ ghost use Rattle.log_grammar.specs.laws.UpgradedLogs.{UpgradedLogsHaveTheSameCou
 use crate::consequences::{clean_logs_have_no_fault, logs_have_one_judgement};
 use crate::laws::each_log_is_judged;
 
-/// Where each line after the first gets the number that is one more than the number of `E` lines before it, the lines are those of a
-/// clean log of version 1 exactly where the numbered lines are those of a clean log of version 2, if one session at least may be open.
+/// Let each line after the first get the number that is one more than the number of `E` lines before it. If at least one session
+/// may be open, the lines are those of a clean log of version 1 if and only if the numbered lines are those of a clean log of
+/// version 2.
 pub fn logs_with_numbers_are_clean()
     ensures { LogsWithNumbersAreClean }
 {}
 
-/// The bytes of a log of version 1 are clean exactly where those of the upgraded log are.
+/// If its lines can be written and are fewer than 2^63 - 2 (`CanBeUpgraded`), the bytes of a log of version 1 are clean if and only
+/// if those of the upgraded log are.
 pub fn upgraded_logs_are_clean()
     ensures { UpgradedLogsAreClean }
 {}
 
-/// Where no first line stands among the others, line k of a log of version 1 is at fault for a reason exactly where line k
-/// of the upgraded log is, for the same reason. A first line that stands again is out of order in the old log; with a number it
-/// is no line.
+/// If its lines can be upgraded, and no first line stands among the others, line k of a log of version 1 is at fault for a reason
+/// if and only if line k of the upgraded log is at fault for the same reason. A second first line is out of order in the old log;
+/// with a number it is not a line.
 pub fn upgraded_logs_have_the_same_fault()
     ensures { UpgradedLogsHaveTheSameFault }
 {
@@ -28,7 +30,7 @@ pub fn upgraded_logs_have_the_same_fault()
     logs_have_one_judgement();
 }
 
-/// An upgraded log has as many sessions, logins accepted and codes passed as the old one.
+/// An upgraded log has as many sessions, accepted logins and passed codes as the old one.
 pub fn upgraded_logs_have_the_same_counts()
     ensures { UpgradedLogsHaveTheSameCounts }
 {}

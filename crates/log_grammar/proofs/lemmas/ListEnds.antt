@@ -1,4 +1,4 @@
--- Lists by their last elements, and by those within.
+-- Lists with a last element, and their elements in general.
 use Rattle.std.proofs.Common.{◌≡◌, ◌⊎◌, inl, inr, ℕ, zero, suc, ◌+◌, ◌<◌, List, [], ◌∷◌, ◌++◌, length, take, refl, sym, ◌∙◌, ap, arith}
 use Rattle.std.proofs.Common.{length-append, append_assoc, subst, append-nil}
 use Rattle.std.specs.List.{AllByRecursion, AllZip}
@@ -11,7 +11,7 @@ pub empty_has_no_element : {A : Type 0} (before : List A) (x : A) (rest : List A
 empty_has_no_element [] x rest e = cc e
 empty_has_no_element (y ∷ before) x rest e = cc e
 
--- an element of a list with a last element is that one, or stands before it
+-- an element of a list with a last element is the last one, or stands before it
 pub last_or_earlier : {A : Type 0} (log : List A) (x : A) (before : List A) (y : A) (rest : List A) → log ++ x ∷ [] ≡ before ++ y ∷ rest
     → ((log ≡ before) × (x ≡ y)) ⊎ ((less : List A) × (log ≡ before ++ y ∷ less))
 last_or_earlier log x before y [] e = inl (same_from_push log before x y e)
@@ -20,12 +20,12 @@ last_or_earlier log x before y (z ∷ rest) e =
     let moved = ap (λ l. before ++ y ∷ l) last.2 ∙ sym (append_assoc before (y ∷ last.0) (last.1 ∷ [])) in
     inr (last.0, (same_from_push log (before ++ y ∷ last.0) x last.1 (e ∙ moved)).0)
 
--- what stands before a list's end stands in a longer list
+-- an element of a list stands at the same place in a longer list
 pub element_stays_in_place : {A : Type 0} (log more before : List A) (y : A) (rest : List A) → log ≡ before ++ y ∷ rest
     → log ++ more ≡ before ++ y ∷ (rest ++ more)
 element_stays_in_place log more before y rest e = ap (λ l. l ++ more) e ∙ append_assoc before (y ∷ rest) more
 
--- where a list with a last element is related to another, the other has a last element too, and they are related part by part
+-- if a list with a last element is related to another list, that one has a last element too, and their parts are related
 pub related_list_has_last : {A B : Type 0} (R : A → B → Type 0) (xs : List A) (x : A) (ys : List B) → AllZip R (xs ++ x ∷ []) ys
     → (front : List B) × (y : B) × (ys ≡ front ++ y ∷ []) × AllZip R xs front × R x y
 related_list_has_last R [] x [] all = absurd all
@@ -36,7 +36,7 @@ related_list_has_last R (a ∷ xs) x (y ∷ ys) all =
     let (front, z, same, those, this) = related_list_has_last R xs x ys all.1 in
     (y ∷ front, z, ap (λ l. y ∷ l) same, (all.0, those), this)
 
--- where lists are related, and more are, so are both appended
+-- if two pairs of lists are related, so are the lists appended
 pub related_lists-append : {A B : Type 0} (R : A → B → Type 0) (xs more : List A) (ys others : List B) → AllZip R xs ys
     → AllZip R more others → AllZip R (xs ++ more) (ys ++ others)
 related_lists-append R [] more [] others are also = also
@@ -44,7 +44,7 @@ related_lists-append R [] more (y ∷ ys) others are also = absurd are
 related_lists-append R (x ∷ xs) more [] others are also = absurd are
 related_lists-append R (x ∷ xs) more (y ∷ ys) others are also = (are.0, related_lists-append R xs more ys others are.1 also)
 
--- where an element is related to one at most, a list is related to one list at most
+-- if each element is related to at most one other, each list is related to at most one list
 pub one_related_list : {A B : Type 0} (R : A → B → Type 0) → ((x : A) (y z : B) → R x y → R x z → y ≡ z)
     → (xs : List A) (ys zs : List B) → AllZip R xs ys → AllZip R xs zs → ys ≡ zs
 one_related_list R one [] [] [] a b = refl
@@ -55,22 +55,22 @@ one_related_list R one (x ∷ xs) (y ∷ ys) [] a b = absurd b
 one_related_list R one (x ∷ xs) (y ∷ ys) (z ∷ zs) a b =
     ap (λ l. l ∷ ys) (one x y z a.0 b.0) ∙ ap (λ l. z ∷ l) (one_related_list R one xs ys zs a.1 b.1)
 
--- what holds of the front of a list, and of each list with one more at its end where it holds of the list, holds of the list
+-- a property that the front of a list has, and that one more element at the end keeps, is true of the whole list
 holds_after_front : {A : Type 0} (P : List A → Type 0) → ((xs : List A) (x : A) → P xs → P (xs ++ x ∷ [])) → (front back : List A)
     → P front → P (front ++ back)
 holds_after_front P step front [] holds = subst P (sym (append-nil front)) holds
 holds_after_front P step front (x ∷ back) holds =
     subst P (append_assoc front (x ∷ []) back) (holds_after_front P step (front ++ x ∷ []) back (step front x holds))
 
--- what holds of no elements, and of each list with one more at its end where it holds of the list, holds of each list
+-- a property that the empty list has, and that one more element at the end keeps, is true of each list
 pub holds_by_last : {A : Type 0} (P : List A → Type 0) → P [] → ((xs : List A) (x : A) → P xs → P (xs ++ x ∷ [])) → (xs : List A) → P xs
 holds_by_last P none step xs = holds_after_front P step [] xs none
 
--- a list with one more element at its end is longer by one
+-- a list with one more element at its end has length 1 more
 pub length-last : {A : Type 0} (xs : List A) (x : A) → length (xs ++ x ∷ []) ≡ length xs + 1
 length-last xs x = length-append xs (x ∷ [])
 
--- no elements taken are none
+-- the first 0 elements of a list are none
 take_none : {A : Type 0} (xs : List A) → take 0 xs ≡ []
 take_none [] = refl
 take_none (x ∷ xs) = refl
@@ -79,7 +79,7 @@ take_none (x ∷ xs) = refl
 pub take-append_next : {A : Type 0} (xs : List A) (x : A) (more : List A) → take (length xs + 1) (xs ++ x ∷ more) ≡ xs ++ x ∷ []
 take-append_next xs x more = take-append-add xs (x ∷ more) 1 ∙ ap (λ l. xs ++ x ∷ l) (take_none more)
 
--- a list has an element at each index below its length, with as many elements before it
+-- at each index below a list's length there is an element, with that many elements before it
 pub index_has_element : {A : Type 0} (xs : List A) (n : ℕ) → n < length xs
     → (before : List A) × (x : A) × (more : List A) × (xs ≡ before ++ x ∷ more)
     × (n ≡ length before)
@@ -89,13 +89,13 @@ index_has_element (a ∷ xs) (suc n) less =
     let (before, x, more, same, at) = index_has_element xs n (omega (arith, less)) in
     (a ∷ before, x, more, ap (λ l. a ∷ l) same, ap suc at)
 
--- what holds of each of two lists holds of each of both
+-- what is true of each element of two lists is true of each element of both appended
 pub all_append : {A : Type 0} (P : A → Type 0) (front back : List A) → AllByRecursion P front → AllByRecursion P back
     → AllByRecursion P (front ++ back)
 all_append P [] back h k = k
 all_append P (a ∷ front) back h k = (h.0, all_append P front back h.1 k)
 
--- what holds of each element of a list holds of each in front, of each after the front, and of any one within:
+-- what is true of each element of a list is true of each element of its front, of each after the front, and of any single one:
 pub all_front : {A : Type 0} (P : A → Type 0) (front back : List A) → AllByRecursion P (front ++ back) → AllByRecursion P front
 all_front P [] back each = tt
 all_front P (a ∷ front) back each = (each.0, all_front P front back each.1)

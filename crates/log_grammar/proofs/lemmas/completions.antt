@@ -1,4 +1,4 @@
--- Each front of a log begins a clean one: the lines that may follow at each place.
+-- Each front of a log begins a clean log: which lines may follow at each place.
 pub mod Verdicts
 pub mod EachPlace
 pub mod Closings

@@ -1,4 +1,4 @@
--- The text of a line: read back, cut at LF, decided.
+-- The text of a line: how it is read back and cut at each LF, and that it is decidable whether a text is a line.
 pub mod Payloads
 pub mod Words
 pub mod ReadBack

@@ -1,6 +1,8 @@
 -- For src/logins.rt and src/upgraded_logins.rt: the lines of one login, and of a wrong answer to it. For src/by_sessions.rt:
--- the login that a code is of.
+-- the login that a code belongs to.
 pub mod ValidLogins
+pub mod CleanLogins
+pub mod PasswordLogins
 pub mod CodesOfLogin
 pub mod OtherAnswers
 pub mod Upgraded

@@ -1,4 +1,4 @@
--- Version 2: the lines of each number, where they stand, and how the log goes on.
+-- Version 2: the lines of each number, where they stand, and how the log continues.
 pub mod LinesOfNumber
 pub mod Visits
 pub mod NumberedReplies

@@ -6,4 +6,5 @@ pub mod FaultyLogs
 pub mod Edges
 pub mod TwoCodes
 pub mod TwoSessions
-pub mod Upgraded
+pub mod DigitLogs
+pub mod SecondLines

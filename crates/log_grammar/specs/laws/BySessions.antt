@@ -1,5 +1,5 @@
--- Clean logs by the sessions that they are made of, the line at fault by the clean logs that lines begin, and the
--- account of each code by the login of its session.
+-- Clean logs in terms of the sessions that they are made of, the line at fault in terms of the clean logs that lines begin, and the
+-- account of each code in terms of the login of its session.
 use Rattle.std.specs.Prelude.{ℕ, ◌≡◌, ◌⊎◌, ◌↔◌, List, [], ◌∷◌, ◌++◌, flat_map}
 use Rattle.std.specs.List.{AllByRecursion}
 use Rattle.otp_core.specs.Attempt.{CodeTexts}
@@ -24,39 +24,42 @@ IsClosed s = EndsWith (session_lines s) (ended ∷ [])
 abbrev pub IsHalted : Session → Type 0
 IsHalted s = EndsWith (session_lines s) (said halt ∷ [])
 
--- each session but the last is closed, and the last is closed or halted
+-- each session except the last is closed, and the last is closed or halted
 abbrev pub AreFinished : List Session → Type 0
 AreFinished [] = Unit {0}
 AreFinished (s ∷ []) = IsClosed s ⊎ IsHalted s
 AreFinished (s ∷ t ∷ more) = IsClosed s × AreFinished (t ∷ more)
 
--- the bytes are `SCRAMLOG 1` and the lines of these sessions, each ended by an LF; each session meets its demands; and
--- what was told of each account in all of them, in its order, is a legal history of its token
+-- the bytes are a log of version 1 made of these sessions
 pub record IsLogOf (accounts : Accounts) (bytes : List ℕ) (sessions : List Session) : Type 0 where
+  -- the bytes are `SCRAMLOG 1` and the lines of the sessions, each ended by an LF
   pub spelled : bytes ≡ log_bytes (header ∷ flat_map session_lines sessions)
   pub lines : AllByRecursion IsWritable (flat_map session_lines sessions)
+  -- each session is closed, or is the last one and halted
   pub finished : AreFinished sessions
+  -- each session meets its demands
   pub good : AllByRecursion (SessionMeets (demands accounts)) sessions
+  -- the replies to each account in all sessions, in order, are a legal history of its token
   pub histories : (account : List ℕ) → IsHistory (accounts.token account) account (flat_map session_told sessions)
 
--- a log of version 1 is clean exactly where it is that of some sessions
+-- a log of version 1 is clean if and only if it is that of some sessions
 abbrev pub CleanLogsAreThoseOfSessions : Type 0
 CleanLogsAreThoseOfSessions = (accounts : Accounts) (bytes : List ℕ)
     → IsCleanOf (version_one accounts) bytes ↔ ((sessions : List Session) × IsLogOf accounts bytes sessions)
 
--- where a challenge can be written for each name, whole lines are a front exactly where they begin a clean log
+-- if a challenge can be written for each name, whole lines are a front if and only if they begin a clean log
 abbrev pub FrontsAreWhatBeginsCleanLogs : Type 0
 FrontsAreWhatBeginsCleanLogs = (accounts : Accounts) → AllCanBeChallenged accounts → (bytes : List ℕ) (texts : List (List ℕ))
     → IsSplit bytes texts []
     → IsFront accounts bytes ↔ BeginsClean accounts bytes
 
--- where a challenge can be written for each name, a line is the fault line exactly where it is the first that begins no clean log
+-- if a challenge can be written for each name, a line is the fault line if and only if it is the first that begins no clean log
 abbrev pub FaultLinesBeginNoCleanLog : Type 0
 FaultLinesBeginNoCleanLog = (accounts : Accounts) → AllCanBeChallenged accounts
     → (bytes : List ℕ) (texts : List (List ℕ)) (rest : List ℕ) (k : ℕ)
     → IsSplit bytes texts rest → IsFaultLine accounts bytes k ↔ IsFirstOutsideCleanLogs accounts bytes texts k
 
--- the session begins with `S MECHS` and the lines by which the client sends this first message
+-- the session begins with `S MECHS` and the lines with which the client sends this first message
 abbrev pub HasFirst : Session → (mechanism first : List ℕ) → Type 0
 HasFirst s mechanism first =
     (names : List ℕ) × (sent : List LogLine) × (more : List LogLine) × IsSentBy mechanism first sent
@@ -66,7 +69,7 @@ HasFirst s mechanism first =
 abbrev pub IsLoginOf : Session → List ℕ → Type 0
 IsLoginOf s account = (mechanism : List ℕ) × (first : List ℕ) × HasFirst s mechanism first × IsFirstOf mechanism first account
 
--- the account of each code that is answered in a session that meets its demands is the one that its client-first message names
+-- in a session that meets its demands, the account of each code that is answered is the one that the client-first message names
 abbrev pub EachCodeIsOfItsLogin : Type 0
 EachCodeIsOfItsLogin = (accounts : Accounts) (s : Session) → SessionMeets (demands accounts) s
     → AllByRecursion (λ t. IsLoginOf s t.account) (session_told s)
@@ -75,7 +78,7 @@ EachCodeIsOfItsLogin = (accounts : Accounts) (s : Session) → SessionMeets (dem
 abbrev pub EndsInLoginOf : List LogLine → List ℕ → Type 0
 EndsInLoginOf log account = (s : Session) × EndsWith log (session_lines s) × IsLoginOf s account
 
--- where the reply to a code is due, the last lines are those of a session whose client-first names the account
+-- when the reply to a code is due, the last lines are those of a session whose client-first message names the account
 abbrev pub EachReplyDueFollowsItsLogin : Type 0
 EachReplyDueFollowsItsLogin = (accounts : Accounts) (log : List LogLine) (account : List ℕ) (sent : CodeTexts) (told : List LoggedReply)
     → Begins (demands accounts) log (got_code account sent) told → EndsInLoginOf log account

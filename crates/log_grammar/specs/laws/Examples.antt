@@ -12,11 +12,11 @@ header_one_text = codes "SCRAMLOG 1"
 abbrev pub offer_text : List ℕ
 offer_text = codes "S MECHS SCRAM-SHA-256 SCRAM-SHA-1"
 
--- the first line alone
+-- a log of only the first line
 abbrev pub first_alone : List ℕ
 first_alone = ended_by_lf (header_one_text ∷ [])
 
--- a log of one session, by the lines after the first of the session
+-- a log of one session, from the lines after the first of the session
 abbrev pub one_session : List (List ℕ) → List ℕ
 one_session texts = ended_by_lf (header_one_text ∷ offer_text ∷ texts)
 

@@ -1,4 +1,4 @@
--- What was told of one account alone.
+-- The replies to one account only.
 use Rattle.std.specs.Prelude.{ℕ, ◌≡◌, List, reverse}
 use Rattle.std.specs.List.{AllByRecursion}
 use Rattle.std.specs.declared.option.Option.{Option}
@@ -9,16 +9,16 @@ use Rattle.otp_core.specs.declared.token.kinds.TokenFields.{TokenFields}
 use Rattle.log_grammar.specs.LoggedReply.{LoggedReply}
 use Rattle.log_grammar.specs.Demands.{attempts_of}
 
--- if this was told of this account, there was no reply
+-- if this was logged for this account, there was no reply
 abbrev pub HasNoReply : List ℕ → LoggedReply → Type 0
 HasNoReply account t = t.account ≡ account → t.reply ≡ None
 
--- if this was told of this account, there was a reply
+-- if this was logged for this account, there was a reply
 abbrev pub HasReply : List ℕ → LoggedReply → Type 0
 HasReply account t = t.account ≡ account → (reply : Reply) × (t.reply ≡ Some reply)
 
--- an account without a token has no reply to any code; one with a token has a reply to each, and its
--- attempts, in their order, are a legal history of the token
+-- an account without a token has no reply to any code; one with a token has a reply to each, and its attempts, in order, are a
+-- legal history of the token
 abbrev pub IsHistory : Option TokenFields → List ℕ → List LoggedReply → Type 0
 IsHistory None account told = AllByRecursion (HasNoReply account) told
 IsHistory (Some token) account told =

@@ -15,17 +15,17 @@ offer n = numbered n (said (mechs offered_names))
 abbrev pub turns_away : ℕ → Numbered LogLine
 turns_away n = numbered n (said busy)
 
--- two sessions, each line among those of the other, and a third that is turned away while both are open
+-- two sessions whose lines are interleaved, and a third that is turned away while both are open
 abbrev pub two_at_once : List (Numbered LogLine)
 two_at_once =
     offer 1 ∷ offer 2 ∷ numbered 1 gone ∷ turns_away 3 ∷ numbered 3 ended ∷ numbered 2 (heard abort) ∷ numbered 1 ended
     ∷ numbered 2 (said (refuses [])) ∷ numbered 2 ended ∷ []
 
--- where two sessions may be open at once, these are the lines of a log that may end there
+-- if two sessions may be open at once, these are the lines of a log that may end there
 abbrev pub IsWholeForTwo : Accounts → List (Numbered LogLine) → Type 0
 IsWholeForTwo accounts log = (places : ℕ → Place) × SpellsNumbered 2 (demands accounts) log places [] × MayEndNumbered places
 
--- where two sessions may be open at once, no log begins with these lines
+-- if two sessions may be open at once, no log begins with these lines
 abbrev pub BeginsNoneForTwo : Accounts → List (Numbered LogLine) → Type 0
 BeginsNoneForTwo accounts log = (rest : List (Numbered LogLine)) (places : ℕ → Place) (told : List LoggedReply)
     → SpellsNumbered 2 (demands accounts) (log ++ rest) places told → ⊥

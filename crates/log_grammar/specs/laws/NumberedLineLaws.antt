@@ -18,15 +18,14 @@ IsOneNumberedLineOrNone = (text : List ℕ)
 abbrev pub UnnumberedLinesAreNone : Type 0
 UnnumberedLinesAreNone = (text : List ℕ) (line : LogLine) → IsLogLine text line → IsNoNumberedLine text
 
--- the text of a number in its range and of a line that may have one and can be written is read as this numbered line and
--- as no other, has no LF, and is not too long
+-- if a number is in its range, and a line may have a number and can be written, their text is read as this numbered line and as no
+-- other, has no LF, and is not too long
 abbrev pub WrittenNumberedLinesAreRead : Type 0
 WrittenNumberedLinesAreRead = (x : Numbered LogLine) → IsSessionNumber x.number → IsNoFirstLine x.value → IsWritable x.value
     → IsNumberedLine (numbered_text x) x × ((other : Numbered LogLine) → IsNumberedLine (numbered_text x) other → other ≡ x)
     × LacksLf (numbered_text x) × (length (numbered_text x) ≤ longest_numbered_line)
 
--- a number in its range, a space and a text are a numbered line exactly where the text is a line that may have a number;
--- they have this number
+-- a number in its range, a space and a text are a numbered line, with this number, if and only if the text is a line that may have a number
 abbrev pub NumbersGoBeforeLines : Type 0
 NumbersGoBeforeLines = (n : ℕ) (text : List ℕ) → IsSessionNumber n
     → ((line : LogLine) → IsNoFirstLine line → IsLogLine text line ↔ IsNumberedLine (decimal n ++ (byte " " ∷ text)) (numbered n line))

@@ -22,7 +22,7 @@ NumberedFrontsBeginWithFronts = (limit : ℕ) (accounts : Accounts) (bytes : Lis
     → IsFrontOf (version_two limit accounts) bytes → IsSplit bytes texts []
     → IsFrontOf (version_two limit accounts) (ended_by_lf (take k texts))
 
--- each front begins a clean log, where a challenge can be written for each account and decoy
+-- each front begins a clean log, if a challenge can be written for each account and decoy
 abbrev pub NumberedFrontsBeginClean : Type 0
 NumberedFrontsBeginClean = (limit : ℕ) (accounts : Accounts) → AllCanBeChallenged accounts → (bytes : List ℕ)
     → IsFrontOf (version_two limit accounts) bytes → BeginsCleanOf (version_two limit accounts) bytes

@@ -16,21 +16,21 @@ use Rattle.log_grammar.specs.Demands.{IsNotTakenUp}
 use Rattle.log_grammar.specs.Begins.{Begins}
 use Rattle.log_grammar.specs.laws.Logins.{IsLoginTo, exchange_of}
 
--- the first lines of what a log may begin with are such lines too, and what was told in them comes first: so each
--- law of a log's last line holds for every line of it
+-- if a log may begin with some lines, it may begin with the first of them, and the replies in those come first: so each law about a
+-- log's last line holds for every line of it
 abbrev pub FirstLinesBeginLogs : Type 0
 FirstLinesBeginLogs = (accounts : Accounts) (lines more : List LogLine) (place : Place) (told : List LoggedReply)
     → Begins (demands accounts) (lines ++ more) place told
     → (at : Place) × (before : List LoggedReply) × (rest : List LoggedReply) × Begins (demands accounts) lines at before
     × (told ≡ before ++ rest)
 
--- the lines by which a client sends its first message: in `C AUTH`, or after an empty challenge
+-- the lines with which a client sends its first message: in `C AUTH`, or after an empty challenge
 abbrev pub IsSentBy : (mechanism client_first : List ℕ) → List LogLine → Type 0
 IsSentBy mechanism client_first lines =
     (lines ≡ heard (auth_with mechanism client_first) ∷ [])
     ⊎ (lines ≡ heard (auth mechanism) ∷ said (cont []) ∷ heard (resp client_first) ∷ [])
 
--- the messages that a place has are those of the last lines, which are of one session
+-- the messages in a place are those of the last lines, which are of one session
 abbrev pub HasItsMessages : Place → List LogLine → Type 0
 HasItsMessages (asks_bare mechanism) log = EndsWith log (heard (auth mechanism) ∷ [])
 HasItsMessages (waits_first mechanism) log = EndsWith log (heard (auth mechanism) ∷ said (cont []) ∷ [])
@@ -43,12 +43,12 @@ HasItsMessages (got_final mechanism account client_first server_first client_fin
 HasItsMessages (got_code account sent) log = EndsWith log (heard (code_line sent) ∷ [])
 HasItsMessages place log = Unit {0}
 
--- the messages that a log's place has are those of its lines
+-- the messages in a log's place are those of its lines
 abbrev pub PlacesHaveTheirMessages : Type 0
 PlacesHaveTheirMessages = (accounts : Accounts) (log : List LogLine) (place : Place) (told : List LoggedReply)
     → Begins (demands accounts) log place told → HasItsMessages place log
 
--- `S MECHS` may stand exactly where a session may begin, with the two names
+-- `S MECHS` may stand in a log if and only if a session may begin there, and it has the two names
 abbrev pub EachOfferIsDue : Type 0
 EachOfferIsDue = (accounts : Accounts) (log : List LogLine) (names : List ℕ) (next : Place) (told : List LoggedReply)
     → Begins (demands accounts) (log ++ said (mechs names) ∷ []) next told
@@ -63,13 +63,13 @@ IsChallengeDue accounts log text next told =
     ⊎ ((mechanism : List ℕ) × (first : List ℕ) × (name : List ℕ) × Begins (demands accounts) log (got_first mechanism first) told
     × IsChallenged accounts mechanism name first text × (next ≡ waits_final mechanism name first text))
 
--- `S CONT` may stand exactly where it is one of these challenges
+-- `S CONT` may stand in a log if and only if it is one of these challenges
 abbrev pub EachChallengeIsDue : Type 0
 EachChallengeIsDue = (accounts : Accounts) (log : List LogLine) (text : List ℕ) (next : Place) (told : List LoggedReply)
     → Begins (demands accounts) (log ++ said (cont text) ∷ []) next told ↔ IsChallengeDue accounts log text next told
 
--- the refusal that is due: a bare one of a mechanism that is not offered, of a client-first message that no server
--- takes up, or to a client that ends its session; or the verdict on three messages that no fourth makes a login
+-- the refusal that is due: a bare one, of a mechanism that is not offered, of a client-first message that a server does not take
+-- up, or to a client that ends its session; or the verdict on three messages that no fourth completes to a valid login
 abbrev pub IsRefusalDue : Accounts → List LogLine → List ℕ → List LoggedReply → Type 0
 IsRefusalDue accounts log text told =
     ((mechanism : List ℕ) × Begins (demands accounts) log (asks_bare mechanism) told
@@ -83,12 +83,12 @@ IsRefusalDue accounts log text told =
     × ((server_final : List ℕ) → IsLoginTo accounts mechanism name (exchange_of client_first server_first client_final server_final) → ⊥))
     ⊎ (Begins (demands accounts) log leaving told × (text ≡ []))))
 
--- `S NO` may stand exactly where it is the refusal that is due
+-- `S NO` may stand in a log if and only if it is the refusal that is due
 abbrev pub EachRefusalIsDue : Type 0
 EachRefusalIsDue = (accounts : Accounts) (log : List LogLine) (text : List ℕ) (next : Place) (told : List LoggedReply)
     → Begins (demands accounts) (log ++ said (refuses text) ∷ []) next told ↔ (IsRefusalDue accounts log text told × (next ≡ over))
 
--- the reply that is due to a code, or to two in a row, after what was told of its account before
+-- the reply that is due to a code, or to two in a row, after the earlier replies to its account
 pub record IsReplied (accounts : Accounts) (log : List LogLine) (moment : ℕ) (reply : Option Reply) (next : Place)
     (all : List LoggedReply) : Type 0 where
   pub account : List ℕ
@@ -99,12 +99,12 @@ pub record IsReplied (accounts : Accounts) (log : List LogLine) (moment : ℕ) (
   pub tells : all ≡ told ++ logged_reply_of account moment sent reply ∷ []
   pub is_next : next ≡ waits_code account
 
--- PASS, FAIL, LOCKED and NOCODE may stand exactly where they are that reply
+-- PASS, FAIL, LOCKED and NOCODE may stand in a log if and only if they are that reply
 abbrev pub EachReplyIsDue : Type 0
 EachReplyIsDue = (accounts : Accounts) (log : List LogLine) (moment : ℕ) (reply : Option Reply) (next : Place) (all : List LoggedReply)
     → Begins (demands accounts) (log ++ said (replies moment reply) ∷ []) next all ↔ IsReplied accounts log moment reply next all
 
--- `S HALT` may stand exactly after a code, or two in a row, whatever they are
+-- `S HALT` may stand after a code, or two in a row, whatever they are, and nowhere else
 abbrev pub EachHaltEndsACode : Type 0
 EachHaltEndsACode = (accounts : Accounts) (log : List LogLine) (next : Place) (told : List LoggedReply)
     → Begins (demands accounts) (log ++ said halt ∷ []) next told

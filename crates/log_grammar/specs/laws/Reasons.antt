@@ -1,5 +1,5 @@
--- What the reason of a fault says: the line that it names as due may stand in the place of the one at fault; and it
--- follows from the lines up to that one, whatever comes after them.
+-- What the reason for a fault says: the line that it names as due may stand instead of the one at fault; and it follows from the
+-- lines up to that one, whatever comes after them.
 use Rattle.std.specs.Prelude.{ℕ, ◌≡◌, ◌≤◌, ◌+◌, List, [], ◌∷◌, ◌++◌, length}
 use Rattle.std.specs.declared.option.Option.{Option}
 use Rattle.std.specs.declared.option.Option.TheVariants.{Some}
@@ -31,7 +31,7 @@ SaysWhatIsDue (other_outcome (accepted signature)) line = (text : List ℕ) × I
 SaysWhatIsDue (other_outcome (refused_with message)) line = line ≡ said (refuses message)
 SaysWhatIsDue (other_reply moment due) line = line ≡ said (replies moment due)
 
--- the reason names what is due, and a line can say it: a counter that passes can be written where it is in its range
+-- the reason names what is due, and a line can say it: a counter that passes can be written if it is in its range
 abbrev pub NamesWhatIsDue : Why → Type 0
 NamesWhatIsDue is_cut = ⊥
 NamesWhatIsDue no_line = ⊥
@@ -41,13 +41,12 @@ NamesWhatIsDue other_challenge = Unit {0}
 NamesWhatIsDue (other_outcome due) = Unit {0}
 NamesWhatIsDue (other_reply moment due) = IsReplyInRange due
 
--- the reply that is due to a token in its ranges has a counter in its own range
+-- the reply that is due for a token in its ranges has a counter in its own range
 abbrev pub DueRepliesCanBeWritten : Type 0
 DueRepliesCanBeWritten = (token : TokenFields) (attempts : List Attempt) (moment : ℕ) (sent : CodeTexts) (due : Option Reply)
     → IsInRange token → IsMoment moment → IsReplyDueBy (Some token) attempts moment sent due → IsReplyInRange due
 
--- line k is one of the texts; and a line that says what the reason names as due, in its place, makes the first k lines
--- begin a clean log
+-- line k is one of the texts; and if it is replaced by a line that says what the reason names as due, the first k lines begin a clean log
 pub record HasLineThatMayStand (accounts : Accounts) (texts : List (List ℕ)) (k : ℕ) (why : Why) : Type 0 where
   pub before : List (List ℕ)
   pub text : List ℕ
@@ -59,14 +58,13 @@ pub record HasLineThatMayStand (accounts : Accounts) (texts : List (List ℕ)) (
   pub writable : IsWritable line
   pub begins : BeginsClean accounts (ended_by_lf (before ++ log_line_text line ∷ []))
 
--- what a reason names as due may stand in the place of the line at fault, in a log of version 1
+-- what a reason names as due may stand instead of the line at fault, in a log of version 1
 abbrev pub WhatIsDueMayStand : Type 0
 WhatIsDueMayStand = (accounts : Accounts) → AllCanBeChallenged accounts
     → (bytes : List ℕ) (texts : List (List ℕ)) (rest : List ℕ) (k : ℕ) (why : Why)
     → IsSplit bytes texts rest → IsWhyOf (version_one accounts) bytes k why → NamesWhatIsDue why → HasLineThatMayStand accounts texts k why
 
--- each line that can be written and says what is due may stand there; except a challenge, since the reason names no
--- text of one
+-- any line that can be written and says what is due may stand there, except a challenge, since the reason does not name its text
 abbrev pub EachLineThatIsDueMayStand : Type 0
 EachLineThatIsDueMayStand = (accounts : Accounts) → AllCanBeChallenged accounts
     → (bytes : List ℕ) (before : List (List ℕ)) (text : List ℕ) (more : List (List ℕ)) (rest : List ℕ) (why : Why) (line : LogLine)
@@ -74,7 +72,7 @@ EachLineThatIsDueMayStand = (accounts : Accounts) → AllCanBeChallenged account
     → (why ≡ other_challenge → ⊥)
     → SaysWhatIsDue why line → IsWritable line → BeginsClean accounts (ended_by_lf (before ++ log_line_text line ∷ []))
 
--- where a whole line is at fault, it is at fault for the same reason in any bytes that begin with the same lines
+-- if a whole line is at fault, it is at fault for the same reason in any bytes that begin with the same lines
 abbrev pub FaultsHoldWhateverFollows : Type 0
 FaultsHoldWhateverFollows =
     (accounts : Accounts) (bytes other : List ℕ) (texts more others : List (List ℕ)) (rest also : List ℕ) (k : ℕ) (why : Why)

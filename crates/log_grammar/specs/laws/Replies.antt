@@ -1,5 +1,5 @@
--- Codes that passed in a log: each is that of its counter, inside the window, at no counter that passed before. And
--- codes that do pass, one alone and two in a row.
+-- Codes that passed in a log: each is the code of its counter, inside the window, and that counter had not passed before. Also
+-- codes that do pass: one, and two in a row.
 use Rattle.std.specs.Prelude.{ℕ, ◌≡◌, ◌<◌, ◌+◌, List, [], ◌∷◌, ◌++◌, reverse}
 use Rattle.std.specs.declared.option.Option.TheVariants.{Some}
 use Rattle.otp_core.specs.Attempt.{CodeTexts, used_in}
@@ -21,62 +21,65 @@ use Rattle.log_grammar.specs.Upgrades.{original_bytes}
 use Rattle.log_grammar.specs.laws.Logins.{Exchange, IsLoginTo, login_session}
 
 -- the line that lets a code, or two in a row, pass
-abbrev pub passes : (moment counter : ℕ) → LogLine
-passes moment counter = said (replies moment (Some (Pass counter)))
+abbrev pub pass_line : (moment counter : ℕ) → LogLine
+pass_line moment counter = said (replies moment (Some (Pass counter)))
 
--- the log ends with a code, or with two in a row, of an account that has a token; the code is the token's for this
--- counter, which could pass at the moment, after what was told of the account before; or the two are its codes for
--- the counter before this one and for this one, and that one could pass as the first of two
+-- the log ends with a code of this counter, or with two in a row of which it is the second
 pub record IsCodeOf (accounts : Accounts) (log : List LogLine) (moment counter : ℕ) (next : Place) : Type 0 where
   pub account : List ℕ
   pub sent : CodeTexts
   pub told : List LoggedReply
   pub token : TokenFields
+  -- the log waits for the reply to what the client of an account sent
   pub after : Begins (demands accounts) log (got_code account sent) told
+  -- the account has a token
   pub has_token : accounts.token account ≡ Some token
+  -- the code is the token's for the counter, which could pass at the moment, after the earlier replies to the account; or the two
+  -- are its codes for the counter before it and for it, and the former could pass as the first of two
   pub fits : IsFitting token (attempts_of account (reverse told)) moment sent counter
+  -- after the reply, the account's client may send another code
   pub is_next : next ≡ waits_code account
 
 -- PASS may stand only after such a code
 abbrev pub EachPassIsACode : Type 0
 EachPassIsACode = (accounts : Accounts) (log : List LogLine) (moment counter : ℕ) (next : Place) (told : List LoggedReply)
-    → Begins (demands accounts) (log ++ passes moment counter ∷ []) next told → IsCodeOf accounts log moment counter next
+    → Begins (demands accounts) (log ++ pass_line moment counter ∷ []) next told → IsCodeOf accounts log moment counter next
 
--- of two passes of one account in a log, in whichever sessions, the later has the greater counter
+-- of two passes of one account in a log, in any sessions, the later has the greater counter
 abbrev pub CountersRise : Type 0
 CountersRise = (accounts : Accounts) (log more : List LogLine) (account : List ℕ) (moment counter later greater : ℕ)
     (told all : List LoggedReply)
-    → Begins (demands accounts) (log ++ passes moment counter ∷ []) (waits_code account) told
-    → Begins (demands accounts) ((log ++ passes moment counter ∷ []) ++ (more ++ passes later greater ∷ [])) (waits_code account) all
+    → Begins (demands accounts) (log ++ pass_line moment counter ∷ []) (waits_code account) told
+    → Begins (demands accounts) ((log ++ pass_line moment counter ∷ []) ++ (more ++ pass_line later greater ∷ [])) (waits_code account) all
     → counter < greater
 
--- counters, the latest first, each greater than all before it
+-- counters, latest first, each greater than all before it
 abbrev pub AreRising : List ℕ → Type 0
 AreRising [] = Unit {0}
 AreRising (c ∷ before) = IsAbove before c × AreRising before
 
--- the counters that an account's codes use in a log, both counters of two codes in a row, rise: none is used twice
+-- the counters that an account's codes use in a log, including both counters of two codes in a row, rise: none is used twice
 abbrev pub NoCounterIsUsedTwice : Type 0
 NoCounterIsUsedTwice = (accounts : Accounts) (log : List LogLine) (place : Place) (told : List LoggedReply) (account : List ℕ)
     → Begins (demands accounts) log place told → AreRising (used_in (attempts_of account (reverse told)))
 
--- after a valid login, the code of the next counter of an account's HOTP token passes, where failures do not lock it
--- and the counter is not used up
+-- after a valid login, the code of the next counter of an account's HOTP token passes, if failures do not lock it and the counter
+-- is not used up
 abbrev pub NextHotpCodePasses : Type 0
 NextHotpCodePasses = (accounts : Accounts) (mechanism name : List ℕ) (exchange : Exchange) (moment : ℕ) (t : HotpFields)
     → IsLoginTo accounts mechanism name exchange → IsMoment moment → accounts.token name ≡ Some (Hotp t)
     → t.failures < t.limit → IsDigitCount t.digits → IsCounter t.next
     → let text = code_text (Hotp t) t.next in
-    IsClean accounts (original_bytes (login_session mechanism exchange ++ heard (code text) ∷ passes moment t.next ∷ gone ∷ ended ∷ []))
+    IsClean accounts (original_bytes (login_session mechanism exchange ++ heard (code text) ∷ pass_line moment t.next ∷ gone ∷ ended ∷ []))
 
 -- the line with two codes in a row: those of the next counter of a HOTP token and of the one after it
 abbrev pub next_two : HotpFields → LogLine
 next_two t = heard (sync (code_text (Hotp t) t.next) (code_text (Hotp t) (t.next + 1)))
 
--- after a valid login, the next two codes in a row of an account's HOTP token pass by the counter of the second, where
--- failures do not lock it and neither counter is used up
+-- after a valid login, the next two codes in a row of an account's HOTP token pass, with the counter of the second, if failures do
+-- not lock it and neither counter is used up
 abbrev pub NextTwoHotpCodesPass : Type 0
 NextTwoHotpCodesPass = (accounts : Accounts) (mechanism name : List ℕ) (exchange : Exchange) (moment : ℕ) (t : HotpFields)
     → IsLoginTo accounts mechanism name exchange → IsMoment moment → accounts.token name ≡ Some (Hotp t)
     → t.failures < t.limit → IsDigitCount t.digits → IsCounter (t.next + 1)
-    → IsClean accounts (original_bytes (login_session mechanism exchange ++ next_two t ∷ passes moment (t.next + 1) ∷ gone ∷ ended ∷ []))
+    → IsClean accounts (original_bytes (login_session mechanism exchange ++ next_two t ∷ pass_line moment (t.next + 1) ∷ gone ∷ ended ∷ []))

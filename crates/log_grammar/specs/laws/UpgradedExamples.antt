@@ -10,7 +10,7 @@ header_two_text = codes "SCRAMLOG 2"
 abbrev pub numbered_offer : List ℕ
 numbered_offer = codes "1 S MECHS SCRAM-SHA-256 SCRAM-SHA-1"
 
--- a log that begins with session 1, by the lines after the first of the session
+-- a log that begins with session 1, from the lines after the first of the session
 abbrev pub one_numbered : List (List ℕ) → List ℕ
 one_numbered texts = ended_by_lf (header_two_text ∷ numbered_offer ∷ texts)
 

@@ -8,13 +8,13 @@ use Rattle.log_grammar.specs.Begins.{Begins}
 use Rattle.log_grammar.specs.laws.LogLaws.{GoesOnByALine, HasLastTransition}
 use Rattle.log_grammar.proofs.consequences.logs_go_on_exactly_so.Goals as goal
 
--- the line may stand at the place, its reply, if it is one, is due, and this is all that was told with it
+-- the line may stand at the place and leads to the next one; its reply, if it is one, is due; and `all` is `told` with this reply
 abbrev StandsAndTells : Accounts → Place → List LoggedReply → LogLine → Place → List LoggedReply → Type 0
 StandsAndTells accounts place told line next all =
     IsTransition (demands accounts) place line next × AreReplies (demands accounts) (reverse told) (told_at place line)
     × (all ≡ told ++ told_at place line)
 
--- the last line of a log stands so at the place that the lines before it lead to
+-- the last line of a log may stand at the place that the lines before it lead to
 last_line_stands : (accounts : Accounts) (log : List LogLine) (place : Place) (told : List LoggedReply) (line : LogLine) (next : Place)
     (all : List LoggedReply)
     → (s : HasLastTransition (demands accounts) log line next all) → s.place ≡ place → s.told ≡ told
@@ -23,7 +23,7 @@ last_line_stands accounts log place told line next all s at also =
     subst (λ (t : List LoggedReply). StandsAndTells accounts place t line next all) also
     (subst (λ (p : Place). StandsAndTells accounts p s.told line next all) at (s.goes, s.due, s.tells))
 
--- a log goes on by a line that stands so
+-- a log continues with a line that may stand at its place
 standing_line_goes_on : GoesOnByALine → (accounts : Accounts) (log : List LogLine) (place : Place) (told : List LoggedReply)
     (line : LogLine) (next : Place)
     (all : List LoggedReply)

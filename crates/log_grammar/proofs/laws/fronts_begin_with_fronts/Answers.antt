@@ -1,5 +1,5 @@
 use Rattle.log_grammar.specs.Versions.{any_version}
-use Rattle.log_grammar.proofs.lemmas.kinds.Judged.{fronts_begin_with_fronts}
+use Rattle.log_grammar.proofs.lemmas.kinds.Fronts.{fronts_begin_with_fronts}
 use Rattle.log_grammar.proofs.lemmas.kinds.AllVersions.{any_version_can_be_shortened}
 use Rattle.log_grammar.proofs.laws.fronts_begin_with_fronts.Goals as goal
 

@@ -1,5 +1,5 @@
 use Rattle.log_grammar.specs.Versions.{any_version}
-use Rattle.log_grammar.proofs.lemmas.kinds.Judged.{one_fault_line}
+use Rattle.log_grammar.proofs.lemmas.kinds.OneFault.{one_fault_line}
 use Rattle.log_grammar.proofs.laws.has_one_fault_line.Goals as goal
 
 pub returns : goal.returns

@@ -1,4 +1,4 @@
--- From each place of a session there are lines that close it and tell nothing, except where a code waits for its reply.
+-- From each place of a session there are lines that close it and record no reply, unless a code waits for its reply.
 use Rattle.std.proofs.Common.{◌≡◌, ◌⊎◌, inl, inr, ℕ, List, [], ◌∷◌, refl}
 use Rattle.otp_core.specs.Attempt.{CodeTexts}
 use Rattle.scram_ends.specs.Verdict.{Due, accept, refuse, due_text}
@@ -10,7 +10,7 @@ use Rattle.log_grammar.specs.state_machine.Steps.{IsTransition, told_at}
 use Rattle.log_grammar.specs.Numbered.{Numbered, MayBeNumbered, MayFollow}
 use Rattle.log_grammar.specs.NumberedLines.{IsNoFirstLine}
 use Rattle.log_grammar.proofs.lemmas.completions.Verdicts.{CompletionLaws, due_refusal_is_writable, due_acceptance_is_writable, some_verdict}
-use Rattle.log_grammar.proofs.lemmas.lines.Written.{gone_is_writable, end_is_writable, cont_is_writable, bare_no_is_writable, bare_cont_is_writable}
+use Rattle.log_grammar.proofs.lemmas.lines.Written.{gone_is_writable, end_is_writable, cont_is_writable, bare_refusal_is_writable, bare_cont_is_writable}
 use Rattle.log_grammar.proofs.lemmas.demands.StillChallenged.{ChallengeMeetsDemand}
 use Rattle.log_grammar.proofs.lemmas.demands.Challenges.{decided_offered, decided_first_message, some_challenge}
 use Rattle.log_grammar.proofs.lemmas.lines.TextBytes.{utf8_is_message}
@@ -22,22 +22,22 @@ pub record IsPlain (line : LogLine) : Type 0 where
   pub follow : (n m : ℕ) (next : LogLine) → MayFollow n line m next
   pub has_number : IsNoFirstLine line
 
--- these lines lead from a place to the end of the session, and tell nothing
+-- these lines lead from a place to the end of the session, and record no reply
 abbrev pub Closes : Accounts → Place → List LogLine → Type 0
 Closes accounts place [] = place ≡ between
 Closes accounts place (line ∷ more) =
     IsPlain line × (told_at place line ≡ []) × (next : Place) × IsTransition (demands accounts) place line next × Closes accounts next more
 
--- `E` can be written, has room after any lines, and any line may follow it
+-- `E` can be written, there is room for it after any lines, and any line may follow it
 end_is_plain : IsPlain ended
 end_is_plain = record { writable = end_is_writable; room = λ limit before n. tt; follow = λ n m next. tt; has_number = tt }
 
--- `C GONE`, and `S NO`, `S CONT` and `S OK` with a message that can be written, may be written at any time as well:
+-- `C GONE`, and each `S NO`, `S CONT` and `S OK` that can be written, have room after any lines, and any line may follow them:
 gone_is_plain : IsPlain gone
 gone_is_plain = record { writable = gone_is_writable; room = λ limit before n. tt; follow = λ n m next. tt; has_number = tt }
 
-no_is_plain : (message : List ℕ) → IsWritable (said (refuses message)) → IsPlain (said (refuses message))
-no_is_plain message writable = record { writable = writable; room = λ limit before n. tt; follow = λ n m next. tt; has_number = tt }
+refusal_is_plain : (message : List ℕ) → IsWritable (said (refuses message)) → IsPlain (said (refuses message))
+refusal_is_plain message writable = record { writable = writable; room = λ limit before n. tt; follow = λ n m next. tt; has_number = tt }
 
 cont_is_plain : (message : List ℕ) → IsWritable (said (cont message)) → IsPlain (said (cont message))
 cont_is_plain message writable = record { writable = writable; room = λ limit before n. tt; follow = λ n m next. tt; has_number = tt }
@@ -45,42 +45,42 @@ cont_is_plain message writable = record { writable = writable; room = λ limit b
 ok_is_plain : (message : List ℕ) → IsWritable (said (accepts message)) → IsPlain (said (accepts message))
 ok_is_plain message writable = record { writable = writable; room = λ limit before n. tt; follow = λ n m next. tt; has_number = tt }
 
--- some lines close a session at the place
+-- there are lines that close a session at this place
 abbrev pub IsClosable : Accounts → Place → Type 0
 IsClosable accounts place = (lines : List LogLine) × Closes accounts place lines
 
--- a session that is over is closed by its `E`
+-- a session that is over can be closed, by its `E`
 over_is_closable : (accounts : Accounts) → IsClosable accounts over
 over_is_closable accounts = (ended ∷ [], (end_is_plain, refl, between, refl, refl))
 
--- a session is closed by a refusal and `E`, where the server may refuse
+-- a session can be closed by a refusal and `E` if the server may refuse
 refused_place_is_closable : (accounts : Accounts) (place : Place) (text : List ℕ) → IsWritable (said (refuses text))
     → told_at place (said (refuses text)) ≡ []
     → IsTransition (demands accounts) place (said (refuses text)) over → IsClosable accounts place
 refused_place_is_closable accounts place text writable quiet goes =
     let end = over_is_closable accounts in
-    (said (refuses text) ∷ end.0, (no_is_plain text writable, quiet, over, goes, end.1))
+    (said (refuses text) ∷ end.0, (refusal_is_plain text writable, quiet, over, goes, end.1))
 
--- a session can be closed where it is the client's turn, since the client may go away
+-- a session can be closed when it is the client's turn, since the client may go away
 client_turn_is_closable : (accounts : Accounts) (place : Place) → told_at place gone ≡ [] → IsTransition (demands accounts) place gone over
     → IsClosable accounts place
 client_turn_is_closable accounts place quiet goes =
     let end = over_is_closable accounts in (gone ∷ end.0, (gone_is_plain, quiet, over, goes, end.1))
 
--- a session can be closed where a mechanism was asked for without a message
+-- a session can be closed after a mechanism was asked for without a message
 asks_bare_is_closable : (accounts : Accounts) (m : List ℕ) → IsClosable accounts (asks_bare m)
 asks_bare_is_closable accounts m = elim (decided_offered m) [
-  | inr none ↦ refused_place_is_closable accounts (asks_bare m) [] bare_no_is_writable refl ((none, refl), refl)
+  | inr none ↦ refused_place_is_closable accounts (asks_bare m) [] bare_refusal_is_writable refl ((none, refl), refl)
   | inl is ↦
       let turn = client_turn_is_closable accounts (waits_first m) refl refl in
       (said (cont []) ∷ turn.0, (cont_is_plain [] (bare_cont_is_writable), refl, waits_first m, ((is, refl), refl), turn.1))
 ]
 
--- a session can be closed where a client-first message waits for its answer
+-- a session can be closed while a client-first message waits for its answer
 got_first_is_closable : CompletionLaws → (accounts : Accounts) → AllCanBeChallenged accounts → (m first : List ℕ)
     → IsClosable accounts (got_first m first)
-got_first_is_closable ground accounts fit m first = elim (decided_first_message ground.once ground.firsts ground.names m first) [
-  | inr none ↦ refused_place_is_closable accounts (got_first m first) [] bare_no_is_writable refl ((none, refl), refl)
+got_first_is_closable laws accounts fit m first = elim (decided_first_message laws m first) [
+  | inr none ↦ refused_place_is_closable accounts (got_first m first) [] bare_refusal_is_writable refl ((none, refl), refl)
   | inl is ↦
       let challenge = some_challenge accounts fit m first is.0 is.1 in
       let text = challenge.0 in
@@ -91,7 +91,7 @@ got_first_is_closable ground accounts fit m first = elim (decided_first_message 
       (said (cont text) ∷ turn.0, (cont_is_plain text writable, refl, next, (is.0, challenge.1, refl), turn.1))
 ]
 
--- a session can be closed where a client-final message waits for the verdict that is due
+-- a session can be closed while a client-final message waits for the verdict that is due
 got_final_is_closable : (accounts : Accounts) (m account first challenge last : List ℕ) (due : Due)
     → IsVerdictDue accounts m account first challenge last due
     → IsClosable accounts (got_final m account first challenge last)
@@ -103,31 +103,31 @@ got_final_is_closable accounts m account first challenge last (accept signature)
     let turn = client_turn_is_closable accounts (waits_code account) refl refl in
     (said (accepts a.text) ∷ turn.0, (ok_is_plain a.text a.line, refl, waits_code account, ((signature, is, a.authentic), refl), turn.1))
 
--- a session is closed by some lines; or it has no line yet, waits for the reply to a code, or is halted
+-- the session at this place can be closed by some lines, or it has no line yet, waits for the reply to a code, or is halted
 abbrev pub Exit : Accounts → Place → Type 0
 Exit accounts place =
     IsClosable accounts place
     ⊎ ((place ≡ before_all) ⊎ (((account : List ℕ) × (sent : CodeTexts) × (place ≡ got_code account sent)) ⊎ (place ≡ halted)))
 
--- where a challenge can be written for each name, and the one that the place has meets its demand, each place has an exit: lines that
--- close its session; or it is before all lines, a code waits for its reply, or it is halted
+-- if a challenge can be written for each name, and the place's own challenge meets its demand, each place has an `Exit`: lines that close
+-- its session, unless it is before all lines, a code waits for its reply, or it is halted
 pub place_has_exit : CompletionLaws → (accounts : Accounts) → AllCanBeChallenged accounts → (place : Place)
     → ChallengeMeetsDemand (demands accounts) place
     → Exit accounts place
-place_has_exit ground accounts fit before_all opened = inr (inl refl)
-place_has_exit ground accounts fit between opened = inl ([], refl)
-place_has_exit ground accounts fit offered opened = inl (client_turn_is_closable accounts offered refl refl)
-place_has_exit ground accounts fit (asks_bare m) opened = inl (asks_bare_is_closable accounts m)
-place_has_exit ground accounts fit (waits_first m) opened = inl (client_turn_is_closable accounts (waits_first m) refl refl)
-place_has_exit ground accounts fit (got_first m first) opened = inl (got_first_is_closable ground accounts fit m first)
-place_has_exit ground accounts fit (waits_final m account first challenge) opened = inl
+place_has_exit laws accounts fit before_all opened = inr (inl refl)
+place_has_exit laws accounts fit between opened = inl ([], refl)
+place_has_exit laws accounts fit offered opened = inl (client_turn_is_closable accounts offered refl refl)
+place_has_exit laws accounts fit (asks_bare m) opened = inl (asks_bare_is_closable accounts m)
+place_has_exit laws accounts fit (waits_first m) opened = inl (client_turn_is_closable accounts (waits_first m) refl refl)
+place_has_exit laws accounts fit (got_first m first) opened = inl (got_first_is_closable laws accounts fit m first)
+place_has_exit laws accounts fit (waits_final m account first challenge) opened = inl
     (client_turn_is_closable accounts (waits_final m account first challenge) refl refl)
-place_has_exit ground accounts fit (got_final m account first challenge last) opened =
-    let due = some_verdict ground.verdicts accounts m account first challenge last opened in
+place_has_exit laws accounts fit (got_final m account first challenge last) opened =
+    let due = some_verdict laws.some_verdict accounts m account first challenge last opened in
     inl (got_final_is_closable accounts m account first challenge last due.0 due.1)
-place_has_exit ground accounts fit (waits_code account) opened = inl (client_turn_is_closable accounts (waits_code account) refl refl)
-place_has_exit ground accounts fit (got_code account sent) opened = inr (inr (inl (account, sent, refl)))
-place_has_exit ground accounts fit leaving opened =
-    inl (refused_place_is_closable accounts leaving [] bare_no_is_writable refl (refl, refl))
-place_has_exit ground accounts fit over opened = inl (over_is_closable accounts)
-place_has_exit ground accounts fit halted opened = inr (inr (inr refl))
+place_has_exit laws accounts fit (waits_code account) opened = inl (client_turn_is_closable accounts (waits_code account) refl refl)
+place_has_exit laws accounts fit (got_code account sent) opened = inr (inr (inl (account, sent, refl)))
+place_has_exit laws accounts fit leaving opened =
+    inl (refused_place_is_closable accounts leaving [] bare_refusal_is_writable refl (refl, refl))
+place_has_exit laws accounts fit over opened = inl (over_is_closable accounts)
+place_has_exit laws accounts fit halted opened = inr (inr (inr refl))

@@ -28,21 +28,21 @@ use Rattle.log_grammar.proofs.lemmas.many_sessions.LinesOfNumber.{one_and_others
 use Rattle.scram_text.proofs.lemmas.ListEnds.{nonempty_has_last}
 use Rattle.log_grammar.proofs.lemmas.ListEnds.{empty_has_no_element, related_lists-append}
 
--- a log whose last line lets any line follow can be completed by closing the open numbers
+-- a log after whose last line any line may follow can be completed by closing the open numbers
 free_log_is_completable : CompletionLaws → (limit : ℕ) (accounts : Accounts) → AllCanBeChallenged accounts
     → (log : List (Numbered LogLine)) (places : ℕ → Place) (told : List LoggedReply)
     → SpellsNumbered limit (demands accounts) log places told → Free log → OpenInRange places → IsNumberedCompletable limit accounts log
-free_log_is_completable ground limit accounts fit log places told s free ranged =
-    closing_all_completes_log ground limit accounts fit (given_in log + 1) log places told s free ranged
+free_log_is_completable laws limit accounts fit log places told s free ranged =
+    closing_all_completes_log laws limit accounts fit (given_in log + 1) log places told s free ranged
     (λ n most. ungiven_number_is_between limit (demands accounts) log places told s n (omega (arith, most)))
 
--- a log whose last line is BUSY can be completed, as its `E` comes next
+-- a log whose last line is BUSY can be completed, beginning with the `E` of that number
 busy_log_is_completable : CompletionLaws → (limit : ℕ) (accounts : Accounts) → AllCanBeChallenged accounts
     → (front : List (Numbered LogLine)) (last : Numbered LogLine) (places : ℕ → Place) (told : List LoggedReply)
     → SpellsNumbered limit (demands accounts) (front ++ last ∷ []) places told → OpenInRange places → last.value ≡ said busy
     → places last.number ≡ over
     → IsNumberedCompletable limit accounts (front ++ last ∷ [])
-busy_log_is_completable ground limit accounts fit front last places told s ranged is at =
+busy_log_is_completable laws limit accounts fit front last places told s ranged is at =
     let log = front ++ last ∷ [] in
     let n = last.number in
     let s' = numbered_log_goes_on limit (demands accounts) log places told n ended between s (record {
@@ -56,7 +56,7 @@ busy_log_is_completable ground limit accounts fit front last places told s range
     (λ open_is. let wrong = sym (ap is_closed (put_sets_own n between places)) ∙ open_is in cc wrong)
     (λ m other open_is. ranged m (sym (ap is_closed (put_keeps_others n between places m other)) ∙ open_is)) in
     shorter_numbered_log_is_completable limit accounts log n ended (ranged n (ap is_closed at)) tt end_is_writable
-    (free_log_is_completable ground limit accounts fit (log ++ numbered n ended ∷ []) (put n between places)
+    (free_log_is_completable laws limit accounts fit (log ++ numbered n ended ∷ []) (put n between places)
     (told ++ told_at (places n) ended) s'
     (log_is_free_after log n ended (λ m next. tt)) ranged_on)
 
@@ -65,7 +65,7 @@ nonempty_log_is_completable : CompletionLaws → (limit : ℕ) (accounts : Accou
     → (front : List (Numbered LogLine)) (last : Numbered LogLine) (places : ℕ → Place) (told : List LoggedReply)
     → SpellsNumbered limit (demands accounts) (front ++ last ∷ []) places told → OpenInRange places
     → IsNumberedCompletable limit accounts (front ++ last ∷ [])
-nonempty_log_is_completable ground limit accounts fit front last places told s ranged =
+nonempty_log_is_completable laws limit accounts fit front last places told s ranged =
     let n = last.number in
     let b = numbered_log_has_last_transition limit (demands accounts) front n last.value places told s in
     elim (halt_busy_or_followed last.value) [
@@ -73,26 +73,26 @@ nonempty_log_is_completable ground limit accounts fit front last places told s r
           ended_numbered_log_is_completable limit accounts (front ++ last ∷ []) places told s
           (inr (n, visit_halt_leads_to_halted (demands accounts) (b.before n) last.value (places n) is b.goes.goes))
       | inr (inl is) ↦
-          busy_log_is_completable ground limit accounts fit front last places told s ranged is
+          busy_log_is_completable laws limit accounts fit front last places told s ranged is
           (visit_busy_leads_to_over (demands accounts) (b.before n) last.value (places n) is b.goes.goes)
       | inr (inr follow) ↦
-          free_log_is_completable ground limit accounts fit (front ++ last ∷ []) places told s
+          free_log_is_completable laws limit accounts fit (front ++ last ∷ []) places told s
           (log_is_free_after front n last.value (follow n)) ranged
     ]
 
--- a log of version 2 can be completed where each number that is open is in its range
+-- a log of version 2 can be completed if each open number is in its range
 numbered_log_is_completable : CompletionLaws → (limit : ℕ) (accounts : Accounts) → AllCanBeChallenged accounts
     → (log : List (Numbered LogLine)) (places : ℕ → Place) (told : List LoggedReply)
     → SpellsNumbered limit (demands accounts) log places told → OpenInRange places → IsNumberedCompletable limit accounts log
-numbered_log_is_completable ground limit accounts fit [] places told s ranged =
-    free_log_is_completable ground limit accounts fit [] places told s (λ before x e. absurd (empty_has_no_element before x [] e)) ranged
-numbered_log_is_completable ground limit accounts fit (x ∷ log) places told s ranged =
+numbered_log_is_completable laws limit accounts fit [] places told s ranged =
+    free_log_is_completable laws limit accounts fit [] places told s (λ before x e. absurd (empty_has_no_element before x [] e)) ranged
+numbered_log_is_completable laws limit accounts fit (x ∷ log) places told s ranged =
     let last = nonempty_has_last x log in
     subst (IsNumberedCompletable limit accounts) (sym last.2)
-    (nonempty_log_is_completable ground limit accounts fit last.0 last.1 places told
+    (nonempty_log_is_completable laws limit accounts fit last.0 last.1 places told
     (subst (λ (l : List (Numbered LogLine)). SpellsNumbered limit (demands accounts) l places told) last.2 s) ranged)
 
--- a line among those that were read has its text
+-- each of the lines that were read has its text
 read_line_has_text : (texts : List (List ℕ)) (before : List (Numbered LogLine)) (x : Numbered LogLine) (rest : List (Numbered LogLine))
     → AllZip IsNumberedLine texts (before ++ x ∷ rest) → (text : List ℕ) × IsNumberedLine text x
 read_line_has_text [] [] x rest are = absurd are
@@ -100,7 +100,7 @@ read_line_has_text [] (y ∷ before) x rest are = absurd are
 read_line_has_text (t ∷ texts) [] x rest are = (t, are.0)
 read_line_has_text (t ∷ texts) (y ∷ before) x rest are = read_line_has_text texts before x rest are.1
 
--- the numbers that are open in lines that were read are in their range
+-- the open numbers in lines that were read are in their range
 open_numbers_are_in_range : (limit : ℕ) (accounts : Accounts) (texts : List (List ℕ)) (log : List (Numbered LogLine)) (places : ℕ → Place)
     (told : List LoggedReply)
     → AllZip IsNumberedLine texts log → SpellsNumbered limit (demands accounts) log places told → OpenInRange places
@@ -130,9 +130,9 @@ empty_front_begins_clean limit accounts bytes cut =
 -- each front of version 2 begins a clean log
 pub version_two_fronts_begin_clean : CompletionLaws → (limit : ℕ) (accounts : Accounts) → AllCanBeChallenged accounts
     → FrontsBeginCleanOf (version_two limit accounts)
-version_two_fronts_begin_clean ground limit accounts fit bytes ([], cut, stands) = empty_front_begins_clean limit accounts bytes cut
-version_two_fronts_begin_clean ground limit accounts fit bytes (first ∷ texts, cut, (is, lines, places, told, are, s)) =
-    let c = numbered_log_is_completable ground limit accounts fit lines places told s
+version_two_fronts_begin_clean laws limit accounts fit bytes ([], cut, stands) = empty_front_begins_clean limit accounts bytes cut
+version_two_fronts_begin_clean laws limit accounts fit bytes (first ∷ texts, cut, (is, lines, places, told, are, s)) =
+    let c = numbered_log_is_completable laws limit accounts fit lines places told s
     (open_numbers_are_in_range limit accounts texts lines places told are s) in (
       ended_by_lf c.texts,
       (

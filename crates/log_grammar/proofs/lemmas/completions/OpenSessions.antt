@@ -1,4 +1,5 @@
--- Each front of version 2 begins a clean log: the sessions that are open are closed one by one, or a halt ends all.
+-- A log of version 2 after whose last line any line may follow can be completed: its open sessions are closed one by one, or a halt ends
+-- them all.
 use Rattle.std.proofs.Common.{◌≡◌, inl, inr, ℕ, zero, suc, ◌≤◌, true, false, List, [], ◌∷◌, ◌++◌, reverse, refl, sym, ◌∙◌, ap}
 use Rattle.std.proofs.Common.{subst, arith, append_assoc, append-nil}
 use Rattle.std.specs.List.{AllByRecursion, AllZip}
@@ -25,18 +26,26 @@ use Rattle.log_grammar.proofs.lemmas.many_sessions.LinesOfNumber.{one_and_others
 use Rattle.log_grammar.proofs.lemmas.ListEnds.{holds_by_last}
 use Rattle.log_grammar.proofs.lemmas.state_machine.StepKinds.{visit_transition_has_kind}
 
--- a log of version 2 can be completed: some lines after it, each with its text, let it end
+-- a log of version 2 can be completed: with some more lines it may end
 pub record IsNumberedCompletable (limit : ℕ) (accounts : Accounts) (log : List (Numbered LogLine)) : Type 0 where
+  -- the texts of the lines that complete it
   pub texts : List (List ℕ)
+  -- these lines
   pub more : List (Numbered LogLine)
+  -- the texts are those of the lines
   pub are : AllZip IsNumberedLine texts more
+  -- no text has an LF
   pub lack : AllByRecursion LacksLf texts
+  -- where each number stands after them
   pub places : ℕ → Place
+  -- the replies recorded in all lines
   pub told : List LoggedReply
+  -- the log and these lines are a log of version 2, which may be cut short
   pub spells : SpellsNumbered limit (demands accounts) (log ++ more) places told
+  -- it may end there
   pub ends : MayEndNumbered places
 
--- no more lines are needed to make a log clean, where the places of its numbers let it end
+-- a log is complete if the places of its numbers let it end
 pub ended_numbered_log_is_completable : (limit : ℕ) (accounts : Accounts) (log : List (Numbered LogLine)) (places : ℕ → Place)
     (told : List LoggedReply)
     → SpellsNumbered limit (demands accounts) log places told → MayEndNumbered places → IsNumberedCompletable limit accounts log
@@ -51,7 +60,7 @@ ended_numbered_log_is_completable limit accounts log places told s ends = record
   ends = ends;
 }
 
--- a log can be completed where one more line can be written and the log with it can be completed
+-- a log can be completed if one more line can be written and the log with it can be completed
 pub shorter_numbered_log_is_completable : (limit : ℕ) (accounts : Accounts) (log : List (Numbered LogLine)) (n : ℕ) (line : LogLine)
     → IsSessionNumber n
     → IsNoFirstLine line
@@ -72,19 +81,19 @@ shorter_numbered_log_is_completable limit accounts log n line number has written
       ends = c.ends;
     }
 
--- the last line lets any line follow
+-- any line may follow the last line
 abbrev pub Free : List (Numbered LogLine) → Type 0
 Free log = (before : List (Numbered LogLine)) (x : Numbered LogLine) → log ≡ before ++ x ∷ [] → (m : ℕ) (next : LogLine)
     → MayFollow x.number x.value m next
 
--- lines let any line follow, where any may follow the last of them
+-- any line may follow these lines if any line may follow the last of them
 pub log_is_free_after : (log : List (Numbered LogLine)) (n : ℕ) (line : LogLine) → ((m : ℕ) (next : LogLine) → MayFollow n line m next)
     → Free (log ++ numbered n line ∷ [])
 log_is_free_after log n line follow before x e m next =
     subst (λ (z : Numbered LogLine). MayFollow z.number z.value m next) (same_from_push log before (numbered n line) x e).1
     (follow m next)
 
--- a log can be completed where lines close one number and the log after them can be completed
+-- a log can be completed if some lines close one number and the log after them can be completed
 closing_number_completes_log : (limit : ℕ) (accounts : Accounts) (n : ℕ) → IsSessionNumber n
     → (lines : List LogLine) (log : List (Numbered LogLine)) (places : ℕ → Place) (told : List LoggedReply)
     → SpellsNumbered limit (demands accounts) log places told → Free log → Closes accounts (places n) lines
@@ -109,13 +118,13 @@ closing_number_completes_log limit accounts n number (line ∷ more) log places 
     (λ after_log after all r free' at others. on after_log after all r free' at
     (λ m other. others m other ∙ put_keeps_others n next places m other)))
 
--- a number at a place where no session is open, and that is not before all lines, is between sessions
+-- a number at a closed place other than the one before all lines is between sessions
 closed_is_between : (p : Place) → is_closed p ≡ true → (p ≡ before_all → ⊥) → p ≡ between
 closed_is_between before_all is never = absurd (never refl)
 closed_is_between between is never = refl
 closed_is_between p is never = absurd (cc is)
 
--- no line leads a number to the place before all lines
+-- no line leads a number to the place before all lines, if it does not stand there already
 no_line_leads_before_all : (d : Demands) (place : Place) (line : LogLine) (next : Place) → IsVisitTransition d place line next
     → (place ≡ before_all → ⊥) → next ≡ before_all → ⊥
 no_line_leads_before_all d place line next goes never at = elim (visit_transition_has_kind d place line next goes) [
@@ -126,7 +135,7 @@ no_line_leads_before_all d place line next goes never at = elim (visit_transitio
       let wrong = sym keeps.0 ∙ visit_line_between_takes_number d place line next between_is goes in cc wrong
 ]
 
--- no number of a log stands before all lines
+-- no number of a log stands at the place before all lines
 no_number_is_before_all : (limit : ℕ) (d : Demands) (log : List (Numbered LogLine)) (p : ℕ → Place) (told : List LoggedReply)
     → SpellsNumbered limit d log p told → (n : ℕ) → p n ≡ before_all → ⊥
 no_number_is_before_all limit d = holds_by_last
@@ -140,11 +149,11 @@ no_number_is_before_all limit d = holds_by_last
     (no_line_leads_before_all d (b.before n) x.value (p n) b.goes.goes (never n))
     (λ m other at. never m (sym (b.others m other) ∙ at)))
 
--- the numbers that are open are in their range
+-- the open numbers are in their range
 abbrev pub OpenInRange : (ℕ → Place) → Type 0
 OpenInRange places = (n : ℕ) → is_closed (places n) ≡ false → IsSessionNumber n
 
--- a log can be completed by a halt, where the place of some number allows it
+-- a log can be completed by a halt if the place of some number allows it
 halt_completes_log : (limit : ℕ) (accounts : Accounts) (log : List (Numbered LogLine)) (places : ℕ → Place) (told : List LoggedReply)
     (n : ℕ)
     → IsSessionNumber n
@@ -162,15 +171,15 @@ halt_completes_log limit accounts log places told n number s free goes quiet =
     (told ++ told_at (places n) (said halt)) s'
     (inr (n, put_sets_own n halted places)))
 
--- where the numbers from one on are closed, the log is completed by closing those below it
+-- if all numbers from k on are closed, the log is completed by closing those below k
 pub closing_all_completes_log : CompletionLaws → (limit : ℕ) (accounts : Accounts) → AllCanBeChallenged accounts
     → (k : ℕ) (log : List (Numbered LogLine)) (places : ℕ → Place) (told : List LoggedReply)
     → SpellsNumbered limit (demands accounts) log places told → Free log → OpenInRange places → ((n : ℕ) → k ≤ n → places n ≡ between)
     → IsNumberedCompletable limit accounts log
-closing_all_completes_log ground limit accounts fit zero log places told s free ranged closed =
+closing_all_completes_log laws limit accounts fit zero log places told s free ranged closed =
     ended_numbered_log_is_completable limit accounts log places told s
     (inl (λ n. closed n (omega arith)))
-closing_all_completes_log ground limit accounts fit (suc k) log places told s free ranged closed =
+closing_all_completes_log laws limit accounts fit (suc k) log places told s free ranged closed =
     let below : (p : ℕ → Place) → p k ≡ between → ((m : ℕ) → (k ≡ m → ⊥) → p m ≡ places m) → (n : ℕ) → k ≤ n → p n ≡ between =
     λ p at others n most. elim (eqb_tells k n) [
       | inl same ↦ subst (λ (m : ℕ). p m ≡ between) same.1 at
@@ -186,14 +195,14 @@ closing_all_completes_log ground limit accounts fit (suc k) log places told s fr
       | inl is ↦
           let at = closed_is_between (places k) is
           (no_number_is_before_all limit (demands accounts) log places told s k) in
-          closing_all_completes_log ground limit accounts fit k log places told s free ranged (below places at (λ m other. refl))
+          closing_all_completes_log laws limit accounts fit k log places told s free ranged (below places at (λ m other. refl))
       | inr opens ↦
           let number = ranged k opens in
           let opened = number_challenge_meets_demand limit (demands accounts) log places told s k in
-          elim (place_has_exit ground accounts fit (places k) opened) [
+          elim (place_has_exit laws accounts fit (places k) opened) [
             | inl closable ↦
                 closing_number_completes_log limit accounts k number closable.0 log places told s free closable.1
-                (λ longer after all r free' at others. closing_all_completes_log ground limit accounts fit k longer after all r free'
+                (λ longer after all r free' at others. closing_all_completes_log laws limit accounts fit k longer after all r free'
                 (ranged_on after at others) (below after at others))
             | inr (inl start) ↦ absurd (no_number_is_before_all limit (demands accounts) log places told s k
                 start)

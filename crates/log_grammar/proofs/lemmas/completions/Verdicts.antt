@@ -19,18 +19,21 @@ use Rattle.scram_ends.proofs.lemmas.Verdicts.{due_signature_is_servers}
 use Rattle.scram_ends.proofs.lemmas.Written.{signature_can_be_written, signature_fits, refusal_can_be_written, refusal_fits}
 use Rattle.log_grammar.specs.Lines.{said, accepts, refuses, IsWritable}
 use Rattle.log_grammar.specs.Demands.{Accounts, IsChallenged, IsVerdictDue}
-use Rattle.log_grammar.proofs.lemmas.lines.Written.{no_is_writable, ok_is_writable}
+use Rattle.log_grammar.proofs.lemmas.lines.Written.{refusal_is_writable, ok_is_writable}
 use Rattle.log_grammar.proofs.lemmas.lines.TextBytes.{utf8_is_message}
 
--- the laws of the crates below: a client-first message has one list of parts at most; whether a text is one, and whether a text spells
--- a name, is decided; and some verdict is due to each login
+-- laws of the crates below, by which a log can be completed
 pub record CompletionLaws : Type 0 where
-  pub once : HasOneClientFirst
-  pub firsts : ClientFirstIsDecided
-  pub names : NameIsDecided
-  pub verdicts : SomeVerdictIsDue
+  -- a text is client-first in at most one way
+  pub one_first : HasOneClientFirst
+  -- it is decidable whether a text is client-first
+  pub first_decided : ClientFirstIsDecided
+  -- it is decidable whether a text spells a plain name
+  pub name_decided : NameIsDecided
+  -- after an opening, some verdict is due to every text
+  pub some_verdict : SomeVerdictIsDue
 
--- some verdict is due to any client-final message, where the texts before it open a login
+-- some verdict is due to any client-final message, if the texts before it open a login
 pub some_verdict : SomeVerdictIsDue → (accounts : Accounts) (mechanism account first challenge last : List ℕ)
     → IsChallenged accounts mechanism account first challenge
     → (due : Due) × IsVerdictDue accounts mechanism account first challenge last due
@@ -67,7 +70,7 @@ pub due_refusal_is_writable : (why : Refusal) → IsWritable (said (refuses (due
 due_refusal_is_writable why =
     let final = refusal_is_server_final why in
     let text = due_text (refuse why) in
-    no_is_writable text (utf8_is_message text final.utf8_text.utf8) final.short
+    refusal_is_writable text (utf8_is_message text final.utf8_text.utf8) final.short
 
 -- an acceptance with this signature can be written, by a message that bears it
 pub record WritableAcceptance (signature : List ℕ) : Type 0 where
@@ -75,7 +78,7 @@ pub record WritableAcceptance (signature : List ℕ) : Type 0 where
   pub line : IsWritable (said (accepts text))
   pub authentic : IsAuthentic text signature
 
--- where acceptance is due to a login, `S OK` can be written with a message that bears the signature due
+-- if acceptance is due to a login, `S OK` can be written with a message that has the signature due
 pub due_acceptance_is_writable : (accounts : Accounts) (mechanism account first challenge last signature : List ℕ)
     → IsVerdictDue accounts mechanism account first challenge last (accept signature) → WritableAcceptance signature
 due_acceptance_is_writable accounts mechanism account first challenge last signature is =

@@ -3,7 +3,8 @@ use Rattle.std.proofs.Common.{◌≡◌, ◌⊎◌, inl, inr, ℕ, List, [], ◌
 use Rattle.mac_core.proofs.lemmas.Decided.{Decided, decided_same_text}
 use Rattle.log_grammar.specs.Why.{Why, no_line}
 use Rattle.log_grammar.specs.LogKinds.{LogKind, either}
-use Rattle.log_grammar.proofs.lemmas.kinds.Judged.{CanBeShortened, CleanLinesStand, HasOneReason, NextIsJudged, IsSound, first_lines_stand}
+use Rattle.log_grammar.proofs.lemmas.kinds.Sound.{CanBeShortened, CleanLinesStand, HasOneReason, NextIsJudged, IsSound}
+use Rattle.log_grammar.proofs.lemmas.kinds.Fronts.{first_lines_stand}
 use Rattle.log_grammar.proofs.lemmas.kinds.FaultLines.{FrontsBeginCleanOf, FaultText}
 
 -- each log of the kind begins with this line, and it may be alone
@@ -14,10 +15,15 @@ pub record IsHeaded (kind : LogKind) (first : List ℕ) : Type 0 where
 
 -- two kinds whose logs begin with different lines
 pub record AreApart (one two : LogKind) (first second : List ℕ) : Type 0 where
+  -- their first lines differ
   pub differ : first ≡ second → ⊥
+  -- if a log of the first kind may begin with some lines, it may begin with them without the last
   pub one_shorter : CanBeShortened one
+  -- if a log of the second kind may begin with some lines, it may begin with them without the last
   pub two_shorter : CanBeShortened two
+  -- each log of the first kind begins with its first line, which may be alone
   pub one_headed : IsHeaded one first
+  -- each log of the second kind begins with its first line, which may be alone
   pub two_headed : IsHeaded two second
 
 -- lines that a log may begin with have the first line of its kind before all others
@@ -50,13 +56,13 @@ pub either_can_be_shortened : (one two : LogKind) (first second : List ℕ) → 
 either_can_be_shortened one two first second shorter also texts text (inl stands) = inl (shorter texts text stands)
 either_can_be_shortened one two first second shorter also texts text (inr stands) = inr (also texts text stands)
 
--- the lines of a clean log of either kind are such as a log may begin with, where they are so in each kind
+-- a log of either kind may begin with the lines of a clean one, if this is true in each kind
 pub either_clean_lines_stand : (one two : LogKind) (first second : List ℕ) → CleanLinesStand one → CleanLinesStand two
     → CleanLinesStand (either one two first second)
 either_clean_lines_stand one two first second stand also texts (inl ends) = inl (stand texts ends)
 either_clean_lines_stand one two first second stand also texts (inr ends) = inr (also texts ends)
 
--- a text after others is wrong for one reason at most, where it is so in each kind and their first lines differ
+-- a text after others is wrong for one reason at most, if this is true in each kind and their first lines differ
 pub either_has_one_reason : (one two : LogKind) (first second : List ℕ) → (first ≡ second → ⊥) → HasOneReason one → HasOneReason two
     → HasOneReason (either one two first second)
 either_has_one_reason one two first second differ once also [] text w v a b = a.2 ∙ sym b.2
@@ -65,7 +71,7 @@ either_has_one_reason one two first second differ once also (t ∷ before) text 
 either_has_one_reason one two first second differ once also (t ∷ before) text w v (inr a) (inl b) = absurd (differ (sym b.0 ∙ a.0))
 either_has_one_reason one two first second differ once also (t ∷ before) text w v (inr a) (inr b) = also (t ∷ before) text w v a.1 b.1
 
--- whether lines that stand are a clean log is decided, where it is so in each kind
+-- it is decidable whether lines that stand are a clean log, if each kind is sound and the two are apart
 decided_either_clean : (one two : LogKind) (first second : List ℕ) → AreApart one two first second → IsSound one → IsSound two
     → (texts : List (List ℕ)) → (either one two first second).MayBegin texts → Decided ((either one two first second).AreClean texts)
 decided_either_clean one two first second a s z [] stands =
@@ -92,9 +98,9 @@ decided_either_clean one two first second a s z (t ∷ texts) (inr stands) =
     ]
 
 -- a first text goes on as the first line of one kind, or is wrong as no line
-first_text_is_judged : (one two : LogKind) (first second : List ℕ) → AreApart one two first second → (text : List ℕ)
+either_first_text_is_judged : (one two : LogKind) (first second : List ℕ) → AreApart one two first second → (text : List ℕ)
     → NextIsJudged (either one two first second) [] text
-first_text_is_judged one two first second a text = elim (decided_same_text text first) [
+either_first_text_is_judged one two first second a text = elim (decided_same_text text first) [
   | inl is ↦ inl (inl (subst (λ (t : List ℕ). one.MayBegin (t ∷ [])) (sym is) a.one_headed.begins))
   | inr other ↦ elim (decided_same_text text second) [
     | inl is ↦ inl (inr (subst (λ (t : List ℕ). two.MayBegin (t ∷ [])) (sym is) a.two_headed.begins))
@@ -106,11 +112,11 @@ first_text_is_judged one two first second a text = elim (decided_same_text text 
   ]
 ]
 
--- each text after lines that stand is judged, where it is so in each kind
+-- each text after lines that stand is judged, if each kind is sound and the two are apart
 either_next_is_judged : (one two : LogKind) (first second : List ℕ) → AreApart one two first second → IsSound one → IsSound two
     → (before : List (List ℕ)) (text : List ℕ) → (either one two first second).MayBegin before
     → NextIsJudged (either one two first second) before text
-either_next_is_judged one two first second a s z [] text stands = first_text_is_judged one two first second a text
+either_next_is_judged one two first second a s z [] text stands = either_first_text_is_judged one two first second a text
 either_next_is_judged one two first second a s z (t ∷ before) text (inl stands) =
     let is = head_is_first_line one first a.one_shorter a.one_headed t before stands in
     elim (s.next_is_judged (t ∷ before) text stands) [
@@ -146,7 +152,7 @@ either_is_sound one two first second a s z = record {
   next_is_judged = either_next_is_judged one two first second a s z;
 }
 
--- each front begins a clean log, where it does so in each kind
+-- each front begins a clean log, if this is true in each kind
 pub either_fronts_begin_clean : (one two : LogKind) (first second : List ℕ) → FrontsBeginCleanOf one → FrontsBeginCleanOf two
     → FrontsBeginCleanOf (either one two first second)
 either_fronts_begin_clean one two first second completes also bytes (texts, cut, inl stands) =

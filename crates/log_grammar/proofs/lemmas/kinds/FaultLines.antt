@@ -10,7 +10,10 @@ use Rattle.log_grammar.specs.LogKinds.{LogKind, IsFrontOf, IsCleanOf, IsFaultLin
 use Rattle.log_grammar.specs.LogKinds.{IsFirstOutsideCleanLogsOf}
 use Rattle.log_grammar.proofs.lemmas.lines.Cuts.{one_split, longer_bytes_are_split, lines_up_to_lack_lf, whole_lines_are_split}
 use Rattle.log_grammar.proofs.lemmas.ListEnds.{take-append_next, index_has_element, all_front}
-use Rattle.log_grammar.proofs.lemmas.kinds.Judged.{CanBeShortened, CleanLinesStand, first_lines_stand, front_lines_stand, standing_lines_are_front, text_at_fault, end_is_fault_line, text_is_fault_line, reason_is_of_next}
+use Rattle.log_grammar.proofs.lemmas.kinds.Sound.{CanBeShortened, CleanLinesStand}
+use Rattle.log_grammar.proofs.lemmas.kinds.Fronts.{first_lines_stand, front_lines_stand, standing_lines_are_front}
+use Rattle.log_grammar.proofs.lemmas.kinds.AtFault.{text_at_fault, end_is_fault_line, text_is_fault_line}
+use Rattle.log_grammar.proofs.lemmas.kinds.OneFault.{reason_is_of_next}
 
 -- each front of the kind begins a clean log
 abbrev pub FrontsBeginCleanOf : LogKind → Type 0
@@ -27,7 +30,7 @@ begun_lines_stand kind shorter stand bytes texts cut (more, clean) =
     let same = (one_split (bytes ++ more) all (texts ++ others) [] rest also on).0 in
     first_lines_stand kind shorter texts others (subst kind.MayBegin same (stand all ends))
 
--- whole lines are a front exactly where they begin a clean log, in a kind in which each front begins one
+-- in a kind in which each front begins a clean log, whole lines are a front if and only if they begin one
 pub fronts_are_what_begins : (kind : LogKind) → CanBeShortened kind → CleanLinesStand kind → FrontsBeginCleanOf kind
     → (bytes : List ℕ) (texts : List (List ℕ)) → IsSplit bytes texts []
     → IsFrontOf kind bytes ↔ BeginsCleanOf kind bytes
@@ -113,7 +116,7 @@ whole_first_outside_is_fault kind shorter stand completes bytes before text more
     (λ stands. none (completes (ended_by_lf with)
     (standing_lines_are_front kind with (lines_up_to_lack_lf before text more cut.lines) stands)))
 
--- where all lines begin a clean log, but the bytes are not a clean log, the line after the last is the fault line
+-- if all lines begin a clean log, but the bytes are not a clean log, the line after the last is the fault line
 unclean_end_is_fault : (kind : LogKind) → CanBeShortened kind → CleanLinesStand kind
     → (bytes : List ℕ) (texts : List (List ℕ)) (rest : List ℕ)
     → IsSplit bytes texts rest
@@ -211,7 +214,7 @@ pub record FaultEnd (kind : LogKind) (bytes : List ℕ) (texts : List (List ℕ)
   pub unclean : IsCleanOf kind bytes → ⊥
   pub wrong : IsWrongNextOf kind texts [] rest why
 
--- where the line after the last is at fault, all lines stand, the bytes are not clean, and what follows the last LF says why
+-- if the line after the last is at fault, all lines stand, the bytes are not clean, and what follows the last LF says why
 pub reason_shows_fault_end : (kind : LogKind) (bytes : List ℕ) (texts : List (List ℕ)) (rest : List ℕ) (why : Why)
     → IsSplit bytes texts rest
     → IsWhyOf kind bytes (length texts + 1) why → FaultEnd kind bytes texts rest why

@@ -1,4 +1,4 @@
--- Whether a text is a line is decided: by the only line that it can be.
+-- It is decidable whether a text is a line: it can only be the line that is read from it.
 use Rattle.std.proofs.Common.{◌≡◌, ◌⊎◌, inl, inr, ℕ, suc, ◌≤◌, ◌<◌, List, length, sym, ◌∙◌, ap, subst}
 use Rattle.std.specs.List.{slice_split}
 use Rattle.std.specs.declared.option.Option.{Option}
@@ -17,14 +17,14 @@ use Rattle.log_grammar.specs.Lines.{IsLogLineInRange, IsLine, IsLogLine, IsNoLog
 use Rattle.log_grammar.proofs.lemmas.lines.ReadBack.{line_in, line_is_read_back, log_line_in, log_line_is_read_back}
 use Rattle.log_grammar.proofs.lemmas.DecidedFacts.{decided_each}
 
--- whether a text is a message, and whether it is the name of a mechanism, is decided:
+-- it is decidable whether a text is a message, and whether it is a mechanism's name:
 decided_message : (message : List ℕ) → Decided (IsMessage message)
 decided_message message = decided_each (λ c. c < 256) (λ c. decided_le (suc c) 256) message
 
 decided_mech_name : (name : List ℕ) → Decided (IsMechName name)
 decided_mech_name name = decided_run is_mech_char longest_mech_name name
 
--- whether a reply, and whether a line of each sort, is in its ranges is decided:
+-- it is decidable whether a reply, or a line of each sort, is in its ranges:
 decided_reply_range : (reply : Option Reply) → Decided (IsReplyInRange reply)
 decided_reply_range (Some (Pass counter)) = decided_le counter most_counter
 decided_reply_range (Some Fail) = inl tt
@@ -62,15 +62,15 @@ decided_log_line_range bad = inl tt
 decided_log_line_range gone = inl tt
 decided_log_line_range ended = inl tt
 
--- where a text is a line, it is the one that is read from it
+-- if a text is a line, it is the one that is read from it
 read_line_fits_text : (text : List ℕ) (line : Line) → IsLine text line → IsLine text (line_in text)
 read_line_fits_text text line is = subst (IsLine text) (sym (ap line_in is.spelled ∙ line_is_read_back line is.ranges)) is
 
--- where a text is a line of a log, it is the one that is read from it
+-- if a text is a line of a log, it is the one that is read from it
 read_log_line_fits_text : (text : List ℕ) (line : LogLine) → IsLogLine text line → IsLogLine text (log_line_in text)
 read_log_line_fits_text text line is = subst (IsLogLine text) (sym (ap log_line_in is.spelled ∙ log_line_is_read_back line is.ranges)) is
 
--- whether a text is this line of the protocol is decided
+-- it is decidable whether a text is this line of the protocol
 decided_this_line : (text : List ℕ) (line : Line) → Decided (IsLine text line)
 decided_this_line text line =
     decided_equivalent ((text ≡ line_text line) × (IsLineInRange line × (length text ≤ longest_line))) (IsLine text line)
@@ -78,7 +78,7 @@ decided_this_line text line =
     (decided_both _ _ (decided_same_text text (line_text line)) (decided_both _ _ (decided_line_range line)
     (decided_le (length text) longest_line)))
 
--- whether a text is this line of a log is decided
+-- it is decidable whether a text is this line of a log
 pub decided_this_log_line : (text : List ℕ) (line : LogLine) → Decided (IsLogLine text line)
 decided_this_log_line text line =
     decided_equivalent ((text ≡ log_line_text line) × (IsLogLineInRange line × (length text ≤ longest_log_line))) (IsLogLine text line)
@@ -86,14 +86,14 @@ decided_this_log_line text line =
     (decided_both _ _ (decided_same_text text (log_line_text line))
     (decided_both _ _ (decided_log_line_range line) (decided_le (length text) longest_log_line)))
 
--- whether a text is a line of the protocol, and which, is decided
+-- it is decidable whether a text is a line of the protocol, and which one
 pub decided_line : (text : List ℕ) → ((line : Line) × IsLine text line) ⊎ ((line : Line) → IsLine text line → ⊥)
 decided_line text = elim (decided_this_line text (line_in text)) [
   | inl is ↦ inl (line_in text, is)
   | inr none ↦ inr (λ line is. none (read_line_fits_text text line is))
 ]
 
--- whether a text is a line of a log, and which, is decided
+-- it is decidable whether a text is a line of a log, and which one
 pub decided_log_line : (text : List ℕ) → ((line : LogLine) × IsLogLine text line) ⊎ IsNoLogLine text
 decided_log_line text = elim (decided_this_log_line text (log_line_in text)) [
   | inl is ↦ inl (log_line_in text, is)

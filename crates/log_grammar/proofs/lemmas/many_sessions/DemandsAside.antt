@@ -1,4 +1,4 @@
--- A log of version 2 that meets the demands is one without demands too, with no account named in it.
+-- A log of version 2 that meets the demands is also a log without demands, in which no account is named.
 use Rattle.std.proofs.Common.{◌≡◌, inl, inr, ℕ, List, [], ◌∷◌, refl, sym, ◌∙◌, ap}
 use Rattle.std.specs.Prelude.{map}
 use Rattle.std.specs.declared.option.Option.{Option}
@@ -13,23 +13,23 @@ use Rattle.log_grammar.proofs.lemmas.state_machine.DemandsAside.{accountless_ses
 use Rattle.log_grammar.proofs.lemmas.state_machine.DemandsAside.{any_replies_are_due}
 use Rattle.log_grammar.proofs.lemmas.many_sessions.NumberedReplies.{numbers_of, values_of}
 
--- what a number stands for, with no account named
+-- a number's visit, with no account named
 abbrev accountless_visit : Option Visit → Option Visit
 accountless_visit None = None
 accountless_visit (Some (let_in s)) = Some (let_in (accountless_session s))
 accountless_visit (Some (turned_away closed)) = Some (turned_away closed)
 
--- what a number stands for is the same with no account named
+-- a number's visit has the same lines with no account named
 visit_is_same_aside : (p : Option Visit) → IsAccountlessOf (visit_part (accountless_visit p)) (visit_part p)
 visit_is_same_aside None = record { lines = refl; place = refl; told = refl; meets = tt }
 visit_is_same_aside (Some (let_in s)) = session_is_same_aside s
 visit_is_same_aside (Some (turned_away closed)) = next_line_is_same_aside (said busy) _ _ (closing_is_same_aside closed)
 
--- replies, each with its number, with no account named
+-- numbered replies with no account named
 abbrev accountless_numbered_told : List (Numbered LoggedReply) → List (Numbered LoggedReply)
 accountless_numbered_told numbered_told = map (λ (t : Numbered LoggedReply). numbered t.number (accountless_reply t.value)) numbered_told
 
--- the replies of a number with no account named are its replies, with no account named
+-- the replies of a number with no account named are its own replies with no account named
 of_number_accountless : (n : ℕ) (numbered_told : List (Numbered LoggedReply))
     → of_number n (accountless_numbered_told numbered_told) ≡ map accountless_reply (of_number n numbered_told)
 of_number_accountless n [] = refl
@@ -38,14 +38,13 @@ of_number_accountless n (t ∷ numbered_told) = elim (eqb_tells n t.number) [
   | inr other ↦ rw other.0 (of_number_accountless n numbered_told)
 ]
 
--- replies with no account named have the numbers that they had
+-- replies with no account named keep their numbers
 numbers_of_accountless : (numbered_told : List (Numbered LoggedReply))
     → numbers_of (accountless_numbered_told numbered_told) ≡ numbers_of numbered_told
 numbers_of_accountless [] = refl
 numbers_of_accountless (t ∷ numbered_told) = ap (λ (l : List ℕ). t.number ∷ l) (numbers_of_accountless numbered_told)
 
--- lines of a log of version 2 that meet the demands are such lines without demands too, at the same places with no
--- account named
+-- lines of a log of version 2 that meet the demands are also lines of a log without demands, at the same places but with no account named
 pub numbered_log_begins_aside : (limit : ℕ) (d : Demands) (log : List (Numbered LogLine)) (places : ℕ → Place) (told : List LoggedReply)
     → SpellsNumbered limit d log places told
     → (tells : List LoggedReply) × SpellsNumbered limit no_demands log (λ n. accountless_place (places n)) tells

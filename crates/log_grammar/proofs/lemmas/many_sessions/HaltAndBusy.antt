@@ -1,4 +1,4 @@
--- Where HALT and BUSY lead. Any line may follow a line that is neither.
+-- Where HALT and BUSY lead, and that any line may follow a line other than these two.
 use Rattle.std.proofs.Common.{◌≡◌, ◌⊎◌, inl, inr, ℕ, refl, sym, ◌∙◌, subst}
 use Rattle.log_grammar.specs.Lines.{LogLine, said, halt, busy}
 use Rattle.log_grammar.specs.Places.{Place, before_all, got_code, over, halted}
@@ -7,7 +7,7 @@ use Rattle.log_grammar.specs.state_machine.Steps.{IsTransition}
 use Rattle.log_grammar.specs.Numbered.{MayFollow}
 use Rattle.log_grammar.specs.state_machine.NumberedSteps.{IsVisitTransition}
 
--- `S HALT` leads from a place of a session only to where the log is halted
+-- `S HALT` leads from a place of a session only to the halted place
 pub halt_leads_to_halted : (d : Demands) (place next : Place) → IsTransition d place (said halt) next → next ≡ halted
 halt_leads_to_halted d (got_code account sent) next h = h
 halt_leads_to_halted d place next h = absurd h
@@ -17,7 +17,7 @@ pub no_busy_in_session : (d : Demands) (place next : Place) → IsTransition d p
 no_busy_in_session d before_all next h = h
 no_busy_in_session d place next h = absurd h
 
--- HALT leads a number to the place where the log is halted
+-- HALT leads a number to the halted place
 pub visit_halt_leads_to_halted : (d : Demands) (place : Place) (line : LogLine) (next : Place) → line ≡ said halt
     → IsVisitTransition d place line next
     → next ≡ halted

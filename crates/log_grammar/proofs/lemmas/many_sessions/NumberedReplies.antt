@@ -1,4 +1,4 @@
--- What a line of a number tells, and what was told with the number of each reply.
+-- The reply that a line of a number records, and all recorded replies with their numbers.
 use Rattle.std.proofs.Common.{◌≡◌, ◌⊎◌, inl, inr, ℕ, true, false, List, [], ◌∷◌, ◌++◌, refl, sym, ◌∙◌, ap, subst, append-nil}
 use Rattle.std.specs.Prelude.{map}
 use Rattle.std.proofs.lemmas.Bool.{eq-eqb}
@@ -13,12 +13,12 @@ use Rattle.log_grammar.specs.state_machine.NumberedSteps.{IsVisitTransition}
 use Rattle.log_grammar.proofs.lemmas.many_sessions.LinesOfNumber.{of_number_append, same_numbered}
 use Rattle.scram_text.proofs.lemmas.ListEnds.{empty_has_no_last, nonempty_has_last}
 
--- a line tells of a code exactly where it is a reply
+-- a line records one reply if it is a reply to a code, else none
 abbrev pub TellsOfReply : Place → LogLine → Type 0
 TellsOfReply place line = ((told_at place line ≡ []) × (is_reply line ≡ false))
     ⊎ ((t : LoggedReply) × (told_at place line ≡ t ∷ []) × (is_reply line ≡ true))
 
--- a line that may stand at a session's place tells of one code where it is a reply, and else of none
+-- a line that may stand at a session's place records one reply if it is a reply to a code, else none
 line_tells_of_reply : (d : Demands) (place : Place) (line : LogLine) (next : Place) → IsTransition d place line next
     → TellsOfReply place line
 line_tells_of_reply d (got_code account sent) (said (replies moment reply)) next h =
@@ -26,49 +26,53 @@ line_tells_of_reply d (got_code account sent) (said (replies moment reply)) next
 line_tells_of_reply d place (said (replies moment reply)) next h = absurd h
 line_tells_of_reply d place line next h = inl (refl, refl)
 
--- a line that may stand at a number's place tells of one code where it is a reply, and else of none
+-- a line that may stand at a number's place records one reply if it is a reply to a code, else none
 pub visit_line_tells_of_reply : (d : Demands) (place : Place) (line : LogLine) (next : Place) → IsVisitTransition d place line next
     → TellsOfReply place line
 visit_line_tells_of_reply d place line next (inl h) = line_tells_of_reply d place line next h
 visit_line_tells_of_reply d place line next (inr b) = inl (ap (λ (p : Place). told_at p line) b.0, ap is_reply b.1)
 
--- what was told, each with this number
+-- these replies, each with this number
 abbrev pub numbered_told_of : ℕ → List LoggedReply → List (Numbered LoggedReply)
 numbered_told_of n told = map (numbered n) told
 
--- the numbers of the replies that were told
+-- the numbers of numbered replies
 abbrev pub numbers_of : List (Numbered LoggedReply) → List ℕ
 numbers_of numbered_told = map (λ t. t.number) numbered_told
 
--- what was told, without the numbers
+-- numbered replies without their numbers
 abbrev pub values_of : List (Numbered LoggedReply) → List LoggedReply
 values_of numbered_told = map (λ t. t.value) numbered_told
 
--- replies that are given a number are the same again without it
+-- replies that are given a number and then lose it are the same as before
 pub values_are_told : (n : ℕ) (told : List LoggedReply) → values_of (numbered_told_of n told) ≡ told
 values_are_told n [] = refl
 values_are_told n (t ∷ told) = ap (λ l. t ∷ l) (values_are_told n told)
 
--- what a line tells has the number of the line, where the line is a reply
+-- the reply that a line records has the line's number
 pub told_has_line_number : (n : ℕ) (place : Place) (line : LogLine) → TellsOfReply place line
     → numbers_of (numbered_told_of n (told_at place line)) ≡ reply_numbers (numbered n line ∷ [])
 told_has_line_number n place line (inl none) = rw (none.0, none.1) refl
 told_has_line_number n place line (inr one) = rw (one.1, one.2) refl
 
--- nothing was told where the list of its numbers is empty
+-- no reply is recorded if the list of numbers is empty
 pub nothing_told_without_numbers : (numbered_told : List (Numbered LoggedReply)) → numbers_of numbered_told ≡ [] → numbered_told ≡ []
 nothing_told_without_numbers [] e = refl
 nothing_told_without_numbers (m ∷ numbered_told) e = absurd (cc e)
 
--- what was told is what was told before, and then what a line of this number tells
+-- the recorded replies are those recorded earlier, then those that a line of this number records
 pub record ToldBefore (n : ℕ) (numbered_told : List (Numbered LoggedReply)) (numbers : List ℕ)
     (before more : List LoggedReply) : Type 0 where
+  -- those recorded earlier
   pub earlier : List (Numbered LoggedReply)
+  -- all are these, then those of the line
   pub same : numbered_told ≡ earlier ++ numbered_told_of n more
+  -- these are the numbers of the earlier ones
   pub order : numbers_of earlier ≡ numbers
+  -- these are the earlier ones of this number
   pub mine : of_number n earlier ≡ before
 
--- where a line tells nothing, what was told is what was told before it
+-- if a line records no reply, the recorded replies are those recorded before it
 silent_line_splits_told : (n : ℕ) (numbered_told : List (Numbered LoggedReply)) (numbers : List ℕ) (before : List LoggedReply)
     → numbers_of numbered_told ≡ numbers ++ []
     → of_number n numbered_told ≡ before ++ [] → ToldBefore n numbered_told numbers before []
@@ -80,11 +84,11 @@ silent_line_splits_told n numbered_told numbers before order mine =
       mine = mine ∙ append-nil before;
     }
 
--- of a list of one reply, what is of this reply's number is the reply
+-- of a list with one reply of this number, the number's replies are this one
 of_number_one : (n : ℕ) (m : Numbered LoggedReply) → m.number ≡ n → of_number n (m ∷ []) ≡ m.value ∷ []
 of_number_one n m same = rw (eq-eqb n m.number (sym same)) refl
 
--- where a line tells of one reply, what was told is what was told before it, and this reply:
+-- if a line records one reply, the recorded replies are those recorded before it, then this one:
 last_reply_splits_told : (n : ℕ) (t : LoggedReply) (front : List (Numbered LoggedReply)) (last : Numbered LoggedReply) (numbers : List ℕ)
     (before : List LoggedReply)
     → numbers_of (front ++ last ∷ []) ≡ numbers ++ n ∷ [] → of_number n (front ++ last ∷ []) ≡ before ++ t ∷ []
@@ -113,7 +117,7 @@ reply_splits_told n t (m ∷ numbered_told) numbers before order mine =
     (subst (λ (l : List (Numbered LoggedReply)). of_number n l ≡ before ++ t ∷ []) last.2 mine) in
     subst (λ (l : List (Numbered LoggedReply)). ToldBefore n l numbers before (t ∷ [])) (sym last.2) found
 
--- what was told is what was told before a line, and then what the line tells
+-- the recorded replies are those recorded before a line, then the one that the line records
 pub line_splits_told : (n : ℕ) (place : Place) (line : LogLine) (numbered_told : List (Numbered LoggedReply)) (numbers : List ℕ)
     (before : List LoggedReply) → TellsOfReply place line
     → numbers_of numbered_told ≡ numbers ++ reply_numbers (numbered n line ∷ []) → of_number n numbered_told ≡ before ++ told_at place line

@@ -1,5 +1,4 @@
--- A log of version 2 is read in one way, its first lines are again such a log, and the challenge that a number's place has
--- meets what is demanded of it.
+-- A log of version 2 has only one reading, its first lines are such a log too, and the challenge at a number's place meets its demand.
 use Rattle.std.proofs.Common.{◌≡◌, inl, inr, ℕ, List, [], ◌∷◌, ◌++◌, reverse, refl, sym, ◌∙◌, ap, subst}
 use Rattle.std.proofs.Common.{append_assoc, append-nil}
 use Rattle.log_grammar.specs.Lines.{LogLine}
@@ -18,7 +17,7 @@ use Rattle.log_grammar.proofs.lemmas.state_machine.OneReading.{OneAccount, one_n
 use Rattle.log_grammar.proofs.lemmas.ListEnds.{holds_by_last}
 use Rattle.log_grammar.proofs.lemmas.many_sessions.Visits.{empty_visit_is_between}
 
--- a line leads from a number's place to one place
+-- a line leads from a number's place to only one place
 pub one_next_visit_place : (d : Demands) → OneAccount d → (at : Place) (line : LogLine) (p q : Place) → IsVisitTransition d at line p
     → IsVisitTransition d at line q → p ≡ q
 one_next_visit_place d one at line p q (inl h) (inl k) = one_next_place d one at line p q h k
@@ -28,7 +27,7 @@ one_next_visit_place d one at line p q (inr b) (inl k) =
     absurd (no_busy_in_session d at q (subst (λ (l : LogLine). IsTransition d at l q) b.1 k))
 one_next_visit_place d one at line p q (inr b) (inr c) = b.2 ∙ sym c.2
 
--- where there is no line, no session is open and nothing was told
+-- if there is no line, no session is open and no reply is recorded
 pub empty_log_tells_nothing : (limit : ℕ) (d : Demands) (places : ℕ → Place) (told : List LoggedReply)
     → SpellsNumbered limit d [] places told
     → ((n : ℕ) → places n ≡ between) × (told ≡ [])
@@ -38,7 +37,7 @@ empty_log_tells_nothing limit d places told s = (
       (nothing_told_without_numbers s.numbered_told s.sessions.order),
 )
 
--- the places and what was told follow from the lines
+-- the places and the recorded replies follow from the lines
 pub numbered_lines_have_one_reading : (limit : ℕ) (d : Demands) → OneAccount d
     → (log : List (Numbered LogLine)) (p q : ℕ → Place) (told other : List LoggedReply)
     → SpellsNumbered limit d log p told → SpellsNumbered limit d log q other → ((n : ℕ) → p n ≡ q n) × (told ≡ other)
@@ -61,7 +60,7 @@ numbered_lines_have_one_reading limit d one = holds_by_last
       a.tells ∙ same_line_tells_same a.told b.told (a.before n) (b.before n) line line same.1 (same.0 n) refl ∙ sym b.tells,
     ))
 
--- these lines are a log of version 2, and what was told in them is the first of what was told in all
+-- these lines are a log of version 2, and their replies are the first of these replies
 pub record Front (limit : ℕ) (d : Demands) (log : List (Numbered LogLine)) (told : List LoggedReply) : Type 0 where
   pub places : ℕ → Place
   pub earlier : List LoggedReply
@@ -69,7 +68,7 @@ pub record Front (limit : ℕ) (d : Demands) (log : List (Numbered LogLine)) (to
   pub spells : SpellsNumbered limit d log places earlier
   pub tells : told ≡ earlier ++ rest
 
--- the first lines of a log of version 2 are such a log, and what was told in them comes first
+-- the first lines of a log of version 2 are such a log, and their replies come first
 pub front_told_comes_first : (limit : ℕ) (d : Demands) (log more : List (Numbered LogLine)) (p : ℕ → Place) (told : List LoggedReply)
     → SpellsNumbered limit d (log ++ more) p told → Front limit d log told
 front_told_comes_first limit d log = holds_by_last
@@ -94,13 +93,13 @@ front_told_comes_first limit d log = holds_by_last
       tells = b.tells ∙ ap (λ (t : List LoggedReply). t ++ this) f.tells ∙ append_assoc f.earlier f.rest this;
     })
 
--- where the place of a number has a challenge that meets its demand, so has the place to which a line leads from there
+-- if the challenge at a number's place meets its demand, so does the one at the place to which a line leads from there
 visit_challenge_meets_demand : (d : Demands) (at : Place) (line : LogLine) (next : Place) → ChallengeMeetsDemand d at
     → IsVisitTransition d at line next → ChallengeMeetsDemand d next
 visit_challenge_meets_demand d at line next is (inl h) = each_line_keeps_demand d at line next is h
 visit_challenge_meets_demand d at line next is (inr b) = subst (ChallengeMeetsDemand d) (sym b.2) tt
 
--- where the place of a number has a challenge, what is demanded of that challenge holds, in a log that meets the demands
+-- in a log that meets the demands, the challenge at a number's place meets its demand
 pub number_challenge_meets_demand : (limit : ℕ) (d : Demands) (log : List (Numbered LogLine)) (p : ℕ → Place) (told : List LoggedReply)
     → SpellsNumbered limit d log p told → (n : ℕ) → ChallengeMeetsDemand d (p n)
 number_challenge_meets_demand limit d = holds_by_last
@@ -114,7 +113,7 @@ number_challenge_meets_demand limit d = holds_by_last
     (visit_challenge_meets_demand d (b.before n) x.value (p n) (was n) b.goes.goes)
     (λ m differ. subst (ChallengeMeetsDemand d) (sym (b.others m differ)) (was m)))
 
--- a line that a number may have in a log it may have whatever the places of the others, where its own place and what was told are the same
+-- whether a number may have a line depends on its own place and the recorded replies, not on the places of other numbers
 pub own_place_decides_transition : (limit : ℕ) (d : Demands) (log : List (Numbered LogLine)) (places other : ℕ → Place)
     (told also : List LoggedReply) (n : ℕ)
     (line : LogLine) (to : Place)

@@ -1,4 +1,4 @@
--- The place of a number follows from the lines of this number alone, whatever else its log has.
+-- The place of a number depends only on the lines of this number.
 use Rattle.std.proofs.Common.{◌≡◌, inl, inr, ℕ, List, sym, ◌∙◌, ap, subst, ◌++◌, ◌∷◌, []}
 use Rattle.std.specs.declared.option.Option.{Option}
 use Rattle.std.proofs.lemmas.List.{same_from_push}
@@ -14,7 +14,7 @@ use Rattle.scram_text.proofs.lemmas.ListEnds.{empty_has_no_last}
 use Rattle.log_grammar.proofs.lemmas.ListEnds.{holds_by_last}
 use Rattle.log_grammar.proofs.lemmas.many_sessions.Visits.{ShorterVisit, visit_shortens, empty_visit_is_between}
 
--- a number whose lines end with this one has a shorter visit, which has those before it
+-- if the lines of a number end with this line, the number has a shorter visit with the lines before it
 visit_has_last_line : (d : Demands) (lines : List LogLine) (line : LogLine) (p : Option Visit) → VisitMeets d p
     → lines ++ line ∷ [] ≡ visit_lines p → (a : ShorterVisit d p) × (lines ≡ visit_lines a.tree) × (line ≡ a.line)
 visit_has_last_line d lines line p meets same = elim (visit_shortens d p meets) [
@@ -37,7 +37,7 @@ visits_share_place d one = holds_by_last
     (subst (λ (r : Place). IsVisitTransition d r b.line (visit_place q)) (sym was) b.goes) in
     one_next_visit_place d one (visit_place a.tree) a.line (visit_place p) (visit_place q) a.goes moved)
 
--- two numbers with the same lines, in one log or in two, are at the same place, where a challenge is that of one account
+-- if a challenge is for only one account, two numbers with the same lines, in one log or in two, are at the same place
 pub numbers_share_place : (limit : ℕ) (d : Demands) → OneAccount d
     → (log other : List (Numbered LogLine)) (p q : ℕ → Place) (told also : List LoggedReply)
     → SpellsNumbered limit d log p told → SpellsNumbered limit d other q also → (n m : ℕ) → of_number n log ≡ of_number m other → p n ≡ q m

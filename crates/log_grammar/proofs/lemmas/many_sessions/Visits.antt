@@ -1,4 +1,4 @@
--- The lines of one number go on by a line, and without their last line they are lines that it may follow.
+-- The lines of one number continue with a line, and without their last line they are lines that it may follow.
 use Rattle.std.proofs.Common.{◌≡◌, ◌⊎◌, inl, inr, ℕ, true, false, List, [], ◌∷◌, ◌++◌, refl, sym, ap}
 use Rattle.std.specs.declared.option.Option.{Option}
 use Rattle.std.specs.declared.option.Option.TheVariants.{None, Some}
@@ -12,7 +12,7 @@ use Rattle.log_grammar.specs.state_machine.NumberedSteps.{IsVisitTransition}
 use Rattle.log_grammar.proofs.lemmas.state_machine.Growth.{Grown, session_goes_on}
 use Rattle.log_grammar.proofs.lemmas.state_machine.Shortening.{session_shortens}
 
--- a number that was given and is closed
+-- a number was given and is closed
 pub record IsGivenAndClosed (p : Option Visit) : Type 0 where
   pub given : Visit
   pub is : p ≡ Some given
@@ -25,13 +25,13 @@ mechs_begins_visit d (said (mechs names)) next h =
     record { tree = Some (let_in (session names no_login)); lines = refl; at = sym h.1; tells = refl; good = (h.0, tt) }
 mechs_begins_visit d line next h = absurd h
 
--- the lines of a number that was turned away go on by its `E`
+-- the lines of a number that was turned away continue with its `E`
 turned_away_visit_goes_on : (d : Demands) (line : LogLine) (next : Place) → IsTransition d over line next
     → Grown d visit_part (Some (turned_away false)) line next (told_at over line)
 turned_away_visit_goes_on d ended next h = record { tree = Some (turned_away true); lines = refl; at = sym h; tells = refl; good = tt }
 turned_away_visit_goes_on d line next h = absurd h
 
--- a number is closed, or its lines go on by a line that may stand at its place
+-- a number is closed, or its lines continue with a line that may stand at its place
 pub visit_goes_on : (d : Demands) (p : Option Visit) (line : LogLine) (next : Place) → VisitMeets d p
     → IsVisitTransition d (visit_place p) line next
     → IsGivenAndClosed p ⊎ Grown d visit_part p line next (told_at (visit_place p) line)
@@ -47,16 +47,22 @@ visit_goes_on d (Some (turned_away true)) line next meets h = inl (record { give
 visit_goes_on d (Some (turned_away false)) line next meets (inl h) = inr (turned_away_visit_goes_on d line next h)
 visit_goes_on d (Some (turned_away false)) line next meets (inr b) = absurd (cc b.0)
 
--- the lines of a number are those of what it stood for before, with one line more that may stand at its place
+-- the lines of a number are those of a shorter visit and one more line
 pub record ShorterVisit (d : Demands) (p : Option Visit) : Type 0 where
+  -- the shorter visit
   pub tree : Option Visit
+  -- the last line
   pub line : LogLine
+  -- the number's lines are those of the shorter visit, then this one
   pub lines : visit_lines p ≡ visit_lines tree ++ line ∷ []
+  -- the line may stand at the shorter visit's place, and leads to the number's
   pub goes : IsVisitTransition d (visit_place tree) line (visit_place p)
+  -- the recorded replies are those of the shorter visit, then that of the line
   pub tells : visit_told p ≡ visit_told tree ++ told_at (visit_place tree) line
+  -- the shorter visit meets the demands
   pub good : VisitMeets d tree
 
--- the lines of a session are one line more than those of a session, or than none
+-- the lines of a session are those of a shorter session, or none, and one more line
 session_visit_shortens : (d : Demands) (names : List ℕ) (l : AfterMechs) → VisitMeets d (Some (let_in (session names l)))
     → ShorterVisit d (Some (let_in (session names l)))
 session_visit_shortens d names l meets = elim (session_shortens d names l meets.1 meets.0) [
@@ -71,7 +77,7 @@ session_visit_shortens d names l meets = elim (session_shortens d names l meets.
   | inr s ↦ record { tree = Some (let_in s.tree); line = s.line; lines = s.lines; goes = inl s.goes; tells = s.tells; good = s.good }
 ]
 
--- a number was not given, or its lines are those of what it stood for before, and one more that may stand at its place
+-- a number was not given, or its lines are those of a shorter visit and one more line
 pub visit_shortens : (d : Demands) (p : Option Visit) → VisitMeets d p → (p ≡ None) ⊎ ShorterVisit d p
 visit_shortens d None meets = inl refl
 visit_shortens d (Some (let_in (session names l))) meets = inr (session_visit_shortens d names l meets)

@@ -1,4 +1,4 @@
--- The server's lines one by one: from which place each goes on.
+-- Where each of the server's lines may stand: the places from which a log continues with it.
 use Rattle.std.proofs.Common.{◌≡◌, inl, inr, ℕ, List, [], ◌∷◌, ◌++◌, reverse, refl, sym, ◌∙◌, ap, subst}
 use Rattle.std.proofs.Common.{append_assoc, append-nil}
 use Rattle.std.specs.declared.option.Option.{Option}
@@ -22,14 +22,14 @@ use Rattle.log_grammar.proofs.lemmas.state_machine.LogSteps.{log_goes_on, log_ha
 use Rattle.log_grammar.proofs.lemmas.ListEnds.{holds_by_last}
 use Rattle.log_grammar.proofs.lemmas.kinds.OneWhy.{one_mechanism}
 
--- where no more was told, what was told in a log's lines is the same
+-- if no reply was added, the replies recorded in a log's lines are the same
 quiet_line_keeps_told : (accounts : Accounts) (log : List LogLine) (at : Place) (all told : List LoggedReply) → all ≡ told ++ []
     → Begins (demands accounts) log at told
     → Begins (demands accounts) log at all
 quiet_line_keeps_told accounts log at all told same begins = subst (λ (t : List LoggedReply). Begins (demands accounts) log at t)
     (sym (same ∙ append-nil told)) begins
 
--- a log goes on by a line that tells nothing, and what was told in it stays the same
+-- a log continues with a line that records no reply, and its replies stay the same
 log_goes_on_quietly : (accounts : Accounts) (log : List LogLine) (at : Place) (told : List LoggedReply) (line : LogLine) (next : Place)
     → told_at at line ≡ []
     → Begins (demands accounts) log at told → IsTransition (demands accounts) at line next
@@ -40,11 +40,11 @@ log_goes_on_quietly accounts log at told line next none begins goes =
     subst (λ (t : List LoggedReply). Begins (demands accounts) (log ++ line ∷ []) next t) same
     (log_goes_on (demands accounts) log at told line next begins goes due)
 
--- what was told in a log's first lines comes first in what was told in all
+-- replies that come first still do when more are added at the end
 told_first_stays_first : (told before rest tells : List LoggedReply) → before ≡ told ++ rest → before ++ tells ≡ told ++ (rest ++ tells)
 told_first_stays_first told before rest tells same = ap (λ (l : List LoggedReply). l ++ tells) same ∙ append_assoc told rest tells
 
--- the first lines of what a log may begin with also begin a log, and what was told in them comes first
+-- the first lines of what a log may begin with also begin a log, and their replies come first
 pub first_lines_begin_logs : FirstLinesBeginLogs
 first_lines_begin_logs accounts log = holds_by_last
     (λ more. (place : Place) (told : List LoggedReply) → Begins (demands accounts) (log ++ more) place told
@@ -64,7 +64,7 @@ first_lines_begin_logs accounts log = holds_by_last
     let tells = told_at s.place line in
     (at, before, rest ++ tells, front, s.tells ∙ told_first_stays_first before s.told rest tells same))
 
--- `S MECHS` may stand between sessions alone, with the names demanded, and leads to the place after an offer
+-- `S MECHS` may stand only between sessions, with the names that are demanded, and leads to the place after an offer
 offer_is_due : (accounts : Accounts) (log : List LogLine) (names : List ℕ) (next at : Place) (all told : List LoggedReply)
     → all ≡ told ++ told_at at (said (mechs names)) → Begins (demands accounts) log at told
     → IsTransition (demands accounts) at (said (mechs names)) next
@@ -73,7 +73,7 @@ offer_is_due accounts log names next between all told same b goes =
     (quiet_line_keeps_told accounts log between all told same b, goes.0, goes.1)
 offer_is_due accounts log names next at all told same b goes = absurd goes
 
--- `S MECHS` may stand exactly between sessions, with the names of the two mechanisms
+-- `S MECHS` may stand if and only if it is between sessions and has the names of the two mechanisms
 pub each_offer_is_due : EachOfferIsDue
 each_offer_is_due accounts log names next told = (
   λ begins.
@@ -93,7 +93,7 @@ challenge_is_due accounts log text next (got_first m first) all told same b goes
     inr (m, first, goes.0, quiet_line_keeps_told accounts log (got_first m first) all told same b, goes.1, goes.2)
 challenge_is_due accounts log text next at all told same b goes = absurd goes
 
--- `S CONT` that is a challenge due may stand
+-- `S CONT` may stand with a challenge that is due
 due_challenge_may_stand : (accounts : Accounts) (log : List LogLine) (text : List ℕ) (next : Place) (told : List LoggedReply)
     → IsChallengeDue accounts log text next told
     → Begins (demands accounts) (log ++ said (cont text) ∷ []) next told
@@ -102,8 +102,8 @@ due_challenge_may_stand accounts log text next told (inl (m, begins, is, none, a
 due_challenge_may_stand accounts log text next told (inr (m, first, name, begins, is, at)) =
     log_goes_on_quietly accounts log (got_first m first) told (said (cont text)) next refl begins (name, is, at)
 
--- `S CONT` may stand exactly where it is the empty challenge of a mechanism that is offered, or a challenge that is due to the
--- client-first message
+-- `S CONT` may stand if and only if it is the empty challenge of an offered mechanism, or a challenge that is due to the client-first
+-- message
 pub each_challenge_is_due : EachChallengeIsDue
 each_challenge_is_due accounts log text next told = (
   λ begins.
@@ -112,7 +112,7 @@ each_challenge_is_due accounts log text next told = (
   λ is. due_challenge_may_stand accounts log text next told is,
 )
 
--- messages whose verdict is a refusal are those of no valid login
+-- messages whose verdict is a refusal are not those of a valid login
 refused_login_is_invalid : AtMostOneVerdictIsDue → AcceptsExactlyValid
     → (accounts : Accounts) (mechanism name client_first server_first client_final : List ℕ) (why : Refusal)
     → IsVerdictDue accounts mechanism name client_first server_first client_final (refuse why) → (server_final : List ℕ)
@@ -125,7 +125,7 @@ refused_login_is_invalid once valid accounts mechanism name client_first server_
     let wrong = once (challenged_login (accounts.entry m name) m client_first server_first) client_final (refuse why)
     (accept accepted.0) due here in cc wrong
 
--- `S NO` may stand only where it is the refusal that is due
+-- `S NO` may stand only if it is the refusal that is due
 refusal_is_due : AtMostOneVerdictIsDue → AcceptsExactlyValid
     → (accounts : Accounts) (log : List LogLine) (text : List ℕ) (next at : Place) (all told : List LoggedReply)
     → all ≡ told ++ told_at at (said (refuses text)) → Begins (demands accounts) log at told
@@ -154,7 +154,7 @@ refusal_is_due once valid accounts log text next leaving all told same b goes =
     (inr (inr (inr (quiet_line_keeps_told accounts log leaving all told same b, goes.0))), goes.1)
 refusal_is_due once valid accounts log text next at all told same b goes = absurd goes
 
--- `S NO` that is the refusal due may stand
+-- `S NO` may stand if it is the refusal that is due
 due_refusal_may_stand : (accounts : Accounts) (log : List LogLine) (text : List ℕ) (next : Place) (told : List LoggedReply)
     → IsRefusalDue accounts log text told → next ≡ over
     → Begins (demands accounts) (log ++ said (refuses text) ∷ []) next told
@@ -169,8 +169,8 @@ due_refusal_may_stand accounts log text next told (inr (inr (inl (m, name, clien
 due_refusal_may_stand accounts log text next told (inr (inr (inr (begins, bare)))) at =
     log_goes_on_quietly accounts log leaving told (said (refuses text)) next refl begins (bare, at)
 
--- `S NO` may stand exactly where it is the refusal that is due, which no valid login gets, where at most one verdict is due to a
--- text, and acceptance to the valid logins alone
+-- `S NO` may stand if and only if it is the refusal that is due, which no valid login gets. This needs that at most one verdict is due to a
+-- text, and that acceptance is due only to valid logins
 pub each_refusal_is_due : AtMostOneVerdictIsDue → AcceptsExactlyValid → EachRefusalIsDue
 each_refusal_is_due once valid accounts log text next told = (
   λ begins.
@@ -179,7 +179,7 @@ each_refusal_is_due once valid accounts log text next told = (
   λ is. due_refusal_may_stand accounts log text next told is.0 is.1,
 )
 
--- a reply to a code may stand only where it is the one due
+-- a reply to a code may stand only if it is the one due
 reply_is_due : (accounts : Accounts) (log : List LogLine) (moment : ℕ) (reply : Option Reply) (next at : Place)
     (all told : List LoggedReply)
     → all ≡ told ++ told_at at (said (replies moment reply))
@@ -190,7 +190,7 @@ reply_is_due accounts log moment reply next (got_code account sent) all told sam
     record { account = account; sent = sent; told = told; after = b; due = due.0; tells = same; is_next = goes }
 reply_is_due accounts log moment reply next at all told same due b goes = absurd goes
 
--- a reply may stand exactly where it is the one due to a code, or to two in a row, after what was told of its account before
+-- a reply may stand if and only if it is the one due to one or two codes, after the earlier replies to its account
 pub each_reply_is_due : EachReplyIsDue
 each_reply_is_due accounts log moment reply next all = (
   λ begins.
@@ -202,12 +202,12 @@ each_reply_is_due accounts log moment reply next all = (
       (r.due, tt)),
 )
 
--- the log ends in a code, or two in a row, that waits for its reply, and the next place is the halt
+-- the log ends in a line with one or two codes that waits for its reply, and the next place is the halt
 abbrev EndsCode : Accounts → List LogLine → Place → List LoggedReply → Type 0
 EndsCode accounts log next told =
     (account : List ℕ) × (sent : CodeTexts) × Begins (demands accounts) log (got_code account sent) told × (next ≡ halted)
 
--- `S HALT` may stand only where a code waits for its reply, and leads to the halt
+-- `S HALT` may stand only while a code waits for its reply, and leads to the halt
 halt_ends_code : (accounts : Accounts) (log : List LogLine) (next at : Place) (all told : List LoggedReply)
     → all ≡ told ++ told_at at (said halt)
     → Begins (demands accounts) log at told → IsTransition (demands accounts) at (said halt) next → EndsCode accounts log next all
@@ -215,7 +215,7 @@ halt_ends_code accounts log next (got_code account sent) all told same b goes =
     (account, sent, quiet_line_keeps_told accounts log (got_code account sent) all told same b, goes)
 halt_ends_code accounts log next at all told same b goes = absurd goes
 
--- `S HALT` may stand exactly after a code, or two in a row, in place of the reply
+-- `S HALT` may stand if and only if it follows one or two codes, instead of their reply
 pub each_halt_ends_a_code : EachHaltEndsACode
 each_halt_ends_a_code accounts log next told = (
   λ begins.

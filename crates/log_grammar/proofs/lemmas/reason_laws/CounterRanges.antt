@@ -1,4 +1,4 @@
--- Where a token is in its ranges, the counter of the reply that is due is in the range of counters.
+-- If a token is in its ranges, so is the counter of the reply that is due.
 use Rattle.std.proofs.Common.{ℕ, ◌-◌, List, sym, subst, arith}
 use Rattle.std.specs.declared.option.Option.TheVariants.{Some}
 use Rattle.std.proofs.Math.Nat.{div-le_self}
@@ -13,7 +13,7 @@ use Rattle.otp_core.specs.declared.token.kinds.TokenFields.TheVariants.{Hotp, To
 use Rattle.log_grammar.specs.Lines.{IsReplyInRange}
 use Rattle.log_grammar.specs.laws.Reasons.{DueRepliesCanBeWritten}
 
--- where a token is in its ranges, the reply that is due is in its range
+-- if a token is in its ranges, so is the reply that is due
 due_reply_is_in_range : (token : TokenFields) (attempts : List Attempt) (moment : ℕ) (sent : CodeTexts) (reply : Reply) → IsInRange token
     → IsMoment moment
     → IsDueReply token attempts moment sent reply → IsReplyInRange (Some reply)
@@ -27,7 +27,7 @@ due_reply_is_in_range (Totp t) attempts moment (TwoTexts first second) (Pass c) 
 due_reply_is_in_range token attempts moment sent Fail range at due = tt
 due_reply_is_in_range token attempts moment sent Locked range at due = tt
 
--- the law: where a token and the moment are in their ranges, the reply that is due can be written
+-- the law: if a token and the moment are in their ranges, the reply that is due can be written
 pub due_replies_can_be_written : DueRepliesCanBeWritten
 due_replies_can_be_written token attempts moment sent due range at (reply, is, by) =
     subst IsReplyInRange (sym is) (due_reply_is_in_range token attempts moment sent reply range at by)

@@ -1,4 +1,4 @@
--- What a reason names as due may stand in the place of the numbered line at fault, under its number.
+-- What a reason names as due may replace the numbered line at fault, under its number.
 use Rattle.std.proofs.Common.{◌≡◌, inl, inr, ℕ, ◌+◌, List, [], ◌∷◌, ◌++◌, length, reverse, refl, sym, ◌∙◌, ap, subst}
 use Rattle.std.specs.List.{AllByRecursion, AllZip}
 use Rattle.std.proofs.lemmas.Slice.Zip.{all_zipped_more}
@@ -9,8 +9,8 @@ use Rattle.log_grammar.specs.Places.{Place, asks_bare, got_first, got_final, got
 use Rattle.log_grammar.specs.Demands.{Accounts, AllCanBeChallenged, demands, AreReplies}
 use Rattle.log_grammar.specs.state_machine.Steps.{IsTransition, told_at}
 use Rattle.log_grammar.specs.Why.{Why, is_cut, no_line, out_of_order, other_mechs, other_challenge, other_outcome, other_reply, accepted}
-use Rattle.log_grammar.specs.Why.{refused_with, class_of, LineClass, of_mechs, of_login_answers, of_replies, IsWrongAnswer, IsWrongReply}
-use Rattle.log_grammar.specs.Why.{IsWrong}
+use Rattle.log_grammar.specs.Why.{refused_with, class_of, LineClass, of_mechs, of_login_answers, of_replies, IsReasonForAnswer, IsReasonForReply}
+use Rattle.log_grammar.specs.Why.{IsReasonForLine}
 use Rattle.log_grammar.specs.state_machine.DueClasses.{IsDueAt}
 use Rattle.log_grammar.specs.LogKinds.{IsWhyOf, BeginsCleanOf}
 use Rattle.log_grammar.specs.VersionTwo.{MayBeginVersionTwo, IsWrongAfterFirst, version_two}
@@ -24,7 +24,7 @@ use Rattle.log_grammar.specs.laws.NumberedReasons.{HasNumberedLineThatMayStand, 
 use Rattle.log_grammar.specs.laws.NumberedReasons.{EachNumberedLineThatIsDueMayStand}
 use Rattle.log_grammar.proofs.lemmas.reason_laws.DueLines.{said_due_is_named, each_due_line_follows}
 use Rattle.log_grammar.proofs.lemmas.kinds.FaultLines.{FaultText, reason_shows_fault_text}
-use Rattle.log_grammar.proofs.lemmas.kinds.Judged.{standing_lines_are_front}
+use Rattle.log_grammar.proofs.lemmas.kinds.Fronts.{standing_lines_are_front}
 use Rattle.log_grammar.proofs.lemmas.reason_laws.Mended.{some_line_mends_line, named_fault_is_whole_line}
 use Rattle.log_grammar.proofs.lemmas.many_sessions.DueClasses.{number_classes_follow_place}
 use Rattle.log_grammar.proofs.lemmas.lines.NumberedReadBack.{one_numbered_line, numbered_line_lacks_lf, numbered_line_is_writable}
@@ -44,9 +44,9 @@ record IsNumberedFault (limit : ℕ) (accounts : Accounts) (before : List (List 
   told : List LoggedReply
   spells : SpellsNumbered limit (demands accounts) log places told
   due : IsNumberDueAt limit log (places x.number) x.number (class_of x.value)
-  wrong : IsWrong accounts (places x.number) told x.value why
+  wrong : IsReasonForLine accounts (places x.number) told x.value why
 
--- a line after the first that is at fault for a reason that names what is due is at fault where some line of its class is due
+-- if a line after the first is at fault for a reason that names what is due, some line of its class is due there
 later_text_shows_fault : (limit : ℕ) (accounts : Accounts) (first : List ℕ) (texts : List (List ℕ)) (text : List ℕ)
     (log : List (Numbered LogLine))
     (x : Numbered LogLine) (why : Why)
@@ -77,7 +77,7 @@ later_text_shows_fault limit accounts first texts text log x why head are is nam
       wrong = wrong;
     })
 
--- a numbered line at fault for a reason that names what is due is at fault where some line of its class is due
+-- if a numbered line is at fault for a reason that names what is due, some line of its class is due there
 fault_text_shows_fault : (limit : ℕ) (accounts : Accounts) (before : List (List ℕ)) (text : List ℕ) (x : Numbered LogLine) (why : Why)
     → IsNumberedLine text x → NamesWhatIsDue why
     → FaultText (version_two limit accounts) before text why → IsNumberedFault limit accounts before x why
@@ -86,7 +86,7 @@ fault_text_shows_fault limit accounts (first ∷ texts) text x why is names f =
     let (log, are, wrong) = f.wrong in
     later_text_shows_fault limit accounts first texts text log x why f.stands.0 are is names wrong
 
--- the text of a line whose fault names what is due is a numbered line
+-- the text of a line at fault for a reason that names what is due is a numbered line
 fault_text_is_numbered : (limit : ℕ) (accounts : Accounts) (before : List (List ℕ)) (text : List ℕ) (why : Why) → NamesWhatIsDue why
     → FaultText (version_two limit accounts) before text why
     → (x : Numbered LogLine) × IsNumberedLine text x
@@ -105,7 +105,8 @@ fault_class_is_due : (limit : ℕ) (accounts : Accounts) (before : List (List �
     → IsDueAt (f.places x.number) (class_of x.value)
 fault_class_is_due limit accounts before x why f = elim f.due.due [
   | inl due ↦ due
-  | inr busy ↦ absurd (subst (λ (l : LogLine). IsWrong accounts (f.places x.number) f.told l why) (only_busy_has_busy_class x.value busy.1)
+  | inr busy ↦ absurd (subst (λ (l : LogLine). IsReasonForLine accounts (f.places x.number) f.told l why)
+      (only_busy_has_busy_class x.value busy.1)
       f.wrong)
 ]
 
@@ -128,7 +129,7 @@ due_line_has_class (other_outcome (accepted signature)) line says = ap class_of 
 due_line_has_class (other_outcome (refused_with message)) line says = ap class_of says
 due_line_has_class (other_reply moment due) line says = ap class_of says
 
-wrong_answer_has_class : (accounts : Accounts) (place : Place) (why : Why) → IsWrongAnswer accounts place why
+wrong_answer_has_class : (accounts : Accounts) (place : Place) (why : Why) → IsReasonForAnswer accounts place why
     → NamesClass why of_login_answers
 wrong_answer_has_class accounts (asks_bare m) why (inl (is, same)) = subst (λ (w : Why). NamesClass w of_login_answers) (sym same) refl
 wrong_answer_has_class accounts (asks_bare m) why (inr (none, same)) = subst (λ (w : Why). NamesClass w of_login_answers) (sym same) refl
@@ -143,13 +144,13 @@ wrong_answer_has_class accounts leaving why same = subst (λ (w : Why). NamesCla
 wrong_answer_has_class accounts place why wrong = absurd wrong
 
 wrong_reply_has_class : (accounts : Accounts) (place : Place) (told : List LoggedReply) (moment : ℕ) (why : Why)
-    → IsWrongReply accounts place told moment why → NamesClass why of_replies
+    → IsReasonForReply accounts place told moment why → NamesClass why of_replies
 wrong_reply_has_class accounts (got_code account sent) told moment why (due, is, same) =
     subst (λ (w : Why). NamesClass w of_replies) (sym same) refl
 wrong_reply_has_class accounts place told moment why wrong = absurd wrong
 
 wrong_line_has_class : (accounts : Accounts) (place : Place) (told : List LoggedReply) (line : LogLine) (why : Why)
-    → IsWrong accounts place told line why → NamesClass why (class_of line)
+    → IsReasonForLine accounts place told line why → NamesClass why (class_of line)
 wrong_line_has_class accounts place told (said (mechs names)) why wrong = subst (λ (w : Why). NamesClass w of_mechs) (sym wrong) refl
 wrong_line_has_class accounts place told (said (cont message)) why wrong = wrong_answer_has_class accounts place why wrong
 wrong_line_has_class accounts place told (said (accepts message)) why wrong = wrong_answer_has_class accounts place why wrong
@@ -158,7 +159,7 @@ wrong_line_has_class accounts place told (said (replies moment reply)) why wrong
     wrong_reply_has_class accounts place told moment why wrong
 wrong_line_has_class accounts place told line why wrong = absurd wrong
 
--- a reason names one class at most
+-- a reason names at most one class
 one_class : (why : Why) (one other : LineClass) → NamesClass why one → NamesClass why other → one ≡ other
 one_class is_cut one other a b = absurd a
 one_class no_line one other a b = absurd a
@@ -179,7 +180,7 @@ due_line_may_have_number (other_outcome (accepted signature)) line says = subst 
 due_line_may_have_number (other_outcome (refused_with message)) line says = subst IsNoFirstLine (sym says) tt
 due_line_may_have_number (other_reply moment due) line says = subst IsNoFirstLine (sym says) tt
 
--- lines before a numbered line at fault begin a clean log with a line that says what is due and may stand at its place
+-- the lines before a numbered line at fault, with a line that says what is due and may stand at its place, begin a clean log
 due_numbered_begins_clean : NumberedFrontsBeginClean → (limit : ℕ) (accounts : Accounts) → AllCanBeChallenged accounts
     → (before : List (List ℕ)) (x : Numbered LogLine) (why : Why)
     (f : IsNumberedFault limit accounts before x why) (line : LogLine) (next : Place) → AllByRecursion LacksLf before
@@ -215,7 +216,7 @@ due_numbered_begins_clean completes limit accounts fit before x why f line next 
     (standing_lines_are_front (version_two limit accounts) all lacks
     (subst (λ (ts : List (List ℕ)). MayBeginVersionTwo limit accounts (ts ++ numbered_text y ∷ [])) (sym f.same) stands))
 
--- what a reason names as due may stand in place of a numbered line at fault, under its number
+-- what a reason names as due may replace a numbered line at fault, under its number
 numbered_fault_has_due_line : NumberedFrontsBeginClean → (limit : ℕ) (accounts : Accounts) → AllCanBeChallenged accounts
     → (bytes : List ℕ) (before : List (List ℕ)) (text : List ℕ) (more : List (List ℕ))
     (rest : List ℕ) (why : Why) → IsSplit bytes (before ++ text ∷ more) rest
@@ -243,7 +244,7 @@ numbered_fault_has_due_line completes limit accounts fit bytes before text more 
           (all_front LacksLf before (text ∷ more) cut.lines) m.says writable m.goes m.due;
     }
 
--- what a reason names as due may stand in place of the line at fault, under its number, where fronts of version 2 begin clean logs
+-- if fronts of version 2 begin clean logs, what a reason names as due may replace the line at fault, under its number
 pub numbered_what_is_due_may_stand : NumberedFrontsBeginClean → WhatIsDueMayStandUnderItsNumber
 numbered_what_is_due_may_stand completes limit accounts fit bytes texts rest k why cut w names =
     let (before, text, more, same, this) = named_fault_is_whole_line (version_two limit accounts) bytes texts rest k why cut w names in
@@ -253,8 +254,8 @@ numbered_what_is_due_may_stand completes limit accounts fit bytes texts rest k w
     (subst (λ (ts : List (List ℕ)). IsSplit bytes ts rest) same cut)
     (subst (λ (i : ℕ). IsWhyOf (version_two limit accounts) bytes i why) this w) names))
 
--- each line that can be written and says what is due, except a challenge, may stand in place of the line at fault, under its
--- number, where fronts of version 2 begin clean logs
+-- if fronts of version 2 begin clean logs, each line that can be written and says what is due, except a challenge, may replace the line at
+-- fault, under its number
 pub each_numbered_due_may_stand : NumberedFrontsBeginClean → EachNumberedLineThatIsDueMayStand
 each_numbered_due_may_stand completes limit accounts fit bytes before text more rest why x line cut w other is says writable =
     let f = fault_text_shows_fault limit accounts before text x why is (said_due_is_named why line says writable.line)

@@ -9,7 +9,7 @@ use Rattle.log_grammar.specs.LoggedReply.{LoggedReply}
 use Rattle.log_grammar.specs.Places.{Place, waits_code, got_code}
 use Rattle.log_grammar.specs.Demands.{Demands, attempts_of, demands, AreReplies}
 use Rattle.log_grammar.specs.state_machine.Steps.{told_at}
-use Rattle.log_grammar.specs.laws.Replies.{passes, AreRising}
+use Rattle.log_grammar.specs.laws.Replies.{pass_line, AreRising}
 use Rattle.log_grammar.specs.Numbered.{Numbered, numbered, SpellsNumbered}
 use Rattle.log_grammar.specs.state_machine.NumberedSteps.{IsVisitTransition}
 use Rattle.log_grammar.specs.laws.NumberedReplies.{EachNumberedPassIsACode, NumberedCountersRise}
@@ -20,20 +20,20 @@ use Rattle.log_grammar.proofs.lemmas.many_sessions.OneReading.{numbered_lines_ha
 use Rattle.log_grammar.proofs.lemmas.reply_laws.Passed.{later_pass_is_greater, due_pass_fits_token}
 use Rattle.log_grammar.proofs.lemmas.reply_laws.UsedCounters.{replies_keep_counters_rising}
 
--- a PASS stands where a code, or two in a row, wait for their reply
-pass_follows_code : (d : Demands) (place next : Place) (moment counter : ℕ) → IsVisitTransition d place (passes moment counter) next
+-- a PASS stands only while one or two codes wait for their reply
+pass_follows_code : (d : Demands) (place next : Place) (moment counter : ℕ) → IsVisitTransition d place (pass_line moment counter) next
     → (account : List ℕ) × (sent : CodeTexts) × (place ≡ got_code account sent) × (next ≡ waits_code account)
 pass_follows_code d place next moment counter (inr busy) = absurd (cc busy.1)
 pass_follows_code d (got_code account sent) next moment counter (inl goes) = (account, sent, refl, goes)
 pass_follows_code d place next moment counter (inl goes) = absurd goes
 
--- PASS stands under a number only after the code of its counter, which could pass then, or after two codes in a row whose
--- second is that of its counter
+-- PASS stands under a number only after the code of its counter, which could pass then, or after two codes in a row of which the second is
+-- its counter's
 pub each_numbered_pass_is_a_code : EachNumberedPassIsACode
 each_numbered_pass_is_a_code limit accounts log n moment counter places told s =
-    let b = numbered_log_has_last_transition limit (demands accounts) log n (passes moment counter) places told s in
+    let b = numbered_log_has_last_transition limit (demands accounts) log n (pass_line moment counter) places told s in
     let (account, sent, at, next) = pass_follows_code (demands accounts) (b.before n) (places n) moment counter b.goes.goes in
-    let due = subst (λ (p : Place). AreReplies (demands accounts) (reverse b.told) (told_at p (passes moment counter))) at b.goes.due in
+    let due = subst (λ (p : Place). AreReplies (demands accounts) (reverse b.told) (told_at p (pass_line moment counter))) at b.goes.due in
     let (token, has, fits) =
     due_pass_fits_token (accounts.token account) (attempts_of account (reverse b.told)) moment counter sent due.0 in
     record {
@@ -49,16 +49,16 @@ each_numbered_pass_is_a_code limit accounts log n moment counter places told s =
       is_next = next;
     }
 
--- of two passes of one account in a log of version 2, under whichever numbers, the later has the greater counter, where a
--- client-first message has one list of parts, a saslname one name, and a counter that can pass is above those that passed
+-- of two passes of one account in a log of version 2, under any numbers, the later has the greater counter. This needs that a client-first
+-- message has one list of parts, that a saslname has one name, and that a counter that can pass is above those that passed
 pub numbered_counters_rise : HasOneClientFirst → SpellsOneName → CandidatesAreNew → NumberedCountersRise
 numbered_counters_rise one_first names new limit accounts log more account n moment counter m at greater places after told all s at_n longer
     at_m =
-    let line = passes moment counter in
+    let line = pass_line moment counter in
     let first = log ++ numbered n line ∷ [] in
     let one = numbered_log_has_last_transition limit (demands accounts) log n line places told s in
     let (mine, sent, was, next) = pass_follows_code (demands accounts) (one.before n) (places n) moment counter one.goes.goes in
-    let split = sym (append_assoc first more (numbered m (passes at greater) ∷ [])) in
+    let split = sym (append_assoc first more (numbered m (pass_line at greater) ∷ [])) in
     let two = each_numbered_pass_is_a_code limit accounts (first ++ more) m at greater after all
     (subst (λ (l : List (Numbered LogLine)). SpellsNumbered limit (demands accounts) l after all) split longer) in
     let f = front_told_comes_first limit (demands accounts) first more two.places two.told two.after in
@@ -70,8 +70,8 @@ numbered_counters_rise one_first names new limit accounts log more account n mom
     later_pass_is_greater new two.token two.account two.sent two.told at greater two.fits mine moment counter sent one.told f.rest whose
     tells
 
--- the counters that an account's codes use in a log of version 2 rise, so that none is used twice, where a counter that can pass
--- is above those that passed
+-- the counters that an account's codes use in a log of version 2 rise, so that none is used twice, if a counter that can pass is above
+-- those that passed
 pub no_numbered_counter_is_used_twice : CandidatesAreNew → NoNumberedCounterIsUsedTwice
 no_numbered_counter_is_used_twice new limit accounts log places told account s =
     subst (λ (l : List LoggedReply). AreRising (used_in (attempts_of account l))) (append-nil (reverse told))

@@ -30,13 +30,13 @@ use Rattle.log_grammar.specs.Places.{Place, waits_code, got_code}
 use Rattle.log_grammar.specs.Demands.{Accounts, attempts_by, attempts_of, IsReplyDueBy, demands}
 use Rattle.log_grammar.specs.Begins.{Begins}
 use Rattle.log_grammar.specs.laws.Outcomes.{IsReplied, EachReplyIsDue}
-use Rattle.log_grammar.specs.laws.Replies.{passes, IsCodeOf, EachPassIsACode, CountersRise, NextHotpCodePasses, NextTwoHotpCodesPass}
+use Rattle.log_grammar.specs.laws.Replies.{pass_line, IsCodeOf, EachPassIsACode, CountersRise, NextHotpCodePasses, NextTwoHotpCodesPass}
 use Rattle.log_grammar.proofs.lemmas.demands.RepliesDue.{first_reply_stands_last}
 use Rattle.log_grammar.proofs.lemmas.outcome_laws.ServerLines.{first_lines_begin_logs}
 use Rattle.log_grammar.proofs.lemmas.state_machine.PlaceBefore.{log_has_one_reading}
 use Rattle.log_grammar.proofs.lemmas.demands.EachAccount.{same_or_other_account}
 
--- where a PASS is due, there is a token, which a code of its counter fits
+-- if a PASS is due, there is a token, which a code of its counter fits
 pub due_pass_fits_token : (o : Option TokenFields) (attempts : List Attempt) (moment counter : ℕ) (sent : CodeTexts)
     → IsReplyDueBy o attempts moment sent (Some (Pass counter))
     → (token : TokenFields) × (o ≡ Some token) × IsFitting token attempts moment sent counter
@@ -45,7 +45,7 @@ due_pass_fits_token (Some token) attempts moment counter sent (reply, is, due) =
     let same : reply ≡ Pass counter = cc (sym is) in
     (token, refl, (subst (λ (r : Reply). IsDueReply token attempts moment sent r) same due).1)
 
--- a PASS that may stand is one of a code that could pass then
+-- a PASS that may stand is for a code that could pass then
 replied_pass_is_code : (accounts : Accounts) (log : List LogLine) (moment counter : ℕ) (next : Place) (told : List LoggedReply)
     → IsReplied accounts log moment (Some (Pass counter)) next told → IsCodeOf accounts log moment counter next
 replied_pass_is_code accounts log moment counter next told r =
@@ -62,31 +62,31 @@ replied_pass_is_code accounts log moment counter next told r =
       is_next = r.is_next;
     }
 
--- PASS stands only after the code of its counter, which could pass then, or after two codes in a row whose second is that of its
--- counter, where replies may stand exactly where they are due
+-- if replies may stand exactly when they are due, PASS stands only after the code of its counter, which could pass then, or after two codes
+-- in a row of which the second is its counter's
 pub each_pass_is_a_code : EachReplyIsDue → EachPassIsACode
 each_pass_is_a_code replied accounts log moment counter next told begins =
     replied_pass_is_code accounts log moment counter next told ((replied accounts log moment (Some (Pass counter)) next told).0 begins)
 
--- the number after one that is above these counters is above them
+-- if a number is above these counters, so is the next number
 next_number_is_above : (counters : List ℕ) (w c : ℕ) → c ≡ w + 1 → IsAbove counters w → IsAbove counters c
 next_number_is_above [] w c next above = tt
 next_number_is_above (p ∷ counters) w c next above = (omega (arith, next, above.0), next_number_is_above counters w c next above.1)
 
--- a counter that fits, and the one before it where two codes fit, is above all that passed
+-- a counter that fits one code, or the second of two, is above all that passed
 pub fitting_counter_is_above : CandidatesAreNew → (token : TokenFields) (attempts : List Attempt) (moment : ℕ) (sent : CodeTexts) (c : ℕ)
     → IsFitting token attempts moment sent c → IsAbove (used_in attempts) c
 fitting_counter_is_above new token attempts moment (OneText text) c fits = new token attempts moment c (inl fits.0)
 fitting_counter_is_above new token attempts moment (TwoTexts first second) c fits =
     next_number_is_above (used_in attempts) fits.0 c fits.1 (new token attempts moment fits.0 (inr fits.2))
 
--- a number above what a pass used, and what passed before, is above its counter, and above what passed before
+-- a number above the counters that a pass uses and those that passed before is above the pass's own counter and above those before
 number_is_above_used : (sent : CodeTexts) (c : ℕ) (counters : List ℕ) (d : ℕ) → IsAbove (counters_of sent c ++ counters) d → (c < d)
     × IsAbove counters d
 number_is_above_used (OneText text) c counters d above = above
 number_is_above_used (TwoTexts first second) c counters d above = (above.0, above.1.1)
 
--- a counter above all that passed is above those that passed in fewer attempts
+-- a number above all counters that passed is above those that passed in fewer attempts
 number_is_above_fewer : (t : LoggedReply) (reply : Option Reply) (attempts : List Attempt) (d : ℕ)
     → IsAbove (used_in (attempts_by t reply attempts)) d
     → IsAbove (used_in attempts) d
@@ -95,7 +95,7 @@ number_is_above_fewer t (Some (Pass c)) attempts d above = (number_is_above_used
 number_is_above_fewer t (Some Fail) attempts d above = above
 number_is_above_fewer t (Some Locked) attempts d above = above
 
--- a number above all counters that passed in some replies is above those that passed in the earlier of them:
+-- a number above all counters that passed in some replies is above those that passed in the earlier ones:
 number_is_above_before : (account : List ℕ) (t : LoggedReply) (before : List LoggedReply) (d : ℕ)
     → IsAbove (used_in (attempts_of account (t ∷ before))) d
     → IsAbove (used_in (attempts_of account before)) d
@@ -123,7 +123,7 @@ number_is_above_pass account t before c d is passes above = elim (same_or_other_
   | inr other ↦ absurd (other.1 is)
 ]
 
--- a list reversed is what stood after one of its elements, reversed, then that element, then what stood before it, reversed
+-- a list reversed is what followed one of its elements, reversed, then this element, then what preceded it, reversed
 reverse-append_element : (front middle : List LoggedReply) (t : LoggedReply)
     → reverse (front ++ t ∷ middle) ≡ reverse middle ++ t ∷ reverse front
 reverse-append_element front middle t = reverse-append front (t ∷ middle) ∙ first_reply_stands_last t middle (reverse front)
@@ -144,13 +144,14 @@ later_pass_is_greater new token account last told at d fits mine moment counter 
     number_is_above_pass account t (reverse before) counter d same refl (number_is_above_earlier account (reverse rest) (t ∷ reverse before)
     d here)
 
--- of two passes of one account in a log, in whichever sessions, the later has the greater counter, where replies may stand just where
--- due, a client-first message has one list of parts, a saslname one name, and a counter that can pass is above those that passed
+-- of two passes of one account in a log, in any sessions, the later has the greater counter. This needs that replies may stand exactly when
+-- due, that a client-first message has one list of parts, that a saslname has one name, and that a counter that can pass is above those
+-- that passed
 pub counters_rise : HasOneClientFirst → SpellsOneName → CandidatesAreNew → EachReplyIsDue → CountersRise
 counters_rise one_first names new replied accounts log more account moment counter at greater told all begins both =
-    let first = log ++ passes moment counter ∷ [] in
+    let first = log ++ pass_line moment counter ∷ [] in
     let one = (replied accounts log moment (Some (Pass counter)) (waits_code account) told).0 begins in
-    let split = sym (append_assoc first more (passes at greater ∷ [])) in
+    let split = sym (append_assoc first more (pass_line at greater ∷ [])) in
     let two = each_pass_is_a_code replied accounts (first ++ more) at greater (waits_code account) all
     (subst (λ (l : List LogLine). Begins (demands accounts) l (waits_code account) all) split both) in
     let front = first_lines_begin_logs accounts first more (got_code two.account two.sent) two.told two.after in
@@ -168,7 +169,7 @@ digits_are_code_chars : (text : List ℕ) → All IsAsciiDigit text → list_all
 digits_are_code_chars text all = list_all-from_AllPass is_code_char text
     (λ k d within. digit_is_code_char (get_or text k d) (All-get_or IsAsciiDigit text k d within all))
 
--- the text of a code is one that a client may send
+-- the text of a code can be sent by a client
 code_text_is_code_word : (text : List ℕ) → IsCodeText text → IsCodeWord text
 code_text_is_code_word text is = record {
   at_least = omega (arith, is.count.0);
@@ -176,7 +177,7 @@ code_text_is_code_word text is = record {
   each = digits_are_code_chars text is.digits;
 }
 
--- the code of a HOTP token's next counter passes, where failures do not lock it and the counter can pass
+-- the code of a HOTP token's next counter passes, if failures do not lock the token and the counter can pass
 pass_is_due_to_next : (t : HotpFields) (moment : ℕ) → t.failures < t.limit → IsCounter t.next
     → IsDueReply (Hotp t) [] moment (OneText (code_text (Hotp t) t.next)) (Pass t.next)
 pass_is_due_to_next t moment unlocked counter =
@@ -184,8 +185,8 @@ pass_is_due_to_next t moment unlocked counter =
     record { not_before = omega arith; within = omega arith; most = omega (arith, counter) } in
     (unlocked, (due, refl), λ k fits. fits.0.not_before)
 
--- after a valid login the code of a HOTP token's next counter passes, where failures do not lock it, the counter is not used up, and
--- a log of version 1 is clean in which the code after a valid login has the reply that is due
+-- after a valid login, the code of a HOTP token's next counter passes, if failures do not lock the token and the counter is not used up.
+-- This needs that a log of version 1 is clean if a code after a valid login gets the reply due
 pub next_hotp_code_passes : LoginsAreAnswered original_bytes → NextHotpCodePasses
 next_hotp_code_passes answered accounts mechanism name exchange moment t login at has unlocked digits counter =
     let text = code_text (Hotp t) t.next in
@@ -195,7 +196,7 @@ next_hotp_code_passes answered accounts mechanism name exchange moment t login a
     answered accounts mechanism name exchange (OneText text) moment (Some (Pass t.next)) login
     (code_text_is_code_word text (IsCodeText-last_digits t.digits _ digits)) at counter by
 
--- the codes of a HOTP token's next two counters in a row pass, where failures do not lock it and they can pass
+-- the codes of a HOTP token's next two counters, sent in a row, pass if failures do not lock the token and the counters can pass
 pub pass_is_due_to_two : (t : HotpFields) (moment : ℕ) → t.failures < t.limit → IsCounter (t.next + 1)
     → IsDueReply (Hotp t) [] moment (TwoTexts (code_text (Hotp t) t.next) (code_text (Hotp t) (t.next + 1))) (Pass (t.next + 1))
 pass_is_due_to_two t moment unlocked counter =
@@ -211,8 +212,8 @@ next_two_are_code_words t digits = (
   code_text_is_code_word (code_text (Hotp t) (t.next + 1)) (IsCodeText-last_digits t.digits _ digits),
 )
 
--- after a valid login the codes of a HOTP token's next two counters, sent in a row, pass by that of the second, where failures do
--- not lock it, neither is used up, and a log of version 1 is clean in which codes after a valid login have the reply that is due
+-- after a valid login, the codes of a HOTP token's next two counters, sent in a row, pass with the second counter, if failures do not lock
+-- the token and neither is used up. This needs that a log of version 1 is clean if codes after a valid login get the reply due
 pub next_two_hotp_codes_pass : LoginsAreAnswered original_bytes → NextTwoHotpCodesPass
 next_two_hotp_codes_pass answered accounts mechanism name exchange moment t login at has unlocked digits counter =
     let sent = TwoTexts (code_text (Hotp t) t.next) (code_text (Hotp t) (t.next + 1)) in

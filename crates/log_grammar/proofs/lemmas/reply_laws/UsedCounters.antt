@@ -16,7 +16,7 @@ use Rattle.log_grammar.proofs.lemmas.demands.RepliesDue.{first_reply_stands_last
 use Rattle.log_grammar.proofs.lemmas.demands.EachAccount.{same_or_other_account}
 use Rattle.log_grammar.proofs.lemmas.reply_laws.Passed.{fitting_counter_is_above}
 
--- with a pass of a counter that can pass, the counters that an account's codes use go on rising
+-- after a pass of a counter that can pass, the counters that an account's codes use still rise
 pass_keeps_counters_rising : CandidatesAreNew → (token : TokenFields) (attempts : List Attempt) (t : LoggedReply) (c : ℕ)
     → IsFitting token attempts t.moment t.sent c
     → AreRising (used_in attempts) → AreRising (used_in (attempts_by t (Some (Pass c)) attempts))
@@ -30,7 +30,8 @@ pass_keeps_counters_rising new token attempts t c fits rising = by_sent t.sent f
         let first_above = subst (IsAbove (used_in attempts)) (sym before) (new token attempts t.moment fits.0 (inr fits.2)) in
         ((omega (arith, fits.1), above), (first_above, rising))
 
--- with a reply that is due, of a token, of an account that may have none, and among those of other accounts, they go on rising:
+-- after any reply that is due, the counters that an account's codes use still rise, for a token, for an account that may have none,
+-- and among replies to other accounts:
 reply_keeps_counters_rising : CandidatesAreNew → (token : TokenFields) (attempts : List Attempt) (t : LoggedReply) (reply : Reply)
     → IsDueReply token attempts t.moment t.sent reply
     → AreRising (used_in attempts) → AreRising (used_in (attempts_by t (Some reply) attempts))
@@ -58,8 +59,8 @@ told_reply_keeps_counters_rising new accounts account before t due rising = elim
   | inr other ↦ rw other.0 rising
 ]
 
--- the counters that an account's codes use go on rising with replies that are due, where they rose before these and a counter
--- that can pass is above those that passed
+-- the counters that an account's codes use still rise after more replies that are due, if they rose before and a counter that can pass is
+-- above those that passed
 pub replies_keep_counters_rising : CandidatesAreNew → (accounts : Accounts) (account : List ℕ) (before told : List LoggedReply)
     → AreReplies (demands accounts) before told
     → AreRising (used_in (attempts_of account before)) → AreRising (used_in (attempts_of account (reverse told ++ before)))
@@ -69,8 +70,8 @@ replies_keep_counters_rising new accounts account before (t ∷ told) are rising
     (replies_keep_counters_rising new accounts account (t ∷ before) told are.1 (told_reply_keeps_counters_rising new accounts account before
     t are.0 rising))
 
--- the counters that an account's codes use in a log rise, so that none is used twice, where a counter that can pass is above
--- those that passed
+-- the counters that an account's codes use in a log rise, so that none is used twice, if a counter that can pass is above those that
+-- passed
 pub no_counter_is_used_twice : CandidatesAreNew → NoCounterIsUsedTwice
 no_counter_is_used_twice new accounts log place told account (inl nothing) =
     subst (λ (l : List LoggedReply). AreRising (used_in (attempts_of account (reverse l)))) (sym nothing.2) tt

@@ -1,4 +1,4 @@
--- A clean log of version 2 is that of its sessions.
+-- A clean log of version 2 consists of its sessions.
 use Rattle.std.proofs.Common.{◌≡◌, ◌⊎◌, inl, inr, ℕ, Bool, true, false, List, [], ◌∷◌, map, refl, sym, ◌∙◌, ap, subst, append-nil}
 use Rattle.std.specs.List.{AllByRecursion}
 use Rattle.std.specs.declared.option.Option.{Option}
@@ -33,13 +33,13 @@ lines_of_number_are_in_range n (x ∷ log) all = elim (eqb_tells n x.number) [
   | inr other ↦ rw other.0 (lines_of_number_are_in_range n log all.1)
 ]
 
--- what a number stands for tells at moments, where its lines are in their ranges
+-- if the lines of a number's visit are in their ranges, so are the moments of its replies
 visit_tells_in_time : (o : Option Visit) → Ranged (visit_lines o) → Timed (visit_told o)
 visit_tells_in_time None h = tt
 visit_tells_in_time (Some (let_in s)) h = session_tells_in_time s h
 visit_tells_in_time (Some (turned_away closed)) h = closing_tells_in_time closed h.1
 
--- where what was told under a number is at moments, so is it without the first that was told
+-- if the moments of the replies under a number are in range, they still are without the first of all the replies
 rest_told_in_time : (n : ℕ) (t : Numbered LoggedReply) (numbered_told : List (Numbered LoggedReply))
     → Timed (of_number n (t ∷ numbered_told))
     → Timed (of_number n numbered_told)
@@ -48,7 +48,7 @@ rest_told_in_time n t numbered_told h = elim (eqb_tells n t.number) [
   | inr other ↦ rw other.0 at h
 ]
 
--- where what was told under a number is at moments, so is the first that was told
+-- if the moments of the replies under its number are in range, so is that of the first reply
 first_told_in_time : (t : Numbered LoggedReply) (numbered_told : List (Numbered LoggedReply))
     → Timed (of_number t.number (t ∷ numbered_told))
     → IsMoment t.value.moment
@@ -57,7 +57,7 @@ first_told_in_time t numbered_told h = elim (eqb_tells t.number t.number) [
   | inr other ↦ absurd (other.1 refl)
 ]
 
--- where what was told under each number is at moments, so is all that was told
+-- if the moments of the replies under each number are in range, so are those of all replies
 all_told_in_time : (numbered_told : List (Numbered LoggedReply)) → ((n : ℕ) → Timed (of_number n numbered_told))
     → Timed (map (λ t. t.value) numbered_told)
 all_told_in_time [] each = tt
@@ -67,8 +67,7 @@ all_told_in_time (t ∷ numbered_told) each = (
       (λ n. rest_told_in_time n t numbered_told (each n)),
 )
 
--- all replies are at moments in their range, where the lines can be written, and each number has the lines and replies
--- of what it stands for
+-- the moments of all replies are in range if the lines can be written and each number has the lines and replies of its visit
 numbered_log_tells_in_time : (log : List (Numbered LogLine)) (visit : ℕ → Option Visit) (numbered_told : List (Numbered LoggedReply))
     → AllByRecursion IsNumberedWritable log
     → ((n : ℕ) → of_number n log ≡ visit_lines (visit n)) → ((n : ℕ) → of_number n numbered_told ≡ visit_told (visit n))
@@ -77,7 +76,7 @@ numbered_log_tells_in_time log visit numbered_told written lines told_of_each =
     all_told_in_time numbered_told (λ n. subst Timed (sym (told_of_each n))
     (visit_tells_in_time (visit n) (subst Ranged (lines n) (lines_of_number_are_in_range n log written))))
 
--- a number that was turned away and whose `E` is not written does not end with `E`, and never with a halt:
+-- a number that was turned away, before its `E`, does not end with `E`; one that was turned away never ends with a halt:
 no_end_after_busy : EndsWith (said busy ∷ []) (ended ∷ []) → ⊥
 no_end_after_busy (before, same) = let wrong = (same_from_push [] before (said busy) ended same).1 in cc wrong
 
@@ -85,7 +84,7 @@ no_halt_after_busy : (closed : Bool) → EndsWith (said busy ∷ (closing closed
 no_halt_after_busy true (before, same) = let wrong = (same_from_push (said busy ∷ []) before ended (said halt) same).1 in cc wrong
 no_halt_after_busy false (before, same) = let wrong = (same_from_push [] before (said busy) (said halt) same).1 in cc wrong
 
--- a number is between sessions exactly where its visit is closed, and halted exactly where it ends with `S HALT`:
+-- a number is between sessions if and only if its visit is closed, and halted if and only if the visit ends with `S HALT`:
 closed_visit_is_between : (o : Option Visit) → IsClosedVisit o → visit_place o ≡ between
 closed_visit_is_between None is = refl
 closed_visit_is_between (Some (let_in s)) is = closed_session_is_between s is
@@ -109,7 +108,7 @@ visit_at_halt_is_halted (Some (let_in s)) is = session_at_halt_is_halted s is
 visit_at_halt_is_halted (Some (turned_away true)) is = absurd (cc is)
 visit_at_halt_is_halted (Some (turned_away false)) is = absurd (cc is)
 
--- a clean log of version 2 is one of some sessions
+-- a clean log of version 2 consists of some sessions
 clean_numbered_log_has_sessions : (limit : ℕ) (accounts : Accounts) (bytes : List ℕ) (texts : List (List ℕ)) → IsSplit bytes texts []
     → AreCleanVersionTwo limit accounts texts
     → (log : List (Numbered LogLine)) × IsNumberedLogOf limit accounts bytes log
@@ -137,7 +136,7 @@ clean_numbered_log_has_sessions limit accounts bytes (first ∷ texts) cut (is, 
       },
     )
 
--- a log of version 2 that is one of some sessions is clean
+-- a log of version 2 that consists of some sessions is clean
 numbered_log_of_sessions_is_clean : (limit : ℕ) (accounts : Accounts) (bytes : List ℕ) (log : List (Numbered LogLine))
     → IsNumberedLogOf limit accounts bytes log
     → IsCleanOf (version_two limit accounts) bytes
@@ -166,8 +165,8 @@ numbered_log_of_sessions_is_clean limit accounts bytes log l =
     ] in
     (texts, cut, (refl, log, places, told, writable_lines_are_read IsNumberedLine numbered_text log l.written, spells, may))
 
--- a log of version 2 is clean exactly where it is that of some sessions: all closed or one halted, as demanded,
--- and with legal histories of the tokens
+-- a log of version 2 is clean if and only if it consists of some sessions that are all closed, or one of them halted, that meet the
+-- demands, and in which the tokens have legal histories
 pub clean_numbered_logs_are_of_sessions : CleanNumberedLogsAreThoseOfSessions
 clean_numbered_logs_are_of_sessions limit accounts bytes = (
   λ clean. clean_numbered_log_has_sessions limit accounts bytes clean.0 clean.1 clean.2,

@@ -13,11 +13,11 @@ use Rattle.log_grammar.proofs.lemmas.small_logs.SmallLines.{abort_was_read, bad_
 use Rattle.log_grammar.proofs.lemmas.kinds.ShownByLines.{LinesWereRead, next_line_was_read, read_texts_are_clean}
 use Rattle.log_grammar.proofs.lemmas.lines.Written.{abort_is_writable, end_is_writable, offer_is_writable}
 
--- the first line alone is a clean log
+-- the first line by itself is a clean log
 pub first_is_clean : (accounts : Accounts) → IsClean accounts first_alone
 first_is_clean accounts = read_texts_are_clean accounts _ _ between [] (header_was_read accounts) tt
 
--- a log is clean that ends with `S NO` and `E`, where the server may refuse
+-- a log that ends with `S NO` and `E` is clean if the server may refuse
 refused_session_is_clean : (accounts : Accounts) (texts : List (List ℕ)) (lines : List LogLine) (place : Place)
     → LinesWereRead accounts texts lines place []
     → IsTransition (demands accounts) place (said (refuses [])) over → told_at place (said (refuses [])) ≡ []

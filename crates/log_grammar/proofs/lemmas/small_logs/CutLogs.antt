@@ -1,4 +1,4 @@
--- The small logs of version 1 that are cut: the line after their last is at fault.
+-- The small logs of version 1 that are cut: the line at fault is the one after their last.
 use Rattle.std.proofs.Common.{ℕ, ◌+◌, List, [], ◌∷◌, length, refl}
 use Rattle.std.specs.Prelude.{codes}
 use Rattle.scram_text.specs.Laws.{SpellsOneName, HasOneClientFirst}
@@ -14,14 +14,14 @@ use Rattle.log_grammar.proofs.lemmas.small_logs.SmallLines.{abort_was_read, auth
 use Rattle.log_grammar.proofs.lemmas.kinds.ShownByLines.{LinesWereRead, no_lines_were_read, unended_is_cut}
 use Rattle.log_grammar.proofs.lemmas.lines.Cuts.{whole_lines_are_split}
 
--- whole lines that lead to a place where no log may end are cut after the last
+-- whole lines that lead to a place where no log may end are cut after the last line
 unended_lines_are_cut : HasOneClientFirst → SpellsOneName
     → (accounts : Accounts) (texts : List (List ℕ)) (lines : List LogLine) (place : Place) (told : List LoggedReply)
     → LinesWereRead accounts texts lines place told → (MayEnd place → ⊥) → IsWhy accounts (ended_by_lf texts) (length texts + 1) is_cut
 unended_lines_are_cut one_first once accounts texts lines place told l unended =
     unended_is_cut one_first once accounts (ended_by_lf texts) texts lines place told (whole_lines_are_split texts l.lack) l unended
 
--- no bytes at all are a log that is cut: line 1 is at fault
+-- no bytes at all are a cut log: line 1 is at fault
 pub empty_is_cut : HasOneClientFirst → SpellsOneName → (accounts : Accounts) → IsWhy accounts [] 1 is_cut
 empty_is_cut one_first once accounts =
     unended_lines_are_cut one_first once accounts [] [] before_all [] (no_lines_were_read accounts) (λ h. h)
@@ -53,9 +53,9 @@ pub aborted_is_cut : HasOneClientFirst → SpellsOneName → (accounts : Account
 aborted_is_cut one_first once accounts = unended_lines_are_cut one_first once accounts _ _ leaving [] (abort_was_read accounts) (λ h. h)
 
 -- a log of one session that stops after the `S NO` to `C ABORT`, before `E`, is cut: line 5 is at fault
-pub aborted_no_is_cut : HasOneClientFirst → SpellsOneName → (accounts : Accounts)
+pub aborted_refusal_is_cut : HasOneClientFirst → SpellsOneName → (accounts : Accounts)
     → IsWhy accounts (one_session (codes "C ABORT" ∷ codes "S NO :" ∷ [])) 5 is_cut
-aborted_no_is_cut one_first once accounts = unended_lines_are_cut one_first once accounts _ _ over []
+aborted_refusal_is_cut one_first once accounts = unended_lines_are_cut one_first once accounts _ _ over []
     (refusal_was_read accounts _ _ leaving (abort_was_read accounts) (refl, refl) refl) (λ h. h)
 
 -- a log of one session that stops after `C BAD`, before `S NO`, is cut: line 4 is at fault
@@ -63,9 +63,9 @@ pub bad_is_cut : HasOneClientFirst → SpellsOneName → (accounts : Accounts) �
 bad_is_cut one_first once accounts = unended_lines_are_cut one_first once accounts _ _ leaving [] (bad_was_read accounts) (λ h. h)
 
 -- a log of one session that stops after the `S NO` to `C BAD`, before `E`, is cut: line 5 is at fault
-pub bad_no_is_cut : HasOneClientFirst → SpellsOneName → (accounts : Accounts)
+pub bad_refusal_is_cut : HasOneClientFirst → SpellsOneName → (accounts : Accounts)
     → IsWhy accounts (one_session (codes "C BAD" ∷ codes "S NO :" ∷ [])) 5 is_cut
-bad_no_is_cut one_first once accounts = unended_lines_are_cut one_first once accounts _ _ over []
+bad_refusal_is_cut one_first once accounts = unended_lines_are_cut one_first once accounts _ _ over []
     (refusal_was_read accounts _ _ leaving (bad_was_read accounts) (refl, refl) refl) (λ h. h)
 
 -- a log of one session that stops after `C AUTH` of a mechanism that is not offered is cut: line 4 is at fault
@@ -75,29 +75,29 @@ not_offered_is_cut one_first once accounts =
     unended_lines_are_cut one_first once accounts _ _ (asks_bare (codes "PLAIN")) [] (plain_auth_was_read accounts) (λ h. h)
 
 -- a log of one session that stops after the `S NO` to a mechanism not offered, before `E`, is cut: line 5 is at fault
-pub not_offered_no_is_cut : HasOneClientFirst → SpellsOneName → (accounts : Accounts)
+pub not_offered_refusal_is_cut : HasOneClientFirst → SpellsOneName → (accounts : Accounts)
     → IsWhy accounts (one_session (codes "C AUTH PLAIN" ∷ codes "S NO :" ∷ [])) 5 is_cut
-not_offered_no_is_cut one_first once accounts =
+not_offered_refusal_is_cut one_first once accounts =
     unended_lines_are_cut one_first once accounts _ _ over []
     (refusal_was_read accounts _ _ (asks_bare (codes "PLAIN")) (plain_auth_was_read accounts) ((plain_not_offered, refl), refl) refl)
     (λ h. h)
 
--- a log of one session that stops after an empty message in place of client-first is cut: line 4 is at fault
-pub refused_is_cut : HasOneClientFirst → SpellsOneName → (accounts : Accounts)
+-- a log of one session that stops after an empty message instead of a client-first message is cut: line 4 is at fault
+pub empty_first_is_cut : HasOneClientFirst → SpellsOneName → (accounts : Accounts)
     → IsWhy accounts (one_session (codes "C AUTH SCRAM-SHA-1 :" ∷ [])) 4 is_cut
-refused_is_cut one_first once accounts =
+empty_first_is_cut one_first once accounts =
     unended_lines_are_cut one_first once accounts _ _ (got_first (codes "SCRAM-SHA-1") []) [] (empty_first_was_read accounts)
     (λ h. h)
 
 -- a log of one session that stops after the `S NO` to an empty message, before `E`, is cut: line 5 is at fault
-pub refused_no_is_cut : HasOneClientFirst → SpellsOneName → (accounts : Accounts)
+pub empty_first_refusal_is_cut : HasOneClientFirst → SpellsOneName → (accounts : Accounts)
     → IsWhy accounts (one_session (codes "C AUTH SCRAM-SHA-1 :" ∷ codes "S NO :" ∷ [])) 5 is_cut
-refused_no_is_cut one_first once accounts =
+empty_first_refusal_is_cut one_first once accounts =
     unended_lines_are_cut one_first once accounts _ _ over []
     (refusal_was_read accounts _ _ (got_first (codes "SCRAM-SHA-1") []) (empty_first_was_read accounts)
     ((λ name l. empty_is_no_client_first l.parts l.is_first.spelled, refl), refl) refl) (λ h. h)
 
--- a log of one session that stops where the client has gone away after the empty challenge is cut: line 6 is at fault
+-- a log of one session that stops after the client has gone away at the empty challenge is cut: line 6 is at fault
 pub invited_gone_is_cut : HasOneClientFirst → SpellsOneName → (accounts : Accounts)
     → IsWhy accounts (one_session (codes "C AUTH SCRAM-SHA-1" ∷ codes "S CONT :" ∷ codes "C GONE" ∷ [])) 6 is_cut
 invited_gone_is_cut one_first once accounts =

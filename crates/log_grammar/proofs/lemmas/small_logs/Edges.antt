@@ -55,11 +55,11 @@ line_after_halt_is_at_fault once names classes accounts texts (first ∷ log) to
     is (all_at LacksLf texts text [] whole.1) (λ f. f.goes)
     (inl (no_class_after_halt classes accounts (first ∷ log) told (class_of line) begins, refl))
 
--- bytes without an LF are cut into no line, and all of them are left
+-- bytes without an LF are cut into no lines, and all of them are left
 rest_alone_is_split : (rest : List ℕ) → LacksLf rest → IsSplit rest [] rest
 rest_alone_is_split rest lacks = record { bytes_are = refl; lines = tt; after = lacks }
 
--- bytes without an LF, at most as many as a line may have, are a log that is cut: line 1 is at fault
+-- bytes without an LF that are not too long for a line are a cut log: line 1 is at fault
 pub short_is_cut : (accounts : Accounts) (rest : List ℕ) → LacksLf rest → length rest ≤ longest_log_line → IsWhy accounts rest 1 is_cut
 short_is_cut accounts rest lacks short =
     let cut = rest_alone_is_split rest lacks in
@@ -72,18 +72,18 @@ pub long_is_no_line : (accounts : Accounts) (rest : List ℕ) → LacksLf rest �
 long_is_no_line accounts rest lacks long =
     long_rest_is_no_line accounts rest [] rest [] before_all [] (rest_alone_is_split rest lacks) (no_lines_were_read accounts) long
 
--- whole lines and bytes without an LF after them are cut into these lines and those bytes
+-- whole lines and then bytes without an LF are cut into these lines and those bytes
 whole_lines_and_rest_are_split : (texts : List (List ℕ)) (rest : List ℕ) → AllByRecursion LacksLf texts → LacksLf rest
     → IsSplit (ended_by_lf texts ++ rest) texts rest
 whole_lines_and_rest_are_split texts rest lack lacks = record { bytes_are = refl; lines = lack; after = lacks }
 
--- whole lines that lead to a place were read as far as there
+-- whole lines that lead to a place were read up to there
 whole_lines_were_read : (accounts : Accounts) (texts : List (List ℕ)) (log : List LogLine) (place : Place) (told : List LoggedReply)
     → AreWhole texts log
     → Begins (demands accounts) log place told → LinesWereRead accounts texts log place told
 whole_lines_were_read accounts texts log place told are begins = record { are = are.0; lack = are.1; begins = begins }
 
--- after lines that a log may begin with, a line without its LF is cut, and at fault, where it has a byte and is not too long
+-- after lines that a log may begin with, a line without its LF is cut and at fault, if it has a byte and is not too long
 pub part_is_cut : (accounts : Accounts) (texts : List (List ℕ)) (log : List LogLine) (place : Place) (told : List LoggedReply)
     (rest : List ℕ)
     → AreWhole texts log → Begins (demands accounts) log place told → LacksLf rest → 1 ≤ length rest → length rest ≤ longest_log_line
@@ -113,7 +113,7 @@ long_line_is_no_line accounts texts log place told text are begins lacks long =
     (whole_lines_are_split all (all_append LacksLf texts (text ∷ []) are.1 (lacks, tt)))
     (whole_lines_were_read accounts texts log place told are begins) long
 
--- the first text is a whole log of the first line
+-- the text of the first line is a log of whole lines by itself
 header_is_whole : AreWhole (header_one_text ∷ []) (header ∷ [])
 header_is_whole = ((header_is_writable, tt), (refl, tt))
 
@@ -131,7 +131,7 @@ second_part_is_no_line accounts rest lacks long =
     long_part_is_no_line accounts (header_one_text ∷ []) (header ∷ []) between [] rest header_is_whole (header_was_read accounts).begins
     lacks long
 
--- after the first line, a second without its LF is cut, and at fault, where it has a byte and is not too long
+-- after the first line, a second without its LF is cut and at fault, if it has a byte and is not too long
 pub second_is_cut : (accounts : Accounts) (rest : List ℕ) → LacksLf rest → 1 ≤ length rest → length rest ≤ longest_log_line
     → IsWhy accounts (first_alone ++ rest) 2 is_cut
 second_is_cut accounts rest lacks some short =

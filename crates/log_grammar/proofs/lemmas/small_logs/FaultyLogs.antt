@@ -1,4 +1,4 @@
--- The small logs of version 1 in which a line is at fault, where and why.
+-- The small logs of version 1 with a line at fault: which line, and why.
 use Rattle.std.proofs.Common.{◌≡◌, inl, inr, ℕ, List, [], ◌∷◌, get_or, refl, ap, arith, ◌∙◌}
 use Rattle.std.specs.Prelude.{codes}
 use Rattle.mac_core.specs.declared.mechanism.Mechanism.TheVariants.{ScramSha1}
@@ -18,9 +18,9 @@ use Rattle.log_grammar.proofs.lemmas.state_machine.DueClasses.{due_classes_follo
 use Rattle.log_grammar.proofs.lemmas.small_logs.SmallLines.{abort_was_read, auth_was_read, bad_was_read, empty_first_was_read, empty_is_no_client_first, error_is_line, gone_was_read, header_was_read, offer_was_read, ok_is_line, other_offer_is_line, plain_auth_was_read, plain_not_offered}
 use Rattle.log_grammar.proofs.lemmas.kinds.ShownByLines.{first_text_at_fault, last_line_at_fault}
 use Rattle.log_grammar.proofs.lemmas.lines.Cuts.{whole_lines_are_split}
-use Rattle.log_grammar.proofs.lemmas.lines.Written.{abort_is_writable, bare_cont_is_writable, bare_no_is_writable, halt_is_writable, header_is_writable, offer_is_writable}
+use Rattle.log_grammar.proofs.lemmas.lines.Written.{abort_is_writable, bare_cont_is_writable, bare_refusal_is_writable, halt_is_writable, header_is_writable, offer_is_writable}
 
--- a class that is not due at the place of a log is not due after it
+-- a class that is not due at a log's place is not due after the log's lines
 class_is_not_due : (accounts : Accounts) (lines : List LogLine) (place : Place) (class : LineClass)
     → Begins (demands accounts) lines place []
     → (IsDueAt place class → ⊥)
@@ -53,7 +53,7 @@ halt_is_early one_first once accounts =
       refl,
     ))
 
--- `S MECHS` where `E` is due is out of order: line 4 is at fault
+-- `S MECHS` when `E` is due is out of order: line 4 is at fault
 pub end_is_missing : HasOneClientFirst → SpellsOneName → (accounts : Accounts)
     → IsWhy accounts (one_session (codes "C GONE" ∷ offer_text ∷ [])) 4 out_of_order
 end_is_missing one_first once accounts =
@@ -62,17 +62,17 @@ end_is_missing one_first once accounts =
     ∷ []) header _ over [] offer_text _ out_of_order l offer_is_writable refl (λ f. f.goes)
     (inl (class_is_not_due accounts _ over _ l.begins (λ is. cc is), refl))
 
--- a class that is due at the place of a log is due after it
+-- a class that is due at a log's place is due after the log's lines
 class_is_due : (accounts : Accounts) (lines : List LogLine) (place : Place) (class : LineClass) → Begins (demands accounts) lines place []
     → IsDueAt place class
     → IsClassDue lines class
 class_is_due accounts lines place class begins is = (due_classes_follow_place accounts lines place [] class begins).1 is
 
--- the name of one mechanism is not the names of both
+-- the name of one mechanism is not the text of both names
 one_name_is_not_both : codes "SCRAM-SHA-1" ≡ codes "SCRAM-SHA-256 SCRAM-SHA-1" → ⊥
 one_name_is_not_both e = let wrong : 49 ≡ 50 = ap (λ (l : List ℕ). get_or l 10 0) e in omega (arith, wrong)
 
--- `S MECHS` with SCRAM-SHA-1 alone names other mechanisms than those offered: line 2 is at fault
+-- `S MECHS` with only SCRAM-SHA-1 names other mechanisms than those offered: line 2 is at fault
 pub other_offer_is_at_fault : HasOneClientFirst → SpellsOneName → (accounts : Accounts)
     → IsWhy accounts (ended_by_lf (header_one_text ∷ codes "S MECHS SCRAM-SHA-1" ∷ [])) 2 other_mechs
 other_offer_is_at_fault one_first once accounts =
@@ -82,7 +82,7 @@ other_offer_is_at_fault one_first once accounts =
     l other_offer_is_line refl (λ f. one_name_is_not_both f.goes.0)
     (inr (class_is_due accounts (header ∷ []) between _ l.begins refl, between, [], l.begins, refl))
 
--- the empty challenge to a mechanism not offered is at fault, in line 4: `S NO` with nothing after its colon is due
+-- the empty challenge to a mechanism that is not offered is at fault in line 4: `S NO` with nothing after its colon is due
 pub invited_plain_is_at_fault : HasOneClientFirst → SpellsOneName → (accounts : Accounts)
     → IsWhy accounts (one_session (codes "C AUTH PLAIN" ∷ codes "S CONT :" ∷ [])) 4 (other_outcome (refused_with []))
 invited_plain_is_at_fault one_first once accounts =
@@ -93,7 +93,7 @@ invited_plain_is_at_fault one_first once accounts =
     l bare_cont_is_writable refl (λ f. plain_not_offered f.goes.0.0.0 f.goes.0.0.1)
     (inr (class_is_due accounts _ at _ l.begins refl, at, [], l.begins, inr (plain_not_offered, refl)))
 
--- `S NO` to `C AUTH` of a mechanism that is offered is at fault, in line 4: the empty challenge is due
+-- `S NO` to `C AUTH` of an offered mechanism is at fault in line 4: the empty challenge is due
 pub refused_auth_is_at_fault : HasOneClientFirst → SpellsOneName → (accounts : Accounts)
     → IsWhy accounts (one_session (codes "C AUTH SCRAM-SHA-1" ∷ codes "S NO :" ∷ [])) 4 other_challenge
 refused_auth_is_at_fault one_first once accounts =
@@ -102,20 +102,20 @@ refused_auth_is_at_fault one_first once accounts =
     last_line_at_fault one_first once accounts (header_one_text ∷ offer_text ∷ codes "C AUTH SCRAM-SHA-1" ∷ []) header _ at []
     (codes "S NO :")
     (said (refuses [])) other_challenge
-    l bare_no_is_writable refl (λ f. f.goes.0.0 ScramSha1 refl)
+    l bare_refusal_is_writable refl (λ f. f.goes.0.0 ScramSha1 refl)
     (inr (class_is_due accounts _ at _ l.begins refl, at, [], l.begins, inl ((ScramSha1, refl), refl)))
 
--- `E` is no text that begins with S, as each first line of a log does
+-- `E` does not begin with S, as each first line of a log does
 end_is_no_header : (text : List ℕ) → get_or text 0 0 ≡ 83 → codes "E" ≡ text → ⊥
 end_is_no_header text begins e = let wrong : 69 ≡ 83 = ap (λ (l : List ℕ). get_or l 0 0) e ∙ begins in omega (arith, wrong)
 
--- `E` in place of a log's first line is no line: line 1 is at fault
+-- `E` instead of a log's first line is no line: line 1 is at fault
 pub end_is_no_line : (accounts : Accounts) → IsWhy accounts (ended_by_lf (codes "E" ∷ [])) 1 no_line
 end_is_no_line accounts =
     first_text_at_fault accounts (ended_by_lf (codes "E" ∷ [])) (codes "E") [] [] (whole_lines_are_split (codes "E" ∷ []) (refl, tt))
     (end_is_no_header _ refl) (end_is_no_header _ refl)
 
--- the first line again, after itself, is out of order: line 2 is at fault
+-- the first line a second time is out of order: line 2 is at fault
 pub header_again_is_early : HasOneClientFirst → SpellsOneName → (accounts : Accounts)
     → IsWhy accounts (ended_by_lf (header_one_text ∷ header_one_text ∷ [])) 2 out_of_order
 header_again_is_early one_first once accounts =
@@ -129,7 +129,7 @@ header_again_is_early one_first once accounts =
 error_is_not_empty : codes "e=other-error" ≡ [] → ⊥
 error_is_not_empty e = cc e
 
--- `S OK` to a client that aborts is at fault, in line 4: `S NO` with nothing after its colon is due
+-- `S OK` to a client that aborts is at fault in line 4: `S NO` with nothing after its colon is due
 pub accepted_abort_is_at_fault : HasOneClientFirst → SpellsOneName → (accounts : Accounts)
     → IsWhy accounts (one_session (codes "C ABORT" ∷ codes "S OK :" ∷ [])) 4 (other_outcome (refused_with []))
 accepted_abort_is_at_fault one_first once accounts =
@@ -138,7 +138,7 @@ accepted_abort_is_at_fault one_first once accounts =
     (said (accepts [])) (other_outcome (refused_with []))
     l ok_is_line refl (λ f. f.goes) (inr (class_is_due accounts _ leaving _ l.begins refl, leaving, [], l.begins, refl))
 
--- `S NO` with a message after `C BAD` is at fault, in line 4: `S NO` with nothing after its colon is due
+-- `S NO` with a message after `C BAD` is at fault in line 4: `S NO` with nothing after its colon is due
 pub refusal_message_is_at_fault : HasOneClientFirst → SpellsOneName → (accounts : Accounts)
     → IsWhy accounts (one_session (codes "C BAD" ∷ codes "S NO :e=other-error" ∷ [])) 4 (other_outcome (refused_with []))
 refusal_message_is_at_fault one_first once accounts =
@@ -149,7 +149,7 @@ refusal_message_is_at_fault one_first once accounts =
     (other_outcome (refused_with [])) l error_is_line refl (λ f. error_is_not_empty f.goes.0)
     (inr (class_is_due accounts _ leaving _ l.begins refl, leaving, [], l.begins, refl))
 
--- the empty challenge to an empty message is at fault, in line 4: `S NO` with nothing after its colon is due
+-- the empty challenge to an empty message is at fault in line 4: `S NO` with nothing after its colon is due
 pub challenged_empty_is_at_fault : HasOneClientFirst → SpellsOneName → (accounts : Accounts)
     → IsWhy accounts (one_session (codes "C AUTH SCRAM-SHA-1 :" ∷ codes "S CONT :" ∷ [])) 4 (other_outcome (refused_with []))
 challenged_empty_is_at_fault one_first once accounts =

@@ -1,4 +1,4 @@
--- Small logs with two codes in a row that are answered by another reply than the one due.
+-- Small logs in which two codes in a row get another reply than the one due.
 use Rattle.std.proofs.Common.{◌≡◌, ℕ, ◌+◌, ◌<◌, List, [], ◌∷◌, ◌++◌, refl, sym, subst, arith}
 use Rattle.std.specs.declared.option.Option.{Option}
 use Rattle.std.specs.declared.option.Option.TheVariants.{Some}
@@ -17,15 +17,15 @@ use Rattle.log_grammar.specs.Why.{other_reply}
 use Rattle.log_grammar.specs.Versions.{IsWhy}
 use Rattle.log_grammar.specs.Upgrades.{original_bytes}
 use Rattle.log_grammar.specs.laws.Logins.{Exchange, IsLoginTo, login_session, OtherRepliesAreAtFault}
-use Rattle.log_grammar.specs.laws.Replies.{passes, next_two}
+use Rattle.log_grammar.specs.laws.Replies.{pass_line, next_two}
 use Rattle.log_grammar.proofs.lemmas.reply_laws.Passed.{pass_is_due_to_two, next_two_are_code_words}
 
--- a pass of two codes in a row by the counter of the first is at fault: after a valid login, in line 8, a pass by the second is due
+-- after a valid login, a pass of two codes in a row with the first one's counter is at fault in line 8: a pass with the second is due
 pub first_counter_is_at_fault : OtherRepliesAreAtFault original_bytes
     → (accounts : Accounts) (mechanism name : List ℕ) (exchange : Exchange) (moment : ℕ) (t : HotpFields)
     → IsLoginTo accounts mechanism name exchange → IsMoment moment → accounts.token name ≡ Some (Hotp t)
     → t.failures < t.limit → IsDigitCount t.digits → IsCounter (t.next + 1)
-    → IsWhy accounts (original_bytes (login_session mechanism exchange ++ next_two t ∷ passes moment t.next ∷ [])) 8
+    → IsWhy accounts (original_bytes (login_session mechanism exchange ++ next_two t ∷ pass_line moment t.next ∷ [])) 8
     (other_reply moment (Some (Pass (t.next + 1))))
 first_counter_is_at_fault wrong accounts mechanism name exchange moment t login at has unlocked digits counter =
     let sent = TwoTexts (code_text (Hotp t) t.next) (code_text (Hotp t) (t.next + 1)) in
@@ -41,12 +41,12 @@ two_totp_codes_fail : (t : TotpFields) (moment : ℕ) (first second : List ℕ) 
     → IsDueReply (Totp t) [] moment (TwoTexts first second) Fail
 two_totp_codes_fail t moment first second unlocked = (unlocked, λ k fits. fits.2)
 
--- a pass of two codes in a row by a TOTP token that failures do not lock is at fault: after a valid login, in line 8, FAIL is due
+-- after a valid login, a pass of two codes in a row with a TOTP token that failures do not lock is at fault in line 8: FAIL is due
 pub totp_pass_is_at_fault : OtherRepliesAreAtFault original_bytes
     → (accounts : Accounts) (mechanism name : List ℕ) (exchange : Exchange) (first second : List ℕ) (moment counter : ℕ) (t : TotpFields)
     → IsLoginTo accounts mechanism name exchange → IsMoment moment → accounts.token name ≡ Some (Totp t)
     → t.failures < t.limit → IsCodeWord first → IsCodeWord second → IsCounter counter
-    → IsWhy accounts (original_bytes (login_session mechanism exchange ++ heard (sync first second) ∷ passes moment counter ∷ [])) 8
+    → IsWhy accounts (original_bytes (login_session mechanism exchange ++ heard (sync first second) ∷ pass_line moment counter ∷ [])) 8
     (other_reply moment (Some Fail))
 totp_pass_is_at_fault wrong accounts mechanism name exchange first second moment counter t login at has unlocked one other range =
     let sent = TwoTexts first second in

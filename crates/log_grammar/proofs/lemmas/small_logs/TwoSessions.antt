@@ -14,7 +14,7 @@ use Rattle.log_grammar.proofs.lemmas.many_sessions.LinesOfNumber.{put_keeps_othe
 use Rattle.log_grammar.proofs.lemmas.ListEnds.{empty_has_no_element}
 use Rattle.log_grammar.proofs.lemmas.many_sessions.Standings.{line_follows_last}
 
--- a log goes on by a line that tells nothing, at its number's place
+-- a log continues with a line that records no reply and may stand at its number's place
 quiet_line_goes_on : (limit : ℕ) (d : Demands) (log : List (Numbered LogLine)) (y : Numbered LogLine) (places : ℕ → Place) (n : ℕ)
     (line : LogLine)
     (to : Place)
@@ -40,12 +40,12 @@ first_line_begins_log d n line to room goes =
     numbered_log_goes_on 2 d [] (λ m. between) [] n line to (empty_log_is_spelled 2 d)
     (record { room = room; next = λ before x e. absurd (empty_has_no_element before x [] e); goes = goes; due = tt })
 
--- the places after these lines, the latest first, each with the place that it leads to
+-- the places after these lines, given with the latest first, each line with the place that it leads to
 abbrev places_after : List (Numbered Place) → ℕ → Place
 places_after [] = λ n. between
 places_after (x ∷ before) = put x.number x.value (places_after before)
 
--- a number above three stands between sessions, where the lines are of numbers up to three
+-- a number above three is between sessions, if the lines are of numbers up to three
 far_number_is_between : (lines : List (Numbered Place)) (n : ℕ) → AllByRecursion (λ (x : Numbered Place). x.number ≤ 3) lines
     → places_after lines (suc (suc (suc (suc n)))) ≡ between
 far_number_is_between [] n small = refl
@@ -53,7 +53,7 @@ far_number_is_between (x ∷ before) n small =
     put_keeps_others x.number x.value (places_after before) (suc (suc (suc (suc n)))) (λ e. omega (arith, e, small.0))
     ∙ far_number_is_between before n small.1
 
--- the places to which the lines of two sessions, and of a third that is turned away, lead, the latest first
+-- the places to which the lines of two sessions lead, and those of a third that is turned away, with the latest first
 abbrev places_of_all : List (Numbered Place)
 places_of_all =
     numbered 2 between ∷ numbered 2 over ∷ numbered 1 between ∷ numbered 2 leaving ∷ numbered 3 between ∷ numbered 3 over ∷ numbered 1 over
@@ -79,7 +79,7 @@ all_numbers_are_between (suc (suc zero)) = refl
 all_numbers_are_between (suc (suc (suc zero))) = refl
 all_numbers_are_between (suc (suc (suc (suc n)))) = far_number_is_between places_of_all n all_numbers_are_small
 
--- two sessions, each line among those of the other, and a third that BUSY turns away are a whole log where two may be open at once
+-- if two sessions may be open at once, two sessions with their lines mixed, and a third that BUSY turns away, are a whole log
 pub two_at_once_are_whole : (accounts : Accounts) → IsWholeForTwo accounts two_at_once
 two_at_once_are_whole accounts =
     let d = demands accounts in
@@ -112,15 +112,15 @@ two_at_once_are_whole accounts =
     ∷ []) (numbered 2 (said (refuses []))) p8 2 ended between s8 tt tt (inl refl) refl in
     (p9, s9, inl all_numbers_are_between)
 
--- where two sessions may be open at once, no log begins with `S MECHS` of a third while both are open
+-- if two sessions may be open at once, no log begins with `S MECHS` of a third while both are open
 pub no_third : (accounts : Accounts) → BeginsNoneForTwo accounts (offer 1 ∷ offer 2 ∷ offer 3 ∷ [])
 no_third accounts rest places told s = let room = s.sessions.room (offer 1 ∷ offer 2 ∷ []) (offer 3) rest refl in omega (arith, room.1)
 
--- no log begins with session 1 and then session 3: numbers are given in turn
+-- no log begins with session 1 and then session 3: numbers are given in order
 pub no_gap : (accounts : Accounts) → BeginsNoneForTwo accounts (offer 1 ∷ offer 3 ∷ [])
 no_gap accounts rest places told s = let room = s.sessions.room (offer 1 ∷ []) (offer 3) rest refl in omega (arith, room.0)
 
--- where two sessions may be open at once, no log turns the second away by BUSY while the first alone is open
+-- if two sessions may be open at once, no log turns the second away with BUSY while only the first is open
 pub no_early_busy : (accounts : Accounts) → BeginsNoneForTwo accounts (offer 1 ∷ turns_away 2 ∷ [])
 no_early_busy accounts rest places told s = let room = s.sessions.room (offer 1 ∷ []) (turns_away 2) rest refl in omega (arith, room.1)
 

@@ -1,4 +1,4 @@
--- A log that meets the demands is one without demands too, with no account named in it.
+-- A log that meets the demands is also a log without demands, in which no account is named.
 use Rattle.std.proofs.Common.{◌≡◌, inl, inr, ℕ, Bool, true, false, List, [], ◌∷◌, ◌++◌, refl, sym, ◌∙◌, ap}
 use Rattle.std.specs.Prelude.{flat_map, map}
 use Rattle.std.specs.List.{AllByRecursion}
@@ -33,7 +33,7 @@ accountless_place leaving = leaving
 accountless_place over = over
 accountless_place halted = halted
 
--- the parts of a session with no account named, and a session:
+-- the parts of a session, and a session, with no account named:
 abbrev accountless_after_first : AfterFirst → AfterFirst
 accountless_after_first no_answer = no_answer
 accountless_after_first (refused text closed) = refused text closed
@@ -58,23 +58,27 @@ accountless_after_mechs (without_first m i) = without_first m (accountless_after
 abbrev pub accountless_session : Session → Session
 accountless_session (session names l) = session names (accountless_after_mechs l)
 
--- what was told, with no account named
+-- a recorded reply with no account named
 abbrev pub accountless_reply : LoggedReply → LoggedReply
 accountless_reply t = logged_reply_of [] t.moment t.sent t.reply
 
--- a part of a session and the same with no account named: the lines are the same, and nothing is demanded of it
+-- `bare` is the part `own` with no account named
 pub record IsAccountlessOf (bare own : Part) : Type 0 where
+  -- it has the same lines
   pub lines : bare.lines ≡ own.lines
+  -- its place is the same with no account named
   pub place : bare.place ≡ accountless_place own.place
+  -- its recorded replies are the same with no account named
   pub told : bare.told ≡ map accountless_reply own.told
+  -- it meets `no_demands`
   pub meets : bare.Meets no_demands
 
--- where a part is the same with no account named, it is so with a line before it
+-- if a part stays the same with no account named, so does the part with a line before it
 pub next_line_is_same_aside : (l : LogLine) (b own : Part) → IsAccountlessOf b own → IsAccountlessOf (next_line l b) (next_line l own)
 next_line_is_same_aside l b own is =
     record { lines = ap (λ (t : List LogLine). l ∷ t) is.lines; place = is.place; told = is.told; meets = is.meets }
 
--- so it is with a line of which something is demanded, and with a line that tells a reply:
+-- if a part stays the same with no account named, so does the part with a line before it that meets a demand, or that records a reply:
 due_line_is_same_aside : (B Own : Demands → Type 0) (l : LogLine) (b own : Part) → B no_demands → IsAccountlessOf b own
     → IsAccountlessOf (due_line B l b) (due_line Own l own)
 due_line_is_same_aside B Own l b own due is =
@@ -90,12 +94,12 @@ telling_line_is_same_aside t l b own is =
       meets = is.meets;
     }
 
--- the end of a session is the same with no account named
+-- the end of a session stays the same with no account named
 pub closing_is_same_aside : (closed : Bool) → IsAccountlessOf (closing closed) (closing closed)
 closing_is_same_aside true = record { lines = refl; place = refl; told = refl; meets = tt }
 closing_is_same_aside false = record { lines = refl; place = refl; told = refl; meets = tt }
 
--- a refusal, the end of a session by its client and its codes are the same with no account named:
+-- a refusal, the end of a session by its client, and its codes stay the same with no account named:
 refusal_is_same_aside : (B Own : Demands → Type 0) (text : List ℕ) (closed : Bool) → B no_demands
     → IsAccountlessOf (refusal B text closed) (refusal Own text closed)
 refusal_is_same_aside B Own text closed due =
@@ -120,7 +124,7 @@ after_ok_is_same_aside account (replied sent moment reply more) =
     (after_ok_is_same_aside account more))
 after_ok_is_same_aside account (halted_at sent) = record { lines = refl; place = refl; told = refl; meets = tt }
 
--- each part of a session, from the verdict to the whole of it, is the same with no account named:
+-- each part of a session, from the verdict to the whole session, stays the same with no account named:
 after_final_is_same_aside : (m account first challenge last : List ℕ) (j : AfterFinal)
     → IsAccountlessOf (after_final m [] first challenge last j) (after_final m account first challenge last j)
 after_final_is_same_aside m account first challenge last no_verdict = record { lines = refl; place = refl; told = refl; meets = tt }
@@ -166,13 +170,13 @@ after_mechs_is_same_aside (with_first m first a) =
     next_line_is_same_aside (heard (auth_with m first)) _ _ (after_first_is_same_aside m first a)
 after_mechs_is_same_aside (without_first m i) = next_line_is_same_aside (heard (auth m)) _ _ (after_auth_is_same_aside m i)
 
--- a session with no account named has the same lines, and the same place and replies but for the account; nothing is demanded of it
+-- a session with no account named has the same lines, the same place and replies except for the account, and meets `no_demands`
 pub session_is_same_aside : (s : Session) → IsAccountlessOf (session_part (accountless_session s)) (session_part s)
 session_is_same_aside (session names l) =
     due_line_is_same_aside (λ d. d.mechs names) (λ d. d.mechs names) (said (mechs names)) _ _ tt (after_mechs_is_same_aside l)
 
--- sessions with no account named have the same lines, meet the demands where these are aside, are open where the others are, and lead to
--- the same place, with no account named:
+-- sessions with no account named have the same lines, meet `no_demands`, are open if the others are, and lead to the same place with
+-- no account named:
 sessions_have_same_lines : (sessions : List Session)
     → flat_map session_lines (map accountless_session sessions) ≡ flat_map session_lines sessions
 sessions_have_same_lines [] = refl
@@ -196,12 +200,12 @@ sessions_lead_same_aside [] = refl
 sessions_lead_same_aside (s ∷ []) = (session_is_same_aside s).place
 sessions_lead_same_aside (s ∷ t ∷ more) = sessions_lead_same_aside (t ∷ more)
 
--- with the demands aside any replies are due, whatever was told before them
+-- without demands any replies are due, whatever replies came before
 pub any_replies_are_due : (before told : List LoggedReply) → AreReplies no_demands before told
 any_replies_are_due before [] = tt
 any_replies_are_due before (t ∷ told) = (tt, any_replies_are_due (t ∷ before) told)
 
--- lines that a log may begin with are such with the demands aside too, up to the same place with no account named
+-- lines that a log may begin with are also such lines without demands, up to the same place with no account named
 pub log_begins_aside : (d : Demands) (log : List LogLine) (place : Place) (told : List LoggedReply) → Begins d log place told
     → (tells : List LoggedReply) × Begins no_demands log (accountless_place place) tells
 log_begins_aside d log place told (inl nothing) = ([], inl (nothing.0, ap accountless_place nothing.1, refl))

@@ -1,5 +1,4 @@
--- A session goes on by one line: where the line may stand at the session's place, there is the same session with this line
--- after it.
+-- A session continues with one line: if the line may stand at the session's place, there is the same session with this line after it.
 use Rattle.std.proofs.Common.{◌≡◌, ◌⊎◌, inl, inr, ℕ, true, false, List, [], ◌∷◌, ◌++◌, refl, sym, ◌∙◌, ap, append_assoc}
 use Rattle.otp_core.specs.Attempt.{OneText, TwoTexts}
 use Rattle.log_grammar.specs.Lines.{LogLine, said, heard, bad, gone, ended, cont, accepts, refuses, replies, halt, auth, auth_with}
@@ -16,20 +15,25 @@ use Rattle.log_grammar.specs.Sessions.{unoffered, invited, no_login, quits_login
 use Rattle.log_grammar.specs.state_machine.Steps.{IsTransition, told_at}
 use Rattle.log_grammar.proofs.lemmas.state_machine.Within.{IsWithin, aborts_within, sends_bad_within, quits_codes_within, replied_within, granted_within, quits_final_within, sends_final_within, challenged_within, quits_first_within, sends_first_within, invited_within, quits_login_within, with_first_within, without_first_within, session_within}
 
--- a part of a session goes on by one line, which leads to this place and tells this
+-- a part of a session continues with one line, which leads to this place and records these replies
 pub record Grown {X : Type 0} (d : Demands) (part : X → Part) (old : X) (line : LogLine) (next : Place)
     (more : List LoggedReply) : Type 0 where
+  -- the part with the line
   pub tree : X
+  -- its lines are those of the old part, then this one
   pub lines : (part tree).lines ≡ (part old).lines ++ line ∷ []
+  -- it leads to this place
   pub at : (part tree).place ≡ next
+  -- its recorded replies are those of the old part, then these
   pub tells : (part tree).told ≡ (part old).told ++ more
+  -- it meets the demands
   pub good : (part tree).Meets d
 
--- a part of a session has its end, or it goes on by a line that may stand at its place
+-- a part of a session has ended, or continues with a line that may stand at its place
 abbrev pub GoesOn : {X : Type 0} → Demands → (X → Part) → X → LogLine → Place → Type 0
 GoesOn d part old line next = ((part old).place ≡ between) ⊎ Grown d part old line next (told_at (part old).place line)
 
--- where a part within another goes on, so does the other, and where it has its end, so has the other:
+-- if a part within another continues, so does the other, and if it has ended, so has the other:
 outer_grows : {X Y : Type 0} (d : Demands) (inner : X → Part) (outer : Y → Part) (wrap : X → Y) → IsWithin d inner outer wrap
     → (old : X) (line : LogLine) (next : Place) (more : List LoggedReply)
     → Grown d inner old line next more → Grown d outer (wrap old) line next more
@@ -50,7 +54,7 @@ outer_goes_on d {inner} {outer} {wrap} w old line next (inl closed) = inl ((w.ar
 outer_goes_on d {inner} {outer} {wrap} w old line next (inr g) =
     inr (outer_grows d inner outer wrap w old line next (told_at (inner old).place line) g)
 
--- each part of a session, from its end to its beginning, has its end or goes on by a line that may stand at its place:
+-- each part of a session, from its end to its beginning, has ended or continues with a line that may stand at its place:
 farewell_goes_on : (d : Demands) (t : Farewell) (line : LogLine) (next : Place) → (parting t).Meets d
     → IsTransition d (parting t).place line next
     → GoesOn d parting t line next
@@ -206,7 +210,7 @@ after_mechs_goes_on d (with_first m first a) line next meets h =
 after_mechs_goes_on d (without_first m i) line next meets h =
     outer_goes_on d (without_first_within d m) i line next (after_auth_goes_on d m i line next meets h)
 
--- a session that meets the demands is closed, or goes on with any line that may stand at its place and then meets them still
+-- a session that meets the demands is closed, or continues with any line that may stand at its place and still meets them
 pub session_goes_on : (d : Demands) (t : Session) (line : LogLine) (next : Place) → (session_part t).Meets d
     → IsTransition d (session_part t).place line next
     → GoesOn d session_part t line next

@@ -1,4 +1,4 @@
--- How a line stands at a place: it goes on from there; no line of its class does; or one does, and this one is wrong.
+-- How a line stands at a place: it may stand there; or no line of its class may; or one may, but this one is wrong.
 use Rattle.std.proofs.Common.{◌≡◌, ◌⊎◌, inl, inr, ℕ, List, [], reverse, refl}
 use Rattle.std.specs.Prelude.{codes}
 use Rattle.mac_core.proofs.lemmas.Decided.{Decided, decided_both, decided_same_text}
@@ -12,7 +12,7 @@ use Rattle.log_grammar.specs.Places.{waits_code, got_code, leaving, over, halted
 use Rattle.log_grammar.specs.Demands.{Accounts, IsVerdictDue, attempts_of, IsLoggedReplyDue, demands, AreReplies}
 use Rattle.log_grammar.specs.state_machine.Steps.{IsTransition, told_at}
 use Rattle.log_grammar.specs.Why.{Why, other_mechs, other_challenge, other_outcome, other_reply, refused_with, outcome_of, LineClass}
-use Rattle.log_grammar.specs.Why.{of_abort, of_code, of_sync, of_bad, of_gone, class_of, IsWrongAnswer, IsWrongReply, IsWrong}
+use Rattle.log_grammar.specs.Why.{of_abort, of_code, of_sync, of_bad, of_gone, class_of, IsReasonForAnswer, IsReasonForReply, IsReasonForLine}
 use Rattle.log_grammar.specs.state_machine.DueClasses.{IsQuitting, IsDueAt}
 use Rattle.log_grammar.proofs.lemmas.demands.Challenges.{decided_offered, decided_first_message}
 use Rattle.log_grammar.proofs.lemmas.demands.StillChallenged.{ChallengeMeetsDemand}
@@ -20,40 +20,43 @@ use Rattle.log_grammar.proofs.lemmas.completions.Verdicts.{some_verdict}
 use Rattle.log_grammar.proofs.lemmas.demands.DemandsDecided.{DecisionLaws, decided_challenged, decided_denied, decided_granted, some_reply}
 use Rattle.log_grammar.proofs.lemmas.demands.DemandsDecided.{decided_reply_due}
 
--- a line goes on from a place, with the reply due where it is one
+-- a line may stand at a place; if it is a reply to a code, it is the one due
 pub record Follows (accounts : Accounts) (place : Place) (told : List LoggedReply) (line : LogLine) : Type 0 where
   pub next : Place
   pub goes : IsTransition (demands accounts) place line next
   pub due : AreReplies (demands accounts) (reverse told) (told_at place line)
 
--- a line fails: its class is due at the place, it does not go on, and it is wrong for this reason
+-- a line fails: its class is due at the place, but it may not stand there, and it is wrong for this reason
 pub record Fails (accounts : Accounts) (place : Place) (told : List LoggedReply) (line : LogLine) : Type 0 where
   pub of_class : IsDueAt place (class_of line)
   pub stuck : Follows accounts place told line → ⊥
   pub why : Why
-  pub wrong : IsWrong accounts place told line why
+  pub wrong : IsReasonForLine accounts place told line why
 
--- a line goes on, is of a class that is not due, or fails
+-- a line may stand, is of a class that is not due, or fails
 abbrev pub Standing : Accounts → Place → List LoggedReply → LogLine → Type 0
 Standing accounts place told line = Follows accounts place told line
     ⊎ ((IsDueAt place (class_of line) → ⊥) ⊎ Fails accounts place told line)
 
--- a line that goes on exactly where a decided demand is met stands at its place in one of the three ways
+-- if a line may stand if and only if it meets a demand, and it is decidable whether it does, it stands at its place in one of the three
+-- ways
 demand_gives_standing : (accounts : Accounts) (place : Place) (told : List LoggedReply) (line : LogLine) (P : Type 0)
     → IsDueAt place (class_of line)
-    → (why : Why) × IsWrong accounts place told line why → (P → Follows accounts place told line) → (Follows accounts place told line → P)
+    → (why : Why) × IsReasonForLine accounts place told line why → (P → Follows accounts place told line)
+    → (Follows accounts place told line → P)
     → Decided P → Standing accounts place told line
 demand_gives_standing accounts place told line P due why there back (inl meets) = inl (there meets)
 demand_gives_standing accounts place told line P due why there back (inr none) =
     inr (inr (record { of_class = due; stuck = λ f. none (back f); why = why.0; wrong = why.1 }))
 
--- a line whose class is due at the place, and which never goes on there, fails
+-- a line that may not stand at a place where its class is due fails
 stuck_line_fails : (accounts : Accounts) (place : Place) (told : List LoggedReply) (line : LogLine) → IsDueAt place (class_of line)
-    → (why : Why) × IsWrong accounts place told line why → (Follows accounts place told line → ⊥) → Standing accounts place told line
+    → (why : Why) × IsReasonForLine accounts place told line why → (Follows accounts place told line → ⊥)
+    → Standing accounts place told line
 stuck_line_fails accounts place told line due why stuck =
     demand_gives_standing accounts place told line ⊥ due why (λ none. absurd none) stuck (inr (λ none. none))
 
--- a class that is not one due at a client's turn is not due there
+-- a class that is not one of those due at a client's turn is not due there
 no_due_class_at_turn : (class own : LineClass) → (class ≡ own → ⊥) → (class ≡ of_abort → ⊥) → (class ≡ of_bad → ⊥) → (class ≡ of_gone → ⊥)
     → (class ≡ own) ⊎ IsQuitting class → ⊥
 no_due_class_at_turn class own no_own no_abort no_bad no_gone (inl is) = no_own is
@@ -61,14 +64,14 @@ no_due_class_at_turn class own no_own no_abort no_bad no_gone (inr (inl is)) = n
 no_due_class_at_turn class own no_own no_abort no_bad no_gone (inr (inr (inl is))) = no_bad is
 no_due_class_at_turn class own no_own no_abort no_bad no_gone (inr (inr (inr is))) = no_gone is
 
--- a class that is not one due where codes are due is not due there
+-- a class that is not one of those due while a code is due is not due there
 no_due_class_for_codes : (class : LineClass) → (class ≡ of_code → ⊥) → (class ≡ of_sync → ⊥) → (class ≡ of_abort → ⊥) → (class ≡ of_bad → ⊥)
     → (class ≡ of_gone → ⊥) → (class ≡ of_code) ⊎ ((class ≡ of_sync) ⊎ IsQuitting class) → ⊥
 no_due_class_for_codes class no_code no_sync no_abort no_bad no_gone (inl is) = no_code is
 no_due_class_for_codes class no_code no_sync no_abort no_bad no_gone (inr other) =
     no_due_class_at_turn class of_sync no_sync no_abort no_bad no_gone other
 
--- where it is decided whether something exists, that is a decided fact, and so is its contrary:
+-- if something has a property or nothing has it, it is decidable whether something has it, and whether nothing has it:
 decided_existence : {A : Type 0} {P : A → Type 0} → ((a : A) × P a) ⊎ ((a : A) → P a → ⊥) → Decided ((a : A) × P a)
 decided_existence (inl is) = inl is
 decided_existence (inr none) = inr (λ is. none is.0 is.1)
@@ -77,10 +80,10 @@ decided_absence : {A : Type 0} {P : A → Type 0} → ((a : A) × P a) ⊎ ((a :
 decided_absence (inl is) = inr (λ none. none is.0 is.1)
 decided_absence (inr none) = inl none
 
--- a line stands at each place in one of the three ways. The clauses for `S HALT` and `C ABORT` say what the last clause says too: with them
--- the prover goes through the lines of the last clause one by one:
+-- a line stands at each place in one of the three ways:
 before_all_gives_standing : (accounts : Accounts) (told : List LoggedReply) (line : LogLine) → Standing accounts before_all told line
 before_all_gives_standing accounts told header = inl (record { next = between; goes = refl; due = tt })
+-- (for the prover: docs/PROVING.md, "A last clause over a variable")
 before_all_gives_standing accounts told (said halt) = inr (inl (λ is. cc is))
 before_all_gives_standing accounts told (heard abort) = inr (inl (λ is. cc is))
 before_all_gives_standing accounts told line = inr (inl (λ is. cc is))
@@ -90,6 +93,7 @@ between_gives_standing accounts told (said (mechs names)) =
     demand_gives_standing accounts between told (said (mechs names)) (names ≡ codes "SCRAM-SHA-256 SCRAM-SHA-1") refl (other_mechs, refl)
     (λ is. record { next = offered; goes = (is, refl); due = tt }) (λ f. f.goes.0)
     (decided_same_text names (codes "SCRAM-SHA-256 SCRAM-SHA-1"))
+-- (for the prover: docs/PROVING.md, "A last clause over a variable")
 between_gives_standing accounts told (heard abort) = inr (inl (λ is. cc is))
 between_gives_standing accounts told line = inr (inl (λ is. cc is))
 
@@ -99,17 +103,18 @@ offered_gives_standing accounts told (heard (auth_with m first)) = inl (record {
 offered_gives_standing accounts told (heard abort) = inl (record { next = leaving; goes = refl; due = tt })
 offered_gives_standing accounts told bad = inl (record { next = leaving; goes = refl; due = tt })
 offered_gives_standing accounts told gone = inl (record { next = over; goes = refl; due = tt })
+-- (for the prover: docs/PROVING.md, "A last clause over a variable")
 offered_gives_standing accounts told (said halt) = inr (inl (no_due_class_at_turn _ _ (λ e. cc e) (λ e. cc e) (λ e. cc e) (λ e. cc e)))
 offered_gives_standing accounts told line = inr (inl (no_due_class_at_turn _ _ (λ e. cc e) (λ e. cc e) (λ e. cc e) (λ e. cc e)))
 
--- after `C AUTH` without a message there is a reason for which a word is wrong
-some_why_after_auth : (accounts : Accounts) (m : List ℕ) → (why : Why) × IsWrongAnswer accounts (asks_bare m) why
+-- after `C AUTH` without a message there is a reason for which an answer is wrong
+some_why_after_auth : (accounts : Accounts) (m : List ℕ) → (why : Why) × IsReasonForAnswer accounts (asks_bare m) why
 some_why_after_auth accounts m = elim (decided_offered m) [
   | inl is ↦ (other_challenge, inl (is, refl))
   | inr none ↦ (other_outcome (refused_with []), inr (none, refl))
 ]
 
--- a line stands in one of the three ways after `C AUTH` without a message, and where a client-first message is due:
+-- a line stands in one of the three ways after `C AUTH` without a message, and when a client-first message is due:
 asks_bare_gives_standing : (accounts : Accounts) (told : List LoggedReply) (m : List ℕ) (line : LogLine)
     → Standing accounts (asks_bare m) told line
 asks_bare_gives_standing accounts told m (said (refuses text)) =
@@ -136,30 +141,30 @@ waits_first_gives_standing accounts told m (said halt) =
     inr (inl (no_due_class_at_turn _ _ (λ e. cc e) (λ e. cc e) (λ e. cc e) (λ e. cc e)))
 waits_first_gives_standing accounts told m line = inr (inl (no_due_class_at_turn _ _ (λ e. cc e) (λ e. cc e) (λ e. cc e) (λ e. cc e)))
 
--- after a client-first message there is a reason for which a word is wrong
+-- after a client-first message there is a reason for which an answer is wrong
 some_why_after_first : DecisionLaws → (accounts : Accounts) (m first : List ℕ)
-    → (why : Why) × IsWrongAnswer accounts (got_first m first) why
-some_why_after_first s accounts m first = elim (decided_first_message s.ground.once s.ground.firsts s.ground.names m first) [
+    → (why : Why) × IsReasonForAnswer accounts (got_first m first) why
+some_why_after_first laws accounts m first = elim (decided_first_message laws.completion m first) [
   | inl is ↦ (other_challenge, inl (is, refl))
   | inr none ↦ (other_outcome (refused_with []), inr (none, refl))
 ]
 
--- a line stands in one of the three ways after a client-first message, a challenge or a client-final one, and where a code is due:
+-- a line stands in one of the three ways after a client-first message, a challenge or a client-final message, and when a code is due:
 got_first_gives_standing : DecisionLaws → (accounts : Accounts) (told : List LoggedReply) (m first : List ℕ) (line : LogLine)
     → Standing accounts (got_first m first) told line
-got_first_gives_standing s accounts told m first (said (refuses text)) =
-    demand_gives_standing accounts (got_first m first) told (said (refuses text)) _ refl (some_why_after_first s accounts m first)
+got_first_gives_standing laws accounts told m first (said (refuses text)) =
+    demand_gives_standing accounts (got_first m first) told (said (refuses text)) _ refl (some_why_after_first laws accounts m first)
     (λ is. record { next = over; goes = (is, refl); due = tt }) (λ f. f.goes.0)
-    (decided_both _ _ (decided_absence (decided_first_message s.ground.once s.ground.firsts s.ground.names m first))
+    (decided_both _ _ (decided_absence (decided_first_message laws.completion m first))
     (decided_same_text text []))
-got_first_gives_standing s accounts told m first (said (cont text)) =
-    demand_gives_standing accounts (got_first m first) told (said (cont text)) _ refl (some_why_after_first s accounts m first)
+got_first_gives_standing laws accounts told m first (said (cont text)) =
+    demand_gives_standing accounts (got_first m first) told (said (cont text)) _ refl (some_why_after_first laws accounts m first)
     (λ is. record { next = waits_final m is.0 first text; goes = (is.0, is.1, refl); due = tt }) (λ f. (f.goes.0, f.goes.1))
-    (decided_challenged s accounts m first text)
-got_first_gives_standing s accounts told m first (said (accepts text)) =
-    stuck_line_fails accounts (got_first m first) told (said (accepts text)) refl (some_why_after_first s accounts m first) (λ f. f.goes)
-got_first_gives_standing s accounts told m first (heard abort) = inr (inl (λ is. cc is))
-got_first_gives_standing s accounts told m first line = inr (inl (λ is. cc is))
+    (decided_challenged laws accounts m first text)
+got_first_gives_standing laws accounts told m first (said (accepts text)) =
+    stuck_line_fails accounts (got_first m first) told (said (accepts text)) refl (some_why_after_first laws accounts m first) (λ f. f.goes)
+got_first_gives_standing laws accounts told m first (heard abort) = inr (inl (λ is. cc is))
+got_first_gives_standing laws accounts told m first line = inr (inl (λ is. cc is))
 
 waits_final_gives_standing : (accounts : Accounts) (told : List LoggedReply) (m account first challenge : List ℕ) (line : LogLine)
     → Standing accounts (waits_final m account first challenge) told line
@@ -176,22 +181,22 @@ waits_final_gives_standing accounts told m account first challenge line =
 got_final_gives_standing : DecisionLaws → (accounts : Accounts) (told : List LoggedReply) (m account first challenge last : List ℕ)
     → (due : Due) × IsVerdictDue accounts m account first challenge last due
     → (line : LogLine) → Standing accounts (got_final m account first challenge last) told line
-got_final_gives_standing s accounts told m account first challenge last (due, is) (said (refuses text)) =
+got_final_gives_standing laws accounts told m account first challenge last (due, is) (said (refuses text)) =
     demand_gives_standing accounts (got_final m account first challenge last) told (said (refuses text)) _ refl
     (other_outcome (outcome_of due), (due, is, refl))
     (λ denied. record { next = over; goes = (denied, refl); due = tt }) (λ f. f.goes.0)
-    (decided_denied s accounts m account first challenge last text due is)
-got_final_gives_standing s accounts told m account first challenge last (due, is) (said (accepts text)) =
+    (decided_denied laws accounts m account first challenge last text due is)
+got_final_gives_standing laws accounts told m account first challenge last (due, is) (said (accepts text)) =
     demand_gives_standing accounts (got_final m account first challenge last) told (said (accepts text)) _ refl
     (other_outcome (outcome_of due), (due, is, refl))
     (λ granted. record { next = waits_code account; goes = (granted, refl); due = tt }) (λ f. f.goes.0)
-    (decided_granted s accounts m account first challenge last text due is)
-got_final_gives_standing s accounts told m account first challenge last (due, is) (said (cont text)) =
+    (decided_granted laws accounts m account first challenge last text due is)
+got_final_gives_standing laws accounts told m account first challenge last (due, is) (said (cont text)) =
     stuck_line_fails accounts (got_final m account first challenge last) told (said (cont text)) refl
     (other_outcome (outcome_of due), (due, is, refl))
     (λ f. f.goes)
-got_final_gives_standing s accounts told m account first challenge last (due, is) (heard abort) = inr (inl (λ e. cc e))
-got_final_gives_standing s accounts told m account first challenge last (due, is) line = inr (inl (λ e. cc e))
+got_final_gives_standing laws accounts told m account first challenge last (due, is) (heard abort) = inr (inl (λ e. cc e))
+got_final_gives_standing laws accounts told m account first challenge last (due, is) line = inr (inl (λ e. cc e))
 
 waits_code_gives_standing : (accounts : Accounts) (told : List LoggedReply) (account : List ℕ) (line : LogLine)
     → Standing accounts (waits_code account) told line
@@ -209,24 +214,24 @@ waits_code_gives_standing accounts told account line =
 
 -- after a code there is a reason for which a reply is wrong
 some_why_after_code : DecisionLaws → (accounts : Accounts) (account : List ℕ) (sent : CodeTexts) (told : List LoggedReply) (moment : ℕ)
-    → (why : Why) × IsWrongReply accounts (got_code account sent) told moment why
-some_why_after_code s accounts account sent told moment =
-    let due = some_reply s.replies (accounts.token account) (attempts_of account (reverse told)) moment sent in
+    → (why : Why) × IsReasonForReply accounts (got_code account sent) told moment why
+some_why_after_code laws accounts account sent told moment =
+    let due = some_reply laws.some_reply (accounts.token account) (attempts_of account (reverse told)) moment sent in
     (other_reply moment due.0, (due.0, due.1, refl))
 
--- a line stands in one of the three ways after a code, after a client that leaves, and where `E` is due:
+-- a line stands in one of the three ways after a code, after a client that leaves, and when `E` is due:
 got_code_gives_standing : DecisionLaws → (accounts : Accounts) (told : List LoggedReply) (account : List ℕ) (sent : CodeTexts)
     (line : LogLine)
     → Standing accounts (got_code account sent) told line
-got_code_gives_standing s accounts told account sent (said (replies moment reply)) =
+got_code_gives_standing laws accounts told account sent (said (replies moment reply)) =
     demand_gives_standing accounts (got_code account sent) told (said (replies moment reply))
     (IsLoggedReplyDue accounts (reverse told) (logged_reply_of account moment sent reply))
-    refl (some_why_after_code s accounts account sent told moment)
+    refl (some_why_after_code laws accounts account sent told moment)
     (λ is. record { next = waits_code account; goes = refl; due = (is, tt) }) (λ f. f.due.0)
-    (decided_reply_due s (accounts.token account) (attempts_of account (reverse told)) moment sent reply)
-got_code_gives_standing s accounts told account sent (said halt) = inl (record { next = halted; goes = refl; due = tt })
-got_code_gives_standing s accounts told account sent (heard abort) = inr (inl (λ is. cc is))
-got_code_gives_standing s accounts told account sent line = inr (inl (λ is. cc is))
+    (decided_reply_due laws (accounts.token account) (attempts_of account (reverse told)) moment sent reply)
+got_code_gives_standing laws accounts told account sent (said halt) = inl (record { next = halted; goes = refl; due = tt })
+got_code_gives_standing laws accounts told account sent (heard abort) = inr (inl (λ is. cc is))
+got_code_gives_standing laws accounts told account sent line = inr (inl (λ is. cc is))
 
 leaving_gives_standing : (accounts : Accounts) (told : List LoggedReply) (line : LogLine) → Standing accounts leaving told line
 leaving_gives_standing accounts told (said (refuses text)) =
@@ -249,20 +254,20 @@ over_gives_standing accounts told line = inr (inl (λ is. cc is))
 pub line_has_standing : DecisionLaws → (accounts : Accounts) (place : Place) (told : List LoggedReply) (line : LogLine)
     → ChallengeMeetsDemand (demands accounts) place
     → Standing accounts place told line
-line_has_standing s accounts before_all told line opened = before_all_gives_standing accounts told line
-line_has_standing s accounts between told line opened = between_gives_standing accounts told line
-line_has_standing s accounts offered told line opened = offered_gives_standing accounts told line
-line_has_standing s accounts (asks_bare m) told line opened = asks_bare_gives_standing accounts told m line
-line_has_standing s accounts (waits_first m) told line opened = waits_first_gives_standing accounts told m line
-line_has_standing s accounts (got_first m first) told line opened = got_first_gives_standing s accounts told m first line
-line_has_standing s accounts (waits_final m account first challenge) told line opened =
+line_has_standing laws accounts before_all told line opened = before_all_gives_standing accounts told line
+line_has_standing laws accounts between told line opened = between_gives_standing accounts told line
+line_has_standing laws accounts offered told line opened = offered_gives_standing accounts told line
+line_has_standing laws accounts (asks_bare m) told line opened = asks_bare_gives_standing accounts told m line
+line_has_standing laws accounts (waits_first m) told line opened = waits_first_gives_standing accounts told m line
+line_has_standing laws accounts (got_first m first) told line opened = got_first_gives_standing laws accounts told m first line
+line_has_standing laws accounts (waits_final m account first challenge) told line opened =
     waits_final_gives_standing accounts told m account first challenge
     line
-line_has_standing s accounts (got_final m account first challenge last) told line opened =
-    got_final_gives_standing s accounts told m account first challenge last
-    (some_verdict s.ground.verdicts accounts m account first challenge last opened) line
-line_has_standing s accounts (waits_code account) told line opened = waits_code_gives_standing accounts told account line
-line_has_standing s accounts (got_code account sent) told line opened = got_code_gives_standing s accounts told account sent line
-line_has_standing s accounts leaving told line opened = leaving_gives_standing accounts told line
-line_has_standing s accounts over told line opened = over_gives_standing accounts told line
-line_has_standing s accounts halted told line opened = inr (inl (λ none. none))
+line_has_standing laws accounts (got_final m account first challenge last) told line opened =
+    got_final_gives_standing laws accounts told m account first challenge last
+    (some_verdict laws.completion.some_verdict accounts m account first challenge last opened) line
+line_has_standing laws accounts (waits_code account) told line opened = waits_code_gives_standing accounts told account line
+line_has_standing laws accounts (got_code account sent) told line opened = got_code_gives_standing laws accounts told account sent line
+line_has_standing laws accounts leaving told line opened = leaving_gives_standing accounts told line
+line_has_standing laws accounts over told line opened = over_gives_standing accounts told line
+line_has_standing laws accounts halted told line opened = inr (inl (λ none. none))

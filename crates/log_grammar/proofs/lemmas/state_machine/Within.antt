@@ -10,8 +10,8 @@ use Rattle.log_grammar.specs.Sessions.{Part, parting, quitting, after_ok, after_
 use Rattle.log_grammar.specs.Sessions.{after_mechs, session_part, aborts, sends_bad, quits_codes, replied, granted, quits_final, sends_final}
 use Rattle.log_grammar.specs.Sessions.{challenged, quits_first, sends_first, invited, quits_login, with_first, without_first, session}
 
--- each inner part stands within an outer one: these lines and replies come before its own, both lead to the same place, and where
--- it meets the demands, so does the outer one
+-- each inner part stands within an outer one: these lines and replies come before its own, both lead to the same place, and if the inner
+-- part meets the demands, so does the outer one
 pub record IsWithin {X Y : Type 0} (d : Demands) (inner : X → Part) (outer : Y → Part) (wrap : X → Y) : Type 0 where
   pub front : List LogLine
   pub before : List LoggedReply

@@ -1,5 +1,5 @@
 -- The texts of an upgraded log, and that they are read as the numbered lines of the old one.
-use Rattle.std.proofs.Common.{◌≡◌, inl, inr, ℕ, ◌+◌, ◌≤◌, Bool, true, false, List, [], ◌∷◌, ◌++◌, length, map, refl, length-append, sym}
+use Rattle.std.proofs.Common.{◌≡◌, inl, inr, ℕ, ◌+◌, ◌≤◌, List, [], ◌∷◌, ◌++◌, length, map, refl, length-append, sym}
 use Rattle.std.proofs.Common.{◌∙◌, ap, subst, arith}
 use Rattle.std.specs.Prelude.{if◌then◌else◌, decimal, flat_map}
 use Rattle.std.specs.List.{AllByRecursion, AllZip}
@@ -10,19 +10,14 @@ use Rattle.log_grammar.specs.Bytes.{LacksLf}
 use Rattle.log_grammar.specs.LoggedReply.{LoggedReply}
 use Rattle.log_grammar.specs.Places.{Place}
 use Rattle.log_grammar.specs.Demands.{Demands}
-use Rattle.log_grammar.specs.Sessions.{closing, Farewell, parting, Quit, quitting, AfterOk, after_ok, AfterFinal, after_final}
-use Rattle.log_grammar.specs.Sessions.{AfterChallenge, after_challenge, AfterFirst, after_first, AfterEmpty, after_empty, AfterAuth}
-use Rattle.log_grammar.specs.Sessions.{after_auth, AfterMechs, after_mechs, Session, session_lines, no_farewell, farewell, goes_away}
-use Rattle.log_grammar.specs.Sessions.{aborts, sends_bad, no_code, quits_codes, unreplied, replied, halted_at, no_verdict, denied, granted}
-use Rattle.log_grammar.specs.Sessions.{no_final, quits_final, sends_final, no_answer, refused, challenged, no_first, quits_first}
-use Rattle.log_grammar.specs.Sessions.{sends_first, no_invitation, unoffered, invited, no_login, quits_login, with_first, without_first}
-use Rattle.log_grammar.specs.Sessions.{session}
+use Rattle.log_grammar.specs.Sessions.{Session, session_lines, session}
 use Rattle.log_grammar.specs.Begins.{Spells}
 use Rattle.log_grammar.specs.Counts.{counts_of}
 use Rattle.log_grammar.specs.Numbered.{Numbered, numbered, is_end}
 use Rattle.log_grammar.specs.NumberedLines.{last_session_number, IsSessionNumber, IsNoFirstLine, numbered_text, IsNumberedLine}
 use Rattle.log_grammar.specs.Upgrades.{with_numbers, CanBeUpgraded}
 use Rattle.log_grammar.specs.laws.UpgradedLogs.{UpgradedLogsHaveTheSameCounts}
+use Rattle.log_grammar.proofs.lemmas.session_laws.LaterLines.{IsInnerLine, HoldsFromTheLast, later_lines_hold}
 use Rattle.log_grammar.proofs.lemmas.lines.LackLf.{number_lacks_lf, log_line_lacks_lf}
 use Rattle.log_grammar.proofs.lemmas.lines.ReadBack.{one_log_line}
 use Rattle.log_grammar.proofs.lemmas.lines.NumberedReadBack.{numbered_line_is_writable, numbered_text_shows_number}
@@ -36,63 +31,26 @@ use Rattle.log_grammar.proofs.lemmas.lines.Words.{after_space, after_space-word,
 abbrev AllMayHaveNumber : List LogLine → Type 0
 AllMayHaveNumber lines = AllByRecursion IsNoFirstLine lines
 
--- in each part of a session each line may have a number:
-closing_may_have_numbers : (closed : Bool) → AllMayHaveNumber (closing closed).lines
-closing_may_have_numbers true = (tt, tt)
-closing_may_have_numbers false = tt
+-- an inner line of a session may have a number
+inner_line_may_have_number : (line : LogLine) → IsInnerLine line → IsNoFirstLine line
+inner_line_may_have_number header inner = inner
+inner_line_may_have_number header_two inner = inner
+inner_line_may_have_number line inner = tt
 
-farewell_may_have_numbers : (f : Farewell) → AllMayHaveNumber (parting f).lines
-farewell_may_have_numbers no_farewell = tt
-farewell_may_have_numbers (farewell text closed) = (tt, closing_may_have_numbers closed)
+-- each line of a session after its first may have a number
+later_lines_may_have_numbers : HoldsFromTheLast (λ lines place told. AllMayHaveNumber lines)
+later_lines_may_have_numbers = record {
+  no_line = λ place unfinished is. tt;
+  last_end = (tt, tt);
+  last_halt = (tt, tt);
+  inner_line = λ line inner lines place told have. (inner_line_may_have_number line inner, have);
+  reply = λ account is sent moment reply lines place told have. (tt, have);
+}
 
-quit_may_have_numbers : (q : Quit) → AllMayHaveNumber (quitting q).lines
-quit_may_have_numbers (goes_away closed) = (tt, closing_may_have_numbers closed)
-quit_may_have_numbers (aborts f) = (tt, farewell_may_have_numbers f)
-quit_may_have_numbers (sends_bad f) = (tt, farewell_may_have_numbers f)
-
-after_ok_may_have_numbers : (account : List ℕ) (c : AfterOk) → AllMayHaveNumber (after_ok account c).lines
-after_ok_may_have_numbers account no_code = tt
-after_ok_may_have_numbers account (quits_codes q) = quit_may_have_numbers q
-after_ok_may_have_numbers account (unreplied sent) = (tt, tt)
-after_ok_may_have_numbers account (replied sent moment reply more) = (tt, (tt, after_ok_may_have_numbers account more))
-after_ok_may_have_numbers account (halted_at sent) = (tt, (tt, tt))
-
-after_final_may_have_numbers : (m account first challenge last : List ℕ) (j : AfterFinal)
-    → AllMayHaveNumber (after_final m account first challenge last j).lines
-after_final_may_have_numbers m account first challenge last no_verdict = tt
-after_final_may_have_numbers m account first challenge last (denied text closed) = (tt, closing_may_have_numbers closed)
-after_final_may_have_numbers m account first challenge last (granted text c) = (tt, after_ok_may_have_numbers account c)
-
-after_challenge_may_have_numbers : (m account first challenge : List ℕ) (p : AfterChallenge)
-    → AllMayHaveNumber (after_challenge m account first challenge p).lines
-after_challenge_may_have_numbers m account first challenge no_final = tt
-after_challenge_may_have_numbers m account first challenge (quits_final q) = quit_may_have_numbers q
-after_challenge_may_have_numbers m account first challenge (sends_final last j) =
-    (tt, after_final_may_have_numbers m account first challenge last j)
-
-after_first_may_have_numbers : (m first : List ℕ) (a : AfterFirst) → AllMayHaveNumber (after_first m first a).lines
-after_first_may_have_numbers m first no_answer = tt
-after_first_may_have_numbers m first (refused text closed) = (tt, closing_may_have_numbers closed)
-after_first_may_have_numbers m first (challenged account text p) = (tt, after_challenge_may_have_numbers m account first text p)
-
-after_empty_may_have_numbers : (m : List ℕ) (f : AfterEmpty) → AllMayHaveNumber (after_empty m f).lines
-after_empty_may_have_numbers m no_first = tt
-after_empty_may_have_numbers m (quits_first q) = quit_may_have_numbers q
-after_empty_may_have_numbers m (sends_first first a) = (tt, after_first_may_have_numbers m first a)
-
-after_auth_may_have_numbers : (m : List ℕ) (i : AfterAuth) → AllMayHaveNumber (after_auth m i).lines
-after_auth_may_have_numbers m no_invitation = tt
-after_auth_may_have_numbers m (unoffered text closed) = (tt, closing_may_have_numbers closed)
-after_auth_may_have_numbers m (invited text f) = (tt, after_empty_may_have_numbers m f)
-
-after_mechs_may_have_numbers : (l : AfterMechs) → AllMayHaveNumber (after_mechs l).lines
-after_mechs_may_have_numbers no_login = tt
-after_mechs_may_have_numbers (quits_login q) = quit_may_have_numbers q
-after_mechs_may_have_numbers (with_first m first a) = (tt, after_first_may_have_numbers m first a)
-after_mechs_may_have_numbers (without_first m i) = (tt, after_auth_may_have_numbers m i)
-
+-- so may each line of a session
 session_may_have_numbers : (s : Session) → AllMayHaveNumber (session_lines s)
-session_may_have_numbers (session names l) = (tt, after_mechs_may_have_numbers l)
+session_may_have_numbers (session names l) =
+    (tt, later_lines_hold (λ lines place told. AllMayHaveNumber lines) later_lines_may_have_numbers l)
 
 -- each line of some sessions may have a number
 sessions_may_have_numbers : (sessions : List Session) → AllMayHaveNumber (flat_map session_lines sessions)
@@ -121,7 +79,7 @@ next_number_stays_or_rises n line = elim (cases_Bool (is_end line)) [
 abbrev FitNumbers : ℕ → List LogLine → Type 0
 FitNumbers n lines = (1 ≤ n) × (n + length lines ≤ last_session_number)
 
--- where the numbers from this one on fit the lines, it is a session's number, and those after it fit the lines after the first;
+-- if the numbers from this one on fit the lines, it is a session's number, and those after it fit the lines after the first;
 -- the numbers from 1 on fit lines that can be numbered:
 first_number_fits : (n : ℕ) (lines : List LogLine) → FitNumbers n lines → IsSessionNumber n
 first_number_fits n lines few = (few.0, omega (arith, few.1))
@@ -134,7 +92,7 @@ rest_fits_numbers n line lines few =
 lines_fit_from_one : (lines : List LogLine) → CanBeUpgraded lines → FitNumbers 1 lines
 lines_fit_from_one lines can = (omega arith, omega (arith, can.few.1))
 
--- the texts of lines that are numbered are read as these numbered lines, where there are few
+-- the texts of lines with numbers that fit them are read as these numbered lines, if each can be written and none is a first line
 numbered_texts_are_read : (n : ℕ) (lines : List LogLine) → FitNumbers n lines → AllByRecursion IsWritable lines
     → AllByRecursion IsNoFirstLine lines
     → AllZip IsNumberedLine (map numbered_text (with_numbers n lines)) (with_numbers n lines)
@@ -144,13 +102,13 @@ numbered_texts_are_read n (line ∷ lines) few each have = (
   numbered_texts_are_read (if is_end line then n + 1 else n) lines (rest_fits_numbers n line lines few) each.1 have.1,
 )
 
--- the texts after the first of an upgraded log are those of its numbered lines, where the old ones can be numbered
+-- the texts after the first of an upgraded log are those of its numbered lines, if the old ones can be numbered
 -- and none is a first line
 pub upgraded_texts_are_read : (lines : List LogLine) → CanBeUpgraded lines → AllByRecursion IsNoFirstLine lines
     → AllZip IsNumberedLine (map numbered_text (with_numbers 1 lines)) (with_numbers 1 lines)
 upgraded_texts_are_read lines can have = numbered_texts_are_read 1 lines (lines_fit_from_one lines can) can.each have
 
--- the texts of lines that are numbered have no LF, where there are few
+-- the texts of lines with numbers that fit them have no LF, if each line can be written
 numbered_texts_lack_lf : (n : ℕ) (lines : List LogLine) → FitNumbers n lines → AllByRecursion IsWritable lines
     → AllByRecursion LacksLf (map numbered_text (with_numbers n lines))
 numbered_texts_lack_lf n [] few each = tt
@@ -160,7 +118,7 @@ numbered_texts_lack_lf n (line ∷ lines) few each = (
   numbered_texts_lack_lf (if is_end line then n + 1 else n) lines (rest_fits_numbers n line lines few) each.1,
 )
 
--- no text of an upgraded log has an LF in it, where the old lines can be numbered
+-- no text of an upgraded log has an LF in it, if the old lines can be numbered
 pub upgraded_texts_lack_lf : (lines : List LogLine) → CanBeUpgraded lines
     → AllByRecursion LacksLf (log_line_text header_two ∷ map numbered_text (with_numbers 1 lines))
 upgraded_texts_lack_lf lines can = (refl, numbered_texts_lack_lf 1 lines (lines_fit_from_one lines can) can.each)

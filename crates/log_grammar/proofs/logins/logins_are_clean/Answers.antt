@@ -1,4 +1,4 @@
-use Rattle.log_grammar.proofs.lemmas.login_laws.ValidLogins.{logins_are_clean, logins_may_halt, logins_are_answered}
+use Rattle.log_grammar.proofs.lemmas.login_laws.CleanLogins.{logins_are_clean, logins_may_halt, logins_are_answered}
 use Rattle.log_grammar.proofs.logins.logins_are_clean.Goals as goal
 
 pub returns-clause-gone : goal.returns-clause-gone

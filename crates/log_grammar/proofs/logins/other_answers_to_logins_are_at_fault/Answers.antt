@@ -4,15 +4,15 @@ use Rattle.log_grammar.proofs.logins.other_answers_to_logins_are_at_fault.Goals 
 pub returns-clause-refused : goal.returns-clause-refused
 returns-clause-refused c = refused_logins_are_at_fault (record {
   one_first = c.has_one_client_first.ensures;
-  names = c.spells_one_name.ensures;
-  verdicts = c.at_most_one_verdict_is_due.ensures;
-  answers = c.only_one_reply_is_due.ensures;
+  one_name = c.spells_one_name.ensures;
+  one_verdict = c.at_most_one_verdict_is_due.ensures;
+  one_reply = c.only_one_reply_is_due.ensures;
 }) c.accepts_exactly_valid.ensures
 
 pub returns-clause-answered : goal.returns-clause-answered
 returns-clause-answered c = other_replies_are_at_fault (record {
   one_first = c.has_one_client_first.ensures;
-  names = c.spells_one_name.ensures;
-  verdicts = c.at_most_one_verdict_is_due.ensures;
-  answers = c.only_one_reply_is_due.ensures;
+  one_name = c.spells_one_name.ensures;
+  one_verdict = c.at_most_one_verdict_is_due.ensures;
+  one_reply = c.only_one_reply_is_due.ensures;
 }) c.accepts_exactly_valid.ensures

@@ -1,4 +1,4 @@
-use Rattle.log_grammar.proofs.lemmas.login_laws.ValidLogins.{passwords_log_in}
+use Rattle.log_grammar.proofs.lemmas.login_laws.PasswordLogins.{passwords_log_in}
 use Rattle.log_grammar.proofs.logins.passwords_log_in.Goals as goal
 
 pub returns : goal.returns

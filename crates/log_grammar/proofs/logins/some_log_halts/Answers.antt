@@ -3,7 +3,7 @@ use Rattle.mac_core.specs.Mechanism.{name_of}
 use Rattle.otp_core.specs.Attempt.{OneText}
 use Rattle.log_grammar.specs.Lines.{header, heard, code}
 use Rattle.log_grammar.specs.laws.Logins.{login_session}
-use Rattle.log_grammar.proofs.lemmas.login_laws.ValidLogins.{zero_is_code_word}
+use Rattle.log_grammar.proofs.lemmas.login_laws.PasswordLogins.{zero_is_code_word}
 use Rattle.log_grammar.proofs.logins.some_log_halts.Goals as goal
 
 pub returns : goal.returns

@@ -5,7 +5,7 @@ use Rattle.log_grammar.specs.Numbered.{Numbered, numbered, given_in, closed_in}
 use Rattle.log_grammar.proofs.lemmas.many_sessions.OpenCounts.{FewOpen, few_are_open}
 use Rattle.log_grammar.proofs.numbered.few_sessions_are_open.Goals as goal
 
--- at most `limit` sessions are open, or BUSY is the last line and one more is open, where the open and the closed are those given
+-- if the open and the closed sessions are those given, at most `limit` are open, or BUSY is the last line and `limit` + 1 are open
 few_numbers_are_open : (limit opens : ℕ) (log : List (Numbered LogLine)) → opens + closed_in log ≡ given_in log → FewOpen limit log
     → (opens ≤ limit) ⊎ ((before : List (Numbered LogLine)) × (n : ℕ) × (log ≡ before ++ numbered n (said busy) ∷ []) × (opens ≡ limit + 1))
 few_numbers_are_open limit opens log all (inl few) = inl (omega (arith, all, few))

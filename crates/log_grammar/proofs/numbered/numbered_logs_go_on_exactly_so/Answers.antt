@@ -12,7 +12,7 @@ use Rattle.log_grammar.proofs.lemmas.many_sessions.LinesOfNumber.{one_and_others
 use Rattle.log_grammar.proofs.numbered.numbered_logs_go_on_exactly_so.Goals as goal
 use Rattle.log_grammar.proofs.lemmas.many_sessions.LogSteps.{equal_places_spell_log}
 
--- the line may stand at its number after the log, it moves no other number, and this is all that was told with it
+-- the line may stand at its number after the log and moves no other number, and `all` is `told` with the reply that the line records
 abbrev StandsAndTells : ℕ → Demands → List (Numbered LogLine) → (ℕ → Place) → List LoggedReply → ℕ → LogLine → (ℕ → Place)
     → List LoggedReply
     → Type 0
@@ -20,7 +20,7 @@ StandsAndTells limit d log places told n line next all =
     IsNumberedTransition limit d log places told n line (next n) × ((m : ℕ) → (m ≡ n → ⊥) → next m ≡ places m)
     × (all ≡ told ++ told_at (places n) line)
 
--- the last line of a log stands so after the lines before it
+-- the last line of a log may stand after the lines before it
 last_line_stands : (limit : ℕ) (d : Demands) (log : List (Numbered LogLine)) (places : ℕ → Place) (told : List LoggedReply) (n : ℕ)
     (line : LogLine)
     (next : ℕ → Place) (all : List LoggedReply)
@@ -32,7 +32,7 @@ last_line_stands limit d log places told n line next all s same also = (
   s.tells ∙ ap (λ (t : List LoggedReply). t ++ told_at (s.before n) line) also ∙ ap (λ (p : Place). told ++ told_at p line) (same n),
 )
 
--- a log goes on by a line that stands so
+-- a log continues with a line that may stand at its number
 standing_line_goes_on : GoesOnByANumberedLine → (limit : ℕ) (accounts : Accounts) (log : List (Numbered LogLine)) (places : ℕ → Place)
     (told : List LoggedReply) (n : ℕ) (line : LogLine)
     (next : ℕ → Place) (all : List LoggedReply) → SpellsNumbered limit (demands accounts) log places told

@@ -1,5 +1,5 @@
 use Rattle.log_grammar.specs.VersionTwo.{version_two}
-use Rattle.log_grammar.proofs.lemmas.kinds.Judged.{fronts_begin_with_fronts}
+use Rattle.log_grammar.proofs.lemmas.kinds.Fronts.{fronts_begin_with_fronts}
 use Rattle.log_grammar.proofs.lemmas.kinds.VersionTwo.{version_two_can_be_shortened}
 use Rattle.log_grammar.proofs.numbered_logs.numbered_fronts_begin_with_fronts.Goals as goal
 

@@ -1,4 +1,4 @@
-use Rattle.log_grammar.proofs.lemmas.upgraded_logs.SameFault.{upgraded_log_clean_iff_old}
+use Rattle.log_grammar.proofs.lemmas.upgraded_logs.SameClean.{upgraded_log_clean_iff_old}
 use Rattle.log_grammar.proofs.upgrades.upgraded_logs_are_clean.Goals as goal
 
 pub returns : goal.returns
