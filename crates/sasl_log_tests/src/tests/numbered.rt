@@ -1,4 +1,5 @@
-//! Numbered lines: those of a log of two sessions at once, numbers and lengths at their limits, and texts that are none.
+//! Numbered lines: those of a log of two sessions at once, numbers and lengths at their limits, and texts that are no such
+//! lines.
 use super::long;
 use sasl_log::{LineFault, LogLine, read_numbered_line, write_numbered_line};
 use std::test::Fail;

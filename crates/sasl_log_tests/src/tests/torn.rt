@@ -5,7 +5,7 @@ use std::io::{ErrorKind, Read};
 /// A reader that fails after these bytes.
 #[derive(Drop)]
 pub struct Torn<'a> {
-    /// The bytes before it fails.
+    /// The bytes that it gives before it fails.
     pub bytes: &'a [u8],
 }
 

@@ -33,7 +33,7 @@ fn log_of(alloc: Global, lines: &[&str]) -> Result<Vec<u8>, Fail> {
     after(alloc, b"", lines)
 }
 
-// The number of lines of a log that is upgraded, where its new text and nothing else was appended.
+// The number of lines of a log, if it is upgraded, and its new text and nothing else is appended.
 fn lines_of(alloc: Global, log: &[u8], lines: &[&str]) -> Result<Option<u64>, Fail> {
     let mut out = Vec::from_slice(alloc, b"before\n")?;
     let Ok(count) = upgrade(&mut OverRead::new(log), &mut out) else {
@@ -43,7 +43,7 @@ fn lines_of(alloc: Global, log: &[u8], lines: &[&str]) -> Result<Option<u64>, Fa
     Ok((out.as_slice() == want.as_slice()).then_some(count))
 }
 
-// The fault of a log that can't be upgraded, where nothing was appended.
+// The fault of a log that can't be upgraded, if nothing is appended.
 fn fault_of<R: Read + Drop>(alloc: Global, log: R) -> Result<Option<AuditFault>, Fail> {
     let mut out = Vec::from_slice(alloc, b"before\n")?;
     let Err(fault) = upgrade(&mut OverRead::new(log), &mut out) else {
@@ -52,7 +52,7 @@ fn fault_of<R: Read + Drop>(alloc: Global, log: R) -> Result<Option<AuditFault>,
     Ok((out.as_slice() == b"before\n".as_slice()).then_some(fault))
 }
 
-// The number of the line at fault, and of why it is.
+// The number of the line at fault, and the number of the reason.
 fn place_of(fault: Option<AuditFault>) -> Option<(u64, u16)> {
     let AuditFault::At { line, why } = fault? else {
         return None;
@@ -188,7 +188,7 @@ fn reads_that_fail_after_each_byte(rt: HostRuntime) -> Result<(), Fail> {
         let fault = fault_of(rt.alloc(), Torn { bytes })?;
         assert!(rt;
             matches!(fault, Some(AuditFault::ReadFault)),
-            "after {size} bytes"
+            "after {size} bytes: {fault:?}"
         );
     }
     Ok(())
@@ -214,7 +214,7 @@ fn nothing_is_taken_after_the_line_at_fault(rt: HostRuntime) -> Result<(), Fail>
     Ok(())
 }
 
-// Whether this many bytes of memory are enough to upgrade the login; None where the answer is wrong, or `out` has changed.
+// Whether this many bytes of memory are enough to upgrade the login; None if the result or `out` is wrong.
 fn had_memory(alloc: Global, bytes: usize) -> Result<Option<bool>, Fail> {
     let heap = LocalHeap::new(alloc, bytes)?;
     let mut out = Vec::new(&heap);

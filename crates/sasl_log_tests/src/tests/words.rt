@@ -1,17 +1,17 @@
 //! The words of a line: what comes after a word, before a space, after a number, and moments at their limits.
 use sasl_log::word::{after, after_session_number, cut, moment};
 
-// Whether the text begins with this word, and this follows.
+// Whether the text begins with this word, and `rest` follows.
 fn goes_on(text: &[u8], word: &[u8], rest: &[u8]) -> bool {
     after(text, word).is_some_and(|found| found == rest)
 }
 
-// Whether the text is cut at its first space into these.
+// Whether the first space cuts the text into `word` and `rest`.
 fn is_cut(text: &[u8], word: &[u8], rest: &[u8]) -> bool {
     cut(text).is_some_and(|found| found.0 == word && found.1 == rest)
 }
 
-// Whether the text begins with this number and a space, and this follows.
+// Whether the text begins with this number and a space, and `rest` follows.
 fn is_numbered(text: &[u8], number: u64, rest: &[u8]) -> bool {
     after_session_number(text).is_some_and(|found| found.0 == number && found.1 == rest)
 }
