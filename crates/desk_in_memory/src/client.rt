@@ -8,7 +8,7 @@ use std::io;
 use std::io::{ErrorKind, Write};
 use std::test::Fail;
 
-/// A clock that goes on by a second each time it is asked.
+/// A clock that advances by a second each time it is asked.
 #[derive(Drop)]
 pub struct Ticking {
     /// The moment that it gave last.
@@ -16,7 +16,7 @@ pub struct Ticking {
 }
 
 impl Ticking {
-    /// A clock that next gives the second after this one; an error where there is no such moment.
+    /// A clock that next gives the second after this one; an error if this one is no moment.
     pub fn after(seconds: u64) -> Result<Ticking, Fail> {
         let at = Moment::new(seconds).ok_or("a moment")?;
         Ok(Ticking { at })
@@ -78,8 +78,8 @@ impl Write for Device<'_> {
 }
 
 impl Service {
-    /// Serves this client, at a clock whose first moment is 1, where the wire to it and the log have this much room; an error
-    /// where a session is open.
+    /// Serves this client, with a clock whose first moment is 1, over a wire and a log with this much room; an error if a
+    /// session is open.
     pub fn serve<C: Source>(
         &mut self,
         alloc: Global,
@@ -87,7 +87,7 @@ impl Service {
         wire_room: Room,
         log_room: Room,
     ) -> Result<Result<Phase, ServeFault>, Fail> {
-        let own = NoncePart::new(b"3rfcNHYJY1ZVvWVs7j").ok_or("a part of a nonce")?;
+        let server_nonce = NoncePart::new(b"3rfcNHYJY1ZVvWVs7j").ok_or("a part of a nonce")?;
         let mut clock = Ticking::after(0)?;
         let Service { desk, wire, log } = self;
         let mut to_client = OverWrite::new(Device {
@@ -105,7 +105,7 @@ impl Service {
                 &mut to_client,
                 &mut to_log,
                 desk,
-                own,
+                server_nonce,
                 &mut clock,
             )),
             Phase::Halted => Ok(serve(
@@ -114,14 +114,14 @@ impl Service {
                 &mut to_client,
                 &mut to_log,
                 desk,
-                own,
+                server_nonce,
                 &mut clock,
             )),
             _ => Err("a session is open".into()),
         }
     }
 
-    /// Takes one turn with this client; an error where no session is open.
+    /// Takes one turn with this client; an error if no session is open.
     pub fn take_turn<C: Source>(
         &mut self,
         alloc: Global,

@@ -8,5 +8,5 @@ mod service;
 
 pub use client::{AMPLE, Room, Ticking};
 pub use login::{ACCEPTANCE, ANSWERS, BOOK, CHALLENGE, LOGGED, LOGIN, OPENS, PROVES, login_and};
-pub use memory::Memory;
+pub use memory::{Memory, When};
 pub use service::{Service, book_at, book_text};

@@ -1,8 +1,18 @@
-//! A store in memory, one of whose saves may fail.
+//! A store in memory, of which one save may fail.
 ghost use Rattle.std.specs.Prelude.{◌≡◌, ◌<◌, ◌+◌, ◌^◌, false, string_bytes, unwrap_or, option_map};
 
 use account_book::{BookStore, StoreFault};
 use std::alloc::Global;
+
+/// When a save fails.
+#[derive(Clone, Copy)]
+pub enum When {
+    /// Before the new text is in its place.
+    Before,
+
+    /// After the new text is in its place.
+    After,
+}
 
 /// A store whose device is memory.
 #[derive(Drop)]
@@ -10,12 +20,12 @@ pub struct Memory {
     /// The text that it holds.
     pub saved: String,
 
-    // The text of the save that failed, where the store still holds the one from before; else None.
+    // The text of the save that failed, if the store still holds the one from before; else None.
     asked: Option<String>,
 
     failed: bool,
 
-    /// How many saves it has taken up.
+    /// How many saves it has begun, including the one that failed.
     pub saves: u64,
 
     failing: u64,
@@ -24,9 +34,16 @@ pub struct Memory {
 }
 
 impl Memory {
-    /// A store that holds an empty text. The save of the number `failing`, counted from 1, fails; where that is 0, none does. It fails
-    /// before the new text is in its place, or, where `is_late`, after it.
-    pub fn new(alloc: Global, failing: u64, is_late: bool) -> Memory
+    /// A store that holds an empty text, and of which no save fails.
+    pub fn sound(alloc: Global) -> Memory
+        ensures { result.saves ≡ 0 }
+    {
+        Memory::failing_at(alloc, 0, When::Before)
+    }
+
+    /// A store that holds an empty text. The save of the number `failing`, counted from 1, fails, before or after the new text is
+    /// in its place; if the number is 0, none does.
+    pub fn failing_at(alloc: Global, failing: u64, when: When) -> Memory
         ensures { result.saves ≡ 0 }
     {
         Memory {
@@ -35,7 +52,7 @@ impl Memory {
             failed: false,
             saves: 0,
             failing,
-            is_late,
+            is_late: matches!(when, When::After),
         }
     }
 }

@@ -21,8 +21,9 @@ pub struct Service {
     pub log: Vec<u8>,
 }
 
-/// The text of a book whose user has a token with the secret of RFC 4226, appendix D, after this many failures and with this counter
-/// next: three failures lock it; it looks three counters ahead, and eight for two codes in a row. An error where memory runs out.
+/// The text of a book whose user has a token with the secret of RFC 4226, appendix D, after this many failures and with this
+/// counter next. Three failures lock it. It looks three counters ahead, and eight for two codes in a row. An error if memory
+/// runs out.
 pub fn book_at(alloc: Global, failures: u64, next: u64) -> Result<String, Fail> {
     Ok(format!(in alloc;
         "{BOOK}
@@ -39,7 +40,7 @@ sync_ahead = 8
     )?)
 }
 
-/// The text of the book that each service begins with: no code of its user's token was tried. An error where memory runs out.
+/// The text of the book that each service begins with: no code of its user's token was tried. An error if memory runs out.
 pub fn book_text(alloc: Global) -> Result<String, Fail> {
     book_at(alloc, 0, 0)
 }
@@ -54,7 +55,7 @@ fn check_text(alloc: Global, what: &str, bytes: &[u8], wanted: &str) -> Result<(
 }
 
 impl Service {
-    /// A service over this store; an error where its desk cannot begin.
+    /// A service over this store; an error if its desk cannot begin.
     pub fn begin(alloc: Global, store: Memory) -> Result<Service, Fail> {
         let book = Book::read(alloc, book_text(alloc)?.as_bytes())?;
         let mut log = Vec::new(alloc);
@@ -68,18 +69,18 @@ impl Service {
         }
     }
 
-    /// Greets a client; an error where a session is open.
+    /// Greets a client; an error if a session is open.
     pub fn greet(&mut self) -> Result<Result<Phase, DeskFault>, Fail> {
-        let own = NoncePart::new(b"3rfcNHYJY1ZVvWVs7j").ok_or("a part of a nonce")?;
+        let server_nonce = NoncePart::new(b"3rfcNHYJY1ZVvWVs7j").ok_or("a part of a nonce")?;
         let Service { desk, wire, log } = self;
         match desk.phase() {
-            Phase::Closed => Ok(desk.greet(own, wire, log)),
-            Phase::Halted => Ok(desk.greet(own, wire, log)),
+            Phase::Closed => Ok(desk.greet(server_nonce, wire, log)),
+            Phase::Halted => Ok(desk.greet(server_nonce, wire, log)),
             _ => Err("a session is open".into()),
         }
     }
 
-    /// Hands in what the client does, at the moment 3; an error where no session is open.
+    /// Hands in what the client does, at the moment 3; an error if no session is open.
     pub fn hear(
         &mut self,
         alloc: Global,
@@ -93,9 +94,14 @@ impl Service {
         Ok(desk.client(alloc, event, moment, wire, log))
     }
 
-    /// An error unless the log is this, and an audit of it finds it clean, with these counts.
+    /// An error unless the log is this, and its audit finds it clean, with these counts.
     pub fn check_log(&self, alloc: Global, log: &str, counts: Clean) -> Result<(), Fail> {
         check_text(alloc, "the log", self.log.as_slice(), log)?;
+        self.check_audit(alloc, counts)
+    }
+
+    // An error unless an audit finds the log clean, with these counts.
+    fn check_audit(&self, alloc: Global, counts: Clean) -> Result<(), Fail> {
         let book = Book::read(alloc, book_text(alloc)?.as_bytes())?;
         let found = audit(alloc, book, &mut OverRead::new(self.log.as_slice()))?;
         if found == counts {
@@ -104,8 +110,8 @@ impl Service {
         Err(format!(in alloc; "the audit counts {found:?}, and not {counts:?}")?.into())
     }
 
-    /// An error unless, after the published login, its client was told this and the log has that; an audit finds the log clean,
-    /// and that `codes_passed` codes passed.
+    /// An error unless, after the published login, `told` was sent to its client and `logged` was added to the log, and an
+    /// audit finds the log clean, with `codes_passed` codes passed.
     pub fn check_after_login(
         &self,
         alloc: Global,
@@ -113,19 +119,28 @@ impl Service {
         logged: &str,
         codes_passed: u64,
     ) -> Result<(), Fail> {
-        let wire = format!(in alloc; "{ANSWERS}{told}")?;
+        let sent = self
+            .wire
+            .as_slice()
+            .strip_prefix(ANSWERS.as_bytes())
+            .ok_or("what the client is sent in its login")?;
         check_text(
             alloc,
-            "what the client was sent",
-            self.wire.as_slice(),
-            wire.as_str(),
+            "what the client was sent after its login",
+            sent,
+            told,
         )?;
-        let log = format!(in alloc; "{LOGGED}{logged}")?;
+        let added = self
+            .log
+            .as_slice()
+            .strip_prefix(LOGGED.as_bytes())
+            .ok_or("the log of the login")?;
+        check_text(alloc, "the log after the login", added, logged)?;
         let counts = Clean {
             sessions: 1,
             accepted: 1,
             codes_passed,
         };
-        self.check_log(alloc, log.as_str(), counts)
+        self.check_audit(alloc, counts)
     }
 }

@@ -1,4 +1,4 @@
-//! Tests of `sasl_desk`: halls, of many sessions at once.
+//! Tests of the halls of `sasl_desk`, with many sessions at once.
 #![tactic(auto)]
 
 #[cfg(test)]

@@ -19,9 +19,10 @@ challenged_login_of server mechanism name = record { server = server; mechanism 
 
 -- the login to the account, with these two messages
 abbrev pub login_of : Accounts → ChallengedLoginFields → (client_first server_first : List ℕ) → Challenged
-login_of accounts w client_first server_first = challenged_login (accounts.entry w.mechanism w.name) w.mechanism client_first server_first
+login_of accounts waiting client_first server_first =
+    challenged_login (accounts.entry waiting.mechanism waiting.name) waiting.mechanism client_first server_first
 
--- the server stands for some login by this mechanism
+-- the server stands for some login with this mechanism
 abbrev pub IsChallenging : ServerWait → Mechanism → Type 0
 IsChallenging server mechanism =
     (entry : Entry) × (client_first : List ℕ) × (server_first : List ℕ)

@@ -34,19 +34,23 @@ session_phase (WaitFirst mechanism) = phase.WaitFirst
 session_phase (WaitFinal waiting) = phase.WaitFinal
 session_phase (WaitCode name) = phase.WaitCode
 
--- the phase of a desk
+-- the phase of a state
 abbrev pub phase_of : State → Phase
 phase_of Closed = phase.Closed
 phase_of (Open going server_nonce) = session_phase going
 phase_of Halted = phase.Halted
 
--- the state of a desk whose log stands at this place. A desk that has halted may stand at any.
+-- the phase of a desk
+abbrev pub desk_phase : {S : Type 0} → Desk S → Phase
+desk_phase desk = phase_of desk.state
+
+-- the state of a desk whose log is at this place. A desk that has halted may be at any place.
 abbrev pub IsStateAt : Accounts → (server_nonce : List ℕ) → Place → State → Type 0
 IsStateAt accounts server_nonce place Closed = place ≡ between
 IsStateAt accounts server_nonce place (Open going kept) = IsSessionAt accounts place going × (kept ≡ server_nonce)
 IsStateAt accounts server_nonce place Halted = Unit {0}
 
--- the store has not failed, and holds the text of the book, and `IsStored` holds of that text
+-- the store has not failed, and holds the text of the book, and `IsStored` is true of that text
 pub record HoldsBook (IsStored : List ℕ → Type 0) (book : BookFields) (store : StoreFacts) : Type 0 where
   pub working : store.failed ≡ false
   pub saved : IsBookText store.saved book
@@ -57,20 +61,22 @@ abbrev pub IsLatestAttempt : Accounts → List Call → LoggedReply → Type 0
 IsLatestAttempt accounts [] t = ⊥
 IsLatestAttempt accounts (c ∷ before) t = (place : Place) × IsRun accounts before place × IsAttemptOf c.request place c.lines t
 
--- the store has failed as it saved the book with the attempt of the latest call: it holds the text of the book from before
--- it, which was saved, or that of the book with it
+-- the store failed while it saved the book with the attempt of the latest call
 pub record IsLostAfter (IsStored : List ℕ → Type 0) (accounts : Accounts) (calls : List Call)
     (book : BookFields) (store : StoreFacts) : Type 0 where
   pub failed : store.failed ≡ true
+  -- the latest call judged this attempt, which makes the next book
   pub t : LoggedReply
   pub next : BookFields
   pub is_latest : IsLatestAttempt accounts calls t
   pub is_judged : IsAttemptJudged book t next
+  -- the store holds the text of the book before the attempt, which was saved, or that of the next book
   pub saved : (IsBookText store.saved book × IsStored store.saved) ⊎ IsBookText store.saved next
+  -- some text of the book before the attempt was saved
   pub before : HasStoredText IsStored book
 
--- what the store holds where the log stands at this place: after `S HALT` the last save has failed; at every other place the
--- store holds the book
+-- what the store holds when the log is at this place: after `S HALT` the last save has failed; at every other place the store holds
+-- the book
 abbrev pub IsStoredAt : (IsStored : List ℕ → Type 0) → Accounts → List Call → Place → BookFields → StoreFacts → Type 0
 IsStoredAt IsStored accounts calls halted book store = IsLostAfter IsStored accounts calls book store
 IsStoredAt IsStored accounts calls place book store = HoldsBook IsStored book store
@@ -95,17 +101,17 @@ pub record IsSameDesk {S : Type 0} (old new : Desk S) : Type 0 where
   pub store : new.keeper.store ≡ old.keeper.store
   pub state : new.state ≡ old.state
 
--- the state of a desk whose session was left so
+-- the state of a desk whose session was left in this way
 abbrev pub state_after : AfterTurn → (server_nonce : List ℕ) → State
 state_after (Going going) server_nonce = Open going server_nonce
 state_after Over server_nonce = Closed
 state_after (after.Halted going) server_nonce = Halted
 
--- what a desk stands for, and what its calls do: `facts` are those of its store, and `IsStored` holds of each text that is stored
+-- what a desk stands for, and what its calls do: `facts` are those of its store, and `IsStored` is true of each text that is stored
 module _ {S : Type 0} (facts : S → StoreFacts) (IsStored : List ℕ → Type 0) where
-  -- a desk that began with a book has answered these calls, the latest of which comes first
+  -- a desk that began with a book has answered these calls
   pub record IsDeskAfter (start : BookFields) (calls : List Call) (desk : Desk S) : Type 0 where
-    -- where the log stands, and the replies that were told
+    -- where the log stands, and the replies to codes in it
     pub place : Place
     pub told : List LoggedReply
     -- what was asked is recorded and answered
@@ -118,20 +124,20 @@ module _ {S : Type 0} (facts : S → StoreFacts) (IsStored : List ℕ → Type 0
     -- the book has each attempt in it, and the store holds its text, except after a save in which the store failed
     pub is_book : IsBookAfterReplies start (reverse told) desk.keeper.book
     pub is_stored : IsStoredAt IsStored (accounts_in start) calls place desk.keeper.book (facts desk.keeper.store)
-    -- what was spent before is spent, and each counter that a reply used
+    -- the counters spent before are still spent, and so is each counter that a reply used
     pub spent : (ps : List (List ℕ × ℕ)) → AreSpent ps start → AreSpent (spent_by_all (reverse told) ++ ps) desk.keeper.book
 
-  -- what a call did: it added lines, and the desk that had answered some calls has answered this one, too
+  -- what a call did: it added lines, and a desk that had answered some calls has now answered this one as well
   pub record Answers (old : Desk S) (request : Request) (wire wire' log log' : List ℕ) (new : Desk S) : Type 0 where
     pub lines : List LogLine
     pub logged : log' ≡ log ++ log_bytes lines
     pub sent : wire' ≡ wire ++ wire_bytes lines
     pub stands : (start : BookFields) (calls : List Call) → IsDeskAfter start calls old
         → IsDeskAfter start (call_of request lines ∷ calls) new
-    -- the call saved what its lines tell
+    -- the call saved what its lines record
     pub saves : (start : BookFields) (calls : List Call) → IsDeskAfter start calls old → CountsSaves facts lines old.keeper new.keeper
     pub asks : (start : BookFields) (calls : List Call) (s : IsDeskAfter start calls old)
         → AsksForSave facts request s.place lines old.keeper new.keeper
     pub quiet : IsQuiet facts lines old.keeper new.keeper
     -- a call halts the desk only by a save in which the store failed
-    pub halts : phase_of new.state ≡ phase.Halted → FailsInSave facts old.keeper new.keeper
+    pub halts : desk_phase new ≡ phase.Halted → FailsInSave facts old.keeper new.keeper

@@ -64,7 +64,7 @@ record_place place bad = leaving
 record_place place gone = over
 record_place place line = place
 
--- the line bears a message
+-- the line contains a message
 abbrev pub BearsMessage : ClientLine → Type 0
 BearsMessage (auth_with mechanism message) = Unit {0}
 BearsMessage (resp message) = Unit {0}
@@ -75,17 +75,17 @@ abbrev pub IsPath : Demands → (place : Place) → List LogLine → (next : Pla
 IsPath d place [] next = next ≡ place
 IsPath d place (line ∷ lines) next = (middle : Place) × IsTransition d place line middle × IsPath d middle lines next
 
--- a line of the client may stand exactly where it is due, and leads to the place after it
+-- a line of the client may stand if and only if it is due, and leads to the place after it
 abbrev pub DueLinesStand : Type 0
 DueLinesStand = (accounts : Accounts) (place : Place) (line : ClientLine) (next : Place)
     → IsTransition (demands accounts) place (heard line) next ↔ ((is_due place line ≡ true) × (next ≡ record_place place (heard line)))
 
--- `C BAD` may stand exactly where it is the client's turn
+-- `C BAD` may stand if and only if it is the client's turn
 abbrev pub BadLinesStand : Type 0
 BadLinesStand = (accounts : Accounts) (place next : Place)
     → IsTransition (demands accounts) place bad next ↔ ((is_client_turn place ≡ true) × (next ≡ record_place place bad))
 
--- `C GONE` may stand exactly where it is the client's turn
+-- `C GONE` may stand if and only if it is the client's turn
 abbrev pub GoneClientsStand : Type 0
 GoneClientsStand = (accounts : Accounts) (place next : Place)
     → IsTransition (demands accounts) place gone next ↔ ((is_client_turn place ≡ true) × (next ≡ record_place place gone))

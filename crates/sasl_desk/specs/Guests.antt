@@ -3,7 +3,7 @@ use Rattle.std.specs.Prelude.{ℕ, ◌==◌, Bool, List}
 use Rattle.sasl_desk.specs.declared.hall.guest.Guest.{Guest}
 use Rattle.sasl_desk.specs.declared.session.Session.{Session}
 
--- the guest is of this number
+-- the guest has this number
 abbrev pub is_of : ℕ → Guest → Bool
 is_of n guest = guest.number == n
 

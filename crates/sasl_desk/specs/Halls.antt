@@ -28,11 +28,14 @@ use Rattle.sasl_desk.specs.declared.hall.guest.Guest.{Guest}
 use Rattle.sasl_desk.specs.declared.session.phase.Phase.{Phase}
 use Rattle.sasl_desk.specs.declared.session.phase.Phase.TheVariants as phase
 
--- a hall: its keeper, its guests, in whichever order, how many numbers it has given, and whether it has halted
+-- a hall
 pub record HallFields (S : Type 0) : Type 0 where
   pub keeper : Keeper S
+  -- its guests, in any order
   pub guests : List Guest
+  -- how many session numbers it has given
   pub given : ℕ
+  -- whether it has halted
   pub is_halted : Bool
 
 -- a hall of these parts
@@ -43,13 +46,13 @@ hall_of keeper guests given is_halted = record { keeper = keeper; guests = guest
 abbrev pub hall_shown : {S : Type 0} → Hall S → HallFields S
 hall_shown hall = hall_of hall.keeper hall.seats hall.given hall.is_halted
 
--- the lines of a log after its first, after these calls, the latest of which comes first: each call's lines have the number of
+-- the lines of a log after its first, after these calls: each call's lines have the number of
 -- its session
 abbrev pub hall_lines : List (Numbered Call) → List (Numbered LogLine)
 hall_lines [] = []
 hall_lines (c ∷ before) = hall_lines before ++ map (numbered c.number) c.value.lines
 
--- the bytes of numbered lines
+-- the bytes of numbered lines, each with its LF
 abbrev pub numbered_bytes : List (Numbered LogLine) → List ℕ
 numbered_bytes lines = ended_by_lf (map numbered_text lines)
 
@@ -57,7 +60,7 @@ numbered_bytes lines = ended_by_lf (map numbered_text lines)
 abbrev pub hall_bytes : List (Numbered Call) → List ℕ
 hall_bytes calls = log_bytes (header_two ∷ []) ++ numbered_bytes (hall_lines calls)
 
--- the lines by which a session is turned away
+-- the lines with which a session is turned away
 abbrev pub busy_lines : List LogLine
 busy_lines = said busy ∷ ended ∷ []
 
@@ -65,23 +68,23 @@ busy_lines = said busy ∷ ended ∷ []
 abbrev pub IsTurnedAway : List Call → Type 0
 IsTurnedAway calls = (server_nonce : List ℕ) × (calls ≡ call_of (greets server_nonce) busy_lines ∷ [])
 
--- the calls of one session, the latest first, each with the lines by which it is answered, as at a desk; or it was turned away.
--- The session then stands at this place.
+-- the calls of one session, the latest first, each with the lines that answer it, as at a desk; or the session was turned away. The
+-- session is then at this place.
 abbrev pub IsSessionRun : Accounts → List Call → Place → Type 0
 IsSessionRun accounts calls place = IsRun accounts calls place ⊎ (IsTurnedAway calls × (place ≡ between))
 
--- a guest's session stands at the place of its number, with the server's part of the nonce with which it was greeted
+-- a guest's session is at the place of its number, with the server's part of the nonce with which it was greeted
 abbrev pub IsSeated : Accounts → List (Numbered Call) → (ℕ → Place) → Guest → Type 0
 IsSeated accounts calls places guest =
     IsSessionAt accounts (places guest.number) guest.session × (guest.server_nonce ≡ server_nonce_of (of_number guest.number calls))
 
--- what the store holds after these calls: where the latest was answered by `S HALT`, its save has failed; else the book
+-- what the store holds after these calls: if the latest was answered by `S HALT`, its save has failed; else the book
 abbrev pub IsStoredAfter : (IsStored : List ℕ → Type 0) → Accounts → List (Numbered Call) → (ℕ → Place) → BookFields → StoreFacts → Type 0
 IsStoredAfter IsStored accounts [] places book store = HoldsBook IsStored book store
 IsStoredAfter IsStored accounts (c ∷ before) places book store =
     IsStoredAt IsStored accounts (of_number c.number (c ∷ before)) (places c.number) book store
 
--- the phase is that of this place: what the client may do there, and where no session is open, Closed. Of Halted nothing is said, since
+-- the phase is that of this place: what the client may do there, or Closed if no session is open. Nothing is said of Halted, since
 -- a halt may come at any place.
 abbrev pub IsPhaseOf : Place → Phase → Type 0
 IsPhaseOf place phase.Closed = place ≡ between
@@ -99,12 +102,11 @@ guest_phase is_halted None = None
 guest_phase true (Some guest) = Some phase.Halted
 guest_phase false (Some guest) = Some (session_phase guest.session)
 
--- the phase of the session of a number, or none where it is not open
+-- the phase of the session of a number, or none if it is not open
 abbrev pub phase_in : {S : Type 0} → HallFields S → ℕ → Option Phase
 phase_in hall n = guest_phase hall.is_halted (find (is_of n) hall.guests)
 
--- two halls have the same book, store and open sessions, in whichever order, have given the same numbers, and have both halted
--- or neither
+-- two halls have the same book, store and open sessions, in any order, have given the same numbers, and have both halted or neither
 pub record IsSameHall {S : Type 0} (old new : HallFields S) : Type 0 where
   pub book : new.keeper.book ≡ old.keeper.book
   pub store : new.keeper.store ≡ old.keeper.store
@@ -112,16 +114,16 @@ pub record IsSameHall {S : Type 0} (old new : HallFields S) : Type 0 where
   pub given : new.given ≡ old.given
   pub halted : new.is_halted ≡ old.is_halted
 
--- the phase of the session of a number is that of its place, and there is none exactly where no session is open
+-- the phase of the session of a number is that of its place, and there is none if and only if no session is open
 abbrev pub IsPhaseIn : Place → Option Phase → Type 0
 IsPhaseIn place None = place ≡ between
 IsPhaseIn place (Some phase) = (place ≢ between) × IsPhaseOf place phase
 
--- what a hall stands for, and what its calls do: `facts` are those of its store, and `IsStored` holds of each text that is stored
+-- what a hall stands for, and what its calls do: `facts` are those of its store, and `IsStored` is true of each text that is stored
 module _ {S : Type 0} (facts : S → StoreFacts) (IsStored : List ℕ → Type 0) where
-  -- a hall that began with a book has answered these calls, the latest of which comes first, each of the session of its number
+  -- a hall that began with a book has answered these calls, each of the session of its number
   pub record IsHallAfter (start : BookFields) (calls : List (Numbered Call)) (hall : HallFields S) : Type 0 where
-    -- where the session of each number stands, and the replies that were told, in the order of the whole log
+    -- where the session of each number stands, and the replies to codes, in the order of the whole log
     pub places : ℕ → Place
     pub told : List LoggedReply
     -- what each session was asked is recorded and answered; nothing was asked of a number that was not given
@@ -136,26 +138,26 @@ module _ {S : Type 0} (facts : S → StoreFacts) (IsStored : List ℕ → Type 0
     -- each open session has one guest, and no other number has any
     pub guests : (n : ℕ) → count_by (is_of n) hall.guests ≡ open_at (places n)
     pub open_are : length hall.guests + closed_in (hall_lines calls) ≡ given_in (hall_lines calls)
-    -- each waits for what is due to it, or the hall has halted
+    -- each guest waits for what is due at its place, or the hall has halted
     pub seated : hall.is_halted ≡ false → AllByRecursion (IsSeated (accounts_in start) calls places) hall.guests
     -- the book has each attempt in it, and the store holds its text, except after a save in which the store failed
     pub is_book : IsBookAfterReplies start (reverse told) hall.keeper.book
     pub is_stored : IsStoredAfter IsStored (accounts_in start) calls places hall.keeper.book (facts hall.keeper.store)
-    -- what was spent before is spent, and each counter that a reply used
+    -- the counters spent before are still spent, and so is each counter that a reply used
     pub spent : (ps : List (List ℕ × ℕ)) → AreSpent ps start → AreSpent (spent_by_all (reverse told) ++ ps) hall.keeper.book
 
-  -- what a call of a session did: it added lines, and the hall that had answered some calls has answered this one, too
+  -- what a call of a session did: it added lines, and a hall that had answered some calls has now answered this one as well
   pub record AnswersIn (old : HallFields S) (n : ℕ) (request : Request) (phase_after : Phase) (wire wire' log log' : List ℕ)
       (new : HallFields S) : Type 0 where
     pub lines : List LogLine
     pub logged : log' ≡ log ++ numbered_bytes (map (numbered n) lines)
     pub sent : wire' ≡ wire ++ wire_bytes lines
-    -- the hall has answered one call more, and the phase that is answered is that of the place where the session then stands
+    -- the hall has answered one more call, and the phase that is returned is that of the place where the session then stands
     pub stands : (start : BookFields) (calls : List (Numbered Call)) → IsHallAfter start calls old
         → (after : IsHallAfter start (numbered n (call_of request lines) ∷ calls) new) × IsPhaseOf (after.places n) phase_after
-    -- the phase that is answered is Halted exactly where the hall has halted
+    -- the phase that is returned is Halted if and only if the hall has halted
     pub tells : (phase_after ≡ phase.Halted) ↔ (new.is_halted ≡ true)
-    -- the call saved what its lines tell
+    -- the call saved what its lines record
     pub saves : (start : BookFields) (calls : List (Numbered Call)) → IsHallAfter start calls old
         → CountsSaves facts lines old.keeper new.keeper
     pub asks : (start : BookFields) (calls : List (Numbered Call)) (s : IsHallAfter start calls old)

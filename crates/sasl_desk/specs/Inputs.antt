@@ -7,13 +7,13 @@ use Rattle.sasl_log.specs.declared.line_bytes.LineEnd.TheVariants.{ByLf, ByTheEn
 use Rattle.log_grammar.specs.Lines.{longest_line}
 use Rattle.sasl_desk.specs.Events.{ClientEvent, sends, goes_away}
 
--- the bytes of a line without its LF, and how they end: by an LF, by the end of the input, by a read that failed; or as a line that is too
--- long, after one byte more than a line may have
+-- the bytes of a line without its LF, and how they end: with an LF, at the end of the input, at a read that failed, or, if the line
+-- is too long, after one byte more than a line may have
 pub record LineRead : Type 0 where
   pub text : List ℕ
   pub ended : LineEnd
 
--- these bytes, which end so
+-- these bytes, which end in this way
 abbrev pub line_read : List ℕ → LineEnd → LineRead
 line_read text ended = record { text = text; ended = ended }
 
@@ -22,7 +22,7 @@ line_read text ended = record { text = text; ended = ended }
 pub record ReadsLine (old : SourceFacts) (read : LineRead) (new : SourceFacts) : Type 0 where
   pub text_read : ReadsLineBytes longest_line old read.text read.ended new
 
--- what a client did whose bytes end so: it sent them, also where they are too many, or it has gone away
+-- what a client did whose bytes end in this way: it sent them, even if they are too many, or it has gone away
 abbrev pub event_by : List ℕ → LineEnd → ClientEvent
 event_by text ByLf = sends text
 event_by text TooLong = sends text
@@ -33,7 +33,7 @@ event_by text ByFault = goes_away
 abbrev pub event_read : LineRead → ClientEvent
 event_read read = event_by read.text read.ended
 
--- what was read, one after the other, the latest of which comes first
+-- what was read, one after the other
 abbrev pub ReadsLines : SourceFacts → List LineRead → SourceFacts → Type 0
 ReadsLines old [] new = new ≡ old
 ReadsLines old (read ∷ before) new = (middle : SourceFacts) × ReadsLines old before middle × ReadsLine middle read new

@@ -1,4 +1,4 @@
--- What a keeper of a book does with a code: the reply that is due, and a save before it is told.
+-- What a keeper of a book does with a code: the reply that is due, and a save before the reply is given.
 use Rattle.std.specs.Prelude.{ℕ, ◌≡◌, ◌⊎◌, Bool, true, false, List}
 use Rattle.std.specs.declared.option.Option.{Option}
 use Rattle.otp_core.specs.Attempt.{CodeTexts}
@@ -16,8 +16,8 @@ use Rattle.sasl_desk.specs.declared.fault.DeskFault.TheVariants.{Halted, Unwrita
 use Rattle.sasl_desk.specs.declared.keeper.CodeJudged.{CodeJudged}
 use Rattle.sasl_desk.specs.declared.keeper.CodeJudged.TheVariants.{Replied, Lost}
 
--- an attempt was judged: the reply is the one that is due, and the book is the old one in which the account's token has moved
--- by it, and nothing else
+-- an attempt was judged: the reply is the one that is due, and the book is the old one in which the attempt has changed the
+-- account's token, and nothing else
 pub record IsAttemptJudged (old : BookFields) (t : LoggedReply) (new : BookFields) : Type 0 where
   pub is_moment : IsMoment t.moment
   pub answered : IsBookAttempt old t.account t.moment t.sent t.reply new
@@ -35,13 +35,13 @@ IsNotBegun old_store book Halted new_store = FailsToSave old_store book new_stor
 IsNotBegun old_store book Unwritable new_store = ⊥
 IsNotBegun old_store book NoNumber new_store = ⊥
 
--- a book that has changed is saved; where nothing has, nothing is asked of the store
+-- a book that has changed is saved; if nothing has, nothing is asked of the store
 abbrev pub IsKept : (IsStored : List ℕ → Type 0) → (has_changed : Bool) → (old_book : BookFields) → (old_store : StoreFacts)
     → (new_book : BookFields) → (new_store : StoreFacts) → Type 0
 IsKept IsStored true old_book old_store new_book new_store = SavesBook IsStored old_store new_book new_store
 IsKept IsStored false old_book old_store new_book new_store = (new_book ≡ old_book) × (new_store ≡ old_store)
 
--- what came of a code: a reply that is due and kept; or the store failed in saving the book with the reply that was due
+-- the outcome of a code: a reply that is due and kept; or the store failed to save the book with the reply that was due
 abbrev pub IsJudged : (IsStored : List ℕ → Type 0) → (old_book : BookFields) → (old_store : StoreFacts) → (name : List ℕ)
     → (moment : ℕ) → CodeTexts → CodeJudged → (new_book : BookFields) → (new_store : StoreFacts) → Type 0
 IsJudged IsStored old_book old_store name moment sent (Replied reply) new_book new_store =
@@ -59,7 +59,7 @@ IsToBeSaved old name moment sent =
     (reply : Option Reply) × (next : BookFields) × (needs_save reply ≡ true)
     × IsAttemptJudged old (logged_reply_of name moment sent reply) next
 
--- what came of a code is no pass, or a pass whose counter is in its range
+-- the outcome of a code is no pass, or a pass whose counter is in its range
 abbrev pub IsJudgedInRange : CodeJudged → Type 0
 IsJudgedInRange (Replied reply) = IsReplyInRange reply
 IsJudgedInRange Lost = Unit {0}

@@ -16,7 +16,7 @@ is_record bad = true
 is_record gone = true
 is_record line = false
 
--- the server's parts of nonces, with that of a greeting put before them
+-- the server's parts of nonces, with that of a greeting put in front
 abbrev pub nonces_with : Request → List (List ℕ) → List (List ℕ)
 nonces_with (greets server_nonce) before = server_nonce ∷ before
 nonces_with (hears event moment) before = before
@@ -39,8 +39,8 @@ abbrev pub AreRecords : Accounts → List Call → List LogLine → Type 0
 AreRecords accounts [] records = records ≡ []
 AreRecords accounts (c ∷ before) records = HasRecordOf accounts c.request before (AreRecords accounts before) records
 
--- the log of these calls has one offer for each nonce, and its records are those of what clients did: nothing that a client
--- did is left out, and nothing is invented
+-- the log of these calls has one offer for each nonce, and its records are those of what clients did: nothing that a client did is left
+-- out, and nothing is invented
 pub record HasItsRecords (accounts : Accounts) (calls : List Call) : Type 0 where
   pub offers : length (filter is_offer (run_lines calls)) ≡ length (nonces_in calls)
   pub records : AreRecords accounts calls (filter is_record (run_lines calls))

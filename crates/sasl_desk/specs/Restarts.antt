@@ -14,7 +14,7 @@ use Rattle.sasl_desk.specs.Halls.{HallFields, IsHallAfter}
 use Rattle.sasl_desk.specs.Spent.{spent_by}
 use Rattle.sasl_desk.specs.declared.desk.Desk.{Desk}
 
--- a run of a desk: the book that it began with, the calls that it answered, what its log tells, and the book that it left
+-- a run of a desk: the book that it began with, the calls that it answered, the replies in its log, and the book that it left
 pub record DeskRun : Type 0 where
   pub start : BookFields
   pub calls : List Call
@@ -26,7 +26,7 @@ pub record DeskRun : Type 0 where
 abbrev pub MayLeave : (kept left : BookFields) → Type 0
 MayLeave kept left = (left ≡ kept) ⊎ ((t : LoggedReply) × IsAttemptJudged kept t left)
 
--- a run of a hall: the book that it began with, the calls that it answered, what its log tells, and the book that it left
+-- a run of a hall: the book that it began with, the calls that it answered, the replies in its log, and the book that it left
 pub record HallRun : Type 0 where
   pub start : BookFields
   pub calls : List (Numbered Call)
@@ -56,29 +56,34 @@ abbrev pub spent_by_changes : List Change → List (List ℕ × ℕ)
 spent_by_changes [] = []
 spent_by_changes (c ∷ before) = spent_by_change c ++ spent_by_changes before
 
--- runs and changes: `facts` are those of the store, and `IsStored` holds of each text that is stored
+-- runs and changes: `facts` are those of the store, and `IsStored` is true of each text that is stored
 module _ {S : Type 0} (facts : S → StoreFacts) (IsStored : List ℕ → Type 0) where
-  -- a desk that began with the book has answered the calls, its log tells this, and it may leave this book where it stops, between
-  -- two calls or within one. A stop within `begin` leaves the text from before, or that of the same book, and is no run.
+  -- this is a run of a desk
   pub record IsDeskRunOf (r : DeskRun) : Type 0 where
+    -- a desk that began with the book has answered the calls
     pub desk : Desk S
     pub stands : IsDeskAfter facts IsStored r.start r.calls desk
+    -- its log has these replies
     pub tells : r.told ≡ stands.told
+    -- it may leave this book when it stops, between two calls or within one. A stop within `begin` leaves the text from before, or
+    -- that of the same book, and is no run.
     pub leaves : MayLeave desk.keeper.book r.left
 
-  -- a hall that began with the book has answered the calls, and its log tells this. Where it stops, it leaves a book as a desk
-  -- does.
+  -- this is a run of a hall
   pub record IsHallRunOf (r : HallRun) : Type 0 where
+    -- a hall that began with the book has answered the calls
     pub hall : HallFields S
     pub stands : IsHallAfter facts IsStored r.start r.calls hall
+    -- its log has these replies
     pub tells : r.told ≡ stands.told
+    -- when it stops, it leaves a book as a desk does
     pub leaves : MayLeave hall.keeper.book r.left
 
-  -- a desk that began with the book has answered the calls, and leaves this book where it stops
+  -- a desk that began with the book has answered the calls, and leaves this book when it stops
   abbrev pub IsDeskRunLeaving : (start : BookFields) → List Call → (left : BookFields) → Type 0
   IsDeskRunLeaving start calls left = (r : DeskRun) × IsDeskRunOf r × (r.start ≡ start) × (r.calls ≡ calls) × (r.left ≡ left)
 
-  -- a hall that began with the book has answered the calls, and leaves this book where it stops
+  -- a hall that began with the book has answered the calls, and leaves this book when it stops
   abbrev pub IsHallRunLeaving : (start : BookFields) → List (Numbered Call) → (left : BookFields) → Type 0
   IsHallRunLeaving start calls left = (r : HallRun) × IsHallRunOf r × (r.start ≡ start) × (r.calls ≡ calls) × (r.left ≡ left)
 
@@ -90,7 +95,7 @@ module _ {S : Type 0} (facts : S → StoreFacts) (IsStored : List ℕ → Type 0
   IsChange (unlocked name) old new = IsUnlocked old name new
   IsChange (added name account) old new = IsAdded old name account new
 
-  -- changes, the latest first, each of the book that the one before left, from the first book to the last
+  -- changes, the latest first, each made to the book that the one before left, from the first book to the last
   abbrev pub AreChanges : (first : BookFields) → List Change → (last : BookFields) → Type 0
   AreChanges first [] last = last ≡ first
   AreChanges first (c ∷ before) last = (middle : BookFields) × AreChanges first before middle × IsChange c middle last

@@ -12,7 +12,7 @@ use Rattle.log_grammar.specs.LoggedReply.{LoggedReply}
 use Rattle.log_grammar.specs.Versions.{most_open}
 use Rattle.sasl_desk.specs.Desks.{IsBookAfterReplies}
 
--- the store has saved the text of the book to which the replies that were told lead
+-- the store has saved the text of the book to which these replies lead
 pub record IsToldSaved (IsStored : List ℕ → Type 0) (start : BookFields) (told : List LoggedReply) : Type 0 where
   pub last : BookFields
   pub is_last : IsBookAfterReplies start (reverse told) last

@@ -1,4 +1,4 @@
--- What a call of a desk or a hall does to its keeper: what its lines tell has been saved, and nothing else is asked of the store.
+-- What a call of a desk or a hall does to its keeper: what its lines record has been saved, and nothing else is asked of the store.
 use Rattle.std.specs.Prelude.{◌≡◌, ◌+◌, true, false, Bool, List, [], ◌∷◌, length, filter}
 use Rattle.book_format.specs.Book.{BookFields}
 use Rattle.book_format.specs.Trees.{IsBookText}
@@ -18,8 +18,7 @@ is_saving (said (replies moment reply)) = needs_save reply
 is_saving (said halt) = true
 is_saving line = false
 
--- the attempt of a call: of the account whose client may send a code at this place, at the moment that was handed in, with
--- what the client sent
+-- the attempt of a call: by the account whose client may send a code at this place, at the moment of the call, with what the client sent
 pub record IsAttemptOf (request : Request) (at : Place) (lines : List LogLine) (t : LoggedReply) : Type 0 where
   pub event : ClientEvent
   pub answer : LogLine
@@ -30,11 +29,11 @@ pub record IsAttemptOf (request : Request) (at : Place) (lines : List LogLine) (
 
 -- a keeper before and after calls, or a call: `facts` are those of its store
 module _ {S : Type 0} (facts : S → StoreFacts) where
-  -- the store was asked for one save for each such line: a reply that needs one, or HALT
+  -- the store was asked for one save for each line that needs one: a reply that changes the token, or HALT
   abbrev pub CountsSaves : List LogLine → (old new : Keeper S) → Type 0
   CountsSaves lines old new = (facts new.store).saves ≡ (facts old.store).saves + length (filter is_saving lines)
 
-  -- where the store was asked to save, it was given the text of the book with the attempt of this call
+  -- if the store was asked to save, it was given the text of the book with the attempt of this call
   abbrev pub AsksForSave : Request → Place → List LogLine → (old new : Keeper S) → Type 0
   AsksForSave request place lines old new = (filter is_saving lines ≡ [] → ⊥)
       → (t : LoggedReply) × (next : BookFields) × IsAttemptOf request place lines t × IsAttemptJudged old.book t next

@@ -1,5 +1,4 @@
--- How a client is served: its lines are read, the desk answers them, and what the desk writes goes to the log and to the
--- client.
+-- How a client is served: its lines are read, the desk answers them, and what the desk writes goes to the log and to the client.
 use Rattle.std.specs.Prelude.{ℕ, ◌≡◌, ◌≢◌, ◌⊎◌, ◌<◌, ◌≤◌, true, List, [], ◌∷◌, ◌++◌, length}
 use Rattle.std.specs.Io.KnownBytes.{Appends}
 use Rattle.std.specs.List.{AllByRecursion}
@@ -12,7 +11,7 @@ use Rattle.sasl_desk.specs.Bounds.{most_turns}
 use Rattle.sasl_desk.specs.Events.{goes_away}
 use Rattle.sasl_desk.specs.Inputs.{LineRead, ReadsLine, ReadsLines, event_read}
 use Rattle.sasl_desk.specs.Runs.{Request, greets, hears, Call, call_of}
-use Rattle.sasl_desk.specs.Desks.{IsDeskAfter, IsSameDesk, phase_of}
+use Rattle.sasl_desk.specs.Desks.{IsDeskAfter, IsSameDesk, desk_phase}
 use Rattle.sasl_desk.specs.SavedCalls.{CountsSaves}
 use Rattle.sasl_desk.specs.Outputs.{AreWritten}
 use Rattle.sasl_desk.specs.declared.desk.Desk.{Desk}
@@ -20,14 +19,14 @@ use Rattle.sasl_desk.specs.declared.session.phase.Phase.TheVariants as phase
 use Rattle.sasl_desk.specs.declared.fault.ServeFault.{ServeFault}
 use Rattle.sasl_desk.specs.declared.fault.ServeFault.TheVariants.{Halted, Unwritable, NoMemory, WriteFault, LogFault}
 
--- the lines of these calls, the latest of which comes first
+-- the lines of these calls
 abbrev pub call_lines : List Call → List LogLine
 call_lines [] = []
 call_lines (c ∷ before) = call_lines before ++ c.lines
 
--- where the desk has halted, its store has failed
+-- if the desk has halted, its store has failed
 abbrev pub HaltsOnlyByStore : {S : Type 0} → (S → StoreFacts) → Desk S → Type 0
-HaltsOnlyByStore facts desk = phase_of desk.state ≡ phase.Halted → (facts desk.keeper.store).failed ≡ true
+HaltsOnlyByStore facts desk = desk_phase desk ≡ phase.Halted → (facts desk.keeper.store).failed ≡ true
 
 -- a desk that serves a client, and what is known of the client's input, of the wire to it, and of the log
 pub record Service (S : Type 0) : Type 0 where
@@ -40,7 +39,7 @@ pub record Service (S : Type 0) : Type 0 where
 abbrev pub service_of : {S : Type 0} → Desk S → (input : SourceFacts) → (wire log : SinkFacts) → Service S
 service_of desk input wire log = record { desk = desk; input = input; wire = wire; log = log }
 
--- what was read in a turn, its moment, and the lines by which it was answered
+-- what was read in a turn, its moment, and the lines of the turn
 pub record ServedTurn : Type 0 where
   pub read : LineRead
   pub moment : ℕ
@@ -48,21 +47,21 @@ pub record ServedTurn : Type 0 where
 
 -- the call of a turn
 abbrev pub call_in : ServedTurn → Call
-call_in e = call_of (hears (event_read e.read) e.moment) e.lines
+call_in turn = call_of (hears (event_read turn.read) turn.moment) turn.lines
 
 -- what was read in these turns
 abbrev pub reads_in : List ServedTurn → List LineRead
 reads_in [] = []
-reads_in (e ∷ before) = e.read ∷ reads_in before
+reads_in (turn ∷ before) = turn.read ∷ reads_in before
 
--- the calls of a session: its greeting, with this server's part of the nonce, and its turns, the latest of which comes first
+-- the calls of a session: its greeting, with this server's part of the nonce, and its turns
 abbrev pub session_calls : (server_nonce : List ℕ) → (greeting : List LogLine) → List ServedTurn → List Call
 session_calls server_nonce greeting [] = call_of (greets server_nonce) greeting ∷ []
-session_calls server_nonce greeting (e ∷ before) = call_in e ∷ session_calls server_nonce greeting before
+session_calls server_nonce greeting (turn ∷ before) = call_in turn ∷ session_calls server_nonce greeting before
 
--- what a desk does for a client: `facts` are those of its store, and `IsStored` holds of each text that is stored
+-- what a desk does for a client: `facts` are those of its store, and `IsStored` is true of each text that is stored
 module _ {S : Type 0} (facts : S → StoreFacts) (IsStored : List ℕ → Type 0) where
-  -- a desk that had answered some calls has answered these, too
+  -- a desk that had answered some calls has answered these as well
   pub record AnswersAll (old : Desk S) (calls : List Call) (new : Desk S) : Type 0 where
     pub stands : (start : BookFields) (before : List Call) → IsDeskAfter facts IsStored start before old
         → IsDeskAfter facts IsStored start (calls ++ before) new
@@ -84,16 +83,16 @@ module _ {S : Type 0} (facts : S → StoreFacts) (IsStored : List ℕ → Type 0
     pub failed : wire'.failed ≡ true
     pub halts : HaltsOnlyByStore facts new
 
-  -- the desk answered what it was asked, but the log has failed: the desk has halted then, and nothing was sent
+  -- the desk answered what it was asked, but the log has failed: then the desk has halted, and nothing was sent
   pub record IsUnlogged (request : Request) (old new : Desk S) (wire wire' log' : SinkFacts) : Type 0 where
     pub lines : List LogLine
     pub answers : AnswersAll old (call_of request lines ∷ []) new
     pub failed : log'.failed ≡ true
-    pub halted : phase_of new.state ≡ phase.Halted
+    pub halted : desk_phase new ≡ phase.Halted
     pub unsent : wire' ≡ wire
 
-  -- why what a desk was asked is not done, and what stands then. Where the desk had halted, and where memory ran out, the desk
-  -- has answered nothing, and nothing was written.
+  -- why what a desk was asked is not done, and what is true then. If the desk had halted, or memory ran out, the desk has answered
+  -- nothing, and nothing was written.
   abbrev pub IsUndone : Request → (old new : Desk S) → (wire wire' log log' : SinkFacts) → ServeFault → Type 0
   IsUndone request old new wire wire' log log' Halted = IsSameDesk old new × (wire' ≡ wire) × (log' ≡ log)
   IsUndone request old new wire wire' log log' NoMemory = IsSameDesk old new × (wire' ≡ wire) × (log' ≡ log)
@@ -107,8 +106,7 @@ module _ {S : Type 0} (facts : S → StoreFacts) (IsStored : List ℕ → Type 0
     pub reads : ReadsLine old.input read new.input
     pub done : IsDone (hears (event_read read) moment) old.desk new.desk old.wire new.wire old.log new.log
 
-  -- why a turn is not served. Where the desk had halted, nothing was read; else one line was, and it is lost where memory ran
-  -- out.
+  -- why a turn is not served. If the desk had halted, nothing was read; else one line was, and it is lost if memory ran out.
   abbrev pub IsTurnFault : (moment : ℕ) → (old new : Service S) → ServeFault → Type 0
   IsTurnFault moment old new Halted = new ≡ old
   IsTurnFault moment old new fault =
@@ -120,10 +118,10 @@ module _ {S : Type 0} (facts : S → StoreFacts) (IsStored : List ℕ → Type 0
     pub unread : new.input ≡ old.input
     pub undone : IsUndone (greets server_nonce) old.desk new.desk old.wire new.wire old.log new.log fault
 
-  -- a session from its greeting on: `IsNow` holds of each moment of the clock
+  -- a session from its greeting on: `IsNow` is true of each moment of the clock
   module _ (IsNow : ℕ → Type 0) where
-    -- a session as far as these turns: its client was greeted, what it sent was read and answered, turn by turn, at a moment of
-    -- the clock, and all lines were written
+    -- a session up to these turns: its client was greeted, what it sent was read and answered, turn by turn, at a moment of the
+    -- clock, and all lines were written
     pub record IsServedUpTo (server_nonce : List ℕ) (turns : List ServedTurn) (old new : Service S) : Type 0 where
       pub greeting : List LogLine
       pub reads : ReadsLines old.input (reads_in turns) new.input
@@ -137,7 +135,7 @@ module _ {S : Type 0} (facts : S → StoreFacts) (IsStored : List ℕ → Type 0
       pub turns : List ServedTurn
       pub few : length turns ≤ most_turns
       pub served : IsServedUpTo server_nonce turns old new
-      pub ended : (phase_of new.desk.state ≡ phase.Closed) ⊎ (phase_of new.desk.state ≡ phase.Halted)
+      pub ended : (desk_phase new.desk ≡ phase.Closed) ⊎ (desk_phase new.desk ≡ phase.Halted)
 
     -- a session whose turns are used up. Nothing more was read of its client.
     pub record HasUsedAllTurns (server_nonce : List ℕ) (old middle new : Service S) : Type 0 where

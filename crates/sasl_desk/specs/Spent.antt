@@ -1,4 +1,4 @@
--- Counters of accounts that are spent: no code passes at one of them again, whatever is attempted later.
+-- Counters of accounts that are spent: no code passes with one of them again, whatever is attempted later.
 use Rattle.std.specs.Prelude.{ℕ, ◌≡◌, ◌≢◌, ◌<◌, ◌⊎◌, List, [], ◌∷◌, ◌++◌, Option}
 use Rattle.std.specs.List.{AllByRecursion}
 use Rattle.std.specs.declared.option.Option.TheVariants.{None, Some}
@@ -15,7 +15,7 @@ use Rattle.log_grammar.specs.LoggedReply.{LoggedReply}
 use Rattle.log_grammar.specs.Demands.{IsLoggedReplyDue}
 use Rattle.sasl_log.specs.Tokens.{IsBookAfter}
 
--- a counter can pass at a moment after a history, alone or as the first of a pair
+-- a counter can pass at a moment after a history, by itself or as the first of a pair
 abbrev pub CanPass : TokenFields → List Attempt → (moment c : ℕ) → Type 0
 CanPass token history moment c = IsCandidate token history moment c ⊎ IsPairCandidate token history c
 
@@ -30,7 +30,7 @@ pub record IsCounterSpent (book : BookFields) (name : List ℕ) (counter : ℕ) 
   pub has : token_at book name ≡ Some token
   pub below : IsBelow token counter
 
--- no counter of an account stands twice
+-- no counter of an account appears twice
 abbrev pub AreDifferent : List (List ℕ × ℕ) → Type 0
 AreDifferent [] = Unit {0}
 AreDifferent (p ∷ ps) = AllByRecursion (λ q. p ≢ q) ps × AreDifferent ps
@@ -40,7 +40,7 @@ pub record AreSpent (ps : List (List ℕ × ℕ)) (book : BookFields) : Type 0 w
   pub different : AreDifferent ps
   pub spent : AllByRecursion (λ p. IsCounterSpent book p.0 p.1) ps
 
--- the counters that the reply to a code uses: of two codes in a row both, and none where the account has no token
+-- the counters that the reply to a code uses: for two codes in a row both, and none if the account has no token
 abbrev pub used_by_reply : CodeTexts → Option Reply → List ℕ
 used_by_reply sent None = []
 used_by_reply sent (Some reply) = used_in_reply sent reply
@@ -54,8 +54,8 @@ of_account name (c ∷ counters) = (name, c) ∷ of_account name counters
 abbrev pub spent_by : LoggedReply → List (List ℕ × ℕ)
 spent_by t = of_account t.account (used_by_reply t.sent t.reply)
 
--- what was spent stays spent, and the counters that a reply uses are others and are spent then, too: so over any number
--- of replies, of any number of runs that go on from one another's books, no counter of an account passes twice
+-- what was spent stays spent, and the counters that a reply uses are different ones and are then spent as well. So over any number
+-- of replies, in any number of runs that each continue with the book of the one before, no counter of an account passes twice.
 abbrev pub SpentStaysSpent : Type 0
 SpentStaysSpent = (old new : BookFields) (t : LoggedReply) (ps : List (List ℕ × ℕ)) → IsMoment t.moment
     → IsLoggedReplyDue (accounts_in old) [] t → IsBookAfter (accounts_in old) (t ∷ []) new

@@ -11,12 +11,12 @@ pub enum DeskFault {
     #[error("the desk has halted")]
     Halted,
 
-    /// 73: the message that is due cannot be written. No call of a desk or a hall answers it.
+    /// 73: the message that is due cannot be written. No call of a desk or a hall returns it.
     #[error("a message that is due cannot be written")]
     Unwritable,
 
-    /// 76: a hall has given all numbers of sessions. No call of a desk answers it.
-    #[error("no number is left for a session")]
+    /// 76: a hall has given all numbers of sessions. No call of a desk returns it.
+    #[error("all session numbers are used")]
     NoNumber,
 
     /// 99: memory ran out.
@@ -45,7 +45,7 @@ pub enum ServeFault {
     #[error("the desk has halted")]
     Halted,
 
-    /// 73: the message that is due cannot be written. No call that serves answers it.
+    /// 73: the message that is due cannot be written. No call that serves returns it.
     #[error("a message that is due cannot be written")]
     Unwritable,
 
@@ -53,11 +53,11 @@ pub enum ServeFault {
     #[error("out of memory")]
     NoMemory,
 
-    /// 74: what the client is told could not be written to it. It stands in the log.
+    /// 74: what is due to the client could not be written to it. It is in the log.
     #[error("cannot write to the client")]
     WriteFault,
 
-    /// 75: the log could not be written. The desk has halted, and the client was told nothing.
+    /// 75: the log could not be written. The desk has halted, and nothing was sent to the client.
     #[error("cannot write the log, so the desk has halted")]
     LogFault,
 }
@@ -76,7 +76,7 @@ impl ServeFault {
         }
     }
 
-    /// The fault in serving that has the number of this one of a desk.
+    /// The fault of serving that has the same number as this fault of a desk.
     pub(crate) fn of_desk(fault: DeskFault) -> ServeFault
         requires { fault ≢ DeskFault.NoNumber }
         ensures { serve_number result ≡ desk_number fault }

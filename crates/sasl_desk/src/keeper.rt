@@ -1,4 +1,4 @@
-//! The keeper of a book: it judges codes by the book's tokens, and saves each change before it is told.
+//! The keeper of a book: it judges codes by the book's tokens, and saves each change before the reply is sent.
 ghost use Rattle.std.specs.Prelude.{◌≡◌, IfErr, IfOk, OnErr};
 ghost use Rattle.account_book.specs.SavedBooks.{SavesBook};
 ghost use Rattle.otp_core.specs.Ranges.{IsMoment};
@@ -18,19 +18,19 @@ pub struct Keeper<S> {
     store: S,
 }
 
-/// What came of a code, or of two in a row.
+/// The result of judging a code, or two in a row.
 #[derive(Clone, Copy, Debug, PartialEq, Eq)]
 pub enum CodeJudged {
-    /// The reply, or None where the account has no token. What it changed is saved.
+    /// The reply, or None if the account has no token. What it changed is saved.
     Replied(Option<Reply>),
 
-    /// The save failed: nothing may be told of the reply, and the book is as before.
+    /// The save failed: the reply must not be sent, and the book is as before.
     Lost,
 }
 
 impl<S: BookStore> Keeper<S> {
-    /// A keeper of this book, whose text the store then holds. 72 Halted where the save fails; 99 NoMemory where memory runs out, which is
-    /// before the store is asked. The book and the store are then handed back.
+    /// A keeper of this book, whose text the store then holds. Errors: 99 NoMemory if memory runs out, which is before the store is
+    /// used; 72 Halted if the save fails. The book and the store are then handed back.
     pub fn begin(alloc: Global, book: Book, mut store: S) -> Result<Keeper<S>, (Book, S, DeskFault)>
         ensures ok { IfOk result (λ keeper. (keeper.book ≡ book) × SavesBook S.IsStored (S.facts store) book (S.facts keeper.store)) }
         ensures err { IfErr result (λ r. (r.0 ≡ book) × IsNotBegun (S.facts store) book r.2 (S.facts r.1)) }
@@ -61,11 +61,10 @@ impl<S: BookStore> Keeper<S> {
         (self.book, self.store)
     }
 
-    /// Judges what the client of this account sent at a moment, as `Token::judge` does. PASS and FAIL
-    /// are answered once the store has saved the text of the book with this attempt in it; LOCKED and no token change
-    /// nothing, and ask nothing of the store. Where the save fails, the book is as before, and the store holds the text
-    /// from before or that of the book with this attempt. After an error, which is that memory ran out for the text that is
-    /// to be saved, nothing has changed.
+    /// Judges what the client of this account sent at a moment, as `Token::judge` does. PASS and FAIL are returned after the store
+    /// has saved the text of the book with this attempt in it. LOCKED changes nothing, nor does an account without a token, and the
+    /// store is then not used. If the save fails, the book is as before, and the store holds the old text or that of the book with
+    /// this attempt. An error means that there was no memory for the text to be saved; nothing has then changed.
     pub fn judge(
         &mut self,
         alloc: Global,
@@ -77,8 +76,8 @@ impl<S: BookStore> Keeper<S> {
             judged self.new.book (S.facts self.new.store)) }
         ensures counter { IfOk result IsJudgedInRange }
         ensures err { OnErr result ((self.new.book ≡ self.old.book) × (self.new.store ≡ self.old.store)) }
-        // Where nothing is to be saved, memory does not run out.
-        ensures memory { OnErr result (IsToBeSaved self.old.book name.now moment (texts_of sent.entry)) }
+        // If nothing is to be saved, memory does not run out.
+        ensures no_memory { OnErr result (IsToBeSaved self.old.book name.now moment (texts_of sent.entry)) }
     {
         moment_is_in_range(moment);
         let Some(mut token) = self.book.token(name) else {

@@ -1,11 +1,12 @@
-//! A desk that lets users in: it speaks the protocol to one client after another, keeps the book and writes the log.
+//! A server of SCRAM logins and codes, over any store, source and sink. A *desk* serves one client after another, and a *hall* up to
+//! 64 at a time. Each keeps one book and writes one log.
 //!
-//! `Session` says what one client is told, line by line, and hands its codes on to be judged. `Keeper` holds the book and the
-//! store of its text: it judges codes, and saves each change before it is told. `Desk` is both, with the log. `serve` reads the
-//! lines of one client, hands them to a desk, and writes its answers. `Hall` is a keeper and up to 64 sessions at a time, with
+//! `Session` gives the answers to one client, line by line, and hands its codes on to be judged. `Keeper` holds the book and the
+//! store of its text: it judges codes, and saves each change before the reply is sent. `Desk` is both, with the log. `serve` reads
+//! the lines of one client, hands them to a desk, and writes its answers. `Hall` is a keeper and up to 64 sessions at a time, with
 //! one log for all.
 //!
-//! A call of a law does nothing at run time: it tells the proof what the law says.
+//! A call of a law does nothing at run time: it lets the proof use the law.
 #![tactic(auto)]
 
 mod clock;

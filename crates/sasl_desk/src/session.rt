@@ -1,7 +1,7 @@
-//! The session of one client: what it is told, line by line.
+//! The session of one client: what it is sent, line by line.
 //!
-//! A session hears what its client does and answers it. It reads the book's accounts and keeps what it needs of the login;
-//! it knows nothing of the store, of other sessions and of what a log holds. It hands each code on to be judged.
+//! A session hears what its client does and answers it. It reads the book's accounts and keeps what it needs of the login; it knows
+//! nothing of the store, of other sessions or of the log. It hands each code on to be judged.
 ghost use Rattle.std.specs.Prelude.{◌≡◌, [], IfOk, IfErr, OnErr};
 ghost use Rattle.log_grammar.specs.Lines as grammar;
 ghost use Rattle.log_grammar.specs.Lines.{from_client};
@@ -52,10 +52,10 @@ pub enum Session {
 }
 
 impl Session {
-    /// Hears what the client does: the turn is answered, or a code is to be judged. `server_nonce` is the server's part of the
-    /// nonce, for all of the session. The message of what is said is put into `message`, which is empty before. On an
-    /// error, which is that memory ran out, the session is handed back, `message` is empty, and nothing was heard. An error
-    /// comes only at a line that bears a message.
+    /// Hears what the client does, and returns the answer, or a code that is to be judged. `server_nonce` is the server's part of
+    /// the nonce, the same for the whole session. The message of the answer is put into `message`, which must be empty before. An
+    /// error means that memory ran out, which can happen only on a line with a message. The session is then handed back, `message`
+    /// is empty, and nothing was heard.
     pub fn hear<'a, A: Allocator>(
         self,
         alloc: Global,
@@ -65,17 +65,17 @@ impl Session {
         message: &mut Vec<u8, A>,
     ) -> Result<HearResult<'a>, Session>
         requires { message.old.items ≡ [] }
-        // Where the session stands at a place, the event is recorded and answered as is due there.
+        // The event is recorded and answered as is due at the place where the session stands.
         ensures heard { (accounts : Accounts) (place : Place) → KeepsEntries accounts book.now → IsSessionAt accounts place self
             → IfOk result (λ heard. ComesOfEvent accounts server_nonce.now (event_shown event.entry) place heard message.new.items) }
-        // All lines of it can be written.
+        // All its lines can be written.
         ensures lines { IfOk result (λ heard. CanBeWritten (heard_lines heard message.new.items)) }
-        // A code is to be judged only where the session waits for one.
+        // A code is to be judged only if the session waits for one.
         ensures waits { IfOk result (λ heard. JudgesOnlyWhereCodeIsDue heard self) }
-        // A code is to be judged only where the client sent it.
+        // A code is to be judged only if the client sent it.
         ensures sent { IfOk result (λ heard. JudgesOnlyWhatWasSent heard (event_shown event.entry)) }
         ensures err { IfErr result (λ session. (session ≡ self) × (message.new.items ≡ [])) }
-        ensures memory { OnErr result ((line : grammar.ClientLine) × IsLineOf (event_shown event.entry) line × BearsMessage line) }
+        ensures no_memory { OnErr result ((line : grammar.ClientLine) × IsLineOf (event_shown event.entry) line × BearsMessage line) }
     {
         each_text_is_at_most_one_line();
         match event {
@@ -87,7 +87,7 @@ impl Session {
         }
     }
 
-    // Hears a line of the client, by where the session stands.
+    // Hears a line of the client, at the place where the session stands.
     fn hear_line<'a, A: Allocator>(
         self,
         alloc: Global,
@@ -104,7 +104,7 @@ impl Session {
         ensures waits { IfOk result (λ heard. JudgesOnlyWhereCodeIsDue heard self) }
         ensures sent { IfOk result (λ heard. JudgesOnlyLine heard (client_shown line.entry)) }
         ensures err { IfErr result (λ session. (session ≡ self) × (message.new.items ≡ [])) }
-        ensures memory { OnErr result (BearsMessage (client_shown line.entry)) }
+        ensures no_memory { OnErr result (BearsMessage (client_shown line.entry)) }
     {
         match self {
             Session::WaitAuth => Ok(HearResult::Answered(hear_auth(

@@ -1,6 +1,5 @@
-//! What no contract shows of a client that is served: that each call can succeed, how its lines are read, and what is left
-//! where its wire or the log fails. The login and the codes are published ones, of RFC 5802, section 5, and RFC 4226,
-//! appendix D.
+//! What no contract shows of a client that is served: that each call can succeed, how its lines are read, and what is left if
+//! its wire or the log fails. The login and the codes are published ones, of RFC 5802, section 5, and RFC 4226, appendix D.
 mod lines;
 mod serving;
 mod torn;
@@ -12,7 +11,7 @@ use sasl_log::{Got, Source};
 use std::process::Abort;
 use std::test::Fail;
 
-// The desk has halted: of this client, whose next byte is `A`, nothing is read.
+// The desk has halted: nothing is read from this client, whose next byte is `A`.
 fn check_halted<C: Source>(
     rt: &(impl Abort + AllocGlobal),
     service: &mut Service,

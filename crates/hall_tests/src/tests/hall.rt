@@ -1,7 +1,7 @@
 //! Sessions in a hall: many at a time, one log, and each client's own wire.
 use account_book::Book;
 use desk_in_memory::{
-    ACCEPTANCE, ANSWERS, BOOK, CHALLENGE, LOGIN, Memory, OPENS, PROVES, book_text,
+    ACCEPTANCE, ANSWERS, BOOK, CHALLENGE, LOGIN, Memory, OPENS, PROVES, When, book_text,
 };
 use sasl_desk::{DeskFault, Event, Hall, Moment, Phase};
 use scram_text::NoncePart;
@@ -9,7 +9,7 @@ use std::alloc::Global;
 use std::process::Abort;
 use std::test::Fail;
 
-// A hall, and all that it has written: its log, and what the clients of the odd and of the even numbers were sent.
+// A hall, and all that it has written: its log, and what was sent to the clients with odd and with even numbers.
 #[derive(Drop)]
 struct Party {
     hall: Hall<Memory>,
@@ -33,9 +33,9 @@ fn begun(alloc: Global, store: Memory) -> Result<Party, Fail> {
     }
 }
 
-// Greets a client, whose number is to be odd or not.
+// Greets a client. `is_odd` says whether its number will be odd, and so which wire it gets.
 fn greet(party: &mut Party, is_odd: bool) -> Result<Result<(u64, Phase), DeskFault>, Fail> {
-    let own = NoncePart::new(b"3rfcNHYJY1ZVvWVs7j").ok_or("a part of a nonce")?;
+    let server_nonce = NoncePart::new(b"3rfcNHYJY1ZVvWVs7j").ok_or("a part of a nonce")?;
     let Party {
         hall,
         odd,
@@ -43,13 +43,13 @@ fn greet(party: &mut Party, is_odd: bool) -> Result<Result<(u64, Phase), DeskFau
         log,
     } = party;
     if is_odd {
-        Ok(hall.greet(own, odd, log))
+        Ok(hall.greet(server_nonce, odd, log))
     } else {
-        Ok(hall.greet(own, even, log))
+        Ok(hall.greet(server_nonce, even, log))
     }
 }
 
-// Hands in a line of the client of this number, or, where it is empty, that the client has gone.
+// Hands in a line of the client of this number or, if it is empty, that the client has gone.
 fn hear(
     alloc: Global,
     party: &mut Party,
@@ -78,7 +78,7 @@ fn hear(
     }
 }
 
-// The clients do this, one after the other, which leads their sessions to these phases.
+// The clients do this, one after another, and their sessions are then at these phases.
 fn play(
     rt: &(impl Abort + AllocGlobal),
     party: &mut Party,
@@ -94,7 +94,7 @@ fn play(
     Ok(())
 }
 
-// A hall that has greeted `many` clients, with the numbers from 1 on.
+// A hall that has greeted `many` clients, which have the numbers from 1 on.
 fn greeted(rt: &(impl Abort + AllocGlobal), store: Memory, many: u64) -> Result<Party, Fail> {
     let mut party = begun(rt.alloc(), store)?;
     for before in 0..many {
@@ -106,7 +106,7 @@ fn greeted(rt: &(impl Abort + AllocGlobal), store: Memory, many: u64) -> Result<
 
 #[test]
 fn two_sessions_stand_in_one_log(rt: HostRuntime) -> Result<(), Fail> {
-    let mut party = greeted(&rt, Memory::new(rt.alloc(), 0, false), 2)?;
+    let mut party = greeted(&rt, Memory::sound(rt.alloc()), 2)?;
     let steps = [
         (2, "AUTH PLAIN", Phase::Closed),
         (1, OPENS, Phase::WaitFinal),
@@ -130,21 +130,21 @@ fn two_sessions_stand_in_one_log(rt: HostRuntime) -> Result<(), Fail> {
 1 E
 "
     )?;
-    assert_eq!(rt; party.log.as_slice(), log.as_bytes());
+    assert_eq!(rt; str::from_utf8(party.log.as_slice())?, log.as_str());
     let told = format!(in rt.alloc(); "{ANSWERS}PASS 3 0\n")?;
-    assert_eq!(rt; party.odd.as_slice(), told.as_bytes());
+    assert_eq!(rt; str::from_utf8(party.odd.as_slice())?, told.as_str());
     assert_eq!(rt;
-        party.even.as_slice(),
-        b"MECHS SCRAM-SHA-256 SCRAM-SHA-1\nNO :\n".as_slice()
+        str::from_utf8(party.even.as_slice())?,
+        "MECHS SCRAM-SHA-256 SCRAM-SHA-1\nNO :\n"
     );
     Ok(())
 }
 
-// The login is told the same wherever another client's line comes between its own.
+// The login's client is sent the same lines wherever another client's line comes between its own.
 #[test]
 fn a_login_is_told_as_if_alone(rt: HostRuntime) -> Result<(), Fail> {
     for place in 0..3usize {
-        let mut party = greeted(&rt, Memory::new(rt.alloc(), 0, false), 2)?;
+        let mut party = greeted(&rt, Memory::sound(rt.alloc()), 2)?;
         for at in 0..3usize {
             if at == place {
                 play(
@@ -157,10 +157,10 @@ fn a_login_is_told_as_if_alone(rt: HostRuntime) -> Result<(), Fail> {
                 assert!(rt; hear(rt.alloc(), &mut party, 1, line)?.is_ok());
             }
         }
-        assert_eq!(rt; party.odd.as_slice(), ANSWERS.as_bytes());
+        assert_eq!(rt; str::from_utf8(party.odd.as_slice())?, ANSWERS);
         assert_eq!(rt;
-            party.even.as_slice(),
-            b"MECHS SCRAM-SHA-256 SCRAM-SHA-1\nCONT :\n".as_slice()
+            str::from_utf8(party.even.as_slice())?,
+            "MECHS SCRAM-SHA-256 SCRAM-SHA-1\nCONT :\n"
         );
     }
     Ok(())
@@ -168,12 +168,15 @@ fn a_login_is_told_as_if_alone(rt: HostRuntime) -> Result<(), Fail> {
 
 #[test]
 fn the_sixty_fifth_is_turned_away(rt: HostRuntime) -> Result<(), Fail> {
-    let mut party = greeted(&rt, Memory::new(rt.alloc(), 0, false), 64)?;
+    let mut party = greeted(&rt, Memory::sound(rt.alloc()), 64)?;
     let mut log = Vec::new(rt.alloc());
     log.extend_from_slice(party.log.as_slice())?;
     assert_eq!(rt; greet(&mut party, true)?, Ok((65, Phase::Closed)));
     log.extend_from_slice(b"65 S BUSY\n65 E\n")?;
-    assert_eq!(rt; party.log.as_slice(), log.as_slice());
+    assert_eq!(rt;
+        str::from_utf8(party.log.as_slice())?,
+        str::from_utf8(log.as_slice())?
+    );
     assert!(rt; party.odd.as_slice().ends_with(b"BUSY\n"));
     assert_eq!(rt; party.hall.phase(65), None);
     Ok(())
@@ -181,7 +184,7 @@ fn the_sixty_fifth_is_turned_away(rt: HostRuntime) -> Result<(), Fail> {
 
 #[test]
 fn an_ended_session_frees_its_place(rt: HostRuntime) -> Result<(), Fail> {
-    let mut party = greeted(&rt, Memory::new(rt.alloc(), 0, false), 64)?;
+    let mut party = greeted(&rt, Memory::sound(rt.alloc()), 64)?;
     play(&rt, &mut party, &[(7, "", Phase::Closed)])?;
     assert_eq!(rt; greet(&mut party, true)?, Ok((65, Phase::WaitAuth)));
     for number in 1..66u64 {
@@ -192,7 +195,7 @@ fn an_ended_session_frees_its_place(rt: HostRuntime) -> Result<(), Fail> {
 
 #[test]
 fn a_failed_save_halts_all(rt: HostRuntime) -> Result<(), Fail> {
-    let mut party = greeted(&rt, Memory::new(rt.alloc(), 2, false), 2)?;
+    let mut party = greeted(&rt, Memory::failing_at(rt.alloc(), 2, When::Before), 2)?;
     let steps = [
         (1, OPENS, Phase::WaitFinal),
         (1, PROVES, Phase::WaitCode),
@@ -212,7 +215,7 @@ fn a_failed_save_halts_all(rt: HostRuntime) -> Result<(), Fail> {
         Err(DeskFault::Halted)
     );
     let told = format!(in rt.alloc(); "{ANSWERS}HALT\n")?;
-    assert_eq!(rt; party.odd.as_slice(), told.as_bytes());
+    assert_eq!(rt; str::from_utf8(party.odd.as_slice())?, told.as_str());
     assert!(rt;
         party
             .log
@@ -227,7 +230,12 @@ fn a_hall_begins_with_a_save(rt: HostRuntime) -> Result<(), Fail> {
     let alloc = rt.alloc();
     let book = Book::read(alloc, BOOK.as_bytes())?;
     let mut log = Vec::new(alloc);
-    match Hall::begin(alloc, book, Memory::new(alloc, 1, false), &mut log) {
+    match Hall::begin(
+        alloc,
+        book,
+        Memory::failing_at(alloc, 1, When::Before),
+        &mut log,
+    ) {
         Ok(_) => return Err("a hall over a store that fails".into()),
         Err((book, store, fault)) => {
             assert_eq!(rt; fault, DeskFault::Halted);
@@ -241,13 +249,13 @@ fn a_hall_begins_with_a_save(rt: HostRuntime) -> Result<(), Fail> {
 
 #[test]
 fn a_halted_hall_does_nothing(rt: HostRuntime) -> Result<(), Fail> {
-    let mut party = greeted(&rt, Memory::new(rt.alloc(), 0, false), 0)?;
+    let mut party = greeted(&rt, Memory::sound(rt.alloc()), 0)?;
     party.hall.halt();
     assert_eq!(rt; greet(&mut party, true)?, Err(DeskFault::Halted));
     assert_eq!(rt;
         hear(rt.alloc(), &mut party, 1, "")?,
         Err(DeskFault::Halted)
     );
-    assert_eq!(rt; party.log.as_slice(), b"SCRAMLOG 2\n".as_slice());
+    assert_eq!(rt; str::from_utf8(party.log.as_slice())?, "SCRAMLOG 2\n");
     Ok(())
 }

@@ -20,18 +20,18 @@ count_by-append p xs ys = sum_by-append _ xs ys
 pub last_counts_as_first : {X : Type 0} (p : X → Bool) (xs : List X) (x : X) → count_by p (xs ++ x ∷ []) ≡ count_by p (x ∷ xs)
 last_counts_as_first p xs x = omega (arith, count_by-append p xs (x ∷ []), first_adds_its_count p x xs)
 
--- where each in a list has a property, and another follows from it, each has the other
+-- if each element of a list has a property, and another follows from it, each has the other
 pub each_follows : {X : Type 0} (P Q : X → Type 0) → ((x : X) → P x → Q x) → (xs : List X) → AllByRecursion P xs → AllByRecursion Q xs
 each_follows P Q on xs all = recursion_from_All Q xs (All-weaker P Q on xs (All-from_recursion P xs all))
 
--- what follows from two facts, each of which holds of each in a list, holds of each
+-- what follows from two facts is true of each element of a list if both facts are
 pub each_follows_from_both : {X : Type 0} (P Q R : X → Type 0) (xs : List X) → AllByRecursion P xs → AllByRecursion Q xs
     → ((x : X) → P x → Q x → R x)
     → AllByRecursion R xs
 each_follows_from_both P Q R [] these those both = tt
 each_follows_from_both P Q R (x ∷ xs) these those both = (both x these.0 those.0, each_follows_from_both P Q R xs these.1 those.1 both)
 
--- where no element passes a test, `filter` keeps none
+-- if no element passes a test, `filter` keeps none
 pub none_passes_none_kept : {X : Type 0} (p : X → Bool) (xs : List X) → AllByRecursion (λ x. p x ≡ false) xs → filter p xs ≡ []
 none_passes_none_kept p [] none = refl
 none_passes_none_kept p (x ∷ xs) none = rw none.0 (none_passes_none_kept p xs none.1)
@@ -46,7 +46,7 @@ found_is_at_position p xs i is = elim (cases_Bool (nat_lt (position_or_len p xs)
   | inr not_less ↦ let nowhere = rw not_less at is in absurd (cc nowhere)
 ]
 
--- where `position` finds no element that passes, `find` finds none
+-- if `position` finds no element that passes, `find` finds none
 pub no_position_finds_none : {X : Type 0} (p : X → Bool) (xs : List X) → position p xs ≡ None → find p xs ≡ None
 no_position_finds_none p xs is = elim (cases_Bool (nat_lt (position_or_len p xs) (length xs))) [
   | inl less ↦ let there = rw less at is in absurd (cc there)
@@ -59,7 +59,7 @@ no_position_finds_none p xs is = elim (cases_Bool (nat_lt (position_or_len p xs)
       ]
 ]
 
--- where `find` finds no element that passes, none is counted
+-- if `find` finds no element that passes, none is counted
 pub none_found_none_counted : {X : Type 0} (p : X → Bool) (xs : List X) → find p xs ≡ None → count_by p xs ≡ 0
 none_found_none_counted p [] none = refl
 none_found_none_counted p (x ∷ xs) none = elim (cases_Bool (p x)) [

@@ -1,7 +1,11 @@
 -- What a hall stands for after each call; in the order in which to read it.
 pub mod Guests
 pub mod Paths
+pub mod Numbers
+pub mod Working
+pub mod Seats
 pub mod Turns
+pub mod Steps
 pub mod Calls
 pub mod Greetings
 pub mod Phases

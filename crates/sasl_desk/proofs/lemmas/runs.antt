@@ -1,8 +1,11 @@
 -- What a desk stands for after each call, and over runs: its log, its book, what is spent; in the order in which to read it.
+pub mod HeldBooks
+pub mod BooksAfterReplies
 pub mod IsDeskAfter
 pub mod Calls
 pub mod Records
 pub mod Acceptances
+pub mod AnswerShapes
 pub mod OneAnswer
 pub mod SameRequests
 pub mod Spent
@@ -10,4 +13,5 @@ pub mod Unlocks
 pub mod Logs
 pub mod Restarts
 pub mod Stores
+pub mod Answered
 pub mod Served

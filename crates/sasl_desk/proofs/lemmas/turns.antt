@@ -5,6 +5,8 @@ pub mod DueAnswers
 pub mod HeardLines
 pub mod AnswerLines
 pub mod Paths
+pub mod Taken
 pub mod Writable
 pub mod TurnBytes
 pub mod Keepers
+pub mod Saves

@@ -1,15 +1,15 @@
-//! Where a desk stands.
+//! The state of a desk.
 use crate::session::{Phase, Session};
 use crate::turn::AfterTurn;
 use scram_text::NoncePart;
 
-/// The session that is open, with the server's part of its nonce; or none.
+/// A desk's open session, if it has one, with the server's part of its nonce.
 #[derive(Drop)]
 pub(crate) enum State {
     /// No session is open.
     Closed,
 
-    /// This session is.
+    /// This session is open.
     Open(Session, NoncePart),
 
     /// The desk has halted.

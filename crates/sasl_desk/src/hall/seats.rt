@@ -10,7 +10,7 @@ use sasl_log::{MOST_OPEN, NoMemory};
 use std::alloc::Global;
 use std::marker::Model;
 
-/// Seats for 64 sessions, reserved once, so that none of them takes memory.
+/// Seats for 64 sessions. Their memory is reserved once, so that no session takes more.
 #[derive(Drop)]
 pub(crate) struct Seats {
     guests: Vec<Guest>,
@@ -29,7 +29,7 @@ impl Seats {
     ghost use Rattle.std.specs.List.Sorted.{IsPermutation};
     ghost use Rattle.sasl_desk.specs.Guests.{is_of};
 
-    /// 64 seats, all of which are free. Answers 99 NoMemory where memory ran out.
+    /// 64 seats, all of which are free. Errors: 99 NoMemory if memory runs out.
     pub(crate) fn new(alloc: Global) -> Result<Seats, NoMemory>
         ensures { IfOk result (λ seats. seats ≡ []) }
     {
@@ -48,14 +48,14 @@ impl Seats {
         self.guests.len()
     }
 
-    // The index of the seat of this number's guest.
+    // The index of the seat of this number's guest, or None if there is none.
     fn index_of(&self, number: u64) -> Option<usize>
         ensures { result ≡ position (is_of number) self.now }
     {
         self.guests.iter().position(|guest| guest.number == number)
     }
 
-    /// The session of this number, or None where none is open.
+    /// The session of this number, or None if none is open.
     pub(crate) fn session(&self, number: u64) -> Option<&Session>
         ensures some { IfSome result (λ session.
             (guest : Guest) × (find (is_of number) self.now ≡ Some guest) × (session.now ≡ guest.session)) }
@@ -67,7 +67,7 @@ impl Seats {
         }
     }
 
-    /// Lets the guest of this number leave its seat, or answers None where there is none.
+    /// Lets the guest of this number leave its seat, or returns None if there is none.
     pub(crate) fn leave(&mut self, number: u64) -> Option<Guest>
         ensures some { IfSome result (λ guest.
             IsPermutation self.old (guest ∷ self.new) × (guest.number ≡ number) × (length self.new < most_open)) }

@@ -1,4 +1,4 @@
-//! Laws of halls, each the promise of a function that does nothing.
+//! Laws of halls. Each is the contract of a function that does nothing.
 ghost use Rattle.std.specs.Prelude.{◌≡◌, ◌≢◌, true, None, ℕ, List, [], ◌∷◌, ◌++◌, map, reverse};
 ghost use Rattle.book_format.specs.Book.{BookFields};
 ghost use Rattle.book_format.specs.Trees.{IsBookText};
@@ -31,7 +31,7 @@ pub fn log_is_a_front<S: BookStore>()
         → IsFront (accounts_in start) (hall_bytes calls) }
 {}
 
-/// A hall's log is clean where no session is open, where the store has failed, and where it ends with `S HALT`.
+/// A hall's log is clean if no session is open, if the store has failed, or if the log ends with `S HALT`.
 pub fn log_is_clean<S: BookStore>()
     ensures closed { (start : BookFields) (calls : List (Numbered Call)) (hall : HallFields S)
         → IsHallAfter S.facts S.IsStored start calls hall
@@ -45,22 +45,22 @@ pub fn log_is_clean<S: BookStore>()
         → IsClean (accounts_in start) (hall_bytes calls) }
 {}
 
-/// The phase of a session is that of the place where its lines have led, and there is none exactly where no session of the number
+/// The phase of a session is that of the place to which its lines have led. There is none if and only if no session of the number
 /// is open.
 pub fn phases_are_those_of_places<S: BookStore>()
     ensures { (start : BookFields) (calls : List (Numbered Call)) (hall : HallFields S)
         (s : IsHallAfter S.facts S.IsStored start calls hall) (n : ℕ) → IsPhaseIn (s.places n) (phase_in hall n) }
 {}
 
-/// Each session's log offers mechanisms for its greeting, and records all that its client did, in the order in which it was done and
-/// each act as is due at its place: nothing is left out, and nothing is invented; or the session was turned away.
+/// Unless a session was turned away, its log offers mechanisms for its greeting and records all that its client did, in order, each
+/// act as is due at its place: nothing is left out, and nothing is invented.
 pub fn sessions_have_their_records<S: BookStore>()
     ensures { (start : BookFields) (calls : List (Numbered Call)) (hall : HallFields S) → IsHallAfter S.facts S.IsStored start calls hall
         → (n : ℕ) → HasSessionRecords (accounts_in start) (of_number n calls) }
 {}
 
-/// The bytes of a log are those of its calls, one after another, and the lines of a session are those of its own calls: so what
-/// its client is sent is what the server says in them.
+/// The bytes of a log are those of its calls, one after another, and the lines of a session are those of its own calls. So a client
+/// is sent what the server says in the lines of its own session.
 pub fn bytes_are_those_of_calls()
     ensures log { (c : Numbered Call) (before : List (Numbered Call))
         → hall_bytes (c ∷ before) ≡ hall_bytes before ++ numbered_bytes (map (numbered c.number) c.value.lines) }
@@ -69,22 +69,22 @@ pub fn bytes_are_those_of_calls()
         → wire_bytes (call_lines (c ∷ before)) ≡ wire_bytes (call_lines before) ++ wire_bytes c.lines }
 {}
 
-/// Whenever a call has ended, the store holds the text of a book that the run leaves: the hall's own, or, where a save failed,
-/// perhaps that with one more attempt.
+/// After each call, the store holds the text of a book that the run may leave: the hall's own or, if a save failed, perhaps the
+/// same with one more attempt.
 pub fn store_holds_a_book<S: BookStore>()
     ensures { (start : BookFields) (calls : List (Numbered Call)) (hall : HallFields S) → IsHallAfter S.facts S.IsStored start calls hall
         → (left : BookFields) × IsHallRunLeaving S.facts S.IsStored start calls left
         × IsBookText (S.facts hall.keeper.store).saved left }
 {}
 
-/// Whenever a call has ended, the store has saved the text of the book to which the replies in the log lead: no client was told of a
-/// reply before what the reply changed was saved.
+/// After each call, the store has saved the text of the book to which the replies in the log lead: no reply was sent to a client
+/// before its change to the book was saved.
 pub fn log_is_saved<S: BookStore>()
     ensures { (start : BookFields) (calls : List (Numbered Call)) (hall : HallFields S) → IsHallAfter S.facts S.IsStored start calls hall
         → AreLinesSaved S.IsStored start (hall_lines calls) }
 {}
 
-/// A stop within a call, as the store puts the new text in the place of the old, leaves what a run leaves: the hall's book with
+/// A stop within a call, while the store replaces the old text with the new one, leaves what a run may leave: the hall's book with
 /// the attempt that is judged.
 pub fn stops_leave_runs<S: BookStore>()
     ensures { (start : BookFields) (calls : List (Numbered Call)) (hall : HallFields S) (t : LoggedReply) (next : BookFields)
@@ -92,8 +92,8 @@ pub fn stops_leave_runs<S: BookStore>()
         → IsHallRunLeaving S.facts S.IsStored start calls next }
 {}
 
-/// At every moment of a run the store holds a book in which each counter that a client was told has passed is spent, and each that
-/// was spent before the run: after a call, and where the run stops within one.
+/// At every moment of a run, the store holds a book in which each counter is spent that replies to clients have used, and each that
+/// was spent before the run. This holds after a call, and also if the run stops within one.
 pub fn told_counters_are_saved<S: BookStore>()
     ensures ended { (start : BookFields) (calls : List (Numbered Call)) (hall : HallFields S)
         (s : IsHallAfter S.facts S.IsStored start calls hall) (ps : List (List ℕ × ℕ)) → AreSpent ps start
@@ -106,9 +106,9 @@ pub fn told_counters_are_saved<S: BookStore>()
     spent_stays_spent();
 }
 
-/// Up to its outcome, what a session is told follows from what it was asked, the server's part of its nonce and the entries of
-/// the book's accounts: two sessions, of one hall or of two, which agree in these and were not turned away, have the same lines.
-/// So neither the lines of other sessions enter, nor their order, nor the moments, nor a token.
+/// Up to its outcome, what a session sends its client follows from what it was asked, the server's part of its nonce and the
+/// entries of the book's accounts. Two sessions, of one hall or of two, that agree in these and were not turned away have the same
+/// lines up to there. So these do not depend on the lines of other sessions, their order, the moments or a token.
 pub fn sessions_are_told_alone<S: BookStore>()
     ensures { (start other_start : BookFields) (calls others : List (Numbered Call)) (hall other : HallFields S) (n m : ℕ)
         → IsHallAfter S.facts S.IsStored start calls hall → IsHallAfter S.facts S.IsStored other_start others other

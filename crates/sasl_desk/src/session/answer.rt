@@ -10,7 +10,7 @@ use mac_core::Mechanism;
 use scram_ends::Verdict;
 use scram_text::PlainName;
 
-/// A bare `S NO`, after which the session is over.
+/// A bare `S NO`, one with an empty message, after which the session is over.
 pub(crate) fn bare_no() -> Answer
     ensures due { (accounts : Accounts) (server_nonce : List ℕ) (place : Place) → IsBareNoDue place
         → IsAnswer accounts server_nonce place result [] }
@@ -22,7 +22,7 @@ pub(crate) fn bare_no() -> Answer
     }
 }
 
-/// Nothing is said to a client that has gone away, and the session is over.
+/// The answer to a client that has gone away: nothing is sent, and the session is over.
 pub(crate) fn silence() -> Answer
     ensures due { (accounts : Accounts) (server_nonce : List ℕ) → IsAnswer accounts server_nonce over result [] }
     ensures lines { CanBeWritten (lines_of_answer result []) }
@@ -33,8 +33,8 @@ pub(crate) fn silence() -> Answer
     }
 }
 
-/// The answer to a client that asks for the mechanism of this name, without a message: an empty challenge, or a bare
-/// `S NO` where it is not offered.
+/// The answer to a client that asks for the mechanism of this name, without a message: an empty challenge, or a bare `S NO` if it
+/// is not offered.
 pub(crate) fn auth_answer(mechanism_name: &[u8]) -> Answer
     ensures due { (accounts : Accounts) (server_nonce : List ℕ) → IsAnswer accounts server_nonce (asks_bare mechanism_name.now) result [] }
     ensures lines { CanBeWritten (lines_of_answer result []) }
@@ -48,7 +48,7 @@ pub(crate) fn auth_answer(mechanism_name: &[u8]) -> Answer
     }
 }
 
-/// The answer that bears a verdict on the login of this account.
+/// The answer with a verdict on the login of this account.
 pub(crate) fn verdict_answer(verdict: Verdict, name: PlainName) -> Answer
     ensures { result ≡ verdict_answer verdict name }
 {

@@ -15,8 +15,8 @@ use scram_text::PlainName;
 use std::alloc::{Allocator, Global};
 use std::marker::Model;
 
-/// A login that was challenged: the server that waits for its client-final message, its mechanism and the name of its
-/// account. The server is not spent.
+/// A login that was challenged: the server that waits for its client-final message, its mechanism and the name of its account. The
+/// server is not spent, in the sense of `ServerWait::finish`.
 #[derive(Drop)]
 pub struct ChallengedLogin {
     server: ServerWait,
@@ -35,7 +35,7 @@ impl Model for ChallengedLogin {
 impl ChallengedLogin {
     ghost use Rattle.sasl_desk.specs.Sessions.{lines_of_answer, CanBeWritten, IsAnswer};
 
-    /// The login of this account for which the server stands.
+    /// The login of this account, for which the server waits.
     pub(crate) fn new(server: ServerWait, mechanism: Mechanism, name: PlainName) -> ChallengedLogin
         requires { IsChallenging server mechanism }
         ensures { result ≡ challenged_login_of server mechanism name }
@@ -47,8 +47,8 @@ impl ChallengedLogin {
         }
     }
 
-    /// The answer to the client-final message: an acceptance or a refusal, whose message is put into `message`. On an error,
-    /// which is that memory ran out, the login is handed back and `message` is empty.
+    /// The answer to the client-final message: an acceptance or a refusal, whose message is put into `message`. An error means that
+    /// memory ran out: the login is handed back, and `message` is empty.
     pub(crate) fn final_answer<A: Allocator>(
         self,
         alloc: Global,

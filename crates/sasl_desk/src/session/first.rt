@@ -21,9 +21,9 @@ use scram_text::laws::{has_one_client_first, spells_one_name};
 use scram_text::{NoncePart, PlainName, WriteFault};
 use std::alloc::{Allocator, Global};
 
-/// The answer to the client-first message of a client that asks for the mechanism of this name: a challenge, whose message
-/// is put into `message`; or a bare `S NO`, where the mechanism is not offered, or no server takes the message up. Answers
-/// 99 NoMemory where memory ran out; `message` is then empty.
+/// The answer to a client that asks for the mechanism of this name with a client-first message: a challenge, whose message is put
+/// into `message`; or a bare `S NO`, if the mechanism is not offered or the client-first message is refused. Errors: 99 NoMemory if
+/// memory runs out; `message` is then empty.
 pub(crate) fn auth_with_answer<A: Allocator>(
     alloc: Global,
     mechanism_name: &[u8],
@@ -52,7 +52,7 @@ pub(crate) fn auth_with_answer<A: Allocator>(
     }
 }
 
-/// The answer to a client-first message by this mechanism, which is offered, as `auth_with_answer` gives it.
+/// The answer to a client-first message by this mechanism, which is offered. As for `auth_with_answer`.
 pub(crate) fn first_answer<A: Allocator>(
     alloc: Global,
     mechanism: Mechanism,
@@ -72,7 +72,7 @@ pub(crate) fn first_answer<A: Allocator>(
     answer_to(mechanism, text.as_slice(), book, server_nonce, message)
 }
 
-// Reads the name that the message gives, and challenges its login; a bare `S NO` where no server takes the message up.
+// Reads the name in the message, and challenges its login; a bare `S NO` if the message is refused.
 fn answer_to<A: Allocator>(
     mechanism: Mechanism,
     client_first: &[u8],
@@ -94,7 +94,7 @@ fn answer_to<A: Allocator>(
     }
 }
 
-// Challenges the login that the message opens for this account.
+// Challenges the login that the message begins for this account.
 fn challenge<A: Allocator>(
     mechanism: Mechanism,
     name: PlainName,

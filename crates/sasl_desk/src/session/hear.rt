@@ -1,4 +1,4 @@
-//! What comes of a line, by where the session stands: one function for each place where it is the client's turn.
+//! What follows from a line of the client: one function for each place where it is the client's turn.
 ghost use Rattle.std.specs.Prelude.{◌≡◌, true, false, ℕ, List, [], IfOk, IfErr, OnErr};
 ghost use Rattle.mac_core.specs.Mechanism.{name_of};
 ghost use Rattle.log_grammar.specs.Lines as grammar;
@@ -63,7 +63,7 @@ fn abort_turn<'a>() -> Turn<'a>
     }
 }
 
-/// After the offer of the mechanisms: AUTH or ABORT is due. An error is that memory ran out; the session is handed back.
+/// After the offer of the mechanisms: AUTH or ABORT is due. An error means that memory ran out; the session is handed back.
 pub(crate) fn hear_auth<'a, A: Allocator>(
     alloc: Global,
     line: ClientLine<'a>,
@@ -77,7 +77,7 @@ pub(crate) fn hear_auth<'a, A: Allocator>(
         → IfOk result (λ turn. IsTurnOnLine accounts server_nonce.now (client_shown line.entry) offered turn message.new.items) }
     ensures lines { IfOk result (λ turn. CanBeWritten (turn_lines turn message.new.items)) }
     ensures err { IfErr result (λ session. (session ≡ Session.WaitAuth) × (message.new.items ≡ [])) }
-    ensures memory { OnErr result (BearsMessage (client_shown line.entry)) }
+    ensures no_memory { OnErr result (BearsMessage (client_shown line.entry)) }
 {
     match line {
         ClientLine::Auth(mechanism_name) => {
@@ -125,7 +125,7 @@ pub(crate) fn hear_first<'a, A: Allocator>(
         turn message.new.items) }
     ensures lines { IfOk result (λ turn. CanBeWritten (turn_lines turn message.new.items)) }
     ensures err { IfErr result (λ session. (session ≡ Session.WaitFirst mechanism) × (message.new.items ≡ [])) }
-    ensures memory { OnErr result (BearsMessage (client_shown line.entry)) }
+    ensures no_memory { OnErr result (BearsMessage (client_shown line.entry)) }
 {
     match line {
         ClientLine::Resp(client_first) => {
@@ -155,7 +155,7 @@ pub(crate) fn hear_final<'a, A: Allocator>(
         → IfOk result (λ turn. IsTurnOnLine accounts server_nonce (client_shown line.entry) place turn message.new.items) }
     ensures lines { IfOk result (λ turn. CanBeWritten (turn_lines turn message.new.items)) }
     ensures err { IfErr result (λ session. (session ≡ Session.WaitFinal waiting) × (message.new.items ≡ [])) }
-    ensures memory { OnErr result (BearsMessage (client_shown line.entry)) }
+    ensures no_memory { OnErr result (BearsMessage (client_shown line.entry)) }
 {
     match line {
         ClientLine::Resp(client_final) => {
@@ -172,7 +172,7 @@ pub(crate) fn hear_final<'a, A: Allocator>(
     }
 }
 
-/// After an acceptance, or the reply to a code: CODE, SYNC and ABORT are due. Nothing is said here.
+/// After an acceptance, or the reply to a code: CODE, SYNC or ABORT is due. A code is only handed on to be judged.
 pub(crate) fn hear_code<'a>(name: PlainName, line: ClientLine<'a>) -> HearResult<'a>
     requires { IsLineWritable (from_client (client_shown line)) }
     ensures heard { (accounts : Accounts) (server_nonce : List ℕ)

@@ -7,7 +7,7 @@ ghost use Rattle.sasl_log.specs.Texts.{IsLineWritable};
 
 use sasl_log::{ClientLine, Line, read_line};
 
-/// The line of a client that this text is, or None where it is none.
+/// The line of a client that this text is, or None if it is none.
 pub(crate) fn client_line(text: &[u8]) -> Option<ClientLine<'_>>
     ensures some { IfSome result (λ line. IsLine text.now (from_client (client_shown line))) }
     ensures none { IfNone result ((line : grammar.ClientLine) → IsLine text.now (from_client line) → ⊥) }

@@ -19,7 +19,7 @@ pub enum Phase {
     /// The login was accepted: the client may send codes.
     WaitCode,
 
-    /// The desk or hall has halted: every `greet` and `client` answers 72.
+    /// The desk or hall has halted: every `greet` and `client` returns 72 Halted.
     Halted,
 }
 

@@ -1,12 +1,12 @@
 //! Whole sessions at a desk: what the client is sent, and the log, line by line.
 use account_book::Book;
-use desk_in_memory::{BOOK, LOGIN, Memory, Service, book_text};
+use desk_in_memory::{BOOK, LOGIN, Memory, Service, When, book_at, book_text};
 use sasl_desk::{Desk, DeskFault, Event, Phase};
 use sasl_log::Clean;
 use std::process::Abort;
 use std::test::Fail;
 
-// The published login, whose client may then send codes.
+// The published login, after which the client may send codes.
 fn login(rt: &(impl Abort + AllocGlobal), store: Memory) -> Result<Service, Fail> {
     let mut service = Service::begin(rt.alloc(), store)?;
     assert_eq!(rt; service.greet()?, Ok(Phase::WaitAuth));
@@ -19,14 +19,14 @@ fn login(rt: &(impl Abort + AllocGlobal), store: Memory) -> Result<Service, Fail
 
 #[test]
 fn the_published_login_is_logged(rt: HostRuntime) -> Result<(), Fail> {
-    let mut service = login(&rt, Memory::new(rt.alloc(), 0, false))?;
+    let mut service = login(&rt, Memory::sound(rt.alloc()))?;
     assert_eq!(rt; service.hear(rt.alloc(), Event::Gone)?, Ok(Phase::Closed));
     service.check_after_login(rt.alloc(), "", "C GONE\nE\n", 0)
 }
 
 #[test]
 fn codes_are_saved_and_told(rt: HostRuntime) -> Result<(), Fail> {
-    let mut service = login(&rt, Memory::new(rt.alloc(), 0, false))?;
+    let mut service = login(&rt, Memory::sound(rt.alloc()))?;
     for text in ["CODE 755224", "CODE 755224", "SYNC 969429 338314"] {
         let phase = service.hear(rt.alloc(), Event::Line(text.as_bytes()))?;
         assert_eq!(rt; phase, Ok(Phase::WaitCode), "{text}");
@@ -53,9 +53,10 @@ fn check_halted(rt: &(impl Abort + AllocGlobal), service: &mut Service) -> Resul
     Ok(())
 }
 
-// The store fails at the first code, before or after the new text is in its place.
-fn check_failed_save(rt: &(impl Abort + AllocGlobal), is_late: bool) -> Result<(), Fail> {
-    let mut service = login(rt, Memory::new(rt.alloc(), 2, is_late))?;
+// The store fails at the first code, before or after the new text is in its place. It then has the text in which the counter
+// `held` is next.
+fn check_failed_save(rt: &(impl Abort + AllocGlobal), when: When, held: u64) -> Result<(), Fail> {
+    let mut service = login(rt, Memory::failing_at(rt.alloc(), 2, when))?;
     let phase = service.hear(rt.alloc(), Event::Line(b"CODE 755224"))?;
     assert_eq!(rt; phase, Ok(Phase::Halted));
     check_halted(rt, &mut service)?;
@@ -63,17 +64,20 @@ fn check_failed_save(rt: &(impl Abort + AllocGlobal), is_late: bool) -> Result<(
     let (book, store) = service.desk.close();
     let text = book_text(rt.alloc())?;
     assert_eq!(rt; book.write(rt.alloc())?.as_str(), text.as_str());
-    assert_eq!(rt; store.saved.as_str() == text.as_str(), !is_late);
+    assert_eq!(rt;
+        store.saved.as_str(),
+        book_at(rt.alloc(), 0, held)?.as_str()
+    );
     Ok(())
 }
 
 #[test]
 fn a_failed_save_halts(rt: HostRuntime) -> Result<(), Fail> {
-    check_failed_save(&rt, false)?;
-    check_failed_save(&rt, true)
+    check_failed_save(&rt, When::Before, 0)?;
+    check_failed_save(&rt, When::After, 1)
 }
 
-// What clients are told whose first lines are refused.
+// What is sent to clients whose first lines are refused.
 const REFUSED: &str = "MECHS SCRAM-SHA-256 SCRAM-SHA-1
 NO :
 MECHS SCRAM-SHA-256 SCRAM-SHA-1
@@ -84,7 +88,7 @@ MECHS SCRAM-SHA-256 SCRAM-SHA-1
 NO :
 ";
 
-// The log of them.
+// Their log.
 const LOG_OF_REFUSED: &str = "SCRAMLOG 1
 S MECHS SCRAM-SHA-256 SCRAM-SHA-1
 C AUTH PLAIN
@@ -104,16 +108,16 @@ S NO :
 E
 ";
 
-// Each session has the lines of its own, and a log goes on with the next.
+// Each session has its own lines, and the log goes on with the next session.
 #[test]
 fn sessions_follow_each_other(rt: HostRuntime) -> Result<(), Fail> {
-    let mut service = Service::begin(rt.alloc(), Memory::new(rt.alloc(), 0, false))?;
+    let mut service = Service::begin(rt.alloc(), Memory::sound(rt.alloc()))?;
     for text in ["AUTH PLAIN", "CODE 755224", "HALT", ""] {
         assert_eq!(rt; service.greet()?, Ok(Phase::WaitAuth));
         let phase = service.hear(rt.alloc(), Event::Line(text.as_bytes()))?;
         assert_eq!(rt; phase, Ok(Phase::Closed), "{text}");
     }
-    assert_eq!(rt; service.wire.as_slice(), REFUSED.as_bytes());
+    assert_eq!(rt; str::from_utf8(service.wire.as_slice())?, REFUSED);
     let counts = Clean {
         sessions: 4,
         accepted: 0,
@@ -124,10 +128,10 @@ fn sessions_follow_each_other(rt: HostRuntime) -> Result<(), Fail> {
 
 #[test]
 fn a_halted_desk_does_nothing(rt: HostRuntime) -> Result<(), Fail> {
-    let mut service = Service::begin(rt.alloc(), Memory::new(rt.alloc(), 0, false))?;
+    let mut service = Service::begin(rt.alloc(), Memory::sound(rt.alloc()))?;
     service.desk.halt();
     check_halted(&rt, &mut service)?;
-    assert_eq!(rt; service.log.as_slice(), b"SCRAMLOG 1\n".as_slice());
+    assert_eq!(rt; str::from_utf8(service.log.as_slice())?, "SCRAMLOG 1\n");
     assert!(rt; service.wire.is_empty());
     Ok(())
 }
@@ -137,7 +141,12 @@ fn a_desk_begins_with_a_save(rt: HostRuntime) -> Result<(), Fail> {
     let alloc = rt.alloc();
     let book = Book::read(alloc, BOOK.as_bytes())?;
     let mut log = Vec::new(alloc);
-    match Desk::begin(alloc, book, Memory::new(alloc, 1, false), &mut log) {
+    match Desk::begin(
+        alloc,
+        book,
+        Memory::failing_at(alloc, 1, When::Before),
+        &mut log,
+    ) {
         Ok(_) => return Err("a desk over a store that fails".into()),
         Err((book, store, fault)) => {
             assert_eq!(rt; fault, DeskFault::Halted);

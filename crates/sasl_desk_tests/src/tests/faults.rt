@@ -11,7 +11,7 @@ fn numbers_and_texts(rt: HostRuntime) -> Result<(), Fail> {
             73,
             "a message that is due cannot be written",
         ),
-        (DeskFault::NoNumber, 76, "no number is left for a session"),
+        (DeskFault::NoNumber, 76, "all session numbers are used"),
         (DeskFault::NoMemory, 99, "out of memory"),
     ] {
         assert_eq!(rt; fault.number(), number);
@@ -20,7 +20,7 @@ fn numbers_and_texts(rt: HostRuntime) -> Result<(), Fail> {
     Ok(())
 }
 
-// Those of a client that is not served. The first three are a desk's.
+// The faults of serving. The first three are also a desk's.
 #[test]
 fn numbers_and_texts_of_serving(rt: HostRuntime) -> Result<(), Fail> {
     for (fault, number, text) in [

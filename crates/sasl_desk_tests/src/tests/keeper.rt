@@ -1,6 +1,6 @@
 //! Codes of RFC 4226, appendix D, and what the store holds after them.
 use account_book::Book;
-use desk_in_memory::{BOOK, Memory, book_at};
+use desk_in_memory::{BOOK, Memory, When, book_at};
 use sasl_desk::{CodeJudged, DeskFault, Keeper, Moment, Reply, Sent};
 use scram_text::PlainName;
 use std::alloc::Global;
@@ -28,7 +28,7 @@ fn judge(
     Ok(keeper.judge(alloc, &name, moment, sent)?)
 }
 
-// The keeper's store has taken up so many saves, and both it and the book have this text.
+// The keeper's store has begun so many saves, and both it and the book have this text.
 fn check_kept(
     rt: &(impl Abort + AllocGlobal),
     keeper: Keeper<Memory>,
@@ -46,7 +46,7 @@ fn check_kept(
 fn a_keeper_begins_with_a_save(rt: HostRuntime) -> Result<(), Fail> {
     let alloc = rt.alloc();
     let text = book_at(alloc, 1, 7)?;
-    let keeper = begun(alloc, text.as_str(), Memory::new(alloc, 0, false))?;
+    let keeper = begun(alloc, text.as_str(), Memory::sound(alloc))?;
     assert_eq!(rt; keeper.book().write(alloc)?.as_str(), text.as_str());
     check_kept(&rt, keeper, 1, text.as_str())
 }
@@ -55,7 +55,7 @@ fn a_keeper_begins_with_a_save(rt: HostRuntime) -> Result<(), Fail> {
 fn each_code_passes_once(rt: HostRuntime) -> Result<(), Fail> {
     let alloc = rt.alloc();
     let text = book_at(alloc, 0, 0)?;
-    let mut keeper = begun(alloc, text.as_str(), Memory::new(alloc, 0, false))?;
+    let mut keeper = begun(alloc, text.as_str(), Memory::sound(alloc))?;
     for (code, reply) in [
         ("755224", Reply::Pass(0)),
         ("755224", Reply::Fail),
@@ -80,7 +80,7 @@ fn each_code_passes_once(rt: HostRuntime) -> Result<(), Fail> {
 fn two_codes_are_both_used(rt: HostRuntime) -> Result<(), Fail> {
     let alloc = rt.alloc();
     let text = book_at(alloc, 0, 0)?;
-    let mut keeper = begun(alloc, text.as_str(), Memory::new(alloc, 0, false))?;
+    let mut keeper = begun(alloc, text.as_str(), Memory::sound(alloc))?;
     for (sent, reply) in [
         (Sent::Two(b"338314", b"969429"), Reply::Fail),
         (Sent::Two(b"969429", b"338314"), Reply::Pass(4)),
@@ -95,12 +95,12 @@ fn two_codes_are_both_used(rt: HostRuntime) -> Result<(), Fail> {
     check_kept(&rt, keeper, 7, book_at(alloc, 0, 10)?.as_str())
 }
 
-// A locked token answers the right code, too, with LOCKED, and nothing is saved.
+// A locked token answers even the right code with LOCKED, and nothing is saved.
 #[test]
 fn failures_lock(rt: HostRuntime) -> Result<(), Fail> {
     let alloc = rt.alloc();
     let text = book_at(alloc, 0, 0)?;
-    let mut keeper = begun(alloc, text.as_str(), Memory::new(alloc, 0, false))?;
+    let mut keeper = begun(alloc, text.as_str(), Memory::sound(alloc))?;
     for (sent, reply) in [
         (Sent::One(b"000000"), Reply::Fail),
         (Sent::Two(b"287082", b"755224"), Reply::Fail),
@@ -117,7 +117,7 @@ fn failures_lock(rt: HostRuntime) -> Result<(), Fail> {
 #[test]
 fn no_account_and_no_token(rt: HostRuntime) -> Result<(), Fail> {
     let alloc = rt.alloc();
-    let mut keeper = begun(alloc, BOOK, Memory::new(alloc, 0, false))?;
+    let mut keeper = begun(alloc, BOOK, Memory::sound(alloc))?;
     for name in [b"user".as_slice(), b"nobody"] {
         for sent in [Sent::One(b"755224"), Sent::Two(b"755224", b"287082")] {
             let judged = judge(alloc, &mut keeper, name, sent)?;
@@ -127,12 +127,12 @@ fn no_account_and_no_token(rt: HostRuntime) -> Result<(), Fail> {
     check_kept(&rt, keeper, 1, BOOK)
 }
 
-// A code's save fails, before or after the new text is in its place: no reply is told, then or later, and the book stays as it
-// was. The store has the text of this counter.
-fn check_lost(rt: &(impl Abort + AllocGlobal), is_late: bool, held: u64) -> Result<(), Fail> {
+// The save for a code fails, before or after the new text is in its place: no reply is returned, then or later, and the book
+// stays as it was. The store has the text in which the counter `held` is next.
+fn check_lost(rt: &(impl Abort + AllocGlobal), when: When, held: u64) -> Result<(), Fail> {
     let alloc = rt.alloc();
     let before = book_at(alloc, 0, 0)?;
-    let mut keeper = begun(alloc, before.as_str(), Memory::new(alloc, 2, is_late))?;
+    let mut keeper = begun(alloc, before.as_str(), Memory::failing_at(alloc, 2, when))?;
     for code in ["755224", "755224", "000000"] {
         let judged = judge(alloc, &mut keeper, b"user", Sent::One(code.as_bytes()))?;
         assert_eq!(rt; judged, CodeJudged::Lost, "{code}");
@@ -147,20 +147,20 @@ fn check_lost(rt: &(impl Abort + AllocGlobal), is_late: bool, held: u64) -> Resu
 
 #[test]
 fn a_reply_is_lost_with_its_save(rt: HostRuntime) -> Result<(), Fail> {
-    check_lost(&rt, false, 0)?;
-    check_lost(&rt, true, 1)
+    check_lost(&rt, When::Before, 0)?;
+    check_lost(&rt, When::After, 1)
 }
 
-// The first save of this book fails, before or after the text is in its place: there is no keeper, and with that store there
-// will be none. The store has that text.
+// The first save of this book fails, before or after the text is in its place: there is no keeper over this store, then or
+// later. The store has the text `held`.
 fn check_no_keeper(
     rt: &(impl Abort + AllocGlobal),
     text: &str,
-    is_late: bool,
+    when: When,
     held: &str,
 ) -> Result<(), Fail> {
     let mut book = Book::read(rt.alloc(), text.as_bytes())?;
-    let mut store = Memory::new(rt.alloc(), 1, is_late);
+    let mut store = Memory::failing_at(rt.alloc(), 1, when);
     for _ in 0..2 {
         let Err((same, failed, fault)) = Keeper::begin(rt.alloc(), book, store) else {
             return Err("a keeper".into());
@@ -179,6 +179,6 @@ fn check_no_keeper(
 #[test]
 fn no_keeper_over_a_failing_store(rt: HostRuntime) -> Result<(), Fail> {
     let text = book_at(rt.alloc(), 0, 0)?;
-    check_no_keeper(&rt, text.as_str(), false, "")?;
-    check_no_keeper(&rt, text.as_str(), true, text.as_str())
+    check_no_keeper(&rt, text.as_str(), When::Before, "")?;
+    check_no_keeper(&rt, text.as_str(), When::After, text.as_str())
 }

@@ -5,14 +5,15 @@ use sasl_log::Clean;
 use std::process::Abort;
 use std::test::Fail;
 
-// The published login of RFC 5802, section 5, where the mechanism comes without a message, and how that is logged.
+// The published login of RFC 5802, section 5, with the mechanism and the client-first message in two lines, and how that is
+// logged.
 const ASKS: &str = "AUTH SCRAM-SHA-1";
 
 const ASKED: &str = "C AUTH SCRAM-SHA-1\nS CONT :\n";
 
 const OPENS_LATER: &str = "RESP :n,,n=user,r=fyko+d2lbbFgONRv9qkxdawL";
 
-// Where a session stands: after these lines of its client, of which the log has those, with so many acceptances.
+// Where a session stands: after these lines of its client, which are logged as `logged`, with so many acceptances.
 #[derive(Clone, Copy)]
 struct Place<'a> {
     lines: &'a [&'a str],
@@ -22,7 +23,7 @@ struct Place<'a> {
 
 // A service whose session stands there.
 fn service_at(rt: &(impl Abort + AllocGlobal), place: Place<'_>) -> Result<Service, Fail> {
-    let mut service = Service::begin(rt.alloc(), Memory::new(rt.alloc(), 0, false))?;
+    let mut service = Service::begin(rt.alloc(), Memory::sound(rt.alloc()))?;
     assert_eq!(rt; service.greet()?, Ok(Phase::WaitAuth));
     for line in place.lines {
         let phase = service.hear(rt.alloc(), Event::Line(line.as_bytes()))?;
@@ -31,7 +32,7 @@ fn service_at(rt: &(impl Abort + AllocGlobal), place: Place<'_>) -> Result<Servi
     Ok(service)
 }
 
-// There the session hears the event, and ends: the log has these lines of it.
+// At this place the session hears the event, and ends: the log has these lines for it.
 fn check_end(
     rt: &(impl Abort + AllocGlobal),
     place: Place<'_>,
@@ -53,8 +54,8 @@ fn check_end(
     service.check_log(rt.alloc(), log.as_str(), counts)
 }
 
-// There `C BAD` is recorded of these lines, which are not due, and of texts that are no lines of a client; a client may give
-// up, or go away.
+// At this place `C BAD` is recorded for these lines, which are not due, and for texts that are no lines of a client. The client
+// may give up, or go away.
 fn check_ends(
     rt: &(impl Abort + AllocGlobal),
     place: Place<'_>,
@@ -71,7 +72,7 @@ fn check_ends(
     check_end(rt, place, Event::Gone, "C GONE\nE\n")
 }
 
-// There the session hears this line, which is due, and refuses it with this message.
+// At this place the session hears this line, which is due, and refuses it with this message.
 fn check_refusal(
     rt: &(impl Abort + AllocGlobal),
     place: Place<'_>,
@@ -173,9 +174,9 @@ fn after_the_acceptance(rt: HostRuntime) -> Result<(), Fail> {
     check_ends(&rt, place, &[ASKS, OPENS, PROVES])
 }
 
-// A name without an account, and one without keys for the mechanism. The salts are the first 16 bytes of HMAC-SHA-256 by the
-// book's key, of the mechanism's name, 00 and the user's name, by Python's hmac. They are the same in every session, and
-// every proof is refused as a wrong one.
+// A name without an account, and one without keys for the mechanism. The salts are the first 16 bytes of the HMAC-SHA-256,
+// with the book's key, of the mechanism's name, a byte 00 and the user's name, as Python's hmac gives it. They are the same in
+// every session, and every proof is refused as a wrong one.
 #[test]
 fn decoys(rt: HostRuntime) -> Result<(), Fail> {
     for (line, challenge) in [

@@ -1,4 +1,4 @@
-//! Calls that are refused memory: they change nothing, and the same call then succeeds.
+//! Calls that get no memory: they change nothing, and the same call then succeeds.
 use account_book::Book;
 use desk_in_memory::{BOOK, Memory, Service};
 use linked_list_allocator::LocalHeap;
@@ -13,7 +13,7 @@ fn a_desk_begins_with_room_for_its_log(rt: HostRuntime) -> Result<(), Fail> {
     let heap = LocalHeap::new(alloc, 16)?;
     let mut log = Vec::new(&heap);
     let book = Book::read(alloc, BOOK.as_bytes())?;
-    match Desk::begin(alloc, book, Memory::new(alloc, 0, false), &mut log) {
+    match Desk::begin(alloc, book, Memory::sound(alloc), &mut log) {
         Ok(_) => return Err("memory was there".into()),
         Err((book, store, fault)) => {
             assert_eq!(rt; fault, DeskFault::NoMemory);
@@ -29,13 +29,16 @@ fn a_desk_begins_with_room_for_its_log(rt: HostRuntime) -> Result<(), Fail> {
 fn a_greeting_needs_room(rt: HostRuntime) -> Result<(), Fail> {
     let heap = LocalHeap::new(rt.alloc(), 16)?;
     let mut none = Vec::new(&heap);
-    let mut service = Service::begin(rt.alloc(), Memory::new(rt.alloc(), 0, false))?;
-    let own = NoncePart::new(b"3rfcNHYJY1ZVvWVs7j").ok_or("a part of a nonce")?;
+    let mut service = Service::begin(rt.alloc(), Memory::sound(rt.alloc()))?;
+    let server_nonce = NoncePart::new(b"3rfcNHYJY1ZVvWVs7j").ok_or("a part of a nonce")?;
     let Service { desk, wire, log } = &mut service;
     if desk.phase() != Phase::Closed {
         return Err("a session is open".into());
     }
-    assert_eq!(rt; desk.greet(own, wire, &mut none), Err(DeskFault::NoMemory));
+    assert_eq!(rt;
+        desk.greet(server_nonce, wire, &mut none),
+        Err(DeskFault::NoMemory)
+    );
     assert!(rt; wire.is_empty());
     assert!(rt; none.is_empty());
     assert_eq!(rt; log.as_slice(), b"SCRAMLOG 1\n".as_slice());
@@ -47,7 +50,7 @@ fn a_greeting_needs_room(rt: HostRuntime) -> Result<(), Fail> {
 fn a_turn_needs_room(rt: HostRuntime) -> Result<(), Fail> {
     let heap = LocalHeap::new(rt.alloc(), 16)?;
     let mut none = Vec::new(&heap);
-    let mut service = Service::begin(rt.alloc(), Memory::new(rt.alloc(), 0, false))?;
+    let mut service = Service::begin(rt.alloc(), Memory::sound(rt.alloc()))?;
     assert_eq!(rt; service.greet()?, Ok(Phase::WaitAuth));
     let moment = Moment::new(3).ok_or("a moment")?;
     let asks = Event::Line(b"AUTH SCRAM-SHA-1");

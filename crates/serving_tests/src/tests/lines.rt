@@ -28,13 +28,13 @@ fn one_turn<C: Source>(
     rt: &(impl Abort + AllocGlobal),
     client: &mut C,
 ) -> Result<(Service, Result<Phase, ServeFault>), Fail> {
-    let mut service = Service::begin(rt.alloc(), Memory::new(rt.alloc(), 0, false))?;
+    let mut service = Service::begin(rt.alloc(), Memory::sound(rt.alloc()))?;
     assert_eq!(rt; service.greet()?, Ok(Phase::WaitAuth));
     let end = service.take_turn(rt.alloc(), client, &mut Ticking::after(0)?)?;
     Ok((service, end))
 }
 
-// One turn with this client ends the session: the log has these lines of it, and this is what the client gives next.
+// One turn with this client ends the session: the log has these lines for it, and this is what the client gives next.
 fn check_end<C: Source>(
     rt: &(impl Abort + AllocGlobal),
     client: &mut C,
@@ -82,7 +82,7 @@ fn a_longer_line_is_bad(rt: HostRuntime) -> Result<(), Fail> {
     Ok(())
 }
 
-// An empty line is a line, and a bad one; no line at all is a client that has gone.
+// An empty line is a bad line; if there is no line at all, the client has gone.
 #[test]
 fn an_empty_line_is_bad(rt: HostRuntime) -> Result<(), Fail> {
     check_end(&rt, &mut OverRead::new(b"\n".as_slice()), BAD, Got::End)?;
@@ -114,7 +114,7 @@ impl Read for Torn<'_> {
     }
 }
 
-// A read that fails in a line is a client that has gone; after a line, or after 6201 bytes of it, it comes too late.
+// If a read fails in a line, the client has gone; after a line, or after 6201 bytes of it, the failure comes too late.
 #[test]
 fn a_failed_read_is_gone(rt: HostRuntime) -> Result<(), Fail> {
     let longest = long_line(rt.alloc(), 6182)?;

@@ -1,6 +1,6 @@
-//! Clients that are served: what is read of them, what they are told, and the log.
+//! Clients that are served: what is read from them, what they are sent, and the log.
 use super::check_halted;
-use desk_in_memory::{AMPLE, Memory, Service, Ticking, login_and};
+use desk_in_memory::{AMPLE, Memory, Service, Ticking, When, login_and};
 use sasl_desk::{Event, Phase};
 use sasl_log::{Clean, Got, OverRead, Source};
 use std::process::Abort;
@@ -10,7 +10,7 @@ use std::test::Fail;
 #[test]
 fn a_login_and_codes_are_served(rt: HostRuntime) -> Result<(), Fail> {
     let alloc = rt.alloc();
-    let mut service = Service::begin(alloc, Memory::new(alloc, 0, false))?;
+    let mut service = Service::begin(alloc, Memory::sound(alloc))?;
     let sent = login_and(alloc, "CODE 755224\nCODE 755224\nSYNC 969429 338314\n")?;
     let mut client = OverRead::new(sent.as_bytes());
     let end = service.serve(alloc, &mut client, AMPLE, AMPLE)?;
@@ -39,12 +39,12 @@ fn check_turns<C: Source>(
     Ok(())
 }
 
-// A turn reads its line and no byte more, and asks the clock once. Then the client is gone, since a session that is open is no
-// clean log.
+// A turn reads its line and not a byte more, and asks the clock once. Then the client goes away, since a log with an open
+// session is not clean.
 #[test]
 fn a_turn_takes_one_line(rt: HostRuntime) -> Result<(), Fail> {
     let alloc = rt.alloc();
-    let mut service = Service::begin(alloc, Memory::new(alloc, 0, false))?;
+    let mut service = Service::begin(alloc, Memory::sound(alloc))?;
     assert_eq!(rt; service.greet()?, Ok(Phase::WaitAuth));
     let sent = login_and(alloc, "CODE 755224\nABORT\n")?;
     let mut client = OverRead::new(sent.as_bytes());
@@ -59,11 +59,11 @@ fn a_turn_takes_one_line(rt: HostRuntime) -> Result<(), Fail> {
     )
 }
 
-// Where a session ends, the lines after it are left for the next.
+// When a session ends, the lines after it are left for the next one.
 #[test]
 fn clients_follow_each_other(rt: HostRuntime) -> Result<(), Fail> {
     let alloc = rt.alloc();
-    let mut service = Service::begin(alloc, Memory::new(alloc, 0, false))?;
+    let mut service = Service::begin(alloc, Memory::sound(alloc))?;
     let mut client = OverRead::new(b"ABORT\nAUTH PLAIN\n".as_slice());
     for _ in 0..2 {
         let end = service.serve(alloc, &mut client, AMPLE, AMPLE)?;
@@ -82,11 +82,11 @@ fn clients_follow_each_other(rt: HostRuntime) -> Result<(), Fail> {
     service.check_log(alloc, log.as_str(), counts)
 }
 
-// The store fails at the first code, before or after the new text is in its place: the client is told `HALT`, and is served
-// no more, nor is anyone else.
-fn check_failed_save(rt: &(impl Abort + AllocGlobal), is_late: bool) -> Result<(), Fail> {
+// The store fails at the first code, before or after the new text is in its place: the client is sent `HALT`, and neither it
+// nor anyone else is served after that.
+fn check_failed_save(rt: &(impl Abort + AllocGlobal), when: When) -> Result<(), Fail> {
     let alloc = rt.alloc();
-    let mut service = Service::begin(alloc, Memory::new(alloc, 2, is_late))?;
+    let mut service = Service::begin(alloc, Memory::failing_at(alloc, 2, when))?;
     let sent = login_and(alloc, "CODE 755224\nABORT\n")?;
     let mut client = OverRead::new(sent.as_bytes());
     let end = service.serve(alloc, &mut client, AMPLE, AMPLE)?;
@@ -97,6 +97,6 @@ fn check_failed_save(rt: &(impl Abort + AllocGlobal), is_late: bool) -> Result<(
 
 #[test]
 fn a_failed_save_ends_serving(rt: HostRuntime) -> Result<(), Fail> {
-    check_failed_save(&rt, false)?;
-    check_failed_save(&rt, true)
+    check_failed_save(&rt, When::Before)?;
+    check_failed_save(&rt, When::After)
 }

@@ -7,10 +7,10 @@ use std::alloc::Global;
 use std::process::Abort;
 use std::test::Fail;
 
-// What a session's greeting, or a turn of it, writes, and what stands then.
+// What the greeting or a turn of a session writes, and how things stand after it.
 #[derive(Clone, Copy)]
 struct Written<'a> {
-    // The writes before it, to the log and to the client.
+    // The number of writes before it, to the log and also to the client.
     before: u64,
 
     logged: &'a str,
@@ -68,7 +68,7 @@ S OK :v=rmF9pqV8S7suAoZWja4dJRkFsKQ=
     },
 ];
 
-// The text, and the first bytes of the next.
+// The text, followed by the first bytes of the next.
 fn text_and(alloc: Global, text: &str, next: &str, bytes: usize) -> Result<Vec<u8>, Fail> {
     let mut all = Vec::from_slice(alloc, text.as_bytes())?;
     let part = next.as_bytes().get(..bytes).ok_or("so many bytes")?;
@@ -76,13 +76,13 @@ fn text_and(alloc: Global, text: &str, next: &str, bytes: usize) -> Result<Vec<u
     Ok(all)
 }
 
-// Serves the client of this session, where the wire and the log have so much room.
+// Serves the client of this session over a wire and a log with so much room.
 fn served(
     alloc: Global,
     wire_room: Room,
     log_room: Room,
 ) -> Result<(Service, Result<Phase, ServeFault>), Fail> {
-    let mut service = Service::begin(alloc, Memory::new(alloc, 0, false))?;
+    let mut service = Service::begin(alloc, Memory::sound(alloc))?;
     let sent = login_and(alloc, "CODE 755224\nABORT\n")?;
     let mut client = OverRead::new(sent.as_bytes());
     let end = service.serve(alloc, &mut client, wire_room, log_room)?;
@@ -90,13 +90,26 @@ fn served(
 }
 
 // The desk stands at this phase, the client was sent this, and this is the log.
-fn check_left(rt: &impl Abort, service: &Service, phase: Phase, wire: &[u8], log: &[u8]) {
+fn check_left(
+    rt: &impl Abort,
+    service: &Service,
+    phase: Phase,
+    wire: &[u8],
+    log: &[u8],
+) -> Result<(), Fail> {
     assert_eq!(rt; service.desk.phase(), phase);
-    assert_eq!(rt; service.wire.as_slice(), wire);
-    assert_eq!(rt; service.log.as_slice(), log);
+    assert_eq!(rt;
+        str::from_utf8(service.wire.as_slice())?,
+        str::from_utf8(wire)?
+    );
+    assert_eq!(rt;
+        str::from_utf8(service.log.as_slice())?,
+        str::from_utf8(log)?
+    );
+    Ok(())
 }
 
-// A client that is gone after what was written here, and before it, leaves a clean log.
+// If the client is gone after what was written up to here, the log is clean.
 fn check_gone(
     rt: &(impl Abort + AllocGlobal),
     mut service: Service,
@@ -116,8 +129,8 @@ fn check_gone(
     service.check_log(rt.alloc(), log.as_str(), counts)
 }
 
-// The wire fails here, after these bytes: the log has the turn, the desk stands after it, and a client that is then gone
-// leaves a clean log.
+// The wire fails here, after these bytes: the log has the turn, and the desk stands after it. If the client is then gone, the
+// log is clean.
 fn check_unsent(
     rt: &(impl Abort + AllocGlobal),
     here: Written<'_>,
@@ -132,7 +145,7 @@ fn check_unsent(
     let wire = text_and(rt.alloc(), told, here.told, bytes)?;
     let (service, fault) = served(rt.alloc(), room, AMPLE)?;
     assert_eq!(rt; fault, Err(ServeFault::WriteFault));
-    check_left(rt, &service, here.phase, wire.as_slice(), logged.as_bytes());
+    check_left(rt, &service, here.phase, wire.as_slice(), logged.as_bytes())?;
     check_gone(rt, service, here, logged)
 }
 
@@ -149,8 +162,8 @@ fn the_wire_fails_at_each_write(rt: HostRuntime) -> Result<(), Fail> {
     Ok(())
 }
 
-// The log fails here, after these bytes: the client is told nothing of the turn, and the desk has halted. Whoever comes next
-// is told nothing, and nothing is logged of it, even where both can be written again.
+// The log fails here, after these bytes: nothing of the turn is sent to the client, and the desk has halted. The next client is
+// sent nothing, and nothing is logged for it, even if both can be written again.
 fn check_unlogged(
     rt: &(impl Abort + AllocGlobal),
     here: Written<'_>,
@@ -166,8 +179,7 @@ fn check_unlogged(
     let (mut service, fault) = served(rt.alloc(), AMPLE, room)?;
     assert_eq!(rt; fault, Err(ServeFault::LogFault));
     check_halted(rt, &mut service, &mut OverRead::new(b"ABORT\n".as_slice()))?;
-    check_left(rt, &service, Phase::Halted, told.as_bytes(), log.as_slice());
-    Ok(())
+    check_left(rt, &service, Phase::Halted, told.as_bytes(), log.as_slice())
 }
 
 #[test]

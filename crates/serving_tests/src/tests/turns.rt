@@ -6,7 +6,7 @@ use std::alloc::Global;
 use std::process::Abort;
 use std::test::Fail;
 
-// Wrong codes: the client's lines, its login first; what it is told of the codes; and their log.
+// Wrong codes: the client's lines, its login first; what it is sent for the codes; and their log.
 #[derive(Drop)]
 struct Codes {
     sent: String,
@@ -14,7 +14,7 @@ struct Codes {
     logged: String,
 }
 
-// One wrong code at each moment from 3 up to this one: the first three fail and lock the token.
+// One wrong code at each moment from 3 on and before `end`: the first three fail and lock the token.
 fn wrong_codes(alloc: Global, end: u64) -> Result<Codes, Fail> {
     let mut sent = login_and(alloc, "")?;
     let mut told = String::new(alloc);
@@ -30,8 +30,8 @@ fn wrong_codes(alloc: Global, end: u64) -> Result<Codes, Fail> {
     Ok(Codes { sent, told, logged })
 }
 
-// After its login a client sends wrong codes up to this moment, and then an ABORT. The session ends with these lines, which tell
-// the client this; and this is what the client gives next.
+// After its login a client sends wrong codes before the moment `end_of_codes`, and then an ABORT. The session ends with the
+// lines `ends`, of which the client is sent `told`; and `next` is what the client gives next.
 fn check_end(
     rt: &(impl Abort + AllocGlobal),
     end_of_codes: u64,
@@ -43,7 +43,7 @@ fn check_end(
     codes.sent.push_str("ABORT\n")?;
     codes.told.push_str(told)?;
     codes.logged.push_str(ends)?;
-    let mut service = Service::begin(rt.alloc(), Memory::new(rt.alloc(), 0, false))?;
+    let mut service = Service::begin(rt.alloc(), Memory::sound(rt.alloc()))?;
     let mut client = OverRead::new(codes.sent.as_bytes());
     let end = service.serve(rt.alloc(), &mut client, AMPLE, AMPLE)?;
     assert_eq!(rt; end, Ok(Phase::Closed));
@@ -51,14 +51,14 @@ fn check_end(
     service.check_after_login(rt.alloc(), codes.told.as_str(), codes.logged.as_str(), 0)
 }
 
-// Two turns of a login, and one at each moment from 3 to 10000: then the client is taken for gone, and its next line is not
+// Two turns of a login, and one at each moment from 3 to 10000: then the client is treated as gone, and its next line is not
 // read.
 #[test]
 fn an_endless_client_is_gone(rt: HostRuntime) -> Result<(), Fail> {
     check_end(&rt, 10_001, "C GONE\nE\n", "", Got::Byte(b'A'))
 }
 
-// With one code less the ABORT comes in the last turn: it ends the session, and the client is not taken for gone.
+// With one code less, the ABORT comes in the last turn: it ends the session, and the client is not treated as gone.
 #[test]
 fn the_last_turn_is_taken(rt: HostRuntime) -> Result<(), Fail> {
     check_end(&rt, 10_000, "C ABORT\nS NO :\nE\n", "NO :\n", Got::End)

@@ -2,4 +2,4 @@ use Rattle.sasl_desk.proofs.lemmas.runs.Logs.{desk_log_is_front}
 use Rattle.sasl_desk.proofs.laws.log_is_a_front.Goals as goal
 
 pub returns : goal.returns
-returns g c = desk_log_is_front g.S.BookStore.facts g.S.BookStore.IsStored
+returns g c = λ start calls desk s. desk_log_is_front s

@@ -2,7 +2,7 @@ use Rattle.sasl_desk.proofs.lemmas.runs.Logs.{log_is_clean, halted_desk_log_is_c
 use Rattle.sasl_desk.proofs.laws.log_is_clean.Goals as goal
 
 pub returns-clause-closed : goal.returns-clause-closed
-returns-clause-closed g c = log_is_clean g.S.BookStore.facts g.S.BookStore.IsStored
+returns-clause-closed g c = λ start calls desk s. log_is_clean s
 
 pub returns-clause-halted : goal.returns-clause-halted
-returns-clause-halted g c = halted_desk_log_is_clean c.goes_on_by_no_other.ensures g.S.BookStore.facts g.S.BookStore.IsStored
+returns-clause-halted g c = λ start calls desk s. halted_desk_log_is_clean s c.goes_on_by_no_other.ensures

@@ -2,4 +2,4 @@ use Rattle.sasl_desk.proofs.lemmas.runs.Stores.{log_is_saved}
 use Rattle.sasl_desk.proofs.laws.log_is_saved.Goals as goal
 
 pub returns : goal.returns
-returns g c = log_is_saved g.S.BookStore.facts g.S.BookStore.IsStored
+returns g c = λ start calls desk s. log_is_saved s

@@ -2,4 +2,4 @@ use Rattle.sasl_desk.proofs.lemmas.runs.Stores.{desk_store_holds_left_book}
 use Rattle.sasl_desk.proofs.laws.store_holds_a_book.Goals as goal
 
 pub returns : goal.returns
-returns g c = desk_store_holds_left_book g.S.BookStore.facts g.S.BookStore.IsStored
+returns g c = λ start calls desk s. desk_store_holds_left_book s

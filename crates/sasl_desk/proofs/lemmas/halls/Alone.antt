@@ -21,21 +21,22 @@ admitted_session_has_run : (accounts : Accounts) (calls : List Call) (at : Place
 admitted_session_has_run accounts calls at let_in (inl run) = run
 admitted_session_has_run accounts calls at let_in (inr (turned, is)) = absurd (let_in (ap call_lines turned.1))
 
--- two sessions with equal entries and requests, neither turned away, have equal lines up to an acceptance
-pub sessions_tell_same : UniquenessLaws
-    → {S : Type 0} (facts : S → StoreFacts) (IsStored : List ℕ → Type 0) (start begun : BookFields) (calls others : List (Numbered Call))
-    (hall other : HallFields S) (n m : ℕ) → IsHallAfter facts IsStored start calls hall → IsHallAfter facts IsStored begun others other
-    → HaveSameEntries (accounts_in start) (accounts_in begun)
-    → of_number n (hall_lines calls) ≢ busy_lines → of_number m (hall_lines others) ≢ busy_lines
-    → HaveSameRequests (of_number n calls) (of_number m others)
-    → up_to_acceptance (of_number n (hall_lines calls)) ≡ up_to_acceptance (of_number m (hall_lines others))
-sessions_tell_same t facts IsStored start begun calls others hall other n m s r entries let_in let_in_too same =
-    let one = admitted_session_has_run (accounts_in start) (of_number n calls) (s.places n) (λ is. let_in (of_number_lines n calls ∙ is))
-    (s.session_runs n) in
-    let two = admitted_session_has_run (accounts_in begun) (of_number m others) (r.places m)
-    (λ is. let_in_too (of_number_lines m others ∙ is))
-    (r.session_runs m) in
-    ap up_to_acceptance (of_number_lines n calls)
-    ∙ runs_tell_same t (accounts_in start) (accounts_in begun) (of_number n calls) (of_number m others) (s.places n)
-    (r.places m) entries one two same
-    ∙ ap up_to_acceptance (sym (of_number_lines m others))
+-- sessions of two halls, of which neither was turned away
+module _ (t : UniquenessLaws) {S : Type 0} {facts : S → StoreFacts} {IsStored : List ℕ → Type 0} {start begun : BookFields}
+    {calls others : List (Numbered Call)} {hall other : HallFields S} (n m : ℕ) (s : IsHallAfter facts IsStored start calls hall)
+    (r : IsHallAfter facts IsStored begun others other) where
+  -- if their entries and their requests are equal, so are their lines up to an acceptance
+  pub sessions_tell_same : HaveSameEntries (accounts_in start) (accounts_in begun)
+      → of_number n (hall_lines calls) ≢ busy_lines → of_number m (hall_lines others) ≢ busy_lines
+      → HaveSameRequests (of_number n calls) (of_number m others)
+      → up_to_acceptance (of_number n (hall_lines calls)) ≡ up_to_acceptance (of_number m (hall_lines others))
+  sessions_tell_same entries let_in let_in_too same =
+      let one = admitted_session_has_run (accounts_in start) (of_number n calls) (s.places n) (λ is. let_in (of_number_lines n calls ∙ is))
+      (s.session_runs n) in
+      let two = admitted_session_has_run (accounts_in begun) (of_number m others) (r.places m)
+      (λ is. let_in_too (of_number_lines m others ∙ is))
+      (r.session_runs m) in
+      ap up_to_acceptance (of_number_lines n calls)
+      ∙ runs_tell_same t (accounts_in start) (accounts_in begun) (of_number n calls) (of_number m others) (s.places n)
+      (r.places m) entries one two same
+      ∙ ap up_to_acceptance (sym (of_number_lines m others))

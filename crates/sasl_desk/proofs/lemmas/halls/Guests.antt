@@ -1,11 +1,12 @@
 -- The guests of a hall, counted by their numbers.
-use Rattle.std.proofs.Common.{◌≡◌, ◌+◌, inl, inr, ℕ, List, [], ◌∷◌, refl, sym, ◌∙◌, ap, arith}
+use Rattle.std.proofs.Common.{◌≡◌, ◌+◌, inl, inr, ℕ, List, [], ◌∷◌, ◌++◌, refl, sym, ◌∙◌, ap, arith}
 use Rattle.std.specs.Prelude.{count_by}
 use Rattle.std.specs.List.{AllByRecursion}
 use Rattle.std.proofs.lemmas.Bool.{eq-eqb}
 use Rattle.std.proofs.lemmas.Bool.Decides.{eqb_tells}
 use Rattle.sasl_desk.specs.Guests.{is_of}
 use Rattle.sasl_desk.specs.declared.hall.guest.Guest.{Guest}
+use Rattle.sasl_desk.proofs.lemmas.Lists.{last_counts_as_first}
 use Rattle.sasl_log.proofs.lemmas.ListCounts.{passing_counts_one, failing_counts_none, first_adds_its_count}
 
 -- a guest of a number adds one to the guests of that number
@@ -24,7 +25,19 @@ other_guest_counts_not n guest guests other = elim (eqb_tells guest.number n) [
       omega (arith, failing_counts_none (is_of n) guest differ.0, first_adds_its_count (is_of n) guest guests)
 ]
 
--- where a number has a guest, what holds of each guest holds of one with this number
+-- a guest at the end of a list is the only one of its number if no guest before it has this number
+pub last_guest_counts_one : (n : ℕ) (guest : Guest) (guests : List Guest) → guest.number ≡ n → count_by (is_of n) guests ≡ 0
+    → count_by (is_of n) (guests ++ guest ∷ []) ≡ 1
+last_guest_counts_one n guest guests same none =
+    omega (arith, none, last_counts_as_first (is_of n) guests guest, own_guest_counts n guest guests same)
+
+-- a guest of another number at the end of a list does not count among those of this one
+pub other_last_guest_counts_not : (n : ℕ) (guest : Guest) (guests : List Guest) → (guest.number ≡ n → ⊥)
+    → count_by (is_of n) (guests ++ guest ∷ []) ≡ count_by (is_of n) guests
+other_last_guest_counts_not n guest guests other =
+    last_counts_as_first (is_of n) guests guest ∙ other_guest_counts_not n guest guests other
+
+-- if a number has a guest, what is true of each guest is true of one with this number
 pub some_guest : (P : Guest → Type 0) (n : ℕ) (guests : List Guest) → AllByRecursion P guests → (count_by (is_of n) guests ≡ 0 → ⊥)
     → (guest : Guest) × P guest × (guest.number ≡ n)
 some_guest P n [] all some = absurd (some refl)

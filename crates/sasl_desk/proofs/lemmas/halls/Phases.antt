@@ -1,4 +1,4 @@
--- Where each number stands in a hall: where it has no guest, between sessions; and the phase of each guest is that of its place.
+-- Where each number stands in a hall: between sessions if it has no guest; and the phase of each guest is that of its place.
 use Rattle.std.proofs.Common.{◌≡◌, inl, inr, Bool, true, false, ℕ, List, [], ◌∷◌, refl, sym, ◌∙◌, subst, arith}
 use Rattle.std.specs.List.{find}
 use Rattle.std.specs.declared.option.Option.{Option}
@@ -19,7 +19,7 @@ use Rattle.sasl_desk.specs.Runs.{Request, greets, hears, Call, IsAtRest, IsAnswe
 use Rattle.sasl_desk.specs.declared.hall.guest.Guest.{Guest}
 use Rattle.sasl_desk.proofs.lemmas.Lists.{none_found_none_counted, found_has_property, found_is_counted}
 use Rattle.sasl_desk.proofs.lemmas.halls.Calls.{session_phase_fits_place}
-use Rattle.sasl_desk.proofs.lemmas.halls.Turns.{open_place_counts_one, closed_place_counts_none}
+use Rattle.sasl_desk.proofs.lemmas.halls.Working.{open_place_counts_one, closed_place_counts_none}
 
 -- after a call nothing is left to be said at its session's place:
 answered_call_rests : (accounts : Accounts) (server_nonce : List ℕ) (request : Request) (place at : Place) (lines : List LogLine)
@@ -43,52 +43,39 @@ resting_closed_is_between before_all is rests = absurd (cc rests)
 resting_closed_is_between between is rests = refl
 resting_closed_is_between at is rests = absurd (cc is)
 
--- a number without a guest is between sessions, and one with a guest is not:
-pub no_guest_is_between : {S : Type 0} (facts : S → StoreFacts) (IsStored : List ℕ → Type 0) (start : BookFields)
-    (calls : List (Numbered Call)) (hall : HallFields S)
-    (s : IsHallAfter facts IsStored start calls hall) (n : ℕ) → find (is_of n) hall.guests ≡ None → s.places n ≡ between
-no_guest_is_between facts IsStored start calls hall s n none = elim (cases_Bool (is_closed (s.places n))) [
-  | inl is ↦ resting_closed_is_between (s.places n) is (session_run_rests (accounts_in start) (of_number n calls) (s.places n)
-      (s.session_runs n))
-  | inr is_open ↦ absurd (omega (
-    arith,
-    none_found_none_counted (is_of n) hall.guests none,
-    s.guests n,
-    open_place_counts_one (s.places n)
-        is_open,
-  ))
-]
+-- a hall that has answered these calls, and a number
+module _ {S : Type 0} {facts : S → StoreFacts} {IsStored : List ℕ → Type 0} {start : BookFields} {calls : List (Numbered Call)}
+    {hall : HallFields S} (s : IsHallAfter facts IsStored start calls hall) (n : ℕ) where
+  -- a number without a guest is between sessions, and one with a guest is not:
+  pub no_guest_is_between : find (is_of n) hall.guests ≡ None → s.places n ≡ between
+  no_guest_is_between none = elim (cases_Bool (is_closed (s.places n))) [
+    | inl is ↦ resting_closed_is_between (s.places n) is (session_run_rests (accounts_in start) (of_number n calls) (s.places n)
+        (s.session_runs n))
+    | inr is_open ↦ absurd (omega (
+      arith,
+      none_found_none_counted (is_of n) hall.guests none,
+      s.guests n,
+      open_place_counts_one (s.places n) is_open,
+    ))
+  ]
 
-guest_is_not_between : {S : Type 0} (facts : S → StoreFacts) (IsStored : List ℕ → Type 0) (start : BookFields)
-    (calls : List (Numbered Call))
-    (hall : HallFields S)
-    (s : IsHallAfter facts IsStored start calls hall) (n : ℕ) (guest : Guest) → find (is_of n) hall.guests ≡ Some guest
-    → s.places n ≡ between → ⊥
-guest_is_not_between facts IsStored start calls hall s n guest some at =
-    found_is_counted (is_of n) hall.guests guest some (s.guests n ∙ closed_place_counts_none (s.places n) (rw at refl))
+  guest_is_not_between : (guest : Guest) → find (is_of n) hall.guests ≡ Some guest → s.places n ≡ between → ⊥
+  guest_is_not_between guest some at =
+      found_is_counted (is_of n) hall.guests guest some (s.guests n ∙ closed_place_counts_none (s.places n) (rw at refl))
 
--- the phase of a number's guest, or none where it has none, is that of its place
-guest_phase_fits_place : {S : Type 0} (facts : S → StoreFacts) (IsStored : List ℕ → Type 0) (start : BookFields)
-    (calls : List (Numbered Call))
-    (hall : HallFields S)
-    (s : IsHallAfter facts IsStored start calls hall) (n : ℕ) (is_halted : Bool) → is_halted ≡ hall.is_halted → (guest : Option Guest)
-    → find (is_of n) hall.guests ≡ guest
-    → IsPhaseIn (s.places n) (guest_phase is_halted guest)
-guest_phase_fits_place facts IsStored start calls hall s n is_halted same None none =
-    no_guest_is_between facts IsStored start calls hall s n none
-guest_phase_fits_place facts IsStored start calls hall s n true same (Some guest) some =
-    (guest_is_not_between facts IsStored start calls hall s n guest some, tt)
-guest_phase_fits_place facts IsStored start calls hall s n false same (Some guest) some =
-    let found = found_has_property (IsSeated (accounts_in start) calls s.places) (is_of n) hall.guests guest (s.seated (sym same)) some in
-    let number = eqb-true guest.number n found.1 in (
-      guest_is_not_between facts IsStored start calls hall s n guest some,
-      subst (λ (m : ℕ). IsPhaseOf (s.places m) (session_phase guest.session)) number
-          (session_phase_fits_place (accounts_in start) (s.places guest.number) guest.session found.0.0),
-    )
+  -- the phase of the number's guest, or none if it has none, is that of its place
+  guest_phase_fits_place : (is_halted : Bool) → is_halted ≡ hall.is_halted → (guest : Option Guest) → find (is_of n) hall.guests ≡ guest
+      → IsPhaseIn (s.places n) (guest_phase is_halted guest)
+  guest_phase_fits_place is_halted same None none = no_guest_is_between none
+  guest_phase_fits_place true same (Some guest) some = (guest_is_not_between guest some, tt)
+  guest_phase_fits_place false same (Some guest) some =
+      let found = found_has_property (IsSeated (accounts_in start) calls s.places) (is_of n) hall.guests guest (s.seated (sym same)) some in
+      let number = eqb-true guest.number n found.1 in (
+        guest_is_not_between guest some,
+        subst (λ (m : ℕ). IsPhaseOf (s.places m) (session_phase guest.session)) number
+            (session_phase_fits_place (accounts_in start) (s.places guest.number) guest.session found.0.0),
+      )
 
--- the phase of each number's session is that of its place, and there is none exactly where no session is open
-pub hall_phase_fits_place : {S : Type 0} (facts : S → StoreFacts) (IsStored : List ℕ → Type 0) (start : BookFields)
-    (calls : List (Numbered Call)) (hall : HallFields S)
-    (s : IsHallAfter facts IsStored start calls hall) (n : ℕ) → IsPhaseIn (s.places n) (phase_in hall n)
-hall_phase_fits_place facts IsStored start calls hall s n = guest_phase_fits_place facts IsStored start calls hall s n hall.is_halted refl
-    (find (is_of n) hall.guests) refl
+  -- the phase of the number's session is that of its place, and there is none if and only if no session of it is open
+  pub hall_phase_fits_place : IsPhaseIn (s.places n) (phase_in hall n)
+  hall_phase_fits_place = guest_phase_fits_place hall.is_halted refl (find (is_of n) hall.guests) refl

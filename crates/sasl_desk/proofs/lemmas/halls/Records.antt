@@ -19,10 +19,8 @@ session_run_has_its_records accounts calls at (inl run) = inl
 session_run_has_its_records accounts calls at (inr (turned, is)) = inr turned
 
 -- the calls of each number have their records, as at a desk; or its session was turned away and asked nothing more
-pub session_has_its_records : {S : Type 0} (facts : S → StoreFacts) (IsStored : List ℕ → Type 0) (start : BookFields)
-    (calls : List (Numbered Call))
-    (hall : HallFields S)
-    → IsHallAfter facts IsStored start calls hall → (n : ℕ) → HasSessionRecords (accounts_in start) (of_number n calls)
-session_has_its_records facts IsStored start calls hall s n =
-    session_run_has_its_records (accounts_in start) (of_number n calls) (s.places n)
-    (s.session_runs n)
+pub session_has_its_records : {S : Type 0} {facts : S → StoreFacts} {IsStored : List ℕ → Type 0} {start : BookFields}
+    {calls : List (Numbered Call)} {hall : HallFields S} → IsHallAfter facts IsStored start calls hall
+    → (n : ℕ) → HasSessionRecords (accounts_in start) (of_number n calls)
+session_has_its_records {start = start} {calls = calls} s n =
+    session_run_has_its_records (accounts_in start) (of_number n calls) (s.places n) (s.session_runs n)

@@ -1,4 +1,4 @@
--- A desk's log is a front, and it is clean between sessions, where the store has failed, and after `S HALT`.
+-- A desk's log is a front, and it is clean between sessions, when the store has failed, and after `S HALT`.
 use Rattle.std.proofs.Common.{◌≡◌, inl, inr, ◌⊎◌, true, ℕ, List, [], ◌∷◌, ◌++◌, map, refl, sym, subst, append-nil}
 use Rattle.book_format.specs.Book.{BookFields}
 use Rattle.account_book.specs.Store.{StoreFacts}
@@ -22,7 +22,7 @@ use Rattle.sasl_desk.specs.declared.desk.state.State.TheVariants.{Closed, Open, 
 use Rattle.sasl_desk.specs.declared.session.phase.Phase.TheVariants as phase
 use Rattle.sasl_desk.specs.declared.session.Session.{Session}
 use Rattle.sasl_desk.specs.declared.session.Session.TheVariants.{WaitAuth, WaitFirst, WaitFinal, WaitCode}
-use Rattle.sasl_desk.proofs.lemmas.runs.IsDeskAfter.{failed_store_means_halted}
+use Rattle.sasl_desk.proofs.lemmas.runs.HeldBooks.{failed_store_means_halted}
 
 -- the bytes of lines that can be written are these lines
 bytes_are_lines : (lines : List LogLine) → CanBeWritten lines → AreLines (log_bytes lines) lines []
@@ -35,14 +35,6 @@ bytes_are_lines lines written = (
   },
   writable_lines_are_read IsLogLine log_line_text lines written,
 )
-
--- a desk's log is a front
-pub desk_log_is_front : {S : Type 0} (facts : S → StoreFacts) (IsStored : List ℕ → Type 0) (start : BookFields) (calls : List Call)
-    (desk : Desk S) → IsDeskAfter facts IsStored start calls desk
-    → IsFront (accounts_in start) (log_bytes (run_lines calls))
-desk_log_is_front facts IsStored start calls desk s =
-    log_lines_are_front (accounts_in start) (log_bytes (run_lines calls)) (run_lines calls) s.place s.told
-    (bytes_are_lines (run_lines calls) s.writable) s.begins
 
 -- an open session is not Closed
 open_session_not_closed : (going : Session) → session_phase going ≡ phase.Closed → ⊥
@@ -60,28 +52,33 @@ closed_desk_may_end start server_nonce place Closed at is = rw at tt
 closed_desk_may_end start server_nonce place (Open going kept) at is = absurd (open_session_not_closed going is)
 closed_desk_may_end start server_nonce place Halted at is = absurd (cc is)
 
--- a desk's log is clean where no session is open, or where the store has failed
-pub log_is_clean : {S : Type 0} (facts : S → StoreFacts) (IsStored : List ℕ → Type 0) (start : BookFields) (calls : List Call)
-    (desk : Desk S) → IsDeskAfter facts IsStored start calls desk
-    → (phase_of desk.state ≡ phase.Closed) ⊎ ((facts desk.keeper.store).failed ≡ true)
-    → IsClean (accounts_in start) (log_bytes (run_lines calls))
-log_is_clean facts IsStored start calls desk s ends =
-    log_lines_are_clean (accounts_in start) (log_bytes (run_lines calls)) (run_lines calls) s.place s.told
-    (bytes_are_lines (run_lines calls) s.writable) s.begins
-    (elim ends [
-      | inl closed ↦ closed_desk_may_end start _ s.place desk.state s.is_state closed
-      | inr failed ↦ subst MayEnd (sym (failed_store_means_halted IsStored (accounts_in start) calls s.place desk.keeper.book
-          (facts desk.keeper.store)
-          s.is_stored failed)) tt
-    ])
+-- a desk that has answered these calls
+module _ {S : Type 0} {facts : S → StoreFacts} {IsStored : List ℕ → Type 0} {start : BookFields} {calls : List Call} {desk : Desk S}
+    (s : IsDeskAfter facts IsStored start calls desk) where
+  -- its log is a front
+  pub desk_log_is_front : IsFront (accounts_in start) (log_bytes (run_lines calls))
+  desk_log_is_front =
+      log_lines_are_front (accounts_in start) (log_bytes (run_lines calls)) (run_lines calls) s.place s.told
+      (bytes_are_lines (run_lines calls) s.writable) s.begins
 
--- a desk's log whose last line is `S HALT` is clean
-pub halted_desk_log_is_clean : GoesOnByNoOther → {S : Type 0} (facts : S → StoreFacts) (IsStored : List ℕ → Type 0) (start : BookFields)
-    (calls : List Call) (desk : Desk S) → IsDeskAfter facts IsStored start calls desk
-    → (lines : List LogLine) → run_lines calls ≡ lines ++ said halt ∷ [] → IsClean (accounts_in start) (log_bytes (run_lines calls))
-halted_desk_log_is_clean law facts IsStored start calls desk s lines last =
-    let before = law (accounts_in start) lines (said halt) s.place s.told
-    (subst (λ (l : List LogLine). Begins (demands (accounts_in start)) l s.place s.told) last s.begins) in
-    log_lines_are_clean (accounts_in start) (log_bytes (run_lines calls)) (run_lines calls) s.place s.told
-    (bytes_are_lines (run_lines calls) s.writable) s.begins
-    (subst MayEnd (sym (halt_leads_to_halted (demands (accounts_in start)) before.place s.place before.goes)) tt)
+  -- its log is clean if it may end at its place
+  ended_desk_log_is_clean : MayEnd s.place → IsClean (accounts_in start) (log_bytes (run_lines calls))
+  ended_desk_log_is_clean =
+      log_lines_are_clean (accounts_in start) (log_bytes (run_lines calls)) (run_lines calls) s.place s.told
+      (bytes_are_lines (run_lines calls) s.writable) s.begins
+
+  -- its log is clean when no session is open, or when the store has failed
+  pub log_is_clean : (phase_of desk.state ≡ phase.Closed) ⊎ ((facts desk.keeper.store).failed ≡ true)
+      → IsClean (accounts_in start) (log_bytes (run_lines calls))
+  log_is_clean (inl closed) = ended_desk_log_is_clean (closed_desk_may_end start _ s.place desk.state s.is_state closed)
+  log_is_clean (inr failed) =
+      ended_desk_log_is_clean (subst MayEnd (sym (failed_store_means_halted IsStored (accounts_in start) calls desk.keeper.book
+      (facts desk.keeper.store) s.place s.is_stored failed)) tt)
+
+  -- its log is clean when its last line is `S HALT`
+  pub halted_desk_log_is_clean : GoesOnByNoOther → (lines : List LogLine) → run_lines calls ≡ lines ++ said halt ∷ []
+      → IsClean (accounts_in start) (log_bytes (run_lines calls))
+  halted_desk_log_is_clean law lines last =
+      let before = law (accounts_in start) lines (said halt) s.place s.told
+      (subst (λ (l : List LogLine). Begins (demands (accounts_in start)) l s.place s.told) last s.begins) in
+      ended_desk_log_is_clean (subst MayEnd (sym (halt_leads_to_halted (demands (accounts_in start)) before.place s.place before.goes)) tt)

@@ -71,7 +71,7 @@ turn_has_no_offer : (accounts : Accounts) (server_nonce : List ℕ) (event : Cli
 turn_has_no_offer accounts server_nonce event moment at lines next t =
     ap (filter is_offer) t.lines_are ∙ rw (record_is_no_offer event at t.recorded t.is_record) (answer_offers_nothing t.answered t.answers)
 
--- a log with one more call has one offer more, where the call was a greeting, else as many as before
+-- a log with one more call has one offer more if the call was a greeting, else as many as before
 call_adds_its_offer : (accounts : Accounts) (server_nonce : List ℕ) (request : Request) (at : Place) (lines : List LogLine) (next : Place)
     (before : List LogLine) (nonces : List (List ℕ))
     → IsAnsweredBy accounts server_nonce request at lines next → length (filter is_offer before) ≡ length nonces
@@ -87,7 +87,7 @@ call_adds_its_offer accounts server_nonce (hears event moment) at lines next bef
     ∙ append-nil (filter is_offer before))
     ∙ same
 
--- a log with one more call has one record more, where the call was an event, else those before
+-- a log with one more call has one record more if the call was an event, else those before
 call_adds_its_record : (accounts : Accounts) (request : Request) (at : Place) (lines : List LogLine) (next : Place) (before : List Call)
     → IsRun accounts before at → IsAnsweredBy accounts (server_nonce_of before) request at lines next
     → AreRecords accounts before (filter is_record (run_lines before))
@@ -125,11 +125,9 @@ run_has_its_records accounts (c ∷ before) at (place, run, answered) =
     call_adds_its_record accounts c.request place c.lines at before run answered (run_has_its_records accounts before place run)
 
 -- the log of a desk has one offer for each greeting and one record for each thing that a client did, and no others
-pub log_has_its_records : {S : Type 0} (facts : S → StoreFacts) (IsStored : List ℕ → Type 0) (start : BookFields) (calls : List Call)
-    (desk : Desk S) → IsDeskAfter facts IsStored start calls desk
-    → HasItsRecords (accounts_in start) calls
-log_has_its_records facts IsStored start calls desk s =
-    record {
-      offers = run_has_its_offers (accounts_in start) calls s.place s.is_run;
-      records = run_has_its_records (accounts_in start) calls s.place s.is_run;
-    }
+pub log_has_its_records : {S : Type 0} {facts : S → StoreFacts} {IsStored : List ℕ → Type 0} {start : BookFields} {calls : List Call}
+    {desk : Desk S} → IsDeskAfter facts IsStored start calls desk → HasItsRecords (accounts_in start) calls
+log_has_its_records {start = start} {calls = calls} s = record {
+  offers = run_has_its_offers (accounts_in start) calls s.place s.is_run;
+  records = run_has_its_records (accounts_in start) calls s.place s.is_run;
+}

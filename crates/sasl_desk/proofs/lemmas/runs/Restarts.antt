@@ -4,17 +4,14 @@ use Rattle.book_format.specs.Book.{BookFields}
 use Rattle.account_book.specs.Store.{StoreFacts}
 use Rattle.account_book.specs.Laws.{TokensAreApart, AddedIsApart}
 use Rattle.otp_core.specs.Laws.{BeginsWithItself, CandidatesAreNew}
-use Rattle.log_grammar.specs.Books.{accounts_in}
 use Rattle.log_grammar.specs.LoggedReply.{LoggedReply}
 use Rattle.log_grammar.proofs.lemmas.ListEnds.{all_back}
-use Rattle.sasl_desk.specs.Keeper.{IsAttemptJudged}
 use Rattle.sasl_desk.specs.Spent.{AreDifferent, IsCounterSpent, AreSpent, spent_by, SpentStaysSpent}
 use Rattle.sasl_desk.specs.Desks.{spent_by_all}
 use Rattle.sasl_desk.specs.Restarts.{DeskRun, MayLeave, IsDeskRunOf, HallRun, IsHallRunOf, Change, desk_ran, hall_ran, judged}
 use Rattle.sasl_desk.specs.Restarts.{unlocked, added, IsChange, AreChanges, spent_by_change, spent_by_changes}
-use Rattle.sasl_desk.proofs.lemmas.turns.Keepers.{judged_reply_is_due, judged_book_is_after}
+use Rattle.sasl_desk.proofs.lemmas.runs.BooksAfterReplies.{attempt_spends_counters}
 use Rattle.sasl_desk.proofs.lemmas.runs.Unlocks.{unlock_keeps_spent_counters, addition_keeps_spent_counters}
-use Rattle.sasl_log.proofs.lemmas.audits.AuditedLineByLine.{book_follows_nothing}
 
 -- of spent counters that are all different, those in the last part of the list are so too
 rest_is_different : (ps qs : List (List ℕ × ℕ)) → AreDifferent (ps ++ qs) → AreDifferent qs
@@ -28,68 +25,53 @@ rest_is_spent book ps qs spent = record {
   spent = all_back (λ (p : List ℕ × ℕ). IsCounterSpent book p.0 p.1) ps qs spent.spent;
 }
 
--- what was spent, and what an attempt used, is spent in the book that judged it
-attempt_spends_counters : BeginsWithItself → SpentStaysSpent → (old new : BookFields) (t : LoggedReply) (ps : List (List ℕ × ℕ))
-    → IsAttemptJudged old t new
-    → AreSpent ps old → AreSpent (spent_by t ++ ps) new
-attempt_spends_counters itself stays old new t ps one spent =
-    let self = book_follows_nothing itself old in
-    stays old new t ps one.is_moment (judged_reply_is_due old new t one (accounts_in old) [] self)
-    (judged_book_is_after old new t one (accounts_in old) [] self) spent
+module _ (itself : BeginsWithItself) (stays : SpentStaysSpent) where
+  -- what was spent in a book is spent in each book that a run with it may leave
+  pub left_book_keeps_spent_counters : (kept left : BookFields) (ps : List (List ℕ × ℕ)) → MayLeave kept left → AreSpent ps kept
+      → AreSpent ps left
+  left_book_keeps_spent_counters kept left ps (inl same) spent = subst (λ (b : BookFields). AreSpent ps b) (sym same) spent
+  left_book_keeps_spent_counters kept left ps (inr (t, one)) spent =
+      rest_is_spent left (spent_by t) ps (attempt_spends_counters itself stays kept left t one ps spent)
 
--- what was spent in a book is spent in each book that a run with it may leave
-pub left_book_keeps_spent_counters : BeginsWithItself → SpentStaysSpent → (kept left : BookFields) (ps : List (List ℕ × ℕ))
-    → MayLeave kept left → AreSpent ps kept → AreSpent ps left
-left_book_keeps_spent_counters itself stays kept left ps (inl same) spent = subst (λ (b : BookFields). AreSpent ps b) (sym same) spent
-left_book_keeps_spent_counters itself stays kept left ps (inr (t, one)) spent =
-    rest_is_spent left (spent_by t) ps (attempt_spends_counters itself stays kept left t ps one spent)
+  -- runs and changes with stores whose facts are these
+  module _ {S : Type 0} (facts : S → StoreFacts) (IsStored : List ℕ → Type 0) where
+    -- what was spent before, and what the replies of a desk's run used, is spent in the book that it leaves
+    desk_run_spends_counters : (r : DeskRun) (ps : List (List ℕ × ℕ)) → IsDeskRunOf facts IsStored r → AreSpent ps r.start
+        → AreSpent (spent_by_all (reverse r.told) ++ ps) r.left
+    desk_run_spends_counters r ps run spent =
+        left_book_keeps_spent_counters run.desk.keeper.book r.left (spent_by_all (reverse r.told) ++ ps) run.leaves
+        (subst (λ (t : List LoggedReply). AreSpent (spent_by_all (reverse t) ++ ps) run.desk.keeper.book) (sym run.tells)
+        (run.stands.spent ps spent))
 
--- what was spent, and what was told in a desk's run, is spent in the book that it leaves
-desk_run_spends_counters : BeginsWithItself → SpentStaysSpent
-    → {S : Type 0} (facts : S → StoreFacts) (IsStored : List ℕ → Type 0) (r : DeskRun) (ps : List (List ℕ × ℕ))
-    → IsDeskRunOf facts IsStored r → AreSpent ps r.start → AreSpent (spent_by_all (reverse r.told) ++ ps) r.left
-desk_run_spends_counters itself stays facts IsStored r ps run spent =
-    let s = run.stands in
-    left_book_keeps_spent_counters itself stays run.desk.keeper.book r.left (spent_by_all (reverse r.told) ++ ps) run.leaves
-    (subst (λ (t : List LoggedReply). AreSpent (spent_by_all (reverse t) ++ ps) run.desk.keeper.book) (sym run.tells) (s.spent ps spent))
+    -- what was spent before, and what the replies of a hall's run used, is spent in the book that it leaves
+    hall_run_spends_counters : (r : HallRun) (ps : List (List ℕ × ℕ)) → IsHallRunOf facts IsStored r → AreSpent ps r.start
+        → AreSpent (spent_by_all (reverse r.told) ++ ps) r.left
+    hall_run_spends_counters r ps run spent =
+        left_book_keeps_spent_counters run.hall.keeper.book r.left (spent_by_all (reverse r.told) ++ ps) run.leaves
+        (subst (λ (t : List LoggedReply). AreSpent (spent_by_all (reverse t) ++ ps) run.hall.keeper.book) (sym run.tells)
+        (run.stands.spent ps spent))
 
--- what was spent, and what was told in a hall's run, is spent in the book that it leaves
-hall_run_spends_counters : BeginsWithItself → SpentStaysSpent
-    → {S : Type 0} (facts : S → StoreFacts) (IsStored : List ℕ → Type 0) (r : HallRun) (ps : List (List ℕ × ℕ))
-    → IsHallRunOf facts IsStored r → AreSpent ps r.start → AreSpent (spent_by_all (reverse r.told) ++ ps) r.left
-hall_run_spends_counters itself stays facts IsStored r ps run spent =
-    let s = run.stands in
-    left_book_keeps_spent_counters itself stays run.hall.keeper.book r.left (spent_by_all (reverse r.told) ++ ps) run.leaves
-    (subst (λ (t : List LoggedReply). AreSpent (spent_by_all (reverse t) ++ ps) run.hall.keeper.book) (sym run.tells) (s.spent ps spent))
+    module _ (apart : TokensAreApart) (fresh : CandidatesAreNew) (added_apart : AddedIsApart) where
+      -- what was spent before, and what the replies of a change used, is spent in the book after it
+      change_spends_counters : (c : Change) (old new : BookFields) (ps : List (List ℕ × ℕ)) → IsChange facts IsStored c old new
+          → AreSpent ps old → AreSpent (spent_by_change c ++ ps) new
+      change_spends_counters (desk_ran r) old new ps (run, start, left) spent =
+          subst (λ (b : BookFields). AreSpent (spent_by_all (reverse r.told) ++ ps) b) left
+          (desk_run_spends_counters r ps run (subst (λ (b : BookFields). AreSpent ps b) (sym start) spent))
+      change_spends_counters (hall_ran r) old new ps (run, start, left) spent =
+          subst (λ (b : BookFields). AreSpent (spent_by_all (reverse r.told) ++ ps) b) left
+          (hall_run_spends_counters r ps run (subst (λ (b : BookFields). AreSpent ps b) (sym start) spent))
+      change_spends_counters (judged t) old new ps one spent = attempt_spends_counters itself stays old new t one ps spent
+      change_spends_counters (unlocked name) old new ps changed spent =
+          unlock_keeps_spent_counters apart fresh old new name ps changed spent
+      change_spends_counters (added name account) old new ps is spent =
+          addition_keeps_spent_counters added_apart old new name account ps is spent
 
--- what was spent, and what a change tells, is spent in the book after it
-change_spends_counters : BeginsWithItself → SpentStaysSpent → TokensAreApart → CandidatesAreNew
-    → AddedIsApart → {S : Type 0} (facts : S → StoreFacts) (IsStored : List ℕ → Type 0)
-    (c : Change) (old new : BookFields) (ps : List (List ℕ × ℕ)) → IsChange facts IsStored c old new → AreSpent ps old
-    → AreSpent (spent_by_change c ++ ps) new
-change_spends_counters itself stays apart fresh added_apart facts IsStored (desk_ran r) old new ps (run, start, left) spent =
-    subst (λ (b : BookFields). AreSpent (spent_by_all (reverse r.told) ++ ps) b) left
-    (desk_run_spends_counters itself stays facts IsStored r ps run (subst (λ (b : BookFields). AreSpent ps b) (sym start) spent))
-change_spends_counters itself stays apart fresh added_apart facts IsStored (hall_ran r) old new ps (run, start, left) spent =
-    subst (λ (b : BookFields). AreSpent (spent_by_all (reverse r.told) ++ ps) b) left
-    (hall_run_spends_counters itself stays facts IsStored r ps run (subst (λ (b : BookFields). AreSpent ps b) (sym start) spent))
-change_spends_counters itself stays apart fresh added_apart facts IsStored
-    (judged t) old new ps one spent = attempt_spends_counters itself stays old new t ps one spent
-change_spends_counters itself stays apart fresh added_apart facts IsStored
-    (unlocked name) old new ps changed spent = unlock_keeps_spent_counters apart fresh old new name ps changed spent
-change_spends_counters itself stays apart fresh added_apart facts IsStored (added name account) old new ps is spent =
-    addition_keeps_spent_counters added_apart old new name account ps is spent
-
--- what was spent, and what any number of changes tell, is spent in the book after them
-pub changes_spend_counters : BeginsWithItself → SpentStaysSpent → TokensAreApart → CandidatesAreNew
-    → AddedIsApart → {S : Type 0}
-    (facts : S → StoreFacts) (IsStored : List ℕ → Type 0) (first : BookFields) (changes : List Change) (last : BookFields)
-    (ps : List (List ℕ × ℕ)) → AreChanges facts IsStored first changes last
-    → AreSpent ps first → AreSpent (spent_by_changes changes ++ ps) last
-changes_spend_counters itself stays apart fresh added_apart facts IsStored first [] last ps same spent = subst
-    (λ (b : BookFields). AreSpent ps b) (sym same) spent
-changes_spend_counters itself stays apart fresh added_apart facts IsStored first (c ∷ before) last ps
-    (middle, earlier, change) spent =
-    let until = changes_spend_counters itself stays apart fresh added_apart facts IsStored first before middle ps earlier spent in
-    subst (λ (l : List (List ℕ × ℕ)). AreSpent l last) (sym (append_assoc (spent_by_change c) (spent_by_changes before) ps))
-    (change_spends_counters itself stays apart fresh added_apart facts IsStored c middle last (spent_by_changes before ++ ps) change until)
+      -- what was spent before, and what the replies of any number of changes used, is spent in the book after them
+      pub changes_spend_counters : (first : BookFields) (changes : List Change) (last : BookFields) (ps : List (List ℕ × ℕ))
+          → AreChanges facts IsStored first changes last → AreSpent ps first → AreSpent (spent_by_changes changes ++ ps) last
+      changes_spend_counters first [] last ps same spent = subst (λ (b : BookFields). AreSpent ps b) (sym same) spent
+      changes_spend_counters first (c ∷ before) last ps (middle, earlier, change) spent =
+          let until = changes_spend_counters first before middle ps earlier spent in
+          subst (λ (l : List (List ℕ × ℕ)). AreSpent l last) (sym (append_assoc (spent_by_change c) (spent_by_changes before) ps))
+          (change_spends_counters c middle last (spent_by_changes before ++ ps) change until)

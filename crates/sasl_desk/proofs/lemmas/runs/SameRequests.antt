@@ -51,10 +51,8 @@ same_or_accepted t accounts (c ∷ calls) (d ∷ others) at also (place, run, an
         acceptance_cuts_rest (call_lines calls) c.lines one ∙ told ∙ sym (acceptance_cuts_rest (call_lines others) d.lines two),
       )
       | inr (lines, here, apart) ↦
-          let once = one_answer_to_call t accounts (server_nonce_of calls) (server_nonce_of others) c.request d.request place c.lines
-          d.lines at also
-          apart
-          (same_requests_have_same_nonce calls others same.1) same.0
+          let once = one_answer_to_call t accounts place apart c.lines d.lines at also (server_nonce_of calls) (server_nonce_of others)
+          c.request d.request (same_requests_have_same_nonce calls others same.1) same.0
           answered (subst (λ (p : Place). IsAnsweredBy accounts (server_nonce_of others) d.request p d.lines also) (sym here) answers) in
           let whole = ap (λ (l : List LogLine). l ++ c.lines) lines ∙ ap (λ (l : List LogLine). call_lines others ++ l) once.0 in
           elim once.2 [
@@ -66,74 +64,70 @@ same_or_accepted t accounts (c ∷ calls) (d ∷ others) at also (place, run, an
     ]
 same_or_accepted t accounts calls others at also run runs same = absurd same
 
--- what is demanded of a session, and its whole run, are the same by accounts with the same entries:
-entries_fix_verdict : (one other : Accounts) → HaveSameEntries other one → (mechanism name first challenge last : List ℕ) (due : Due)
-    → IsVerdictDue other mechanism name first challenge last due → IsVerdictDue one mechanism name first challenge last due
-entries_fix_verdict one other same mechanism name first challenge last due (m, named, is) =
-    (m, named, subst (λ (e : Entry). IsDue (challenged_login e m first challenge) last due) (same m name) is)
+-- accounts with the same entries: what is demanded of a session by the ones is demanded by the others, and its whole run is one
+module _ (one other : Accounts) (same : HaveSameEntries other one) where
+  entries_fix_verdict : (mechanism name first challenge last : List ℕ) (due : Due)
+      → IsVerdictDue other mechanism name first challenge last due → IsVerdictDue one mechanism name first challenge last due
+  entries_fix_verdict mechanism name first challenge last due (m, named, is) =
+      (m, named, subst (λ (e : Entry). IsDue (challenged_login e m first challenge) last due) (same m name) is)
 
-entries_fix_transition : (one other : Accounts) → HaveSameEntries other one → (at : Place) (line : LogLine) (next : Place)
-    → IsTransition (demands other) at line next
-    → IsTransition (demands one) at line next
-entries_fix_transition one other same (got_first m first) (said (cont text)) next (account, c, at) = (
-  account,
-  record {
-    m = c.m;
-    offered = c.offered;
-    opening = c.opening;
-    of_name = c.of_name;
-    opens = subst (λ (e : Entry). IsOpening e first text c.opening) (same c.m account) c.opens;
-  },
-  at,
-)
-entries_fix_transition one other same (got_first m first) line next goes = goes
-entries_fix_transition one other same (got_final m account first challenge last) (said (refuses text)) next ((why, is, e), at) =
-    ((why, entries_fix_verdict one other same m account first challenge last (refuse why) is, e), at)
-entries_fix_transition one other same (got_final m account first challenge last) (said (accepts text)) next
-    ((signature, is, authentic), at) =
-    ((signature, entries_fix_verdict one other same m account first challenge last (accept signature) is, authentic), at)
-entries_fix_transition one other same (got_final m account first challenge last) line next goes = goes
-entries_fix_transition one other same at line next goes = goes
+  entries_fix_transition : (at : Place) (line : LogLine) (next : Place)
+      → IsTransition (demands other) at line next → IsTransition (demands one) at line next
+  entries_fix_transition (got_first m first) (said (cont text)) next (account, c, at) = (
+    account,
+    record {
+      m = c.m;
+      offered = c.offered;
+      opening = c.opening;
+      of_name = c.of_name;
+      opens = subst (λ (e : Entry). IsOpening e first text c.opening) (same c.m account) c.opens;
+    },
+    at,
+  )
+  entries_fix_transition (got_first m first) line next goes = goes
+  entries_fix_transition (got_final m account first challenge last) (said (refuses text)) next ((why, is, e), at) =
+      ((why, entries_fix_verdict m account first challenge last (refuse why) is, e), at)
+  entries_fix_transition (got_final m account first challenge last) (said (accepts text)) next
+      ((signature, is, authentic), at) =
+      ((signature, entries_fix_verdict m account first challenge last (accept signature) is, authentic), at)
+  entries_fix_transition (got_final m account first challenge last) line next goes = goes
+  entries_fix_transition at line next goes = goes
 
-entries_fix_path : (one other : Accounts) → HaveSameEntries other one → (at : Place) (lines : List LogLine) (next : Place)
-    → IsPath (demands other) at lines next → IsPath (demands one) at lines next
-entries_fix_path one other same at [] next path = path
-entries_fix_path one other same at (line ∷ lines) next (middle, goes, path) =
-    (middle, entries_fix_transition one other same at line middle goes, entries_fix_path one other same middle lines next path)
+  entries_fix_path : (at : Place) (lines : List LogLine) (next : Place)
+      → IsPath (demands other) at lines next → IsPath (demands one) at lines next
+  entries_fix_path at [] next path = path
+  entries_fix_path at (line ∷ lines) next (middle, goes, path) =
+      (middle, entries_fix_transition at line middle goes, entries_fix_path middle lines next path)
 
-entries_fix_challenge : (one other : Accounts) → HaveSameEntries other one → (server_nonce : List ℕ) (at : Place)
-    → IsChallengeWith other server_nonce at
-    → IsChallengeWith one server_nonce at
-entries_fix_challenge one other same server_nonce (waits_final mechanism account first challenge) (m, named, is) =
-    (m, named, subst (λ (e : Entry). IsChallengeTo e first server_nonce challenge) (same m account) is)
-entries_fix_challenge one other same server_nonce at is = tt
+  entries_fix_challenge : (server_nonce : List ℕ) (at : Place) → IsChallengeWith other server_nonce at
+      → IsChallengeWith one server_nonce at
+  entries_fix_challenge server_nonce (waits_final mechanism account first challenge) (m, named, is) =
+      (m, named, subst (λ (e : Entry). IsChallengeTo e first server_nonce challenge) (same m account) is)
+  entries_fix_challenge server_nonce at is = tt
 
-entries_fix_answer : (one other : Accounts) → HaveSameEntries other one
-    → (server_nonce : List ℕ) (request : Request) (at : Place) (lines : List LogLine) (next : Place)
-    → IsAnsweredBy other server_nonce request at lines next → IsAnsweredBy one server_nonce request at lines next
-entries_fix_answer one other same server_nonce (greets new) at lines next g = g
-entries_fix_answer one other same server_nonce (hears event moment) at lines next t = record {
-  recorded = t.recorded;
-  answered = t.answered;
-  lines_are = t.lines_are;
-  is_record = t.is_record;
-  answers = t.answers;
-  path = entries_fix_path one other same at lines next t.path;
-  rests = t.rests;
-  challenge = entries_fix_challenge one other same server_nonce next t.challenge;
-  plain = t.plain;
-  moments = t.moments;
-}
+  entries_fix_answer : (server_nonce : List ℕ) (request : Request) (at : Place) (lines : List LogLine) (next : Place)
+      → IsAnsweredBy other server_nonce request at lines next → IsAnsweredBy one server_nonce request at lines next
+  entries_fix_answer server_nonce (greets new) at lines next g = g
+  entries_fix_answer server_nonce (hears event moment) at lines next t = record {
+    recorded = t.recorded;
+    answered = t.answered;
+    lines_are = t.lines_are;
+    is_record = t.is_record;
+    answers = t.answers;
+    path = entries_fix_path at lines next t.path;
+    rests = t.rests;
+    challenge = entries_fix_challenge server_nonce next t.challenge;
+    plain = t.plain;
+    moments = t.moments;
+  }
 
-entries_fix_run : (one other : Accounts) → HaveSameEntries other one → (calls : List Call) (at : Place) → IsRun other calls at
-    → IsRun one calls at
-entries_fix_run one other same [] at run = run
-entries_fix_run one other same (c ∷ calls) at (place, run, answered) = (
-  place,
-  entries_fix_run one other same calls place run,
-  entries_fix_answer one other same (server_nonce_of calls) c.request place c.lines at
-      answered,
-)
+  entries_fix_run : (calls : List Call) (at : Place) → IsRun other calls at → IsRun one calls at
+  entries_fix_run [] at run = run
+  entries_fix_run (c ∷ calls) at (place, run, answered) = (
+    place,
+    entries_fix_run calls place run,
+    entries_fix_answer (server_nonce_of calls) c.request place c.lines at answered,
+  )
 
 -- two runs that were asked the same, over books with the same entries, tell the same up to the acceptance
 pub runs_tell_same : UniquenessLaws → (one other : Accounts) (calls others : List Call) (at also : Place) → HaveSameEntries one other

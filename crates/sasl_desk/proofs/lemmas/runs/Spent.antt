@@ -1,5 +1,6 @@
 -- What was spent stays spent.
 use Rattle.std.proofs.Common.{◌≡◌, ◌≢◌, ◌<◌, ◌≤◌, ◌-◌, ℕ, List, [], ◌∷◌, ◌++◌, Option, inl, inr, refl, sym, ap, subst, arith, ◌∙◌}
+use Rattle.std.specs.List.{AllByRecursion}
 use Rattle.std.specs.declared.option.Option.TheVariants.{None, Some}
 use Rattle.std.proofs.lemmas.Slice.Eq.{bytes_eq-Decides}
 use Rattle.std.proofs.lemmas.Option.{same_Some}
@@ -28,24 +29,21 @@ attempts_lead_to_token : (start : TokenFields) (attempts : List Attempt) (o : Op
 attempts_lead_to_token start attempts None leads = absurd leads
 attempts_lead_to_token start attempts (Some token) leads = (token, refl, leads)
 
--- a counter that can pass after a legal history of a later token can pass after that history and the attempts before it of the first token
-later_candidate_was_candidate : LegalHistoriesJoin → (start : TokenFields) (attempts : List Attempt) (token : TokenFields)
-    → IsAfter start attempts token
-    → (history : List Attempt) (moment c : ℕ) → IsMoment moment → IsLegal token history
-    → CanPass token history moment c
-    → IsLegal start (history ++ attempts)
-    × CanPass start (history ++ attempts) moment c
-later_candidate_was_candidate join start attempts token after history moment c is legal can =
-    let joined = join start attempts token history after legal in
-    (joined.0, elim can [ inl h ↦ inl ((joined.1.candidates moment c is).1 h) | inr h ↦ inr ((joined.1.pairs c).1 h) ])
+-- a token after attempts
+module _ (join : LegalHistoriesJoin) (start : TokenFields) (attempts : List Attempt) (token : TokenFields)
+    (after : IsAfter start attempts token) where
+  -- a counter that can pass after a legal history of it can pass after that history and the attempts before it of the first token
+  later_candidate_was_candidate : (history : List Attempt) (moment c : ℕ) → IsMoment moment → IsLegal token history
+      → CanPass token history moment c → IsLegal start (history ++ attempts) × CanPass start (history ++ attempts) moment c
+  later_candidate_was_candidate history moment c is legal can =
+      let joined = join start attempts token history after legal in
+      (joined.0, elim can [ inl h ↦ inl ((joined.1.candidates moment c is).1 h) | inr h ↦ inr ((joined.1.pairs c).1 h) ])
 
--- a counter that is below each that can pass is so after attempts too
-attempts_keep_below : LegalHistoriesJoin → (start : TokenFields) (attempts : List Attempt) (token : TokenFields) (counter : ℕ)
-    → IsAfter start attempts token
-    → IsBelow start counter → IsBelow token counter
-attempts_keep_below join start attempts token counter after below history moment c is legal can =
-    let before = later_candidate_was_candidate join start attempts token after history moment c is legal can in
-    below (history ++ attempts) moment c is before.0 before.1
+  -- a counter that was below each that can pass is so still
+  attempts_keep_below : (counter : ℕ) → IsBelow start counter → IsBelow token counter
+  attempts_keep_below counter below history moment c is legal can =
+      let before = later_candidate_was_candidate history moment c is legal can in
+      below (history ++ attempts) moment c is before.0 before.1
 
 -- what is above the counters of some attempts is above those of the earlier of them
 above_all_is_above_earlier : (later earlier : List Attempt) (c : ℕ) → IsAbove (used_in (later ++ earlier)) c → IsAbove (used_in earlier) c
@@ -68,15 +66,6 @@ candidate_is_above_used join fresh start a token after history moment c is legal
 reply_is_one_attempt : (t : LoggedReply) (r : Reply) → t.reply ≡ Some r → attempts_of t.account (t ∷ []) ≡ attempt_of t.moment t.sent r ∷ []
 reply_is_one_attempt t r is = rw ((bytes_eq-Decides t.account t.account).1 refl, is) refl
 
--- a counter that is spent stays so after one more reply
-reply_keeps_spent_counter : LegalHistoriesJoin → (old new : BookFields) (t : LoggedReply) → IsBookAfter (accounts_in old) (t ∷ []) new
-    → (name : List ℕ) (counter : ℕ) → IsCounterSpent old name counter → IsCounterSpent new name counter
-reply_keeps_spent_counter join old new t after name counter used =
-    let leads = subst (λ (o : Option TokenFields). LeadsTo o (attempts_of name (t ∷ [])) (token_at new name)) used.has
-    (after.tokens name) in
-    let later = attempts_lead_to_token used.token (attempts_of name (t ∷ [])) (token_at new name) leads in
-    record { token = later.0; has = later.1; below = attempts_keep_below join used.token _ later.0 counter later.2 used.below }
-
 -- a counter that could pass is none of those that are spent
 candidate_is_not_spent : (old : BookFields) (name : List ℕ) (start : TokenFields) (counter c moment : ℕ) → token_at old name ≡ Some start
     → IsMoment moment
@@ -90,85 +79,87 @@ candidate_is_not_spent old name start counter c moment has is can at (other, use
     up.below [] moment c is tt (subst (λ (token : TokenFields). CanPass token [] moment c) tokens can) in
     omega (arith, apart, at, counters)
 
--- counters that are spent stay so after one more reply
-reply_keeps_spent_counters : LegalHistoriesJoin → (old new : BookFields) (t : LoggedReply) (ps : List (List ℕ × ℕ))
-    → IsBookAfter (accounts_in old) (t ∷ []) new
-    → AreSpent ps old → AreSpent ps new
-reply_keeps_spent_counters join old new t ps after spent = record {
-  different = spent.different;
-  spent = each_follows (λ p. IsCounterSpent old p.0 p.1) (λ p. IsCounterSpent new p.0 p.1)
-      (λ p used. reply_keeps_spent_counter join old new t after p.0 p.1 used) ps spent.spent;
-}
+-- a book before and after one more reply
+module _ (join : LegalHistoriesJoin) (old new : BookFields) (t : LoggedReply) (after : IsBookAfter (accounts_in old) (t ∷ []) new) where
+  -- a counter that is spent stays so, and so do all:
+  reply_keeps_spent_counter : (name : List ℕ) (counter : ℕ) → IsCounterSpent old name counter → IsCounterSpent new name counter
+  reply_keeps_spent_counter name counter used =
+      let leads = subst (λ (o : Option TokenFields). LeadsTo o (attempts_of name (t ∷ [])) (token_at new name)) used.has
+      (after.tokens name) in
+      let later = attempts_lead_to_token used.token (attempts_of name (t ∷ [])) (token_at new name) leads in
+      record { token = later.0; has = later.1; below = attempts_keep_below join used.token _ later.0 later.2 counter used.below }
 
--- after a pass there is a token still, and what can pass with it is above the counters that the pass used
-pass_leaves_higher_candidates : LegalHistoriesJoin → CandidatesAreNew
-    → (old new : BookFields) (name : List ℕ) (moment : ℕ) (sent : CodeTexts) (c : ℕ) (start : TokenFields)
-    → token_at old name ≡ Some start → IsBookAfter (accounts_in old) (logged_reply_of name moment sent (Some (Pass c)) ∷ []) new
-    → (token : TokenFields) × (token_at new name ≡ Some token)
-    × ((history : List Attempt) (later k : ℕ) → IsMoment later → IsLegal token history
-    → CanPass token history later k → IsAbove (used_in_reply sent (Pass c)) k)
-pass_leaves_higher_candidates join fresh old new name moment sent c start has after =
-    let t = logged_reply_of name moment sent (Some (Pass c)) in
-    let a = attempt_of moment sent (Pass c) in
-    let leads = subst (λ (o : Option TokenFields). LeadsTo o (attempts_of name (t ∷ [])) (token_at new name)) has (after.tokens name) in
-    let by_attempt = subst (λ (attempts : List Attempt). LeadsTo (Some start) attempts (token_at new name))
-    (reply_is_one_attempt t (Pass c) refl) leads in
-    let later = attempts_lead_to_token start (a ∷ []) (token_at new name) by_attempt in
-    (later.0, later.1, candidate_is_above_used join fresh start a later.0 later.2)
+  reply_keeps_spent_counters : (ps : List (List ℕ × ℕ)) → AreSpent ps old → AreSpent ps new
+  reply_keeps_spent_counters ps spent = record {
+    different = spent.different;
+    spent = each_follows (λ p. IsCounterSpent old p.0 p.1) (λ p. IsCounterSpent new p.0 p.1)
+        (λ p used. reply_keeps_spent_counter p.0 p.1 used) ps spent.spent;
+  }
 
--- the counter of a pass is spent after it, and so are both of a pass of two codes in a row:
-code_pass_spends_counter : LegalHistoriesJoin → CandidatesAreNew
-    → (old new : BookFields) (name : List ℕ) (moment : ℕ) (text : List ℕ) (c : ℕ) (start : TokenFields)
-    (ps : List (List ℕ × ℕ)) → token_at old name ≡ Some start → IsMoment moment → IsFitting start [] moment (OneText text) c
-    → IsBookAfter (accounts_in old) (logged_reply_of name moment (OneText text) (Some (Pass c)) ∷ []) new → AreSpent ps old
-    → AreSpent ((name, c) ∷ ps) new
-code_pass_spends_counter join fresh old new name moment text c start ps has is fits after spent =
-    let token = pass_leaves_higher_candidates join fresh old new name moment (OneText text) c start has after in
-    let stays = reply_keeps_spent_counters join old new (logged_reply_of name moment (OneText text) (Some (Pass c))) ps after spent in
-    let others = each_follows (λ p. IsCounterSpent old p.0 p.1) (λ q. (name, c) ≢ q)
-    (candidate_is_not_spent old name start c c moment has is (inl fits.0) (omega arith)) ps spent.spent in
-    record {
-      different = (others, spent.different);
-      spent = (
-        record {
-          token = token.0;
-          has = token.1;
-          below = λ history later k at legal can. (token.2 history later k at legal can).0;
-        },
-        stays.spent,
-      );
-    }
+-- a pass of an account that has a token: what was spent before it, and the counter
+module _ (join : LegalHistoriesJoin) (fresh : CandidatesAreNew) (old new : BookFields) (name : List ℕ) (moment : ℕ) (start : TokenFields)
+    (has : token_at old name ≡ Some start) (is : IsMoment moment) (ps : List (List ℕ × ℕ)) (spent : AreSpent ps old) (c : ℕ) where
+  -- after it there is a token still, and what can pass with it is above the counters that the pass used
+  pass_leaves_higher_candidates : (sent : CodeTexts)
+      → IsBookAfter (accounts_in old) (logged_reply_of name moment sent (Some (Pass c)) ∷ []) new
+      → (token : TokenFields) × (token_at new name ≡ Some token)
+      × ((history : List Attempt) (later k : ℕ) → IsMoment later → IsLegal token history
+      → CanPass token history later k → IsAbove (used_in_reply sent (Pass c)) k)
+  pass_leaves_higher_candidates sent after =
+      let t = logged_reply_of name moment sent (Some (Pass c)) in
+      let a = attempt_of moment sent (Pass c) in
+      let leads = subst (λ (o : Option TokenFields). LeadsTo o (attempts_of name (t ∷ [])) (token_at new name)) has (after.tokens name) in
+      let by_attempt = subst (λ (attempts : List Attempt). LeadsTo (Some start) attempts (token_at new name))
+      (reply_is_one_attempt t (Pass c) refl) leads in
+      let later = attempts_lead_to_token start (a ∷ []) (token_at new name) by_attempt in
+      (later.0, later.1, candidate_is_above_used join fresh start a later.0 later.2)
 
-pair_pass_spends_counters : LegalHistoriesJoin → CandidatesAreNew
-    → (old new : BookFields) (name : List ℕ) (moment : ℕ) (first second : List ℕ) (c : ℕ)
-    (start : TokenFields) (ps : List (List ℕ × ℕ)) → token_at old name ≡ Some start → IsMoment moment
-    → IsFitting start [] moment (TwoTexts first second) c
-    → IsBookAfter (accounts_in old) (logged_reply_of name moment (TwoTexts first second) (Some (Pass c)) ∷ []) new → AreSpent ps old
-    → AreSpent ((name, c) ∷ (name, c - 1) ∷ ps) new
-pair_pass_spends_counters join fresh old new name moment first second c start ps has is (w, next, can, one, two) after spent =
-    let token = pass_leaves_higher_candidates join fresh old new name moment (TwoTexts first second) c start has after in
-    let stays = reply_keeps_spent_counters join old new (logged_reply_of name moment (TwoTexts first second) (Some (Pass c))) ps after
-    spent in
-    let greater = each_follows (λ p. IsCounterSpent old p.0 p.1) (λ q. (name, c) ≢ q)
-    (candidate_is_not_spent old name start c w moment has is (inr can) (omega (arith, next))) ps spent.spent in
-    let lesser = each_follows (λ p. IsCounterSpent old p.0 p.1) (λ q. (name, c - 1) ≢ q)
-    (candidate_is_not_spent old name start (c - 1) w moment has is (inr can) (omega (arith, next))) ps spent.spent in
-    let apart : (name, c) ≢ (name, c - 1) = λ same. let counters : c
-    ≡ c - 1 = ap (λ (p : List ℕ × ℕ). p.1) same in omega (arith, counters, next) in
-    record {
-      different = ((apart, greater), (lesser, spent.different));
-      spent = (
-        record { token = token.0; has = token.1; below = λ history later k at legal can. (token.2 history later k at legal can).0 },
-        (
-          record {
-            token = token.0;
-            has = token.1;
-            below = λ history later k at legal can. (token.2 history later k at legal can).1.0;
-          },
+  -- no counter up to one that could pass was spent
+  lower_counter_is_not_spent : (counter passed : ℕ) → CanPass start [] moment passed → passed ≤ counter
+      → AllByRecursion (λ q. (name, counter) ≢ q) ps
+  lower_counter_is_not_spent counter passed can at =
+      each_follows (λ p. IsCounterSpent old p.0 p.1) (λ q. (name, counter) ≢ q)
+      (candidate_is_not_spent old name start counter passed moment has is can at) ps spent.spent
+
+  -- the counter of a pass is spent after it, and so are both of a pass of two codes in a row:
+  code_pass_spends_counter : (text : List ℕ) → IsFitting start [] moment (OneText text) c
+      → IsBookAfter (accounts_in old) (logged_reply_of name moment (OneText text) (Some (Pass c)) ∷ []) new
+      → AreSpent ((name, c) ∷ ps) new
+  code_pass_spends_counter text fits after =
+      let token = pass_leaves_higher_candidates (OneText text) after in
+      let stays = reply_keeps_spent_counters join old new _ after ps spent in
+      record {
+        different = (lower_counter_is_not_spent c c (inl fits.0) (omega arith), spent.different);
+        spent = (
+          record { token = token.0; has = token.1; below = λ history later k at legal can. (token.2 history later k at legal can).0 },
           stays.spent,
-        ),
-      );
-    }
+        );
+      }
+
+  pair_pass_spends_counters : (first second : List ℕ) → IsFitting start [] moment (TwoTexts first second) c
+      → IsBookAfter (accounts_in old) (logged_reply_of name moment (TwoTexts first second) (Some (Pass c)) ∷ []) new
+      → AreSpent ((name, c) ∷ (name, c - 1) ∷ ps) new
+  pair_pass_spends_counters first second (w, next, can, one, two) after =
+      let token = pass_leaves_higher_candidates (TwoTexts first second) after in
+      let stays = reply_keeps_spent_counters join old new _ after ps spent in
+      let greater = lower_counter_is_not_spent c w (inr can) (omega (arith, next)) in
+      let lesser = lower_counter_is_not_spent (c - 1) w (inr can) (omega (arith, next)) in
+      let apart : (name, c) ≢ (name, c - 1) = λ same. let counters : c
+      ≡ c - 1 = ap (λ (p : List ℕ × ℕ). p.1) same in omega (arith, counters, next) in
+      record {
+        different = ((apart, greater), (lesser, spent.different));
+        spent = (
+          record { token = token.0; has = token.1; below = λ history later k at legal can. (token.2 history later k at legal can).0 },
+          (
+            record {
+              token = token.0;
+              has = token.1;
+              below = λ history later k at legal can. (token.2 history later k at legal can).1.0;
+            },
+            stays.spent,
+          ),
+        );
+      }
 
 -- the reply of a token without attempts is the one due, and there is none without a token:
 reply_by_token_is_due : (start : TokenFields) (moment : ℕ) (sent : CodeTexts) (r : Reply)
@@ -181,27 +172,23 @@ no_reply_without_token : (moment : ℕ) (sent : CodeTexts) (r : Reply) → IsRep
 no_reply_without_token moment sent r same = cc
 
 -- with each reply that is due, what it used is spent, and what was spent before
-due_reply_spends_counters : LegalHistoriesJoin → CandidatesAreNew
-    → (old new : BookFields) (name : List ℕ) (moment : ℕ) (sent : CodeTexts) (reply : Option Reply)
-    (ps : List (List ℕ × ℕ)) (o : Option TokenFields) → token_at old name ≡ o → IsReplyDueBy o [] moment sent reply → IsMoment moment
-    → IsBookAfter (accounts_in old) (logged_reply_of name moment sent reply ∷ []) new → AreSpent ps old
-    → AreSpent (of_account name (used_by_reply sent reply) ++ ps) new
-due_reply_spends_counters join fresh old new name moment sent None ps o has due is after spent =
-    reply_keeps_spent_counters join old new _ ps after spent
-due_reply_spends_counters join fresh old new name moment sent (Some Fail) ps o has due is after spent =
-    reply_keeps_spent_counters join old new _ ps after spent
-due_reply_spends_counters join fresh old new name moment sent (Some Locked) ps o has due is after spent =
-    reply_keeps_spent_counters join old new _ ps after spent
-due_reply_spends_counters join fresh old new name moment sent (Some (Pass c)) ps None has due is after spent =
-    absurd (no_reply_without_token moment sent (Pass c) due)
-due_reply_spends_counters join fresh old new name moment (OneText text) (Some (Pass c)) ps (Some start) has due is after spent =
-    code_pass_spends_counter join fresh old new name moment text c start ps has is
-    (reply_by_token_is_due start moment (OneText text) (Pass c) due).1 after spent
-due_reply_spends_counters join fresh old new name moment (TwoTexts first second) (Some (Pass c)) ps (Some start) has due is after spent =
-    pair_pass_spends_counters join fresh old new name moment first second c start ps has is
-    (reply_by_token_is_due start moment (TwoTexts first second) (Pass c) due).1 after spent
+module _ (join : LegalHistoriesJoin) (fresh : CandidatesAreNew) (old new : BookFields) (name : List ℕ) (moment : ℕ) (is : IsMoment moment)
+    (ps : List (List ℕ × ℕ)) (spent : AreSpent ps old) where
+  due_reply_spends_counters : (sent : CodeTexts) (reply : Option Reply) (o : Option TokenFields) → token_at old name ≡ o
+      → IsReplyDueBy o [] moment sent reply → IsBookAfter (accounts_in old) (logged_reply_of name moment sent reply ∷ []) new
+      → AreSpent (of_account name (used_by_reply sent reply) ++ ps) new
+  due_reply_spends_counters sent None o has due after = reply_keeps_spent_counters join old new _ after ps spent
+  due_reply_spends_counters sent (Some Fail) o has due after = reply_keeps_spent_counters join old new _ after ps spent
+  due_reply_spends_counters sent (Some Locked) o has due after = reply_keeps_spent_counters join old new _ after ps spent
+  due_reply_spends_counters sent (Some (Pass c)) None has due after = absurd (no_reply_without_token moment sent (Pass c) due)
+  due_reply_spends_counters (OneText text) (Some (Pass c)) (Some start) has due after =
+      code_pass_spends_counter join fresh old new name moment start has is ps spent c text
+      (reply_by_token_is_due start moment (OneText text) (Pass c) due).1 after
+  due_reply_spends_counters (TwoTexts first second) (Some (Pass c)) (Some start) has due after =
+      pair_pass_spends_counters join fresh old new name moment start has is ps spent c first second
+      (reply_by_token_is_due start moment (TwoTexts first second) (Pass c) due).1 after
 
 -- the law: what was spent stays spent over each reply that is due
 pub spent_stays_spent : LegalHistoriesJoin → CandidatesAreNew → SpentStaysSpent
 spent_stays_spent join fresh old new t ps is due after spent =
-    due_reply_spends_counters join fresh old new t.account t.moment t.sent t.reply ps (token_at old t.account) refl due is after spent
+    due_reply_spends_counters join fresh old new t.account t.moment is ps spent t.sent t.reply (token_at old t.account) refl due after

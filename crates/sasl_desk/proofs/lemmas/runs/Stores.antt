@@ -19,92 +19,79 @@ use Rattle.sasl_desk.specs.Restarts.{MayLeave, IsDeskRunLeaving}
 use Rattle.sasl_desk.specs.declared.desk.Desk.{Desk}
 use Rattle.sasl_desk.proofs.lemmas.runs.Restarts.{left_book_keeps_spent_counters}
 
--- a store that is as it has to be holds the text of a book that a run may leave: the book, or that with the attempt whose save failed
-pub store_holds_left_book : (IsStored : List ℕ → Type 0) (accounts : Accounts) (calls : List Call) (place : Place) (book : BookFields)
-    (store : StoreFacts) → IsStoredAt IsStored accounts calls place book store
-    → (left : BookFields) × MayLeave book left × IsBookText store.saved left
-store_holds_left_book IsStored accounts calls halted book store lost = elim lost.saved [
-  | inl before ↦ (book, inl refl, before.0)
-  | inr after ↦ (lost.next, inr (lost.t, lost.is_judged), after)
-]
-store_holds_left_book IsStored accounts calls place book store held = (book, inl refl, held.saved)
+-- a store that is as it has to be at a place of a log
+module _ (IsStored : List ℕ → Type 0) (accounts : Accounts) (calls : List Call) (book : BookFields) (store : StoreFacts) where
+  -- it holds the text of a book that a run may leave: the book, or that with the attempt whose save failed
+  pub store_holds_left_book : (place : Place) → IsStoredAt IsStored accounts calls place book store
+      → (left : BookFields) × MayLeave book left × IsBookText store.saved left
+  store_holds_left_book halted lost = elim lost.saved [
+    | inl before ↦ (book, inl refl, before.0)
+    | inr after ↦ (lost.next, inr (lost.t, lost.is_judged), after)
+  ]
+  store_holds_left_book place held = (book, inl refl, held.saved)
 
--- wherever its log stands, the book was saved
-pub book_was_saved : (IsStored : List ℕ → Type 0) (accounts : Accounts) (calls : List Call) (place : Place) (book : BookFields)
-    (store : StoreFacts)
-    → IsStoredAt IsStored accounts calls place book store → HasStoredText IsStored book
-book_was_saved IsStored accounts calls halted book store lost = lost.before
-book_was_saved IsStored accounts calls place book store held = (store.saved, held.saved, held.stored)
+  -- the book was saved
+  pub book_was_saved : (place : Place) → IsStoredAt IsStored accounts calls place book store → HasStoredText IsStored book
+  book_was_saved halted lost = lost.before
+  book_was_saved place held = (store.saved, held.saved, held.stored)
 
--- the book to which all that a log tells leads was saved
-pub log_is_saved : {S : Type 0} (facts : S → StoreFacts) (IsStored : List ℕ → Type 0) (start : BookFields) (calls : List Call)
-    (desk : Desk S)
-    → IsDeskAfter facts IsStored start calls desk → IsLogSaved IsStored start (log_bytes (run_lines calls))
-log_is_saved facts IsStored start calls desk s = record {
-  lines = run_lines calls;
-  place = s.place;
-  told = s.told;
-  are_lines = refl;
-  begins = s.begins;
-  saved = record {
-    last = desk.keeper.book;
-    is_last = s.is_book;
-    saved = book_was_saved IsStored (accounts_in start) calls s.place desk.keeper.book (facts desk.keeper.store) s.is_stored;
-  };
-}
+-- a desk that has answered these calls
+module _ {S : Type 0} {facts : S → StoreFacts} {IsStored : List ℕ → Type 0} {start : BookFields} {calls : List Call} {desk : Desk S}
+    (s : IsDeskAfter facts IsStored start calls desk) where
+  -- the book to which all that its log tells leads was saved
+  pub log_is_saved : IsLogSaved IsStored start (log_bytes (run_lines calls))
+  log_is_saved = record {
+    lines = run_lines calls;
+    place = s.place;
+    told = s.told;
+    are_lines = refl;
+    begins = s.begins;
+    saved = record {
+      last = desk.keeper.book;
+      is_last = s.is_book;
+      saved = book_was_saved IsStored (accounts_in start) calls desk.keeper.book (facts desk.keeper.store) s.place s.is_stored;
+    };
+  }
 
--- a book that the desk has, or had with one attempt more, is one that its run may leave
-desk_run_may_leave : {S : Type 0} (facts : S → StoreFacts) (IsStored : List ℕ → Type 0) (start : BookFields) (calls : List Call)
-    (desk : Desk S)
-    (s : IsDeskAfter facts IsStored start calls desk) (left : BookFields)
-    → MayLeave desk.keeper.book left → IsDeskRunLeaving facts IsStored start calls left
-desk_run_may_leave facts IsStored start calls desk s left leaves = (
-  record { start = start; calls = calls; told = s.told; left = left },
-  record { desk = desk; stands = s; tells = refl; leaves = leaves },
-  refl,
-  refl,
-  refl,
-)
+  -- its store holds the text of the book, or of the book with one attempt more
+  desk_store_may_leave : (left : BookFields) × MayLeave desk.keeper.book left × IsBookText (facts desk.keeper.store).saved left
+  desk_store_may_leave =
+      store_holds_left_book IsStored (accounts_in start) calls desk.keeper.book (facts desk.keeper.store) s.place s.is_stored
 
--- the store holds the text of a book that the desk leaves
-pub desk_store_holds_left_book : {S : Type 0} (facts : S → StoreFacts) (IsStored : List ℕ → Type 0) (start : BookFields) (calls : List Call)
-    (desk : Desk S)
-    → IsDeskAfter facts IsStored start calls desk
-    → (left : BookFields) × IsDeskRunLeaving facts IsStored start calls left × IsBookText (facts desk.keeper.store).saved left
-desk_store_holds_left_book facts IsStored start calls desk s =
-    let (left, leaves, text) = store_holds_left_book IsStored (accounts_in start) calls s.place desk.keeper.book (facts desk.keeper.store)
-    s.is_stored in
-    (left, desk_run_may_leave facts IsStored start calls desk s left leaves, text)
+  -- its run may leave the book that it has, and that with one attempt more
+  desk_run_may_leave : (left : BookFields) → MayLeave desk.keeper.book left → IsDeskRunLeaving facts IsStored start calls left
+  desk_run_may_leave left leaves = (
+    record { start = start; calls = calls; told = s.told; left = left },
+    record { desk = desk; stands = s; tells = refl; leaves = leaves },
+    refl,
+    refl,
+    refl,
+  )
 
--- a run that stops within a call may leave the book with the attempt that was judged
-pub stopped_desk_leaves_attempt : {S : Type 0} (facts : S → StoreFacts) (IsStored : List ℕ → Type 0) (start : BookFields)
-    (calls : List Call)
-    (desk : Desk S) (t : LoggedReply) (next : BookFields)
-    → IsDeskAfter facts IsStored start calls desk → IsAttemptJudged desk.keeper.book t next
-    → IsDeskRunLeaving facts IsStored start calls next
-stopped_desk_leaves_attempt facts IsStored start calls desk t next s one =
-    desk_run_may_leave facts IsStored start calls desk s next (inr (t, one))
+  -- its store holds the text of a book that its run may leave
+  pub desk_store_holds_left_book : (left : BookFields) × IsDeskRunLeaving facts IsStored start calls left
+      × IsBookText (facts desk.keeper.store).saved left
+  desk_store_holds_left_book = let (left, leaves, text) = desk_store_may_leave in (left, desk_run_may_leave left leaves, text)
 
--- each counter that was told is spent in the book whose text the store holds
-pub desk_store_keeps_spent_counters : BeginsWithItself → SpentStaysSpent
-    → {S : Type 0} (facts : S → StoreFacts) (IsStored : List ℕ → Type 0) (start : BookFields) (calls : List Call) (desk : Desk S)
-    (s : IsDeskAfter facts IsStored start calls desk) (ps : List (List ℕ × ℕ)) → AreSpent ps start
-    → (saved : BookFields) × IsBookText (facts desk.keeper.store).saved saved × AreSpent (spent_by_all (reverse s.told) ++ ps) saved
-desk_store_keeps_spent_counters itself stays facts IsStored start calls desk s ps spent =
-    let (left, leaves, text) = store_holds_left_book IsStored (accounts_in start) calls s.place desk.keeper.book (facts desk.keeper.store)
-    s.is_stored in (
-      left,
-      text,
-      left_book_keeps_spent_counters itself stays desk.keeper.book left (spent_by_all (reverse s.told) ++ ps) leaves
-          (s.spent ps spent),
-    )
+  -- a run that stops within a call may leave the book with the attempt that was judged
+  pub stopped_desk_leaves_attempt : (t : LoggedReply) (next : BookFields) → IsAttemptJudged desk.keeper.book t next
+      → IsDeskRunLeaving facts IsStored start calls next
+  stopped_desk_leaves_attempt t next one = desk_run_may_leave next (inr (t, one))
 
--- each counter that was told is spent in the book that a stop within a call leaves
-pub stopped_desk_keeps_spent_counters : BeginsWithItself → SpentStaysSpent
-    → {S : Type 0} (facts : S → StoreFacts) (IsStored : List ℕ → Type 0) (start : BookFields) (calls : List Call) (desk : Desk S)
-    (s : IsDeskAfter facts IsStored start calls desk) (ps : List (List ℕ × ℕ)) (t : LoggedReply) (next : BookFields) → AreSpent ps start
-    → IsAttemptJudged desk.keeper.book t next
-    → AreSpent (spent_by_all (reverse s.told) ++ ps) next
-stopped_desk_keeps_spent_counters itself stays facts IsStored start calls desk s ps t next spent one =
-    left_book_keeps_spent_counters itself stays desk.keeper.book next (spent_by_all (reverse s.told) ++ ps)
-    (inr (t, one)) (s.spent ps spent)
+  -- what was spent before stays spent, and each counter that a reply used is spent, in the book whose text the store holds
+  pub desk_store_keeps_spent_counters : BeginsWithItself → SpentStaysSpent → (ps : List (List ℕ × ℕ)) → AreSpent ps start
+      → (saved : BookFields) × IsBookText (facts desk.keeper.store).saved saved × AreSpent (spent_by_all (reverse s.told) ++ ps) saved
+  desk_store_keeps_spent_counters itself stays ps spent =
+      let (left, leaves, text) = desk_store_may_leave in (
+        left,
+        text,
+        left_book_keeps_spent_counters itself stays desk.keeper.book left (spent_by_all (reverse s.told) ++ ps) leaves (s.spent ps spent),
+      )
+
+  -- in its book with one more attempt, what was spent before is spent, and so is each counter that a reply used
+  pub stopped_desk_keeps_spent_counters : BeginsWithItself → SpentStaysSpent → (ps : List (List ℕ × ℕ)) (t : LoggedReply)
+      (next : BookFields) → AreSpent ps start → IsAttemptJudged desk.keeper.book t next
+      → AreSpent (spent_by_all (reverse s.told) ++ ps) next
+  stopped_desk_keeps_spent_counters itself stays ps t next spent one =
+      left_book_keeps_spent_counters itself stays desk.keeper.book next (spent_by_all (reverse s.told) ++ ps) (inr (t, one))
+      (s.spent ps spent)

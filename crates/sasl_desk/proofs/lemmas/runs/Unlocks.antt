@@ -1,4 +1,4 @@
--- What is spent stays spent where a token is unlocked, and where an account is added.
+-- What is spent stays spent when a token is unlocked, and when an account is added.
 use Rattle.std.proofs.Common.{◌≡◌, ◌<◌, ℕ, List, [], ◌∷◌, Option, inl, inr, refl, sym, ap, subst, arith, ◌∙◌}
 use Rattle.std.specs.Prelude.{option_and_then}
 use Rattle.std.specs.Str.{bytes_eq}
@@ -77,7 +77,7 @@ unlocked_token_keeps_below fresh token counter below history moment c is legal c
     history_keeps_below fresh (unlocked token) counter (λ m k at now. below [] m k at tt (unlocked_admits_no_more token m k now))
     history legal moment c is can
 
--- where the token of one account is unlocked, a counter that is spent stays so
+-- when the token of one account is unlocked, a counter that is spent stays so
 unlocked_token_keeps_spent_counter : TokensAreApart → CandidatesAreNew → (old : BookFields) (name : List ℕ) (token : TokenFields)
     → token_at old name ≡ Some token
     → (other : List ℕ) (counter : ℕ) → IsCounterSpent old other counter
@@ -110,7 +110,7 @@ unlock_keeps_spent_counter apart fresh old new name (Some token) has changed oth
     subst (λ (b : BookFields). IsCounterSpent b other counter) (sym is.book)
     (unlocked_token_keeps_spent_counter apart fresh old name token has other counter used)
 
--- what was spent stays spent where a token is unlocked
+-- what was spent stays spent when a token is unlocked
 pub unlock_keeps_spent_counters : TokensAreApart → CandidatesAreNew → (old new : BookFields) (name : List ℕ) (ps : List (List ℕ × ℕ))
     → IsUnlocked old name new
     → AreSpent ps old → AreSpent ps new
@@ -126,7 +126,7 @@ token_is_not_free : (o : Option AccountFields) (token : TokenFields) → o ≡ N
 token_is_not_free None token free has = cc has
 token_is_not_free (Some account) token free has = cc free
 
--- where an account is added, a counter that is spent stays so
+-- when an account is added, a counter that is spent stays so
 addition_keeps_spent_counter : AddedIsApart → (old : BookFields) (name : List ℕ) (account : AccountFields) → account_at old name ≡ None
     → (other : List ℕ) (counter : ℕ) → IsCounterSpent old other counter → IsCounterSpent (with_account old name account) other counter
 addition_keeps_spent_counter apart old name account free other counter used =
@@ -140,7 +140,7 @@ addition_keeps_spent_counter apart old name account free other counter used =
           record { token = used.token; has = ap (option_and_then (λ a. a.token)) same ∙ used.has; below = used.below }
     ]
 
--- where an account is added, counters that are spent stay so
+-- when an account is added, counters that are spent stay so
 pub addition_keeps_spent_counters : AddedIsApart → (old new : BookFields) (name : List ℕ) (account : AccountFields) (ps : List (List ℕ × ℕ))
     → IsAdded old name account new → AreSpent ps old → AreSpent ps new
 addition_keeps_spent_counters apart old new name account ps is spent = record {

@@ -15,7 +15,6 @@ use Rattle.scram_ends.specs.Verdict.{Due, accept, refuse, IsDue, due_text, final
 use Rattle.scram_ends.specs.Laws.{RefusedIsNotTakenUp}
 use Rattle.scram_ends.specs.declared.server.ServerWait.{ServerWait}
 use Rattle.scram_ends.specs.declared.first.FirstFault.{FirstFault}
-use Rattle.scram_ends.specs.declared.verdict.Refusal.{Refusal}
 use Rattle.scram_ends.specs.declared.verdict.Verdict.{Verdict}
 use Rattle.log_grammar.specs.Places.{Place, between, asks_bare, waits_first, got_first, waits_final, got_final, waits_code, leaving, over}
 use Rattle.log_grammar.specs.Demands.{Accounts, NamesMechanism, IsFirstOf}
@@ -26,11 +25,11 @@ use Rattle.sasl_desk.specs.declared.session.Session.TheVariants.{WaitFirst, Wait
 use Rattle.sasl_desk.specs.declared.session.event.Saying.TheVariants.{Nothing, Continues, Refuses}
 
 -- a bare `S NO` is due to a client that is turned away
-pub bare_no_due : (accounts : Accounts) (server_nonce : List ℕ) (at : Place) → IsBareNoDue at
+pub bare_refusal_due : (accounts : Accounts) (server_nonce : List ℕ) (at : Place) → IsBareNoDue at
     → IsAnswer accounts server_nonce at (answer_of Refuses None) []
-bare_no_due accounts server_nonce leaving away =
+bare_refusal_due accounts server_nonce leaving away =
     record { next = between; path = (over, (refl, refl), (between, refl, refl)); left = refl; challenge = tt; plain = (tt, (tt, tt)) }
-bare_no_due accounts server_nonce (asks_bare mechanism) away =
+bare_refusal_due accounts server_nonce (asks_bare mechanism) away =
     record {
       next = between;
       path = (over, ((away, refl), refl), (between, refl, refl));
@@ -38,7 +37,7 @@ bare_no_due accounts server_nonce (asks_bare mechanism) away =
       challenge = tt;
       plain = (tt, (tt, tt));
     }
-bare_no_due accounts server_nonce (got_first mechanism first) away =
+bare_refusal_due accounts server_nonce (got_first mechanism first) away =
     record {
       next = between;
       path = (over, ((away, refl), refl), (between, refl, refl));
@@ -46,7 +45,7 @@ bare_no_due accounts server_nonce (got_first mechanism first) away =
       challenge = tt;
       plain = (tt, (tt, tt));
     }
-bare_no_due accounts server_nonce at away = absurd away
+bare_refusal_due accounts server_nonce at away = absurd away
 
 -- nothing but `E` is due after a client that has gone away
 pub departure_due : (accounts : Accounts) (server_nonce : List ℕ) → IsAnswer accounts server_nonce over (answer_of Nothing None) []
@@ -88,111 +87,81 @@ invitation_due accounts server_nonce mechanism m named = record {
   plain = (tt, tt);
 }
 
--- the challenge that a server writes is due, and the server stands for its login
-account_challenge_due : HasOneClientFirst → SpellsOneName
-    → (accounts : Accounts) (server_nonce : List ℕ) (wait : ServerWait) (m : Mechanism) (mechanism name client_first server_first : List ℕ)
-    → NamesMechanism mechanism m → IsFirstOf mechanism client_first name
-    → IsChallengeTo (accounts.entry m name) client_first server_nonce server_first
-    → StandsFor wait (challenged_login (accounts.entry m name) m client_first server_first)
-    → IsAnswer accounts server_nonce (got_first mechanism client_first)
-    (answer_of Continues (Some (WaitFinal (challenged_login_of wait m name)))) server_first
-account_challenge_due once names accounts server_nonce wait m mechanism name client_first server_first named first shows stands = record {
-  next = waits_final mechanism name client_first server_first;
-  path = (
-    waits_final mechanism name client_first server_first,
-    (name, login_is_challenged once names accounts wait m mechanism name client_first server_first named first stands, refl),
-    refl,
-  );
-  left = (client_first, server_first, ap (λ (t : List ℕ). waits_final t name client_first server_first) named, stands);
-  challenge = (m, named, shows);
-  plain = (tt, tt);
-}
+-- the server's challenge after a client-first message
+module _ (once : HasOneClientFirst) (names : SpellsOneName) (accounts : Accounts) (server_nonce : List ℕ) (wait : ServerWait)
+    (m : Mechanism)
+    (mechanism name client_first server_first : List ℕ) where
+  -- the challenge that a server writes is due, and the server stands for its login
+  account_challenge_due : NamesMechanism mechanism m → IsFirstOf mechanism client_first name
+      → IsChallengeTo (accounts.entry m name) client_first server_nonce server_first
+      → StandsFor wait (challenged_login (accounts.entry m name) m client_first server_first)
+      → IsAnswer accounts server_nonce (got_first mechanism client_first)
+      (answer_of Continues (Some (WaitFinal (challenged_login_of wait m name)))) server_first
+  account_challenge_due named first shows stands = record {
+    next = waits_final mechanism name client_first server_first;
+    path = (
+      waits_final mechanism name client_first server_first,
+      (name, login_is_challenged once names accounts wait m mechanism name client_first server_first named first stands, refl),
+      refl,
+    );
+    left = (client_first, server_first, ap (λ (t : List ℕ). waits_final t name client_first server_first) named, stands);
+    challenge = (m, named, shows);
+    plain = (tt, tt);
+  }
 
--- a challenge of a server that stands for the account's login is due after its client-first message, and the session then waits
--- for the final one
-pub challenge_due : HasOneClientFirst → SpellsOneName → (accounts : Accounts) (server_nonce : List ℕ) (wait : ServerWait) (m : Mechanism)
-    (mechanism name client_first server_first message : List ℕ) (entry : Entry) → entry ≡ accounts.entry m name → message ≡ server_first
-    → NamesMechanism mechanism m → IsFirstOf mechanism client_first name → IsChallengeTo entry client_first server_nonce server_first
-    → StandsFor wait (challenged_login entry m client_first server_first)
-    → IsAnswer accounts server_nonce (got_first mechanism client_first)
-    (answer_of Continues (Some (WaitFinal (challenged_login_of wait m name)))) message
-challenge_due once names accounts server_nonce wait m mechanism name client_first server_first message entry same written named first
-    shows stands =
-    let here = subst (λ (e : Entry). IsChallengeTo e client_first server_nonce server_first) same shows in
-    let stood = stands_for_equal_login wait entry (accounts.entry m name) m client_first client_first server_first same refl stands in
-    subst (λ (t : List ℕ). IsAnswer accounts server_nonce (got_first mechanism client_first)
-    (answer_of Continues (Some (WaitFinal (challenged_login_of wait m name)))) t)
-    (sym written) (account_challenge_due once names accounts server_nonce wait m mechanism name client_first server_first named first here
-    stood)
+  -- a challenge of a server that stands for the account's login is due, and the session then waits for the client-final message
+  pub challenge_due : (message : List ℕ) (entry : Entry) → entry ≡ accounts.entry m name → message ≡ server_first
+      → NamesMechanism mechanism m → IsFirstOf mechanism client_first name → IsChallengeTo entry client_first server_nonce server_first
+      → StandsFor wait (challenged_login entry m client_first server_first)
+      → IsAnswer accounts server_nonce (got_first mechanism client_first)
+      (answer_of Continues (Some (WaitFinal (challenged_login_of wait m name)))) message
+  challenge_due message entry same written named first shows stands =
+      let here = subst (λ (e : Entry). IsChallengeTo e client_first server_nonce server_first) same shows in
+      let stood = stands_for_equal_login wait entry (accounts.entry m name) m client_first client_first server_first same refl stands in
+      subst (λ (t : List ℕ). IsAnswer accounts server_nonce (got_first mechanism client_first)
+      (answer_of Continues (Some (WaitFinal (challenged_login_of wait m name)))) t)
+      (sym written) (account_challenge_due named first here stood)
 
--- an acceptance is due where its verdict is
-pub acceptance_due : (accounts : Accounts) (server_nonce : List ℕ) (m : Mechanism)
-    (name client_first server_first client_final signature : List ℕ)
-    → IsDue (challenged_login (accounts.entry m name) m client_first server_first) client_final (accept signature)
-    → IsServerFinal (due_text (accept signature)) (final_due (accept signature))
-    → IsAnswer accounts server_nonce (got_final (name_of m) name client_first server_first client_final)
-    (verdict_answer (verdict_of (accept signature)) name)
-    (due_text (accept signature))
-acceptance_due accounts server_nonce m name client_first server_first client_final signature due is = record {
-  next = waits_code name;
-  path = (
-    waits_code name,
-    (
+-- the verdict on a client-final message
+module _ (accounts : Accounts) (server_nonce : List ℕ) (m : Mechanism) (name client_first server_first client_final : List ℕ) where
+  -- an acceptance, or a refusal with the message that says why, is due if its verdict is
+  either_verdict_due : (d : Due) → IsDue (challenged_login (accounts.entry m name) m client_first server_first) client_final d
+      → IsServerFinal (due_text d) (final_due d)
+      → IsAnswer accounts server_nonce (got_final (name_of m) name client_first server_first client_final)
+      (verdict_answer (verdict_of d) name) (due_text d)
+  either_verdict_due (accept signature) due is = record {
+    next = waits_code name;
+    path = (
+      waits_code name,
       (
-        signature,
-        (m, refl, due),
-        record {
-          last = final_due (accept signature);
-          is_last = is;
-          not_mandatory = refl;
-          is_verifier = refl;
-        },
+        (
+          signature,
+          (m, refl, due),
+          record { last = final_due (accept signature); is_last = is; not_mandatory = refl; is_verifier = refl },
+        ),
+        refl,
       ),
       refl,
-    ),
-    refl,
-  );
-  left = refl;
-  challenge = tt;
-  plain = ((signature, is), tt);
-}
+    );
+    left = refl;
+    challenge = tt;
+    plain = ((signature, is), tt);
+  }
+  either_verdict_due (refuse why) due is = record {
+    next = between;
+    path = (over, ((why, (m, refl, due), refl), refl), (between, refl, refl));
+    left = refl;
+    challenge = tt;
+    plain = (tt, (tt, tt));
+  }
 
--- a refusal is due where its verdict is, with the message that says why
-pub refusal_due : (accounts : Accounts) (server_nonce : List ℕ) (m : Mechanism) (name client_first server_first client_final : List ℕ)
-    (why : Refusal)
-    → IsDue (challenged_login (accounts.entry m name) m client_first server_first) client_final (refuse why)
-    → IsAnswer accounts server_nonce (got_final (name_of m) name client_first server_first client_final)
-    (verdict_answer (verdict_of (refuse why)) name)
-    (due_text (refuse why))
-refusal_due accounts server_nonce m name client_first server_first client_final why due = record {
-  next = between;
-  path = (over, ((why, (m, refl, due), refl), refl), (between, refl, refl));
-  left = refl;
-  challenge = tt;
-  plain = (tt, (tt, tt));
-}
-
--- the answer that bears a verdict is due where the verdict is
-either_verdict_due : (accounts : Accounts) (server_nonce : List ℕ) (m : Mechanism) (name client_first server_first client_final : List ℕ)
-    (d : Due)
-    → IsDue (challenged_login (accounts.entry m name) m client_first server_first) client_final d → IsServerFinal (due_text d) (final_due d)
-    → IsAnswer accounts server_nonce (got_final (name_of m) name client_first server_first client_final)
-    (verdict_answer (verdict_of d) name)
-    (due_text d)
-either_verdict_due accounts server_nonce m name client_first server_first client_final (accept signature) due is =
-    acceptance_due accounts server_nonce m name client_first server_first client_final signature due is
-either_verdict_due accounts server_nonce m name client_first server_first client_final (refuse why) due is =
-    refusal_due accounts server_nonce m name client_first server_first client_final why due
-
--- the answer that bears the verdict is due
-pub verdict_due : (accounts : Accounts) (server_nonce : List ℕ) (m : Mechanism)
-    (name client_first server_first client_final message : List ℕ)
-    (v : Verdict) (d : Due)
-    → IsDue (challenged_login (accounts.entry m name) m client_first server_first) client_final d → v ≡ verdict_of d → message ≡ due_text d
-    → IsServerFinal (due_text d) (final_due d)
-    → IsAnswer accounts server_nonce (got_final (name_of m) name client_first server_first client_final) (verdict_answer v name) message
-verdict_due accounts server_nonce m name client_first server_first client_final message v d due says written is =
-    let at = got_final (name_of m) name client_first server_first client_final in
-    let here = either_verdict_due accounts server_nonce m name client_first server_first client_final d due is in
-    let worded = subst (λ (w : Verdict). IsAnswer accounts server_nonce at (verdict_answer w name) (due_text d)) (sym says) here in
-    subst (λ (t : List ℕ). IsAnswer accounts server_nonce at (verdict_answer v name) t) (sym written) worded
+  -- the answer with the verdict that is due, and its message, is due
+  pub verdict_due : (message : List ℕ) (v : Verdict) (d : Due)
+      → IsDue (challenged_login (accounts.entry m name) m client_first server_first) client_final d → v ≡ verdict_of d
+      → message ≡ due_text d → IsServerFinal (due_text d) (final_due d)
+      → IsAnswer accounts server_nonce (got_final (name_of m) name client_first server_first client_final) (verdict_answer v name) message
+  verdict_due message v d due says written is =
+      let at = got_final (name_of m) name client_first server_first client_final in
+      let worded = subst (λ (w : Verdict). IsAnswer accounts server_nonce at (verdict_answer w name) (due_text d)) (sym says)
+      (either_verdict_due d due is) in
+      subst (λ (t : List ℕ). IsAnswer accounts server_nonce at (verdict_answer v name) t) (sym written) worded

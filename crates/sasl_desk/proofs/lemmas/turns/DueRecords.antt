@@ -1,4 +1,4 @@
--- What is recorded of a client may stand where it is due, and nowhere else.
+-- What is recorded of a client may stand if and only if it is due.
 use Rattle.std.proofs.Common.{◌≡◌, true, refl, sym, subst, arith}
 use Rattle.log_grammar.specs.Lines.{heard, bad, gone, ClientLine, auth, auth_with, resp, abort, code, sync}
 use Rattle.log_grammar.specs.Places.{Place, offered, waits_first, waits_final, waits_code, leaving, over}
@@ -48,7 +48,7 @@ standing_client_line_is_due d (code text) at next goes = absurd goes
 standing_client_line_is_due d (sync one two) (waits_code account) next goes = (refl, goes)
 standing_client_line_is_due d (sync one two) at next goes = absurd goes
 
--- `C BAD` may stand where it is the client's turn
+-- `C BAD` may stand when it is the client's turn
 pub bad_may_stand : (d : Demands) (at : Place) → is_client_turn at ≡ true → IsTransition d at bad leaving
 bad_may_stand d offered turn = refl
 bad_may_stand d (waits_first mechanism) turn = refl
@@ -56,7 +56,7 @@ bad_may_stand d (waits_final mechanism account first challenge) turn = refl
 bad_may_stand d (waits_code account) turn = refl
 bad_may_stand d at turn = absurd (cc turn)
 
--- `C BAD` stands only where it is the client's turn, and leads to where a bare `S NO` is due
+-- `C BAD` stands only when it is the client's turn, and leads to where a bare `S NO` is due
 pub bad_stands_in_turn : (d : Demands) (at next : Place) → IsTransition d at bad next → (is_client_turn at ≡ true) × (next ≡ leaving)
 bad_stands_in_turn d offered next goes = (refl, goes)
 bad_stands_in_turn d (waits_first mechanism) next goes = (refl, goes)
@@ -64,7 +64,7 @@ bad_stands_in_turn d (waits_final mechanism account first challenge) next goes =
 bad_stands_in_turn d (waits_code account) next goes = (refl, goes)
 bad_stands_in_turn d at next goes = absurd goes
 
--- `C GONE` may stand where it is the client's turn
+-- `C GONE` may stand when it is the client's turn
 pub gone_may_stand : (d : Demands) (at : Place) → is_client_turn at ≡ true → IsTransition d at gone over
 gone_may_stand d offered turn = refl
 gone_may_stand d (waits_first mechanism) turn = refl
@@ -72,7 +72,7 @@ gone_may_stand d (waits_final mechanism account first challenge) turn = refl
 gone_may_stand d (waits_code account) turn = refl
 gone_may_stand d at turn = absurd (cc turn)
 
--- `C GONE` stands only where it is the client's turn, and leads to where the session is over
+-- `C GONE` stands only when it is the client's turn, and leads to where the session is over
 pub gone_stands_in_turn : (d : Demands) (at next : Place) → IsTransition d at gone next → (is_client_turn at ≡ true) × (next ≡ over)
 gone_stands_in_turn d offered next goes = (refl, goes)
 gone_stands_in_turn d (waits_first mechanism) next goes = (refl, goes)
@@ -80,7 +80,7 @@ gone_stands_in_turn d (waits_final mechanism account first challenge) next goes 
 gone_stands_in_turn d (waits_code account) next goes = (refl, goes)
 gone_stands_in_turn d at next goes = absurd goes
 
--- a line of the client may stand exactly where it is due, and leads to the place after it
+-- a line of the client may stand if and only if it is due, and leads to the place after it
 pub due_lines_stand : DueLinesStand
 due_lines_stand accounts at line next = (
   standing_client_line_is_due (demands accounts) line at next,
@@ -88,14 +88,14 @@ due_lines_stand accounts at line next = (
       (due_line_may_stand (demands accounts) line at due.0),
 )
 
--- `C BAD` may stand exactly where it is the client's turn
+-- `C BAD` may stand if and only if it is the client's turn
 pub bad_lines_stand : BadLinesStand
 bad_lines_stand accounts at next = (
   bad_stands_in_turn (demands accounts) at next,
   λ due. subst (λ (p : Place). IsTransition (demands accounts) at bad p) (sym due.1) (bad_may_stand (demands accounts) at due.0),
 )
 
--- `C GONE` may stand exactly where it is the client's turn
+-- `C GONE` may stand if and only if it is the client's turn
 pub gone_clients_stand : GoneClientsStand
 gone_clients_stand accounts at next = (
   gone_stands_in_turn (demands accounts) at next,

@@ -14,7 +14,7 @@ use Rattle.sasl_desk.specs.Sessions.{SentWhatTakesMemory}
 use Rattle.sasl_desk.specs.declared.session.event.HearResult.{HearResult}
 use Rattle.sasl_desk.specs.declared.session.event.HearResult.TheVariants.{Answered, ToJudge}
 
--- two lines of a client are the same, where they are the same as lines of the protocol
+-- two lines of a client are the same if they are the same as lines of the protocol
 pub from_client_is_injective : (one other : ClientLine) → from_client one ≡ from_client other → one ≡ other
 from_client_is_injective one other same = cc
 
@@ -49,7 +49,7 @@ pub no_line_is_recorded_bad : (event : ClientEvent) (at : Place) → ((line : Cl
 no_line_is_recorded_bad goes_away at no_line sent = absurd (sent refl)
 no_line_is_recorded_bad (sends text) at no_line sent = λ line is. absurd (no_line line is)
 
--- a code that is to be judged is that of the event, where it is that of the line that the event was
+-- a code that is to be judged is the event's if it is that of the line that the event was
 pub judged_code_was_sent : (event : ClientEvent) (line : ClientLine) (h : HearResult) → IsLineOf event line → JudgesOnlyLine h line
     → JudgesOnlyWhatWasSent h event
 judged_code_was_sent event line (Answered turn) is same = tt

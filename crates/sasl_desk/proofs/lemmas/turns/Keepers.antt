@@ -1,6 +1,7 @@
 -- What a keeper did with a code: the attempt was judged, and kept or lost; and a token that it puts back.
-use Rattle.std.proofs.Common.{◌≡◌, ◌≢◌, ◌≤◌, ℕ, true, List, [], ◌∷◌, ◌++◌, reverse, refl, sym, ap, ◌∙◌}
+use Rattle.std.proofs.Common.{◌≡◌, ◌≢◌, ◌≤◌, ◌⊎◌, inl, inr, ℕ, true, false, List, [], ◌∷◌, ◌++◌, reverse, refl, sym, ap, ◌∙◌}
 use Rattle.std.specs.declared.option.Option.TheVariants.{None, Some}
+use Rattle.std.proofs.lemmas.Bool.{false≢true}
 use Rattle.otp_core.specs.Attempt.{CodeTexts}
 use Rattle.otp_core.specs.Ranges.{IsMoment, most_counter}
 use Rattle.otp_core.specs.State.{after_reply}
@@ -11,7 +12,7 @@ use Rattle.otp_core.specs.declared.token.kinds.TokenFields.{TokenFields}
 use Rattle.book_format.specs.Book.{BookFields}
 use Rattle.account_book.specs.Accounts.{IsChanged, with_changed}
 use Rattle.account_book.specs.SavedBooks.{needs_save, SavesBook}
-use Rattle.account_book.specs.Store.{StoreFacts}
+use Rattle.account_book.specs.Store.{StoreFacts, IsFailedSave}
 use Rattle.account_book.specs.Tokens.{token_at, with_token}
 use Rattle.account_book.proofs.lemmas.Maps.{account_is_changed}
 use Rattle.account_book.proofs.lemmas.Tokens.{tokens_go_back, tokens_stay}
@@ -37,7 +38,7 @@ pub tokenless_attempt_is_judged : (old : BookFields) (name : List ℕ) (moment :
     → IsAttemptJudged old (logged_reply_of name moment sent None) old
 tokenless_attempt_is_judged old name moment sent is has = record { is_moment = is; answered = rw has (refl, refl) }
 
--- what is told is the reply that is due, and leads on from what was told before
+-- the reply of an attempt that was judged is the one that is due after the replies before it
 pub judged_reply_is_due : (old new : BookFields) (t : LoggedReply) → IsAttemptJudged old t new
     → (accounts : Accounts) (told : List LoggedReply)
     → IsBookAfter accounts told old
@@ -84,7 +85,7 @@ kept_unless_locked IsStored old new was now (Pass counter) apart holds = holds
 kept_unless_locked IsStored old new was now Fail apart holds = holds
 kept_unless_locked IsStored old new was now Locked apart holds = absurd (apart refl)
 
--- where a token is put back, the book is as it was
+-- if a token is put back, the book is as it was
 pub put_back_restores_book : (old mid new : BookFields) (name : List ℕ) (token next back : TokenFields) → token_at old name ≡ Some token
     → back ≡ token
     → IsChanged old name (with_token next) mid → IsChanged mid name (with_token back) new → new ≡ old
@@ -93,3 +94,16 @@ put_back_restores_book old mid new name token next back has same first second =
     ∙ ap (λ (b : BookFields). with_changed b name (with_token back)) first.book
     ∙ ap (λ (t : TokenFields). with_changed (with_changed old name (with_token next)) name (with_token t)) same
     ∙ tokens_go_back old name token next has
+
+-- a store that had not failed, and has failed now, failed in this save
+pub save_failed_now : (was now : StoreFacts) (text : List ℕ) → was.failed ≡ false
+    → ((was.failed ≡ true) × (now ≡ was)) ⊎ IsFailedSave was text now
+    → IsFailedSave was text now
+save_failed_now was now text working (inl (failed, same)) = absurd (false≢true (sym working ∙ failed))
+save_failed_now was now text working (inr lost) = lost
+
+-- a store that failed in a save, or had failed before, has failed
+pub lost_store_has_failed : (was now : StoreFacts) (text : List ℕ) → ((was.failed ≡ true) × (now ≡ was)) ⊎ IsFailedSave was text now
+    → now.failed ≡ true
+lost_store_has_failed was now text (inl (failed, same)) = rw same failed
+lost_store_has_failed was now text (inr lost) = lost.failed

@@ -17,7 +17,7 @@ only_auth_is_due Abort auth with_message abort = absurd (abort refl)
 only_auth_is_due (Code text) auth with_message abort = refl
 only_auth_is_due (Sync first second) auth with_message abort = refl
 
--- where no AUTH and no code is due, a line that is no RESP and no ABORT is not due
+-- if no AUTH and no code is due, a line that is no RESP and no ABORT is not due
 pub only_resp_is_due : (at : Place) (line : ClientLine) → is_auth_due at ≡ false → is_code_due at ≡ false
     → ((message : List ℕ) → line ≡ Resp message → ⊥) → (line ≡ Abort → ⊥) → is_due at (client_shown line) ≡ false
 only_resp_is_due at (Auth mechanism) auth code resp abort = auth
@@ -27,7 +27,7 @@ only_resp_is_due at Abort auth code resp abort = absurd (abort refl)
 only_resp_is_due at (Code text) auth code resp abort = code
 only_resp_is_due at (Sync first second) auth code resp abort = code
 
--- where codes are due, a line that is no CODE, no SYNC and no ABORT is not due
+-- when codes are due, a line that is no CODE, no SYNC and no ABORT is not due
 pub only_codes_are_due : (name : List ℕ) (line : ClientLine) → ((text : Bor (List ℕ)) → line ≡ Code text → ⊥)
     → ((first second : Bor (List ℕ)) → line ≡ Sync first second → ⊥) → (line ≡ Abort → ⊥)
     → is_due (waits_code name) (client_shown line) ≡ false

@@ -1,13 +1,17 @@
 -- The lines of a turn are a path from the place where the session stands to one where all is said, and a log goes on by them.
 use Rattle.std.proofs.Common.{◌≡◌, true, ℕ, List, [], ◌∷◌, ◌++◌, reverse, refl, sym, subst, append_assoc, append-nil}
 use Rattle.std.specs.List.{AllByRecursion}
+use Rattle.std.proofs.lemmas.Bool.{false≢true}
 use Rattle.log_grammar.specs.laws.LogLaws.{GoesOnByALine}
-use Rattle.log_grammar.specs.Lines.{LogLine, said, heard, bad, gone, replies}
-use Rattle.log_grammar.specs.LoggedReply.{LoggedReply}
+use Rattle.otp_core.specs.Attempt.{CodeTexts}
+use Rattle.otp_core.specs.declared.token.reply.Reply.{Reply}
+use Rattle.log_grammar.specs.Lines.{LogLine, said, heard, bad, gone, replies, code_line}
+use Rattle.log_grammar.specs.LoggedReply.{LoggedReply, logged_reply_of}
 use Rattle.log_grammar.specs.Places.{Place, got_code, between, offered, waits_first, waits_final, waits_code, halted}
-use Rattle.log_grammar.specs.Demands.{Accounts, Demands, demands, AreReplies}
+use Rattle.log_grammar.specs.Demands.{Accounts, Demands, demands, AreReplies, IsLoggedReplyDue}
 use Rattle.log_grammar.specs.state_machine.Steps.{IsTransition, told_at}
 use Rattle.log_grammar.specs.Begins.{Begins}
+use Rattle.log_grammar.proofs.lemmas.state_machine.Shortening.{code_may_stand}
 use Rattle.sasl_desk.specs.Events.{ClientEvent, sends, goes_away}
 use Rattle.sasl_desk.specs.DueLines.{is_client_turn, record_place, IsPath}
 use Rattle.sasl_desk.specs.Sessions.{IsSessionAt, IsRecord, IsTurnOnEvent, recorded_shown, turn_lines, IsLeftAt}
@@ -42,6 +46,12 @@ client_turn_rests at turn = absurd (cc turn)
 pub left_session_rests : (accounts : Accounts) (at : Place) (going : Option Session) → IsLeftAt accounts at going → IsAtRest at
 left_session_rests accounts at None is = rw is tt
 left_session_rests accounts at (Some going) is = client_turn_rests at (session_has_client_turn accounts at going is)
+
+-- a session is not left at a halt
+pub left_place_not_halted : (accounts : Accounts) (at : Place) (going : Option Session) → IsLeftAt accounts at going → at ≡ halted → ⊥
+left_place_not_halted accounts at None is same = cc (is, same)
+left_place_not_halted accounts at (Some going) is same =
+    false≢true (subst (λ (p : Place). is_client_turn p ≡ true) same (session_has_client_turn accounts at going is))
 
 -- what is recorded of an event may stand at a client's turn
 pub record_may_stand : (d : Demands) (at : Place) (event : ClientEvent) (recorded : LogLine) → is_client_turn at ≡ true
@@ -107,3 +117,20 @@ log_goes_on_by_path law accounts log at told (line ∷ lines) next begins (middl
     let here = subst (λ (t : List LoggedReply). Begins (demands accounts) (log ++ line ∷ []) middle t) (append-nil told) told_here in
     subst (λ (l : List LogLine). Begins (demands accounts) l next told) (append_assoc log (line ∷ []) lines)
     (log_goes_on_by_path law accounts (log ++ line ∷ []) middle told lines next here path no_replies.1)
+
+-- a log goes on by a code, or two in a row, and its reply
+pub log_goes_on_by_reply : GoesOnByALine → (accounts : Accounts) (log : List LogLine) (name : List ℕ) (told : List LoggedReply)
+    (moment : ℕ) (sent : CodeTexts) (reply : Option Reply)
+    → Begins (demands accounts) log (waits_code name) told
+    → IsLoggedReplyDue accounts (reverse told) (logged_reply_of name moment sent reply)
+    → Begins (demands accounts) (log ++ heard (code_line sent) ∷ said (replies moment reply) ∷ []) (waits_code name)
+    (told ++ logged_reply_of name moment sent reply ∷ [])
+log_goes_on_by_reply law accounts log name told moment sent reply begins due =
+    let line = heard (code_line sent) in
+    let first = law accounts log (waits_code name) told line (got_code name sent) begins (code_may_stand name sent) tt in
+    let quiet = subst (λ (t : List LoggedReply). Begins (demands accounts) (log ++ line ∷ []) (got_code name sent) t)
+    (append-nil told) first in
+    let second = law accounts (log ++ line ∷ []) (got_code name sent) told (said (replies moment reply)) (waits_code name) quiet refl
+    (due, tt) in
+    subst (λ (l : List LogLine). Begins (demands accounts) l (waits_code name) (told ++ logged_reply_of name moment sent reply ∷ []))
+    (append_assoc log (line ∷ []) (said (replies moment reply) ∷ [])) second

@@ -24,8 +24,8 @@ returns-in-Err-clause-err g c = (
   refl,
 )
 
-pub returns-in-Err-clause-memory : goal.returns-in-Err-clause-memory
-returns-in-Err-clause-memory g c = (
+pub returns-in-Err-clause-no_memory : goal.returns-in-Err-clause-no_memory
+returns-in-Err-clause-no_memory g c = (
   Some c.judge-reply.result,
   c.put_token.new.self,
   (let apart : c.judge-reply.result ≢ Locked = search rules in needs_save_unless_locked c.judge-reply.result apart),

@@ -2,4 +2,4 @@ use Rattle.sasl_desk.proofs.lemmas.halls.Logs.{hall_log_is_front}
 use Rattle.sasl_desk.proofs.laws.hall.log_is_a_front.Goals as goal
 
 pub returns : goal.returns
-returns g c = hall_log_is_front g.S.BookStore.facts g.S.BookStore.IsStored
+returns g c = λ start calls hall s. hall_log_is_front s

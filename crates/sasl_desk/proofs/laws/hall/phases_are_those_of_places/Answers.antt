@@ -2,4 +2,4 @@ use Rattle.sasl_desk.proofs.lemmas.halls.Phases.{hall_phase_fits_place}
 use Rattle.sasl_desk.proofs.laws.hall.phases_are_those_of_places.Goals as goal
 
 pub returns : goal.returns
-returns g c = hall_phase_fits_place g.S.BookStore.facts g.S.BookStore.IsStored
+returns g c = λ start calls hall s. hall_phase_fits_place s

@@ -2,7 +2,7 @@ use Rattle.sasl_desk.proofs.lemmas.halls.Alone.{sessions_tell_same}
 use Rattle.sasl_desk.proofs.laws.hall.sessions_are_told_alone.Goals as goal
 
 pub returns : goal.returns
-returns g c =
+returns g c = λ start begun calls others hall other n m.
     sessions_tell_same
     (record {
       one_first = c.has_one_client_first.ensures;
@@ -11,4 +11,4 @@ returns g c =
       verdicts = c.at_most_one_verdict_is_due.ensures;
       lines = c.each_text_is_at_most_one_line.ensures;
     })
-    g.S.BookStore.facts g.S.BookStore.IsStored
+    n m

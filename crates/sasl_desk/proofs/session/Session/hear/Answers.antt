@@ -29,7 +29,7 @@ returns-in-Some-clause-sent g c =
     (λ heard judges. judged_code_was_sent (sends c.in-Line.text.now) (client_shown c.in-Some.line) heard c.in-Some.ensures.some judges)
     c.hear_line.ensures.sent)
 
-pub returns-in-Some-clause-memory : goal.returns-in-Some-clause-memory
-returns-in-Some-clause-memory g c =
+pub returns-in-Some-clause-no_memory : goal.returns-in-Some-clause-no_memory
+returns-in-Some-clause-no_memory g c =
     rw c.in-Line.is
-    (on_err_weaker c.hear_line.result (λ bears. (client_shown c.in-Some.line, c.in-Some.ensures.some, bears)) c.hear_line.ensures.memory)
+    (on_err_weaker c.hear_line.result (λ bears. (client_shown c.in-Some.line, c.in-Some.ensures.some, bears)) c.hear_line.ensures.no_memory)

@@ -8,4 +8,4 @@ returns-in-Ok-FromClient-clause-written c =
     read_line_is_writable c.args.text.now _ is
 
 pub returns-in-Err-clause-none : goal.returns-in-Err-clause-none
-returns-in-Err-clause-none c = λ line is. c.in-Err.ensures.only (from_client line) is
+returns-in-Err-clause-none c = λ line is. c.in-Err.ensures.every (from_client line) is

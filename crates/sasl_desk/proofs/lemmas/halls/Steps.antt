@@ -1,0 +1,137 @@
+-- Each turn of a session is a step of its hall: an answer of the session, a code with its reply, or a code whose save failed.
+use Rattle.std.proofs.Common.{◌≡◌, inl, inr, false, ℕ, List, [], ◌∷◌, ◌++◌, reverse, refl, sym, subst}
+use Rattle.std.specs.declared.option.Option.{Option}
+use Rattle.std.specs.declared.option.Option.TheVariants.{None, Some}
+use Rattle.otp_core.specs.Attempt.{CodeTexts}
+use Rattle.otp_core.specs.Laws.{BeginsWithItself}
+use Rattle.book_format.specs.Book.{BookFields}
+use Rattle.account_book.specs.SavedBooks.{needs_save}
+use Rattle.account_book.specs.Store.{StoreFacts}
+use Rattle.log_grammar.specs.Books.{accounts_in}
+use Rattle.log_grammar.specs.Lines.{LogLine, heard, code_line, IsWritable}
+use Rattle.log_grammar.specs.LoggedReply.{logged_reply_of}
+use Rattle.log_grammar.specs.Places.{Place, waits_code, halted}
+use Rattle.log_grammar.specs.Demands.{Accounts, demands}
+use Rattle.log_grammar.specs.Numbered.{Numbered, of_number}
+use Rattle.log_grammar.specs.Versions.{most_open}
+use Rattle.log_grammar.proofs.lemmas.lines.LackLf.{reply_is_writable}
+use Rattle.log_grammar.proofs.lemmas.lines.Written.{halt_is_writable}
+use Rattle.sasl_desk.specs.Desks.{IsBookAfterReplies, spent_by_all}
+use Rattle.sasl_desk.specs.Events.{ClientEvent}
+use Rattle.sasl_desk.specs.Guests.{guest_of}
+use Rattle.sasl_desk.specs.Halls.{hall_of, hall_lines, IsHallAfter}
+use Rattle.sasl_desk.specs.Keeper.{IsJudged, IsJudgedInRange}
+use Rattle.sasl_desk.specs.Runs.{hears, Call, call_of, server_nonce_of}
+use Rattle.sasl_desk.specs.Sessions.{IsLeftAt, IsCodeDue, turn_lines}
+use Rattle.sasl_desk.specs.Spent.{AreSpent, SpentStaysSpent}
+use Rattle.sasl_desk.specs.TurnResults.{after_turn_of, judged_lines, after_judged, SessionAnswers, IsTurnOf}
+use Rattle.sasl_desk.specs.declared.hall.guest.Guest.{Guest}
+use Rattle.sasl_desk.specs.declared.keeper.Keeper.{Keeper}
+use Rattle.sasl_desk.specs.declared.keeper.CodeJudged.{CodeJudged}
+use Rattle.sasl_desk.specs.declared.keeper.CodeJudged.TheVariants.{Replied, Lost}
+use Rattle.sasl_desk.specs.declared.session.Session.{Session}
+use Rattle.sasl_desk.specs.declared.turn.AfterTurn.{AfterTurn}
+use Rattle.sasl_desk.proofs.lemmas.turns.Keepers.{judged_reply_is_due}
+use Rattle.sasl_desk.proofs.lemmas.turns.Paths.{session_has_client_turn, left_place_not_halted, turn_has_no_reply}
+use Rattle.sasl_desk.proofs.lemmas.turns.Taken.{session_turn_is_taken, reply_turn_is_taken, halt_turn_is_taken}
+use Rattle.sasl_desk.proofs.lemmas.runs.HeldBooks.{held_book_fits_place, kept_store_holds_book, lost_save_fits_halt}
+use Rattle.sasl_desk.proofs.lemmas.runs.BooksAfterReplies.{book_after_told, reply_adds_to_book, reply_spends_counters}
+use Rattle.sasl_desk.proofs.lemmas.halls.Paths.{ends_of, turn_has_turn_lines, turn_closes_its_session, numbered_goes_on_by_path, numbered_goes_on_by_reply}
+use Rattle.sasl_desk.proofs.lemmas.halls.Seats.{LeavesAt}
+use Rattle.sasl_desk.proofs.lemmas.halls.Turns.{IsHallStep}
+use Rattle.sasl_desk.proofs.lemmas.halls.Working.{any_line_follows_log, working_hall_holds_book, client_turn_is_open, open_session_has_run}
+
+-- a turn that leaves its session at a place, or ends it, leaves it so in a hall
+left_session_leaves_place : (accounts : Accounts) (next : Place) (ends : ℕ) (going : Option Session) → IsLeftAt accounts next going
+    → ends ≡ ends_of going
+    → LeavesAt accounts next ends (after_turn_of going)
+left_session_leaves_place accounts next ends (Some going) is same = (is, same)
+left_session_leaves_place accounts next ends None is same = (is, same)
+
+-- a hall in which the guest of this number takes a turn, on this event and at this moment
+module _ (itself : BeginsWithItself) {S : Type 0} {facts : S → StoreFacts} {IsStored : List ℕ → Type 0} {start : BookFields}
+    {calls : List (Numbered Call)} {old : Keeper S} {n : ℕ} {going : Session} {server_nonce : List ℕ} {others : List Guest} {given : ℕ}
+    (s : IsHallAfter facts IsStored start calls (hall_of old (guest_of n going server_nonce ∷ others) given false)) (event : ClientEvent)
+    (moment : ℕ) where
+  -- when the session has answered, the turn is a step of the hall
+  answer_is_hall_step : (lines : List LogLine) (left : AfterTurn) (new : Keeper S)
+      → SessionAnswers old going server_nonce event lines left new → IsHallStep s event moment lines left new
+  answer_is_hall_step lines left new t =
+      let accounts = accounts_in start in
+      let (is, same) = (s.seated refl).0 in
+      let turn = t.hears accounts (s.places n) (book_after_told itself start s.told old.book s.is_book).entries is in
+      let next = turn.is_answer.next in
+      let lines = turn_lines t.turn t.message in
+      let taken = session_turn_is_taken accounts (server_nonce_of (of_number n calls)) event moment (s.places n) server_nonce going t.turn
+      t.message same is turn in
+      rw (t.lines_are, t.is_left, t.same) (record {
+        next = next;
+        told = s.told;
+        taken = taken;
+        spelled = numbered_goes_on_by_path most_open (demands accounts) (hall_lines calls) s.places s.told n lines next s.spelled
+            (turn_has_turn_lines t.turn t.message)
+            (turn_has_no_reply accounts server_nonce event (s.places n) t.turn t.message turn)
+            (λ line to goes. any_line_follows_log s refl n line) taken.path;
+        turns = turn_has_turn_lines t.turn t.message;
+        writable = rw t.lines_are at t.writable;
+        leaves = left_session_leaves_place accounts next _ t.turn.answer.session turn.is_answer.left
+            (turn_closes_its_session n t.turn t.message);
+        is_book = s.is_book;
+        stored = held_book_fits_place IsStored accounts (call_of (hears event moment) lines ∷ of_number n calls) old.book
+            (facts old.store) next (left_place_not_halted accounts next t.turn.answer.session turn.is_answer.left)
+            (working_hall_holds_book s refl);
+        spent = s.spent;
+      })
+
+  -- when the keeper has judged a code, or two in a row, or has lost the save for it, the turn is a step of the hall
+  code_is_hall_step : SpentStaysSpent → (name : List ℕ) (sent : CodeTexts) (new : Keeper S) → IsCodeDue event (s.places n) name sent
+      → IsWritable (heard (code_line sent)) → (judged : CodeJudged)
+      → IsJudged IsStored old.book (facts old.store) name moment sent judged new.book (facts new.store) → IsJudgedInRange judged
+      → IsHallStep s event moment (judged_lines moment sent judged) (after_judged name judged) new
+  code_is_hall_step stays name sent new due written (Replied reply) (one, kept) range =
+      let accounts = accounts_in start in
+      let t = logged_reply_of name moment sent reply in
+      record {
+        next = waits_code name;
+        told = s.told ++ t ∷ [];
+        taken = reply_turn_is_taken accounts (server_nonce_of (of_number n calls)) event moment (s.places n) name sent reply due;
+        spelled = numbered_goes_on_by_reply s.spelled n name sent moment reply (any_line_follows_log s refl n) due.place
+            (judged_reply_is_due old.book new.book t one accounts s.told (book_after_told itself start s.told old.book s.is_book));
+        turns = (tt, (tt, tt));
+        writable = (written, (reply_is_writable moment reply one.is_moment range, tt));
+        leaves = (refl, refl);
+        is_book = reply_adds_to_book start old.book new.book s.told t s.is_book one;
+        stored = kept_store_holds_book IsStored (needs_save reply) old.book new.book (facts old.store) (facts new.store) kept
+            (working_hall_holds_book s refl);
+        spent = reply_spends_counters itself stays old.book new.book t one start s.told s.spent;
+      }
+  code_is_hall_step stays name sent new due written Lost judged range =
+      let accounts = accounts_in start in
+      let lines = judged_lines moment sent Lost in
+      let taken = halt_turn_is_taken accounts (server_nonce_of (of_number n calls)) event moment (s.places n) name sent due in
+      let is_open = client_turn_is_open (s.places n) (session_has_client_turn accounts (s.places n) going (s.seated refl).0.0) in
+      let run = open_session_has_run accounts (of_number n calls) (s.places n) is_open (s.session_runs n) in
+      record {
+        next = halted;
+        told = s.told;
+        taken = taken;
+        spelled = numbered_goes_on_by_path most_open (demands accounts) (hall_lines calls) s.places s.told n lines halted s.spelled
+            (tt, (tt, tt)) (tt, (tt, tt)) (λ line to goes. any_line_follows_log s refl n line) taken.path;
+        turns = (tt, (tt, tt));
+        writable = (written, (halt_is_writable, tt));
+        leaves = (refl, refl);
+        is_book = subst (λ (b : BookFields). IsBookAfterReplies start (reverse s.told) b) (sym judged.0) s.is_book;
+        stored = lost_save_fits_halt IsStored accounts (of_number n calls) (s.places n) old.book new.book (facts old.store)
+            (facts new.store) name event moment sent run due.place (working_hall_holds_book s refl) judged;
+        spent = λ ps spent. subst (λ (b : BookFields). AreSpent (spent_by_all (reverse s.told) ++ ps) b) (sym judged.0)
+            (s.spent ps spent);
+      }
+
+  -- each turn is a step of the hall
+  pub turn_is_hall_step : SpentStaysSpent → (lines : List LogLine) (left : AfterTurn) (new : Keeper S)
+      → IsTurnOf facts IsStored old going server_nonce event moment lines left new → IsHallStep s event moment lines left new
+  turn_is_hall_step stays lines left new (inl t) = answer_is_hall_step lines left new t
+  turn_is_hall_step stays lines left new (inr (name, sent, asked, t)) =
+      let after = book_after_told itself start s.told old.book s.is_book in
+      let due = asked.asks (accounts_in start) (s.places n) after.entries (s.seated refl).0.0 in
+      rw (t.lines_are, t.is_left) (code_is_hall_step stays name sent new due asked.writable t.judged t.is_judged t.in_range)

@@ -1,0 +1,136 @@
+-- What is known of a hall that has not halted: who is its guest, what may follow in its log, and what its store holds.
+use Rattle.std.proofs.Common.{◌≡◌, ◌⊎◌, inl, inr, Bool, true, false, ℕ, List, [], ◌∷◌, refl, ◌∙◌, subst, arith}
+use Rattle.std.specs.List.Sorted.{IsPermutation}
+use Rattle.std.proofs.lemmas.List.Sorted.{length_permutation}
+use Rattle.std.proofs.lemmas.Bool.{cases_Bool, false≢true, true≢false}
+use Rattle.book_format.specs.Book.{BookFields}
+use Rattle.account_book.specs.Store.{StoreFacts}
+use Rattle.log_grammar.specs.Books.{accounts_in}
+use Rattle.log_grammar.specs.Lines.{LogLine, said, busy, halt}
+use Rattle.log_grammar.specs.Places.{Place, before_all, between, over, halted, is_closed, open_at}
+use Rattle.log_grammar.specs.Demands.{Accounts, Demands, demands}
+use Rattle.log_grammar.specs.Numbered.{Numbered, of_number, MayFollow, SpellsNumbered, FollowsLast}
+use Rattle.log_grammar.specs.state_machine.NumberedSteps.{IsVisitTransition}
+use Rattle.log_grammar.specs.Versions.{most_open}
+use Rattle.log_grammar.proofs.lemmas.many_sessions.WithoutLast.{numbered_log_has_last_transition}
+use Rattle.log_grammar.proofs.lemmas.many_sessions.HaltAndBusy.{visit_halt_leads_to_halted, visit_busy_leads_to_over}
+use Rattle.sasl_log.proofs.lemmas.ListCounts.{permutation_keeps_all, permutation_keeps_count}
+use Rattle.sasl_desk.specs.Desks.{HoldsBook}
+use Rattle.sasl_desk.specs.DueLines.{is_client_turn}
+use Rattle.sasl_desk.specs.Guests.{is_of}
+use Rattle.sasl_desk.specs.Halls.{HallFields, hall_of, hall_lines, IsSessionRun, IsSeated, IsStoredAfter, IsHallAfter}
+use Rattle.sasl_desk.specs.Runs.{Call, IsRun}
+use Rattle.sasl_desk.specs.declared.hall.guest.Guest.{Guest}
+use Rattle.sasl_desk.specs.declared.keeper.Keeper.{Keeper}
+use Rattle.sasl_desk.proofs.lemmas.halls.Guests.{some_guest}
+use Rattle.sasl_desk.proofs.lemmas.turns.Paths.{session_has_client_turn}
+use Rattle.sasl_desk.proofs.lemmas.runs.HeldBooks.{unhalted_store_holds_book}
+
+-- a place at which a session is open counts as one
+pub open_place_counts_one : (at : Place) → is_closed at ≡ false → open_at at ≡ 1
+open_place_counts_one at is = rw is refl
+
+-- a place at which none is open counts as none
+pub closed_place_counts_none : (at : Place) → is_closed at ≡ true → open_at at ≡ 0
+closed_place_counts_none at is = rw is refl
+
+-- when it is its client's turn, a session is open
+pub client_turn_is_open : (at : Place) → is_client_turn at ≡ true → is_closed at ≡ false
+client_turn_is_open before_all turn = absurd (cc turn)
+client_turn_is_open between turn = absurd (cc turn)
+client_turn_is_open at turn = refl
+
+-- a session that is open, and so was not turned away, has a run
+pub open_session_has_run : (accounts : Accounts) (calls : List Call) (at : Place) → is_closed at ≡ false → IsSessionRun accounts calls at
+    → IsRun accounts calls at
+open_session_has_run accounts calls at is_open (inl run) = run
+open_session_has_run accounts calls at is_open (inr (turned, same)) =
+    absurd (true≢false (subst (λ (p : Place). is_closed p ≡ false) same is_open))
+
+-- nothing is left to be said at a place: no session is open there, or it is its client's turn. Unlike `IsAtRest`, this holds before
+-- all lines, and not where the log is halted.
+abbrev pub IsClosedOrClientTurn : Place → Type 0
+IsClosedOrClientTurn at = (is_closed at ≡ true) ⊎ (is_client_turn at ≡ true)
+
+-- a place where the log is halted, or where `E` is due, is neither:
+halted_place_is_neither : (at : Place) → at ≡ halted → IsClosedOrClientTurn at → ⊥
+halted_place_is_neither at is (inl closed) = false≢true (subst (λ (p : Place). is_closed p ≡ true) is closed)
+halted_place_is_neither at is (inr turn) = false≢true (subst (λ (p : Place). is_client_turn p ≡ true) is turn)
+
+over_place_is_neither : (at : Place) → at ≡ over → IsClosedOrClientTurn at → ⊥
+over_place_is_neither at is (inl closed) = false≢true (subst (λ (p : Place). is_closed p ≡ true) is closed)
+over_place_is_neither at is (inr turn) = false≢true (subst (λ (p : Place). is_client_turn p ≡ true) is turn)
+
+-- any line may follow one that leads to a place where nothing is left to be said
+any_line_may_follow : (d : Demands) (at next : Place) (n m : ℕ) (line more : LogLine) → IsVisitTransition d at line next
+    → IsClosedOrClientTurn next
+    → MayFollow n line m more
+any_line_may_follow d at next n m (said halt) more goes rests =
+    halted_place_is_neither next (visit_halt_leads_to_halted d at (said halt) next refl goes) rests
+any_line_may_follow d at next n m (said busy) more goes rests =
+    absurd (over_place_is_neither next (visit_busy_leads_to_over d at (said busy) next refl goes) rests)
+any_line_may_follow d at next n m line more goes rests = tt
+
+-- after calls of which none halted, the store holds the book
+unhalted_hall_holds_book : (IsStored : List ℕ → Type 0) (accounts : Accounts) (calls : List (Numbered Call)) (places : ℕ → Place)
+    (book : BookFields) (store : StoreFacts) → ((n : ℕ) → places n ≡ halted → ⊥)
+    → IsStoredAfter IsStored accounts calls places book store → HoldsBook IsStored book store
+unhalted_hall_holds_book IsStored accounts [] places book store going held = held
+unhalted_hall_holds_book IsStored accounts (c ∷ calls) places book store going stored =
+    unhalted_store_holds_book IsStored accounts (of_number c.number (c ∷ calls)) book store (places c.number) (going c.number) stored
+
+-- a hall that has answered these calls and has not halted
+module _ {S : Type 0} {facts : S → StoreFacts} {IsStored : List ℕ → Type 0} {start : BookFields} {calls : List (Numbered Call)}
+    {hall : HallFields S} (s : IsHallAfter facts IsStored start calls hall) (working : hall.is_halted ≡ false) where
+  -- each session that is open has a guest, who stands where its place is
+  open_session_has_guest : (n : ℕ) → is_closed (s.places n) ≡ false
+      → (guest : Guest) × IsSeated (accounts_in start) calls s.places guest × (guest.number ≡ n)
+  open_session_has_guest n is_open =
+      some_guest (IsSeated (accounts_in start) calls s.places) n hall.guests (s.seated working)
+      (λ none. absurd (omega (arith, none, s.guests n, open_place_counts_one (s.places n) is_open)))
+
+  -- at the place of each number no session is open, or it is its client's turn
+  closed_or_client_turn : (n : ℕ) → IsClosedOrClientTurn (s.places n)
+  closed_or_client_turn n = elim (cases_Bool (is_closed (s.places n))) [
+    | inl closed ↦ inl closed
+    | inr is_open ↦
+        let found = open_session_has_guest n is_open in
+        let turn = session_has_client_turn (accounts_in start) (s.places found.0.number) found.0.session found.1.0 in
+        inr (subst (λ (m : ℕ). is_client_turn (s.places m) ≡ true) found.2 turn)
+  ]
+
+  -- any line of any number may follow the last of its log
+  pub any_line_follows_log : (n : ℕ) (line : LogLine) → FollowsLast (hall_lines calls) n line
+  any_line_follows_log n line before x same =
+      let d = demands (accounts_in start) in
+      let b = numbered_log_has_last_transition most_open d before x.number x.value s.places s.told
+      (subst (λ (l : List (Numbered LogLine)). SpellsNumbered most_open d l s.places s.told) same s.spelled) in
+      any_line_may_follow d (b.before x.number) (s.places x.number) x.number n x.value line b.goes.goes (closed_or_client_turn x.number)
+
+  -- its store has not failed, and holds the text of its book
+  pub working_hall_holds_book : HoldsBook IsStored hall.keeper.book (facts hall.keeper.store)
+  working_hall_holds_book =
+      unhalted_hall_holds_book IsStored (accounts_in start) calls s.places hall.keeper.book (facts hall.keeper.store)
+      (λ n is. halted_place_is_neither (s.places n) is (closed_or_client_turn n)) s.is_stored
+
+-- a hall stands for the same calls with its guests in another order
+module _ {S : Type 0} {facts : S → StoreFacts} {IsStored : List ℕ → Type 0} {start : BookFields} {calls : List (Numbered Call)}
+    {keeper : Keeper S} {guests others : List Guest} {given : ℕ} {is_halted : Bool} (same : IsPermutation guests others) where
+  unfoldable pub reordered_hall_stands : IsHallAfter facts IsStored start calls (hall_of keeper guests given is_halted)
+      → IsHallAfter facts IsStored start calls (hall_of keeper others given is_halted)
+  reordered_hall_stands s = record {
+    places = s.places;
+    told = s.told;
+    session_runs = s.session_runs;
+    fresh = s.fresh;
+    spelled = s.spelled;
+    writable = s.writable;
+    given = s.given;
+    last_number = s.last_number;
+    guests = λ n. permutation_keeps_count (is_of n) guests others same ∙ s.guests n;
+    open_are = omega (arith, length_permutation guests others same, s.open_are);
+    seated = λ working. permutation_keeps_all (IsSeated (accounts_in start) calls s.places) guests others same (s.seated working);
+    is_book = s.is_book;
+    is_stored = s.is_stored;
+    spent = s.spent;
+  }
