@@ -1,2 +1,2 @@
--- Lemmas: what the proofs of this crate cite.
+-- The lemmas that the proofs of this crate cite.
 pub mod EnrolFaults

@@ -17,8 +17,8 @@ use Rattle.command_io.specs.BadValues.{GivesBadValue, HasBadValue}
 use Rattle.account_commands.specs.declared.moving_factor.MovingFactor.{MovingFactor}
 use Rattle.account_commands.specs.declared.moving_factor.MovingFactor.TheVariants.{Counter, Time}
 
--- the code for a moving factor: HOTP's of a counter, with SHA-1 (RFC 4226), or TOTP's of a moment, whose
--- steps begin at t0 (RFC 6238)
+-- the code for a moving factor: the HOTP code of a counter, with SHA-1 (RFC 4226), or the TOTP code of a moment, with steps that
+-- begin at t0 (RFC 6238)
 abbrev pub IsCodeFor : MovingFactor → (digits : ℕ) → (secret code : List ℕ) → Type 0
 IsCodeFor (Counter counter) digits secret code = code ≡ hotp_text_by Sha1 digits secret counter
 IsCodeFor (Time t) digits secret code =
@@ -51,7 +51,7 @@ pub record IsCodeAsked (words : ArgMatches) (code : List ℕ) : Type 0 where
 abbrev pub PrintsCodeAsked : (words : ArgMatches) → (old new : Option (List ℕ)) → Type 0
 PrintsCodeAsked words old new = (code : List ℕ) × IsCodeAsked words code × Appends old new (code ++ byte "\n" ∷ [])
 
--- the words ask for a code of a moment before t0
+-- the words ask for a code for a moment before t0
 abbrev pub IsAskedTooEarly : ArgMatches → Type 0
 IsAskedTooEarly words = (factor : MovingFactor) × IsFactorAsked words factor × IsTooEarly factor
 

@@ -10,14 +10,14 @@ use Rattle.account_book.specs.SavedBooks.{HasStoredText}
 use Rattle.account_book.specs.declared.book.view.TheConstants.{SALT_LEN}
 use Rattle.book_file.specs.Text.{IsWritten}
 use Rattle.clap.specs.declared.parser.matches.ArgMatches.{ArgMatches}
-use Rattle.command_line.specs.Fault.{IsFileUnwritten}
+use Rattle.command_line.specs.Fault.{IsFileUnwrittenOrNoMemory}
 use Rattle.command_line.specs.declared.fault.Fault.{Fault}
 use Rattle.command_line.specs.declared.fault.Fault.TheVariants.{NameTaken, CannotWriteOutput}
 use Rattle.command_line.specs.declared.option_name.OptionName.TheVariants as option
 use Rattle.command_io.specs.BadValues.{HasBadPassword, HasBadValue}
-use Rattle.command_io.specs.File.{IsFileUnread}
+use Rattle.command_io.specs.File.{IsFileUnreadOrNoMemory}
 use Rattle.command_io.specs.HeldBook.{IsEnrolled, IsReadBook, IsStoredShort, CannotOpenBook}
-use Rattle.command_io.specs.Input.{IsFirstLine, IsInputUnread}
+use Rattle.command_io.specs.Input.{IsFirstLine, IsInputUnreadOrNoMemory}
 use Rattle.command_words.specs.Values.{given_value}
 use Rattle.command_io.specs.declared.new_account.NewAccount.{NewAccount}
 use Rattle.command_io.specs.declared.new_account.Salts.{Salts}
@@ -26,8 +26,8 @@ use Rattle.command_io.specs.declared.new_account.Salts.{Salts}
 abbrev pub new_book : (decoy_key : List ℕ) → BookFields
 new_book decoy_key = record { decoy_key = decoy_key; decoy_count = 4096; accounts = [] }
 
--- a book that was read from a file, and a source of random bytes then gives none; or a new book, whose key is the next 32 bytes of the
--- source
+-- a book that was read from a file, and then no bytes are taken from the source of random bytes; or a new book, whose key is the
+-- next 32 bytes of the source
 abbrev pub IsReadOrNew : {File : Type 0} → (bytes_of : File → Option (List ℕ)) → (old new : Option (List ℕ)) → BookFields → Type 0
 IsReadOrNew bytes_of old new book =
     ((text : List ℕ) × IsReadBook bytes_of text book × (new ≡ old))
@@ -43,8 +43,8 @@ pub record TakesSalts (old : Option (List ℕ)) (salts : Salts) (new : Option (L
 abbrev pub IsThisOrReadBook : {File : Type 0} → (bytes_of : File → Option (List ℕ)) → (this book : BookFields) → Type 0
 IsThisOrReadBook bytes_of this book = (book ≡ this) ⊎ ((text : List ℕ) × IsReadBook bytes_of text book)
 
--- an account with the keys of a password is added to a book, which is this one or was read from a file since, and the text of
--- the book as it is then is written to a file
+-- an account with the keys of a password is added to a book, which is this one or was read from a file since, and the text of the
+-- resulting book is written to a file
 pub record SavesAccount {File : Type 0} (bytes_of written_to : File → Option (List ℕ)) (book : BookFields)
     (account : NewAccount) (salts : Salts) : Type 0 where
   pub first : BookFields
@@ -53,29 +53,34 @@ pub record SavesAccount {File : Type 0} (bytes_of written_to : File → Option (
   pub is_enrolled : IsEnrolled account salts first last
   pub is_saved : HasStoredText (IsStoredShort (IsWritten written_to)) last
 
--- the account that the words and the first line of the input describe is added to a book that was read, or to a new one, whose
--- text is then written to a file. A file gives the random bytes: the key of a new book, and then the salts. And the name is printed.
+-- the account that the words and the first line of the input describe is added to a book
 pub record EnrolsAsked {File : Type 0} (bytes_of written_to : File → Option (List ℕ)) (words : ArgMatches)
     (input old new : Option (List ℕ)) : Type 0 where
+  -- the account has the name and the iteration count that the words give, and the first line of the input as password
   pub account : NewAccount
   pub is_name : account.name ≡ given_value words option.Name
   pub is_first_line : IsFirstLine input account.password
   pub is_password : IsPassword account.password
   pub is_count : given_value words option.Count ≡ decimal account.count
+  -- a file gives the random bytes: the key of a new book, and then the salts
   pub file : File
   pub middle : Option (List ℕ)
   pub after : File
+  -- the book was read, or is a new one
   pub book : BookFields
   pub is_book : IsReadOrNew bytes_of (bytes_of file) middle book
+  -- the salts are the next random bytes
   pub salts : Salts
   pub takes_salts : TakesSalts middle salts (bytes_of after)
+  -- the text of the book with the account is written to a file
   pub is_saved : SavesAccount bytes_of written_to book account salts
+  -- the name is printed
   pub printed : Appends old new (codes "enrolled " ++ (account.name ++ byte "\n" ∷ []))
 
 -- the words and the input describe no account: an option refuses its value, or the first line is no password or can't be read
 abbrev pub DescribesNoAccount : ArgMatches → (input : Option (List ℕ)) → Fault → Type 0
 DescribesNoAccount words input fault =
-    HasBadValue (option.Name ∷ option.Count ∷ []) words fault ⊎ (HasBadPassword input fault ⊎ IsInputUnread fault)
+    HasBadValue (option.Name ∷ option.Count ∷ []) words fault ⊎ (HasBadPassword input fault ⊎ IsInputUnreadOrNoMemory fault)
 
 -- the name is taken in a book, which is this one or was read from a file since
 abbrev pub IsNameTakenIn : {File : Type 0} → (bytes_of : File → Option (List ℕ)) → BookFields → (name : List ℕ) → Fault → Type 0
@@ -89,7 +94,7 @@ IsNameTaken bytes_of name fault =
 
 -- the book at this path can't be held or read, or can't be saved
 abbrev pub CannotBeChanged : {File : Type 0} → (bytes_of : File → Option (List ℕ)) → (path : List ℕ) → Fault → Type 0
-CannotBeChanged bytes_of path fault = CannotOpenBook bytes_of path fault ⊎ IsFileUnwritten path fault
+CannotBeChanged bytes_of path fault = CannotOpenBook bytes_of path fault ⊎ IsFileUnwrittenOrNoMemory path fault
 
 -- the fault that ends `enrol`: no account is described, the name is taken, the book can't be held, read or saved, the file of random
 -- bytes can't be read, the output can't be written, or memory ran out
@@ -98,4 +103,4 @@ CannotEnrol bytes_of words input fault =
     DescribesNoAccount words input fault
     ⊎ (IsNameTaken bytes_of (given_value words option.Name) fault
     ⊎ (CannotBeChanged bytes_of (given_value words option.Book) fault
-    ⊎ (IsFileUnread (given_value words option.Random) fault ⊎ (fault ≡ CannotWriteOutput))))
+    ⊎ (IsFileUnreadOrNoMemory (given_value words option.Random) fault ⊎ (fault ≡ CannotWriteOutput))))

@@ -12,17 +12,17 @@ use Rattle.command_line.specs.declared.fault.Fault.{Fault}
 use Rattle.command_line.specs.declared.fault.Fault.TheVariants.{CannotWriteOutput}
 use Rattle.command_line.specs.declared.option_name.OptionName.TheVariants as option
 use Rattle.command_io.specs.BadValues.{HasBadPassword, HasBadValue}
-use Rattle.command_io.specs.Input.{IsFirstLine, IsInputUnread}
+use Rattle.command_io.specs.Input.{IsFirstLine, IsInputUnreadOrNoMemory}
 use Rattle.command_words.specs.Values.{given_value}
 
--- the two lines of `keys`: StoredKey and ServerKey of a password (RFC 5802, section 3) in lower-case
--- hexadecimal, each after its name and an equals sign
+-- the two lines of `keys`: StoredKey and ServerKey of a password (RFC 5802, section 3) in lower-case hexadecimal, each after its name and
+-- an equals sign
 abbrev pub printed_keys : Mechanism → (password salt : List ℕ) → (count : ℕ) → List ℕ
 printed_keys mechanism password salt count =
     codes "stored=" ++ (encode_lower (password_stored_key_by mechanism password salt count)
     ++ (byte "\n" ∷ codes "server=" ++ (encode_lower (password_server_key_by mechanism password salt count) ++ byte "\n" ∷ [])))
 
--- the keys of the password that is the first line of the input are printed, by the mechanism, salt and count that the words give
+-- the keys of the password that is the first line of the input are printed, with the mechanism, salt and count that the words give
 pub record PrintsKeysAsked (words : ArgMatches) (input old new : Option (List ℕ)) : Type 0 where
   pub mechanism : Mechanism
   pub is_mechanism : given_value words option.Mechanism ≡ name_of mechanism
@@ -40,4 +40,4 @@ pub record PrintsKeysAsked (words : ArgMatches) (input old new : Option (List �
 abbrev pub CannotPrintKeys : ArgMatches → (input : Option (List ℕ)) → Fault → Type 0
 CannotPrintKeys words input fault =
     HasBadValue (option.Mechanism ∷ option.Salt ∷ option.Count ∷ []) words fault
-    ⊎ (HasBadPassword input fault ⊎ (IsInputUnread fault ⊎ (fault ≡ CannotWriteOutput)))
+    ⊎ (HasBadPassword input fault ⊎ (IsInputUnreadOrNoMemory fault ⊎ (fault ≡ CannotWriteOutput)))

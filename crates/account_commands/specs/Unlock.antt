@@ -15,8 +15,8 @@ use Rattle.command_io.specs.BadValues.{HasBadValue}
 use Rattle.command_io.specs.HeldBook.{IsReadBook, IsStoredShort, IsTokenUnlocked, CannotOpenBook}
 use Rattle.command_words.specs.Values.{given_value}
 
--- a book is read from a file, the token of the name that the words give is unlocked, and the text of the book as it is then is
--- written to a file; and the name is printed
+-- a book is read from a file, the token of the name that the words give is unlocked, and the text of the resulting book is written
+-- to a file; and the name is printed
 pub record UnlocksAsked {File : Type 0} (bytes_of written_to : File → Option (List ℕ)) (words : ArgMatches) (old new : Option (List ℕ))
     : Type 0 where
   pub text : List ℕ

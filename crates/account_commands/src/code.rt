@@ -1,4 +1,4 @@
-//! The command `code`: prints the one-time code of a counter or a moment.
+//! The command `code`: prints the one-time code for a counter or a moment.
 ghost use Rattle.std.specs.Prelude.{◌≡◌, IfErr, IfOk, OnOk};
 ghost use Rattle.account_commands.specs.Code.{IsCodeFor, IsTooEarly, IsFactorAsked, PrintsCodeAsked, CannotPrintCode, LacksFactor};
 ghost use Rattle.command_io.specs.Printed.{PrintsNothing};
@@ -12,8 +12,8 @@ use otp_core::{Code, Digits, LONGEST_STEP, MOST_COUNTER, OtpHash, Secret, step};
 use std::alloc::Global;
 use std::io::Write;
 
-/// Judges the options in their order and prints the code. Faults: BadValue, NoCounterOrMoment and
-/// BeforeFirstStep, in this order, CannotWriteOutput and NoMemory.
+/// Checks the options in their order and prints the code. Faults: BadValue, NoCounterOrMoment and BeforeFirstStep, in this order
+/// (no clause says so); also CannotWriteOutput and NoMemory.
 pub fn code<O: Write>(alloc: Global, matches: &ArgMatches<'_>, output: &mut O) -> Result<(), Fault>
     ensures ok { OnOk result (PrintsCodeAsked matches.now (O.contents output.old) (O.contents output.new)) }
     ensures err { IfErr result (λ fault. PrintsNothing fault (O.contents output.old) (O.contents output.new)) }
@@ -26,7 +26,7 @@ pub fn code<O: Write>(alloc: Global, matches: &ArgMatches<'_>, output: &mut O) -
     print_line(code.text(), output)
 }
 
-// Judges the options that say which code is meant, in their order.
+// Checks the options that say which code is meant, in their order. Faults: BadValue and NoCounterOrMoment.
 fn read_options(matches: &ArgMatches<'_>) -> Result<MovingFactor, Fault>
     ensures asked { IfOk result (IsFactorAsked matches.now) }
     ensures why { IfErr result (LacksFactor matches.now) }
@@ -59,7 +59,7 @@ fn read_options(matches: &ArgMatches<'_>) -> Result<MovingFactor, Fault>
     }
 }
 
-// The code of a secret, or BeforeFirstStep where the moment is before t0.
+// The code of a secret, or BeforeFirstStep if the moment is before T0.
 fn code_for(secret: &Secret, digits: Digits, factor: &MovingFactor) -> Result<Code, Fault>
     ensures ok { IfOk result (λ code. IsCodeFor factor.now digits secret.now code) }
     ensures err { IfErr result (λ fault. (fault ≡ Fault.BeforeFirstStep) × IsTooEarly factor.now) }

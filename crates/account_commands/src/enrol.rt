@@ -4,7 +4,7 @@ ghost use Rattle.std.specs.Fmt.{decimal};
 ghost use Rattle.scram_text.specs.Class.{IsPassword};
 ghost use Rattle.account_commands.specs.Enrol.{EnrolsAsked, IsReadOrNew, SavesAccount, TakesSalts};
 ghost use Rattle.account_commands.specs.Enrol.{CannotBeChanged, CannotEnrol, DescribesNoAccount, IsNameTakenIn};
-ghost use Rattle.command_io.specs.File.{IsFileUnread};
+ghost use Rattle.command_io.specs.File.{IsFileUnreadOrNoMemory};
 ghost use Rattle.command_io.specs.HeldBook.{IsReadBook};
 ghost use Rattle.command_io.specs.Input.{IsFirstLine};
 ghost use Rattle.command_words.specs.Values.{given_value};
@@ -29,13 +29,13 @@ use std::fs::Files;
 use std::io::{Read, Write};
 use std::time::Clock;
 
-/// The iteration count of a new book's decoys; it is the default of `--count` too.
+/// The iteration count of a new book's decoys, which is also the default of `--count`.
 const DECOY_COUNT: u32 = 4096;
 
-/// Judges the options in their order, reads the password, the book and the random bytes, and adds the account. A book
-/// is made where the file is not there. The keys are made while others may use the book; where it has changed by
-/// then, they are made once more. At a terminal it asks for the password. Faults: BadValue, BadPassword, CannotRead,
-/// BadBook, NameTaken and CannotWrite, in this order, CannotReadInput, CannotWriteOutput and NoMemory.
+/// Checks the options in their order, reads the password, the book and the random bytes, and adds the account. If there is no file,
+/// it makes a new book. The keys are made while other runs may use the book; if one has changed it by then, they are made again. At
+/// a terminal it asks for the password. Faults: BadValue, BadPassword, CannotRead, BadBook, NameTaken and CannotWrite, in this
+/// order (no clause says so); also CannotReadInput, CannotWriteOutput and NoMemory.
 pub fn enrol<R, I, O, E>(
     rt: &R,
     matches: &ArgMatches<'_>,
@@ -64,7 +64,7 @@ where
     print_done("enrolled", account.name.text(), output)
 }
 
-// The book that was read and its text; or, where there was no file, a new book, whose key is the next random bytes.
+// The book that was read and its text; or, if there was no file, a new book, whose decoy key is the next random bytes.
 fn read_or_new<F: Read + Drop>(
     alloc: Global,
     read: Option<ReadBook>,
@@ -72,7 +72,7 @@ fn read_or_new<F: Read + Drop>(
 ) -> Result<(Book, Option<String>), Fault>
     requires { IfSome read (λ read. IsReadBook F.remaining (string_bytes read.text) read.book) }
     ensures book { IfOk result (λ found. IsReadOrNew F.remaining (F.remaining random.old.file) (F.remaining random.new.file) found.0) }
-    ensures err { IfErr result (IsFileUnread random.old.path.now) }
+    ensures err { IfErr result (IsFileUnreadOrNoMemory random.old.path.now) }
     ensures path { random.new.path.now ≡ random.old.path.now }
 {
     match read {
@@ -87,14 +87,14 @@ fn read_or_new<F: Read + Drop>(
 // Two salts of random bytes, for SCRAM-SHA-1 and for SCRAM-SHA-256.
 fn two_salts<F: Read + Drop>(random: &mut RandomFile<'_, F>) -> Result<Salts, Fault>
     ensures salts { IfOk result (λ salts. TakesSalts (F.remaining random.old.file) salts (F.remaining random.new.file)) }
-    ensures err { IfErr result (IsFileUnread random.old.path.now) }
+    ensures err { IfErr result (IsFileUnreadOrNoMemory random.old.path.now) }
 {
     let sha1 = salt(random.bytes()?);
     let sha256 = salt(random.bytes()?);
     Ok(Salts { sha1, sha256 })
 }
 
-// Judges the options that describe the account, and reads the password.
+// Checks the options that describe the account, and reads the password.
 fn read_account<I: TerminalInput, E: TerminalOutput>(
     alloc: Global,
     matches: &ArgMatches<'_>,
@@ -120,8 +120,8 @@ fn read_account<I: TerminalInput, E: TerminalOutput>(
     }
 }
 
-// Adds the account to the book, whose file had this text, or None where there was no file. Then holds the file and
-// saves the book; where the file has another text by then, adds the account to that book instead.
+// Adds the account to the book. `text` is the text that its file had, or None if there was no file. Then holds the file and saves
+// the book; if the file has another text by then, adds the account to that book instead.
 fn add_and_save<R, E>(
     rt: &R,
     path: &str,

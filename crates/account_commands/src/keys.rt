@@ -1,4 +1,4 @@
-//! The command `keys`: prints the two keys that a server stores of a password.
+//! The command `keys`: prints the two keys that a server stores for a password (RFC 5802, section 3).
 ghost use Rattle.std.specs.Prelude.{◌≡◌, ◌≤◌, ◌⊎◌, ℕ, List, IfErr, IfOk, OnOk, string_bytes};
 ghost use Rattle.std.specs.Io.KnownBytes.{Appends};
 ghost use Rattle.scram_text.specs.Class.{IsPassword};
@@ -19,8 +19,8 @@ use scram_text::{Password, Salt};
 use std::alloc::Global;
 use std::io::{BufRead, Write};
 
-/// Judges the options in their order, reads the password, and prints its keys. At a terminal it asks for the
-/// password first. Faults: BadValue and BadPassword, in this order, CannotReadInput, CannotWriteOutput and NoMemory.
+/// Checks the options in their order, reads the password, and prints its keys. At a terminal it asks for the password. Faults:
+/// BadValue and BadPassword, in this order (no clause says so); also CannotReadInput, CannotWriteOutput and NoMemory.
 pub fn keys<I: TerminalInput, O: Write, E: TerminalOutput>(
     alloc: Global,
     matches: &ArgMatches<'_>,
@@ -39,7 +39,7 @@ pub fn keys<I: TerminalInput, O: Write, E: TerminalOutput>(
     print_keys(alloc, mechanism, &salt, count, input, output)
 }
 
-// Reads the password line and prints its keys.
+// Reads a line, which has to be a password, and prints its keys.
 fn print_keys<I: BufRead, O: Write>(
     alloc: Global,
     mechanism: Mechanism,
@@ -64,7 +64,7 @@ fn print_keys<I: BufRead, O: Write>(
     print(text.as_bytes(), output)
 }
 
-// The two lines to print for a password line, or BadPassword where the line is no password.
+// The two lines to print for a password. Faults: BadPassword if the line is no password, and NoMemory.
 fn keys_text(
     alloc: Global,
     mechanism: Mechanism,

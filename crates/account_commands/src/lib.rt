@@ -1,6 +1,6 @@
 //! The commands that read no line of the protocol: `keys` and `code` print, `enrol` and `unlock` change a book.
 //!
-//! The order in which a command tells its faults, and what it asks at a terminal, are tested: no clause says them.
+//! No contract states in which order a command reports its faults, or what it asks at a terminal. Tests check both.
 #![tactic(auto)]
 
 pub mod code;

@@ -1,4 +1,4 @@
-//! The command `unlock`: lets a token take codes again.
+//! The command `unlock`: sets a token's failures to 0, so that it accepts codes again.
 ghost use Rattle.std.specs.Prelude.{OnOk, IfErr};
 ghost use Rattle.account_commands.specs.Unlock.{CannotUnlock, UnlocksAsked};
 ghost use Rattle.command_io.specs.Printed.{PrintsNothing};
@@ -13,10 +13,9 @@ use std::fs::Files;
 use std::io::Write;
 use std::time::Clock;
 
-/// Judges the options in their order, holds and reads the book, sets the failures of the account's token
-/// to 0, and saves the book, even where they were 0 before. Faults: BadValue, CannotRead or CannotWrite where the
-/// book can't be held, BadBook, NoSuchAccount, NoToken and CannotWrite, in this order, CannotWriteOutput
-/// and NoMemory.
+/// Checks the options in their order, holds and reads the book, sets the failures of the account's token to 0, and saves the book,
+/// even if they were 0 before. Faults: BadValue, CannotRead or CannotWrite if the book can't be held, BadBook, NoSuchAccount,
+/// NoToken and CannotWrite, in this order (no clause says so); also CannotWriteOutput and NoMemory.
 pub fn unlock<R, O, E>(
     rt: &R,
     matches: &ArgMatches<'_>,

@@ -1,10 +1,10 @@
-//! The text of a book, read many times over.
+//! Reads the text of a book many times.
 use account_book::Book;
 use std::alloc::Global;
 use std::fs::Files;
 use std::{fs, io};
 
-// How often the bytes were read as a book, of `count` times.
+// Reads the bytes as a book `count` times, and returns how often they were one.
 fn readings(alloc: Global, bytes: &[u8], count: u32) -> u32 {
     let mut read = 0u32;
     for _ in 0..count {
@@ -15,7 +15,7 @@ fn readings(alloc: Global, bytes: &[u8], count: u32) -> u32 {
     read
 }
 
-/// Reads the file at `path` once and its bytes as a book `count` times; prints how often they were
+/// Reads the file at `path` once and its bytes as a book `count` times, and prints how often they were
 /// one.
 pub(crate) fn print_readings<R>(rt: &R, path: &str, count: u32) -> io::Result<()>
 where

@@ -1,6 +1,6 @@
-//! Logins by calls of a desk, one after another, and of a hall, 64 at a time. What the calls write is counted and not kept.
+//! Logins by calls of a desk, one after another, and by calls of a hall, 64 at a time. What the calls write is only counted.
 use crate::memory::Memory;
-use crate::service::{LOGIN, OWN, book_at, refusal};
+use crate::service::{LOGIN, SERVER_NONCE, book_at, refusal};
 use account_book::Book;
 use arrayvec::ArrayVec;
 use otp_core::Moment;
@@ -10,10 +10,10 @@ use std::alloc::Global;
 use std::fs::Files;
 use std::io;
 
-// How many clients a hall lets in at a time.
+// How many clients come into the hall at a time: as many as it takes.
 const OPEN: u32 = 64;
 
-// Where calls write, and how many bytes they have sent and logged.
+// The buffers to which calls write, and how many bytes they have sent and logged.
 #[derive(Drop)]
 struct Written {
     wire: Vec<u8>,
@@ -32,7 +32,7 @@ impl Written {
         }
     }
 
-    // Counts the bytes that were written, and forgets them.
+    // Counts the bytes in the buffers, and empties them.
     fn forget(&mut self) {
         self.sent = self.sent.saturating_add(self.wire.len() as u64);
         self.logged = self.logged.saturating_add(self.log.len() as u64);
@@ -47,7 +47,7 @@ fn print_served(rt: &impl Print, served: u32, written: &Written) -> io::Result<(
     println!(rt; "served {served} logged {logged} sent {sent}")
 }
 
-// Lets a desk hear what its client does. None where no session is open, or the desk has no answer.
+// Lets a desk hear what its client does. None if no session is open, or the call fails.
 fn desk_hears(
     alloc: Global,
     desk: &mut Desk<Memory>,
@@ -63,14 +63,14 @@ fn desk_hears(
     answer.ok()
 }
 
-// Lets a client log in at a desk and leave. None where a session is open before or after it, or a call has no answer.
+// Lets a client log in at a desk and leave. None if a session is open before or after it, or a call fails.
 fn log_in_alone(alloc: Global, desk: &mut Desk<Memory>, written: &mut Written) -> Option<()> {
-    let own = NoncePart::new(OWN)?;
+    let server_nonce = NoncePart::new(SERVER_NONCE)?;
     let Written { wire, log, .. } = written;
     if desk.phase() != Phase::Closed {
         return None;
     }
-    desk.greet(own, wire, log).ok()?;
+    desk.greet(server_nonce, wire, log).ok()?;
     for line in LOGIN.lines() {
         desk_hears(alloc, desk, Event::Line(line.as_bytes()), written)?;
     }
@@ -80,7 +80,7 @@ fn log_in_alone(alloc: Global, desk: &mut Desk<Memory>, written: &mut Written) -
     }
 }
 
-/// Lets `count` clients log in and leave at a desk over the book in the file at `path`, one after another, and prints how many
+/// Lets `count` clients log in and leave at a desk over the book in the file at `path`, one after another. Prints how many
 /// did, and how many bytes were logged and sent.
 pub(crate) fn print_alone<R>(rt: &R, path: &str, count: u32) -> io::Result<()>
 where
@@ -105,20 +105,20 @@ where
     print_served(rt, served, &written)
 }
 
-// Lets 64 clients come into a hall. Returns their numbers, or None where a call has no answer.
+// Lets 64 clients come into a hall. Returns the numbers of their sessions, or None if a call fails.
 fn all_come(hall: &mut Hall<Memory>, written: &mut Written) -> Option<ArrayVec<u64, 64>> {
     let mut numbers = ArrayVec::new();
     for _ in 0..OPEN {
         let Written { wire, log, .. } = written;
-        let (number, _) = hall.greet(NoncePart::new(OWN)?, wire, log).ok()?;
+        let (number, _) = hall.greet(NoncePart::new(SERVER_NONCE)?, wire, log).ok()?;
         numbers.try_push(number).ok()?;
         written.forget();
     }
     Some(numbers)
 }
 
-// Each of the clients of these numbers does this, one after another. Returns how many sessions have then ended, or None where
-// a session is not open, or a call has no answer.
+// Lets the client of each of these sessions do this, one after another. Returns how many sessions this ended, or None if
+// a session is not open or a call fails.
 fn all_do(
     alloc: Global,
     hall: &mut Hall<Memory>,
@@ -143,7 +143,7 @@ fn all_do(
     Some(ended)
 }
 
-// Lets 64 clients log in and leave, a line of each in turn. Returns how many did, or None where a call has no answer.
+// Lets 64 clients log in and leave, one line of each in turn. Returns how many sessions ended, or None if a call fails.
 fn log_in_together(alloc: Global, hall: &mut Hall<Memory>, written: &mut Written) -> Option<u32> {
     let numbers = all_come(hall, written)?;
     let numbers = numbers.as_slice();
@@ -154,7 +154,7 @@ fn log_in_together(alloc: Global, hall: &mut Hall<Memory>, written: &mut Written
 }
 
 /// Lets `count` clients log in and leave in a hall over the book in the file at `path`, 64 at a time, and prints what `print_alone`
-/// prints. Where `count` is no multiple of 64, the rest are not let in.
+/// prints. If `count` is no multiple of 64, the clients after the last full 64 are left out.
 pub(crate) fn print_together<R>(rt: &R, path: &str, count: u32) -> io::Result<()>
 where
     R: Print + Files + AllocGlobal,

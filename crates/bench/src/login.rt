@@ -1,4 +1,4 @@
-//! The login of RFC 7677's example, section 3, as a log has it.
+//! The login of RFC 7677's example, section 3, as a log records it.
 use mac_core::Mechanism;
 use scram_ends::{Judged, KeysView, ServerWait};
 use scram_text::Salt;
@@ -14,7 +14,7 @@ const SALT: &[u8; 16] = b"\x5b\x6d\x99\x68\x9d\x12\x35\x8e\xec\xa0\x4b\x14\x12\x
 
 const COUNT: u32 = 4096;
 
-// Whether the account accepts this third message.
+// Whether the account accepts this client-final message.
 fn is_accepted(account: &KeysView<'_>, text: &[u8]) -> bool {
     match ServerWait::recorded(Mechanism::ScramSha256, account, CLIENT_FIRST, SERVER_FIRST) {
         Ok(wait) => match wait.judge(text) {
@@ -25,7 +25,7 @@ fn is_accepted(account: &KeysView<'_>, text: &[u8]) -> bool {
     }
 }
 
-/// Judges `text` `count` times, and prints how often it was accepted.
+/// Judges `text` as the client-final message `count` times, and prints how often it was accepted.
 pub(crate) fn print_verdicts(rt: &impl Print, text: &[u8], count: u32) -> io::Result<()> {
     let Some(salt) = Salt::new(SALT) else {
         return Err(io::Error::from(ErrorKind::InvalidInput));

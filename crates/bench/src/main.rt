@@ -1,20 +1,20 @@
-//! Does one thing with the libraries many times over, for a script to time.
+//! Does one thing with the libraries many times, for a script to time.
 //!
 //! | After `bench` | Does | Prints |
 //! |---|---|---|
 //! | KIND COUNT TEXT | reads the message TEXT of that kind COUNT times | how often it was read |
-//! | hotp COUNT SECRET | makes the codes of the counters below COUNT | the last |
-//! | sync COUNT SECRET | looks COUNT times for two codes in a row | how often it failed |
+//! | hotp COUNT SECRET | makes the codes for the counters below COUNT | the last code |
+//! | sync COUNT SECRET | searches COUNT times for two codes in a row | how often it failed |
 //! | verdict COUNT TEXT | judges TEXT COUNT times as the client-final message of RFC 7677's example | how often it was accepted |
-//! | book COUNT FILE | reads the bytes of FILE once, and the book of them COUNT times | how often they were one: `book 20 of 20` |
+//! | book COUNT FILE | reads FILE once, and its bytes as a book COUNT times | how often they were one: `book 20 of 20` |
 //! | logins COUNT FILE | serves COUNT logins over the book of FILE | how many were served, and the bytes logged and sent |
 //! | codes COUNT FILE | serves one login with COUNT codes | as `logins` |
 //! | alone COUNT FILE | lets COUNT clients log in by calls of a desk | as `logins` |
 //! | together COUNT FILE | lets COUNT clients log in by calls of a hall, 64 at a time | as `logins` |
 //!
-//! These run while a test refuses memory, and print also how often it ran out: `calls`, `turns`, `service` and `hall`, with COUNT FILE,
-//! serve a login with COUNT codes and print the log; `texts 1 FILE` writes the texts of FILE, and `changes 1 FILE` changes the book of
-//! FILE, and they print what was written.
+//! The others run while a test refuses memory, and also print how often it ran out. `calls`, `turns`, `service` and `hall`, with
+//! COUNT FILE, serve a login with COUNT codes and print the log. `texts 1 FILE` writes the texts of FILE, `changes 1 FILE` changes
+//! the book of FILE, and both print what was written.
 #![tactic(auto)]
 
 mod book;
@@ -40,7 +40,7 @@ use std::io::ErrorKind;
 use std::process::ExitCode;
 use std::{env, io};
 
-// Whether the text is a message of this kind.
+// Whether the text is a message of this kind (RFC 5802, section 7).
 fn is_read(kind: &str, text: &[u8]) -> bool {
     match kind {
         "client-first" => read_client_first(text).is_ok(),
@@ -51,7 +51,7 @@ fn is_read(kind: &str, text: &[u8]) -> bool {
     }
 }
 
-// How often the text was read as a message of this kind, of `count` times.
+// Reads the text as a message of this kind `count` times, and returns how often it was one.
 fn readings(kind: &str, text: &[u8], count: u32) -> u32 {
     let mut read = 0u32;
     for _ in 0..count {
@@ -62,7 +62,7 @@ fn readings(kind: &str, text: &[u8], count: u32) -> u32 {
     read
 }
 
-// Makes the codes, of six digits, of the counters below `count`, and prints the last.
+// Makes the six-digit HOTP codes for the counters below `count`, and prints the last.
 fn print_codes(rt: &(impl Print + Alloc), secret: &[u8], count: u32) -> io::Result<()> {
     let (Ok(secret), Ok(digits)) = (Secret::new(secret), Digits::new(6)) else {
         return Err(io::Error::from(ErrorKind::InvalidInput));

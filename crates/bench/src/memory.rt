@@ -1,4 +1,4 @@
-//! What a service stands on, in memory: a store of its book, a clock that stands still, and sinks that count bytes, or keep them.
+//! What a service needs, in memory: a store for its book, a clock that stands still, and sinks that count bytes or keep them.
 ghost use Rattle.std.specs.Prelude.{◌≡◌, ◌<◌, ◌+◌, ◌^◌, false, string_bytes};
 ghost use Rattle.std.specs.declared.option.Option.TheVariants.{None};
 
@@ -9,7 +9,7 @@ use sasl_desk::Clock;
 use sasl_log::{Sink, SinkFault};
 use std::alloc::Global;
 
-/// A store whose device is memory.
+/// A store that keeps the text in memory.
 #[derive(Drop)]
 pub(crate) struct Memory {
     text: String,
@@ -60,7 +60,7 @@ pub(crate) struct Still {
 }
 
 impl Still {
-    /// A clock that always gives this moment.
+    /// A clock that always returns the moment `at`.
     pub(crate) fn new(at: Moment) -> Still {
         Still { at }
     }
@@ -77,12 +77,12 @@ impl Clock for Still {
 /// A sink that counts bytes and keeps none.
 #[derive(Drop)]
 pub(crate) struct Counted {
-    /// How many it was given, up to the greatest number that fits.
+    /// How many bytes it was given; the count stops at the greatest `u64`.
     pub bytes: u64,
 }
 
 impl Counted {
-    /// A sink that was given nothing.
+    /// A sink that has been given nothing yet.
     pub(crate) fn new() -> Counted {
         Counted { bytes: 0 }
     }
@@ -105,7 +105,7 @@ pub(crate) struct Kept {
 }
 
 impl Kept {
-    /// A sink that was given nothing.
+    /// A sink that has been given nothing yet.
     pub(crate) fn new() -> Kept {
         Kept {
             bytes: ArrayVec::new(),
@@ -113,7 +113,7 @@ impl Kept {
         }
     }
 
-    /// The bytes that it was given.
+    /// The bytes that it holds.
     pub(crate) fn bytes(&self) -> &[u8] {
         self.bytes.as_slice()
     }

@@ -1,4 +1,4 @@
-//! The search for two codes in a row, by a HOTP token that has 1000 counters to look at.
+//! The search for two codes in a row, with a HOTP token that looks at 1000 counters.
 use otp_core::{Digits, HotpFields, Moment, Reply, Secret, Token};
 use std::io;
 use std::io::ErrorKind;
@@ -16,7 +16,7 @@ fn token(secret: &[u8]) -> Option<Token> {
     Token::hotp(fields).ok()
 }
 
-/// Looks `count` times for two texts that are no codes, and prints how often it failed. Each search makes 1001 codes.
+/// Searches `count` times for two texts that are no codes, and prints how often the search failed. Each makes 1001 codes.
 pub(crate) fn print_failures(rt: &impl Print, secret: &[u8], count: u32) -> io::Result<()> {
     let (Some(token), Some(now)) = (token(secret), Moment::new(0)) else {
         return Err(io::Error::from(ErrorKind::InvalidInput));

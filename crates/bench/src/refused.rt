@@ -1,11 +1,11 @@
-//! A client that is served while one request for memory is refused, whichever it is: a call of a desk or a hall then answers 99,
-//! nothing is lost by it, and the same call again goes on.
+//! Serves a client while one request for memory, whichever it is, is refused. The call of a desk or a hall then returns 99, nothing
+//! is lost, and the same call made again succeeds.
 mod books;
 mod hall;
 mod texts;
 
 use crate::memory::{Kept, Memory, Still};
-use crate::service::{OWN, book_at, login_and_codes};
+use crate::service::{SERVER_NONCE, book_at, login_and_codes};
 use account_book::Book;
 pub(crate) use books::print_book;
 pub(crate) use hall::print_hall;
@@ -18,7 +18,7 @@ use std::fs::Files;
 use std::{io, str};
 pub(crate) use texts::print_texts;
 
-// A desk over this book, and how often it was told first that memory ran out, at most once. None where it does not begin.
+// A desk over this book, and how often `Desk::begin` ran out of memory first: 0 or 1. None if it does not begin.
 fn begun<A: Allocator>(
     alloc: Global,
     book: Book,
@@ -33,14 +33,14 @@ fn begun<A: Allocator>(
     }
 }
 
-// Lets the desk greet a client. How often it was told first that memory ran out, at most once; None where it does not greet.
+// Lets the desk greet a client. Returns how often the call ran out of memory first, 0 or 1; None if the desk does not greet.
 fn greeted(desk: &mut Desk<Memory>, wire: &mut Vec<u8>, log: &mut Vec<u8>) -> Option<u32> {
     for refused in [0, 1] {
-        let own = NoncePart::new(OWN)?;
+        let server_nonce = NoncePart::new(SERVER_NONCE)?;
         if desk.phase() != Phase::Closed {
             return None;
         }
-        match desk.greet(own, wire, log) {
+        match desk.greet(server_nonce, wire, log) {
             Ok(_) => return Some(refused),
             Err(DeskFault::NoMemory) => {}
             Err(_) => return None,
@@ -49,7 +49,7 @@ fn greeted(desk: &mut Desk<Memory>, wire: &mut Vec<u8>, log: &mut Vec<u8>) -> Op
     None
 }
 
-// Lets the desk hear what its client does, and counts as `greeted` does.
+// Lets the desk hear what its client does, and returns a count as `greeted` does.
 fn heard(
     alloc: Global,
     desk: &mut Desk<Memory>,
@@ -71,7 +71,7 @@ fn heard(
     None
 }
 
-// Lets the desk hear these lines, and that their client has gone away; counts as `greeted` does.
+// Lets the desk hear these lines, and then that their client has gone away. Returns how often memory ran out, or None.
 fn all_heard(
     alloc: Global,
     desk: &mut Desk<Memory>,
@@ -87,7 +87,7 @@ fn all_heard(
     Some(refused.saturating_add(heard(alloc, desk, Event::Gone, wire, log)?))
 }
 
-// Prints a log and how often memory ran out; or that a client was left without an answer.
+// Prints a log and how often memory ran out, or, for None, that a client was left without an answer.
 fn print_end(rt: &impl Print, log: &[u8], refused: Option<u32>) -> io::Result<()> {
     match (str::from_utf8(log), refused) {
         (Ok(text), Some(count)) => println!(rt; "{text}out of memory {count}"),
@@ -95,7 +95,8 @@ fn print_end(rt: &impl Print, log: &[u8], refused: Option<u32>) -> io::Result<()
     }
 }
 
-// Hands these lines to a desk over this book, call by call. A call that is refused memory is made again; counts as `greeted` does.
+// Gives these lines to a desk over this book, call by call, and makes a call that runs out of memory again. Returns how often memory
+// ran out, or None.
 fn called(alloc: Global, book: Book, lines: &str, log: &mut Vec<u8>) -> Option<u32> {
     let mut wire = Vec::new(alloc);
     let (mut desk, before) = begun(alloc, book, log)?;
@@ -104,8 +105,8 @@ fn called(alloc: Global, book: Book, lines: &str, log: &mut Vec<u8>) -> Option<u
     Some(before.saturating_add(greeting).saturating_add(rest))
 }
 
-/// Hands a login and `count` codes to a desk over the book in the file at `path`, call by call, and prints its log, and how
-/// often memory ran out. A call that is answered so is made again.
+/// Gives a login and `count` codes to a desk over the book in the file at `path`, call by call, and makes a call that runs out of
+/// memory again. Prints the desk's log, and how often memory ran out.
 pub(crate) fn print_calls<R>(rt: &R, path: &str, count: u32) -> io::Result<()>
 where
     R: Print + Files + AllocGlobal,
@@ -117,7 +118,7 @@ where
     print_end(rt, log.as_slice(), refused)
 }
 
-// Takes a turn with a client that sends this line, and counts as `greeted` does.
+// Takes a turn with a client that sends this line, and returns a count as `greeted` does.
 fn turned(
     alloc: Global,
     desk: &mut Desk<Memory>,
@@ -140,7 +141,7 @@ fn turned(
     None
 }
 
-// Takes turns with a client that sends these lines and goes away; counts as `greeted` does.
+// Takes turns with a client that sends these lines and goes away. Returns how often memory ran out, or None.
 fn all_turned(
     alloc: Global,
     desk: &mut Desk<Memory>,
@@ -155,7 +156,7 @@ fn all_turned(
     Some(refused.saturating_add(turned(alloc, desk, b"", wire, log)?))
 }
 
-// As `called`, by `serve_turn` after the greeting.
+// As `called`, with `serve_turn` after the greeting.
 fn called_by_turns(alloc: Global, book: Book, lines: &str, log: &mut Kept) -> Option<u32> {
     let (mut sent, mut logged) = (Vec::new(alloc), Vec::new(alloc));
     let (mut desk, before) = begun(alloc, book, &mut logged)?;
@@ -165,7 +166,7 @@ fn called_by_turns(alloc: Global, book: Book, lines: &str, log: &mut Kept) -> Op
     Some(before.saturating_add(greeting).saturating_add(rest))
 }
 
-/// As `print_calls`, by `serve_turn`.
+/// As `print_calls`, with `serve_turn`.
 pub(crate) fn print_turns<R>(rt: &R, path: &str, count: u32) -> io::Result<()>
 where
     R: Print + Files + AllocGlobal,
@@ -177,8 +178,8 @@ where
     print_end(rt, log.bytes(), refused)
 }
 
-// Serves a client by `serve`, and where memory runs out ends the session that is open, by a client that has gone away. Counts
-// as `greeted` does.
+// Serves a client with `serve`. If memory runs out, ends an open session as if its client had gone away. Returns how often memory
+// ran out, or None.
 fn served(
     alloc: Global,
     desk: &mut Desk<Memory>,
@@ -197,7 +198,7 @@ fn served(
         wire,
         log,
         desk,
-        NoncePart::new(OWN)?,
+        NoncePart::new(SERVER_NONCE)?,
         &mut clock,
     ) {
         Ok(_) => Some(0),
@@ -207,7 +208,7 @@ fn served(
     }
 }
 
-// As `called`, by `serve`.
+// As `called`, with `serve`.
 fn called_at_once(alloc: Global, book: Book, text: &str, log: &mut Kept) -> Option<u32> {
     let mut first_line = Vec::new(alloc);
     let (mut desk, before) = begun(alloc, book, &mut first_line)?;
@@ -216,7 +217,7 @@ fn called_at_once(alloc: Global, book: Book, text: &str, log: &mut Kept) -> Opti
     Some(before.saturating_add(rest))
 }
 
-/// As `print_calls`, by `serve`; where memory runs out, the client is then gone.
+/// As `print_calls`, with `serve`. If memory runs out, the client is not served any further.
 pub(crate) fn print_service<R>(rt: &R, path: &str, count: u32) -> io::Result<()>
 where
     R: Print + Files + AllocGlobal,

@@ -1,4 +1,4 @@
-//! Clients that are served over memory: logins of RFC 7677's example, section 3, and codes after one of them.
+//! Serves clients in memory: logins of RFC 7677's example, section 3, and codes after one of them.
 use crate::memory::{Counted, Memory, Still};
 use account_book::Book;
 use mac_core::{HSha1, PreparedKey};
@@ -11,20 +11,20 @@ use std::fs::Files;
 use std::io::ErrorKind;
 use std::{fs, io};
 
-/// What the client sends, line by line.
+/// The lines that the client sends to log in.
 pub(crate) const LOGIN: &str = "AUTH SCRAM-SHA-256 :n,,n=user,r=rOprNGfwEbeRWgbNEkqO
 RESP :c=biws,r=rOprNGfwEbeRWgbNEkqO%25hvYDpWUa2RaTCAfuxFIlj)hNlF$k0,p=dHzbZapWIk4jUhN+Ute9ytag9zjfMHgsqmmiz7AndVQ=
 ";
 
 /// The server's part of the nonce.
-pub(crate) const OWN: &[u8] = b"%hvYDpWUa2RaTCAfuxFIlj)hNlF$k0";
+pub(crate) const SERVER_NONCE: &[u8] = b"%hvYDpWUa2RaTCAfuxFIlj)hNlF$k0";
 
-/// What stands for a file that cannot be used, and for codes that cannot be made.
+/// The error for a file that can't be used, and for codes that can't be made.
 pub(crate) fn refusal() -> io::Error {
     io::Error::from(ErrorKind::InvalidInput)
 }
 
-/// The book in the file at this path.
+/// The book in the file at `path`.
 pub(crate) fn book_at<R: Files + AllocGlobal>(rt: &R, path: &str) -> io::Result<Book> {
     let bytes = fs::read(rt, path)?;
     match Book::read(rt.alloc(), bytes.as_slice()) {
@@ -33,7 +33,7 @@ pub(crate) fn book_at<R: Files + AllocGlobal>(rt: &R, path: &str) -> io::Result<
     }
 }
 
-/// What a client sends who logs in and sends the HOTP codes of RFC 4226's secret from counter 0 on, `count` of them.
+/// The lines of a client that logs in and sends `count` HOTP codes of RFC 4226's example secret, from counter 0 on.
 pub(crate) fn login_and_codes(alloc: Global, count: u32) -> io::Result<String> {
     let (Ok(secret), Ok(digits)) = (Secret::new(b"12345678901234567890"), Digits::new(6)) else {
         return Err(refusal());
@@ -50,7 +50,7 @@ pub(crate) fn login_and_codes(alloc: Global, count: u32) -> io::Result<String> {
     Ok(text)
 }
 
-// The service of a book, and how many bytes it has logged and sent.
+// A desk over a book, and how many bytes it has logged and sent.
 #[derive(Drop)]
 struct Service {
     desk: Desk<Memory>,
@@ -59,7 +59,7 @@ struct Service {
     clock: Still,
 }
 
-// A service of the book in the file at this path.
+// A service over the book in the file at `path`.
 fn begun<R: Files + AllocGlobal>(rt: &R, path: &str) -> io::Result<Service> {
     let (book, now) = (book_at(rt, path)?, Moment::new(5).ok_or(refusal())?);
     let mut first_line = Vec::new(rt.alloc());
@@ -74,7 +74,7 @@ fn begun<R: Files + AllocGlobal>(rt: &R, path: &str) -> io::Result<Service> {
     })
 }
 
-// Serves one client, who sends this text and goes away. Returns whether its session has ended, and the desk has not halted.
+// Serves one client, which sends this text and goes away. Returns whether its session has ended without a halt of the desk.
 fn is_served(alloc: Global, service: &mut Service, text: &str) -> bool {
     let Service {
         desk,
@@ -82,18 +82,18 @@ fn is_served(alloc: Global, service: &mut Service, text: &str) -> bool {
         log,
         clock,
     } = service;
-    let Some(own) = NoncePart::new(OWN) else {
+    let Some(server_nonce) = NoncePart::new(SERVER_NONCE) else {
         return false;
     };
     if desk.phase() != Phase::Closed {
         return false;
     }
     let mut client = OverRead::new(text.as_bytes());
-    let end = serve(alloc, &mut client, wire, log, desk, own, clock);
+    let end = serve(alloc, &mut client, wire, log, desk, server_nonce, clock);
     matches!(end, Ok(Phase::Closed))
 }
 
-/// Serves `count` clients over the book in the file at `path`, who log in and leave, and prints how many sessions ended, and
+/// Serves `count` clients, which log in and leave, over the book in the file at `path`. Prints how many sessions ended, and
 /// how many bytes were logged and sent.
 pub(crate) fn print_logins<R>(rt: &R, path: &str, count: u32) -> io::Result<()>
 where
@@ -110,8 +110,8 @@ where
     println!(rt; "served {served} logged {logged} sent {sent}")
 }
 
-/// Serves one client over the book in the file at `path`, who logs in and sends the HOTP codes of RFC 4226's secret from
-/// counter 0 on, `count` of them, and prints what `print_logins` prints.
+/// Serves one client, which logs in and sends `count` HOTP codes of RFC 4226's example secret, from counter 0 on, over the book in
+/// the file at `path`. Prints what `print_logins` prints.
 pub(crate) fn print_codes_served<R>(rt: &R, path: &str, count: u32) -> io::Result<()>
 where
     R: Print + Files + AllocGlobal,

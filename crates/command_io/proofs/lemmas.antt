@@ -1,4 +1,4 @@
--- Lemmas: what the proofs of this crate and of those above it cite.
+-- The lemmas that the proofs of this crate, and of the crates above it, cite.
 pub mod HeldFaults
 pub mod InputLines
 pub mod LinesInTurn

@@ -4,6 +4,6 @@ use Rattle.command_line.specs.declared.fault.Fault.{Fault}
 use Rattle.command_line.specs.declared.fault.Fault.TheVariants.{CannotRead, NoMemory}
 
 -- the file of this path can't be read, or memory ran out
-abbrev pub IsFileUnread : (path : List ℕ) → Fault → Type 0
-IsFileUnread path (CannotRead file) = string_bytes file ≡ path
-IsFileUnread path fault = fault ≡ NoMemory
+abbrev pub IsFileUnreadOrNoMemory : (path : List ℕ) → Fault → Type 0
+IsFileUnreadOrNoMemory path (CannotRead file) = string_bytes file ≡ path
+IsFileUnreadOrNoMemory path fault = fault ≡ NoMemory

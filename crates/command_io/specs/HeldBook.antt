@@ -28,11 +28,11 @@ pub record HeldFacts : Type 0 where
   pub book : BookFields
   pub store : StoreFacts
 
--- a held book, as what is known of it
+-- what is known of this held book
 abbrev pub held_shown : {S : Type 0} → (S → StoreFacts) → HeldBook S → HeldFacts
 held_shown facts held = record { book = held.book; store = facts held.store }
 
--- a text is stored, and is no longer than the text of a book may be
+-- a text is stored, and is not longer than the text of a book may be
 abbrev pub IsStoredShort : (IsStored : List ℕ → Type 0) → List ℕ → Type 0
 IsStoredShort IsStored text = (length text ≤ MOST_BOOK) × IsStored text
 
@@ -40,7 +40,7 @@ IsStoredShort IsStored text = (length text ≤ MOST_BOOK) × IsStored text
 abbrev pub IsBookSaved : (IsStored : List ℕ → Type 0) → (old : StoreFacts) → BookFields → (new : StoreFacts) → Type 0
 IsBookSaved IsStored old book new = SavesBook (IsStoredShort IsStored) old book new
 
--- the book is not saved: the store is as it was; or it failed in saving the book, and has that text or the one from before
+-- the book is not saved: the store is as it was; or it failed to save the book, and has that text or the one from before
 abbrev pub IsBookUnsaved : (old : StoreFacts) → BookFields → (new : StoreFacts) → Type 0
 IsBookUnsaved old book new = (new ≡ old) ⊎ ((text : List ℕ) × IsBookText text book × IsFailedSave old text new)
 
@@ -59,14 +59,14 @@ IsFaultOfText bytes_of fault =
 
 -- the fault of a book that can't be held: the file of this path can't be read; or a file, whose path is not said here, can't be written;
 -- or memory ran out
-abbrev pub CannotHold : (path : List ℕ) → Fault → Type 0
-CannotHold path (CannotRead file) = string_bytes file ≡ path
-CannotHold path (CannotWrite file) = Unit {0}
-CannotHold path fault = fault ≡ NoMemory
+abbrev pub CannotHoldOrNoMemory : (path : List ℕ) → Fault → Type 0
+CannotHoldOrNoMemory path (CannotRead file) = string_bytes file ≡ path
+CannotHoldOrNoMemory path (CannotWrite file) = Unit {0}
+CannotHoldOrNoMemory path fault = fault ≡ NoMemory
 
 -- the fault of a book that can't be held or read: it can't be held, the bytes that were read from a file are no book, or memory ran out
 abbrev pub CannotOpenBook : {File : Type 0} → (bytes_of : File → Option (List ℕ)) → (path : List ℕ) → Fault → Type 0
-CannotOpenBook bytes_of path fault = CannotHold path fault ⊎ IsFaultOfText bytes_of fault
+CannotOpenBook bytes_of path fault = CannotHoldOrNoMemory path fault ⊎ IsFaultOfText bytes_of fault
 
 -- the account that was looked up is not there, or has no token: the fault says which
 abbrev pub LacksToken : Option AccountFields → Fault → Type 0
@@ -81,7 +81,7 @@ abbrev pub IsEnrolled : NewAccount → Salts → (old new : BookFields) → Type
 IsEnrolled account salts old new =
     IsAdded old account.name (enrolled account.password salts.sha1 salts.sha256 account.count) new
 
--- the reply is due, and the book after it is saved where the reply needs that; else the store is as it was
+-- the reply is due, and the book after it is saved if the reply needs that; else the store is as it was
 pub record IsReplySaved (IsStored : List ℕ → Type 0) (old : HeldFacts) (name : List ℕ) (moment : ℕ) (sent : CodeTexts) (reply : Reply)
     (new : HeldFacts) : Type 0 where
   pub due : IsBookAttempt old.book name moment sent (Some reply) new.book

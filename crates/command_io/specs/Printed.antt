@@ -1,4 +1,4 @@
--- What a run has printed where a fault ends it.
+-- What a run has printed when a fault ends it.
 use Rattle.std.specs.Prelude.{ℕ, ◌≡◌, ◌⊎◌, List}
 use Rattle.std.specs.declared.option.Option.{Option}
 use Rattle.command_line.specs.declared.fault.Fault.{Fault}

@@ -1,10 +1,10 @@
-//! A book that this run holds, and its store: each change is saved before it is reported.
+//! A book that this run holds, and its store. Each change is saved before it is reported.
 ghost use Rattle.std.specs.Prelude.{◌≡◌, ◌≢◌, ℕ, List, true, is_some, IfErr, IfOk, MatchOption, OnErr, OnOk};
 ghost use Rattle.book_format.specs.Trees.{IsBookText};
 ghost use Rattle.account_book.specs.Accounts.{account_at};
 ghost use Rattle.account_book.specs.Tokens.{token_at};
 ghost use Rattle.otp_core.specs.Sent.{texts_of};
-ghost use Rattle.command_line.specs.Fault.{IsTokenFault, IsFileUnwritten};
+ghost use Rattle.command_line.specs.Fault.{IsTokenFault, IsFileUnwrittenOrNoMemory};
 ghost use Rattle.command_io.specs.HeldBook.{held_shown, CannotBeSaved, IsBookSaved, IsBookUnsaved, IsChangeUnsaved, IsUnlockSaved};
 ghost use Rattle.command_io.specs.HeldBook.{IsEnrolled, IsReplySaved, IsReplyUnsaved, IsTokenUnlocked, LacksToken};
 
@@ -16,18 +16,18 @@ use otp_core::{Moment, Sent};
 use scram_text::PlainName;
 use std::alloc::Global;
 
-/// A book, and the store that has its text.
+/// A book, and the store that keeps its text.
 #[derive(Drop)]
 pub struct HeldBook<'a, S> {
     book: Book,
     store: S,
 
-    // The path of the book's file as it was given, for faults.
+    // The path of the book's file as the caller gave it, for faults.
     path: &'a str,
 }
 
 impl<'a, S: BookStore> HeldBook<'a, S> {
-    /// The held book whose changes are saved in `store`, which stands for the file at `path`.
+    /// A held book whose changes are saved in `store`; `path` is the path that faults name.
     pub fn new(book: Book, store: S, path: &'a str) -> HeldBook<'a, S>
         ensures book { result.book ≡ book }
         ensures store { result.store ≡ store }
@@ -36,7 +36,7 @@ impl<'a, S: BookStore> HeldBook<'a, S> {
         HeldBook { book, store, path }
     }
 
-    /// The book, its store, and the path of its file as it was given.
+    /// The book, its store, and the path of its file.
     pub fn into_parts(self) -> (Book, S, &'a str)
         ensures book { result.0 ≡ self.entry.book }
         ensures store { result.1 ≡ self.entry.store }
@@ -45,12 +45,12 @@ impl<'a, S: BookStore> HeldBook<'a, S> {
         (self.book, self.store, self.path)
     }
 
-    /// Adds an account with the keys of a password for both mechanisms, and saves the book. Faults: NameTaken,
-    /// CannotWrite and NoMemory; after NameTaken and NoMemory the store was not asked.
+    /// Adds an account with the keys of a password for both mechanisms, and saves the book. Faults: NameTaken, CannotWrite and
+    /// NoMemory; after NameTaken or NoMemory, the store is unchanged.
     pub fn enrol(&mut self, alloc: Global, account: &NewAccount, salts: &Salts) -> Result<(), Fault>
         ensures added { OnOk result (IsEnrolled account.now salts.now self.old.book self.new.book) }
         ensures err { IfErr result (λ fault. MatchOption (account_at self.old.book account.now.name)
-            (IsFileUnwritten self.old.path.now fault) (λ account. fault ≡ Fault.NameTaken)) }
+            (IsFileUnwrittenOrNoMemory self.old.path.now fault) (λ account. fault ≡ Fault.NameTaken)) }
         ensures path { self.new.path.now ≡ self.old.path.now }
         ensures unasked { IfErr result (λ fault. fault ≡ Fault.NoMemory → self.new.store ≡ self.old.store) }
         ensures unsaved { OnErr result (IsChangeUnsaved (held_shown S.facts self.old) (IsEnrolled account.now salts.now)
@@ -73,9 +73,9 @@ impl<'a, S: BookStore> HeldBook<'a, S> {
         }
     }
 
-    /// Judges one code, or two in a row, at `moment` by the account's token, and saves the book unless the token is
-    /// locked. Faults: NoSuchAccount, NoToken, CannotWrite and NoMemory; after the last two the book may have the attempt
-    /// without being saved. It stays so, since the run ends there; `Keeper` of `sasl_desk` takes the attempt back.
+    /// Judges one code, or two in a row, at `moment` by the account's token, and saves the book unless the token is locked. Faults:
+    /// NoSuchAccount, NoToken, CannotWrite and NoMemory. After the last two, the book in memory may contain an attempt that was not
+    /// saved. It is left so, since the run then ends; `Keeper` of `sasl_desk` undoes the attempt.
     pub fn attempt(
         &mut self,
         alloc: Global,
@@ -101,8 +101,7 @@ impl<'a, S: BookStore> HeldBook<'a, S> {
         Ok(reply)
     }
 
-    /// Sets the failures of the account's token to 0, and saves the book. Faults: NoSuchAccount, NoToken,
-    /// CannotWrite and NoMemory.
+    /// Sets the failures of the account's token to 0, and saves the book. Faults: NoSuchAccount, NoToken, CannotWrite and NoMemory.
     pub fn unlock(&mut self, alloc: Global, name: &PlainName) -> Result<(), Fault>
         ensures done { OnOk result (IsUnlockSaved S.IsStored name.now (held_shown S.facts self.old) (held_shown S.facts self.new)) }
         ensures path { self.new.path.now ≡ self.old.path.now }
@@ -116,12 +115,12 @@ impl<'a, S: BookStore> HeldBook<'a, S> {
         self.save(alloc)
     }
 
-    /// Saves the book's text. Faults: CannotWrite where the save fails or the text has more than 16777216 bytes,
-    /// and NoMemory; where memory runs out the store is not asked.
+    /// Saves the book's text. Faults: CannotWrite if the save fails or the text has more than 16777216 bytes, and NoMemory, after
+    /// which the store is unchanged.
     pub fn save(&mut self, alloc: Global) -> Result<(), Fault>
         ensures book { self.new.book ≡ self.old.book }
         ensures path { self.new.path.now ≡ self.old.path.now }
-        ensures err { IfErr result (IsFileUnwritten self.old.path.now) }
+        ensures err { IfErr result (IsFileUnwrittenOrNoMemory self.old.path.now) }
         ensures why { IfErr result (λ fault. fault ≢ Fault.NoMemory
             → (text : List ℕ) × IsBookText text self.old.book × CannotBeSaved text (S.facts self.new.store)) }
         ensures unasked { IfErr result (λ fault. fault ≡ Fault.NoMemory → self.new.store ≡ self.old.store) }

@@ -1,26 +1,26 @@
 //! Standard input, as lines.
 ghost use Rattle.std.specs.Prelude.{◌≡◌, ◌≤◌, ◌+◌, Bool, [], ◌∷◌, length, IfErr, IfOk, IfSome, IfNone};
 ghost use Rattle.std.specs.Io.KnownBytes.{Consumes, IsAtEnd};
-ghost use Rattle.command_io.specs.Input.{line_bytes, TakesLine, IsFirstLine, IsInputUnread};
+ghost use Rattle.command_io.specs.Input.{line_bytes, TakesLine, IsFirstLine, IsInputUnreadOrNoMemory};
 ghost use Rattle.command_io.specs.declared.input.TheConstants.{MOST_INPUT};
 
 use command_line::Fault;
 use std::alloc::Global;
 use std::io::{BufRead, ErrorKind, Read};
 
-/// The most bytes that a command reads of its input.
+/// The most bytes of its input that a command reads (16 MiB).
 const MOST_INPUT: usize = 16_777_216;
 
-// The next byte of `input`, or None at its end. A read that a signal interrupts is tried again. CannotReadInput where a read
-// fails; NoMemory where it fails since memory ran out.
+// The next byte of `input`, or None at its end. A read that a signal interrupts is tried again. Faults: CannotReadInput if a read
+// fails, and NoMemory if it fails because memory ran out.
 fn next_byte<I: Read>(input: &mut I) -> Result<Option<u8>, Fault>
     ensures some { IfOk result (λ found. IfSome found (λ byte. Consumes (I.remaining input.old) (I.remaining input.new) (byte ∷ []))) }
     ensures none { IfOk result (λ found. IfNone found (Consumes (I.remaining input.old) (I.remaining input.new) []
         × IsAtEnd (I.remaining input.new))) }
-    ensures err { IfErr result IsInputUnread }
+    ensures err { IfErr result IsInputUnreadOrNoMemory }
 {
     let mut byte = [0];
-    // Bounded only because every function has to return; what ends it is in its body.
+    // Bounded only because every function has to return: in practice a branch below ends the loop.
     for _ in 0..u64::MAX {
         match input.read(&mut byte) {
             Ok(0) => return Ok(None),
@@ -33,12 +33,12 @@ fn next_byte<I: Read>(input: &mut I) -> Result<Option<u8>, Fault>
     Err(Fault::CannotReadInput)
 }
 
-// The next line of `input` without its LF, and whether it had one; at the end of the input, an empty line that had none.
-// CannotReadInput where a read fails, and where the line and its LF have more than `most` bytes; NoMemory where memory runs out.
+// The next line of `input` without its LF, and whether it had one; at the end of the input, an empty line that had none. Faults:
+// CannotReadInput if a read fails or the line and its LF have more than `most` bytes, and NoMemory.
 fn read_line<I: Read>(alloc: Global, input: &mut I, most: usize) -> Result<(Vec<u8>, bool), Fault>
     ensures line { IfOk result (λ line. TakesLine (I.remaining input.old) line.0.items line.1 (I.remaining input.new)) }
     ensures most { IfOk result (λ line. length (line_bytes line.0.items line.1) ≤ most) }
-    ensures err { IfErr result IsInputUnread }
+    ensures err { IfErr result IsInputUnreadOrNoMemory }
 {
     let mut line = Vec::new(alloc);
     while let Some(byte) = next_byte(input)? {
@@ -53,21 +53,20 @@ fn read_line<I: Read>(alloc: Global, input: &mut I, most: usize) -> Result<(Vec<
     Ok((line, false))
 }
 
-/// The first line of `input` without its LF, or all of `input` where it has no LF. Nothing after the line
-/// is looked at. CannotReadInput where a read fails, and where the line and its LF have more than
-/// 16777216 bytes; NoMemory where memory runs out.
+/// The first line of `input` without its LF, or all of `input` if it has no LF. Takes nothing after the line from `input`. Faults:
+/// CannotReadInput if a read fails or the line and its LF have more than 16777216 bytes, and NoMemory.
 #[tactic(auto, using(crate::proofs::lemmas::InputLines::taken_line_is_first))]
 pub fn first_line<I: BufRead>(alloc: Global, input: &mut I) -> Result<Vec<u8>, Fault>
     ensures first { IfOk result (λ line. IsFirstLine (I.remaining input.old) line.items) }
     ensures taken { IfOk result (λ line. (has_lf : Bool) × TakesLine (I.remaining input.old) line.items has_lf (I.remaining input.new)) }
     ensures most { IfOk result (λ line. length line.items ≤ MOST_INPUT) }
-    ensures err { IfErr result IsInputUnread }
+    ensures err { IfErr result IsInputUnreadOrNoMemory }
 {
     let (line, _) = read_line(alloc, input, MOST_INPUT)?;
     Ok(line)
 }
 
-/// The lines of an input, of which a command reads at most 16777216 bytes.
+/// The lines of an input, read up to 16777216 bytes in all.
 #[derive(Drop)]
 pub struct Lines<'a, I> {
     input: &'a mut I,
@@ -79,7 +78,7 @@ pub struct Lines<'a, I> {
 }
 
 impl<'a, I: BufRead> Lines<'a, I> {
-    /// The lines of `input` from where it stands.
+    /// The lines of `input` from its current position.
     pub fn new(input: &'a mut I) -> Lines<'a, I>
         ensures input { result.input ≡ input.entry }
         ensures left { result.left ≡ MOST_INPUT }
@@ -90,18 +89,17 @@ impl<'a, I: BufRead> Lines<'a, I> {
         }
     }
 
-    /// The next line without its LF, or None at the end of the input; a last line without an LF counts
-    /// where it has a byte. CannotReadInput where a read fails, and where the lines so far have more than
-    /// 16777216 bytes with their LFs; NoMemory where memory runs out.
+    /// The next line without its LF, or None at the end of the input. A last line without an LF counts if it has at least one byte.
+    /// Faults: CannotReadInput if a read fails or the lines so far have more than 16777216 bytes with their LFs, and NoMemory.
     pub fn next(&mut self, alloc: Global) -> Result<Option<Vec<u8>>, Fault>
-        // A line has a byte at least, so each call that gives one leaves fewer bytes to read.
+        // A line has at least one byte, so each call that returns one leaves fewer bytes to read.
         ensures line { IfOk result (λ found. IfSome found (λ line. (has_lf : Bool)
             × TakesLine (I.remaining self.old.input.now) line.items has_lf (I.remaining self.new.input.now)
             × (1 ≤ length (line_bytes line.items has_lf))
             × (self.new.left + length (line_bytes line.items has_lf) ≡ self.old.left))) }
         ensures end { IfOk result (λ found. IfNone found (IsAtEnd (I.remaining self.old.input.now))) }
         ensures ended { IfOk result (λ found. IfNone found (IsAtEnd (I.remaining self.new.input.now))) }
-        ensures err { IfErr result IsInputUnread }
+        ensures err { IfErr result IsInputUnreadOrNoMemory }
     {
         let (line, has_lf) = read_line(alloc, self.input, self.left)?;
         let taken = if has_lf { line.len() + 1 } else { line.len() };

@@ -1,5 +1,5 @@
-//! What the commands share: the book that a run holds, the lines of its input, what it prints, terminals, prompts, random bytes
-//! and files.
+//! What the commands share: the book that a run holds, the lines of its input, its output, terminals, prompts, random bytes and
+//! files.
 #![tactic(auto)]
 
 pub mod file;

@@ -1,4 +1,4 @@
-//! An account that is to be added to a book.
+//! An account to be added to a book.
 ghost use Rattle.std.specs.Prelude.{◌≡◌, ◌≤◌, IfErr, MatchOption, OnErr, OnOk};
 ghost use Rattle.account_book.specs.Accounts.{account_at};
 
@@ -7,13 +7,13 @@ use command_line::Fault;
 use scram_text::{Password, PlainName, Salt};
 use std::alloc::Global;
 
-/// The name of a new account, and what its keys are made of, but for the salts.
+/// The name of a new account, and what its keys are made from, except for the salts.
 #[derive(Drop)]
 pub struct NewAccount {
     /// The name of the account.
     pub name: PlainName,
 
-    /// The password that its keys are made of.
+    /// The password that its keys are made from.
     pub password: Password,
 
     /// The iteration count of its keys, at least 1.
@@ -25,8 +25,8 @@ pub struct NewAccount {
 impl NewAccount {
     ghost use Rattle.command_io.specs.HeldBook.{IsEnrolled};
 
-    /// Adds the account to a book, with keys made of its password and these salts. Faults: NameTaken and NoMemory; the book
-    /// is then unchanged.
+    /// Adds the account to a book, with keys made from its password and these salts. Faults: NameTaken and NoMemory; after either,
+    /// the book is unchanged.
     pub fn add_to(&self, alloc: Global, book: &mut Book, salts: &Salts) -> Result<(), Fault>
         ensures added { OnOk result (IsEnrolled self.now salts.now book.old book.new) }
         ensures unchanged { OnErr result (book.new ≡ book.old) }
@@ -42,12 +42,12 @@ impl NewAccount {
     }
 }
 
-/// The salts of a new account's keys, one for each mechanism.
+/// The salts for a new account's keys, one for each mechanism.
 #[derive(Drop)]
 pub struct Salts {
-    /// That of SCRAM-SHA-1.
+    /// The salt for SCRAM-SHA-1.
     pub sha1: Salt,
 
-    /// That of SCRAM-SHA-256.
+    /// The salt for SCRAM-SHA-256.
     pub sha256: Salt,
 }

@@ -1,11 +1,11 @@
-//! Opens the file of a book: takes hold of it and reads it.
+//! Opens the file of a book: holds it, so that no other run uses it, and reads it.
 ghost use Rattle.std.specs.Prelude.{◌≡◌, ◌⊎◌, IfErr, IfOk, IfSome, string_bytes};
 ghost use Rattle.book_format.specs.FirstFault.{IsFirstFault};
 ghost use Rattle.book_format.specs.Trees.{IsBookText};
 ghost use Rattle.book_format.specs.declared.fault.BookFault.{BookFault};
 ghost use Rattle.book_file.specs.Text.{IsRead};
 ghost use Rattle.command_line.specs.Fault.{fault_of_book};
-ghost use Rattle.command_io.specs.HeldBook.{CannotHold, IsReadBook, CannotOpenBook};
+ghost use Rattle.command_io.specs.HeldBook.{CannotHoldOrNoMemory, IsReadBook, CannotOpenBook};
 
 use crate::file::read_fault;
 use crate::held_book::HeldBook;
@@ -17,19 +17,19 @@ use std::fs::Files;
 use std::io::Write;
 use std::time::Clock;
 
-/// A book as it was when its file was read; others may have changed the file since.
+/// A book as it was when its file was read; other runs may have changed the file since.
 #[derive(Drop)]
 pub struct ReadBook {
-    /// The book that the text is of.
+    /// The book that the text states.
     pub book: Book,
 
     /// The whole text of the file.
     pub text: String,
 }
 
-/// Takes hold of the book at `path`, reads it and lets it go; None where there is no file. Faults: CannotRead where
-/// the file can't be read or other runs hold it for 30 seconds; CannotWrite where a save could not keep the file's owner, or
-/// where what stands at the path of the next text can't be opened or removed; BadBook where the text is no book; and NoMemory.
+/// Holds the book at `path`, reads it and releases it; returns None if there is no file. Faults: CannotRead if the file can't be
+/// read or other runs hold it for 30 seconds; CannotWrite if a save could not keep the file's owner, or if what is at the path of
+/// the next text can't be opened or removed; BadBook if the text is no book; and NoMemory.
 #[tactic(auto, using(crate::proofs::lemmas::HeldFaults::bad_text_prevents_opening))]
 pub fn read_and_release<R, E>(rt: &R, path: &str, faults: &mut E) -> Result<Option<ReadBook>, Fault>
 where
@@ -44,7 +44,7 @@ where
         Err(HoldFault::Missing) => return Ok(None),
         Err(fault) => return Err(hold_fault(rt.alloc(), path, fault, faults)?),
     };
-    // Not reached: `hold` answers Missing where there is no file. No contract says so.
+    // Not reached: `hold` returns Missing if there is no file. No contract says so.
     let Some(text) = text_of(rt.alloc(), &mut file, path)? else {
         return Ok(None);
     };
@@ -52,8 +52,7 @@ where
     Ok(Some(ReadBook { book, text }))
 }
 
-/// Takes hold of the book at `path`, which has to be there, and reads it. Faults: as `read_and_release`, and CannotRead where
-/// there is no file.
+/// Holds the book at `path` and reads it. Faults: those of `read_and_release`, and CannotRead if there is no file.
 #[tactic(auto, using(crate::proofs::lemmas::HeldFaults::bad_text_prevents_opening))]
 pub fn open<'a, 'r, R, E>(
     rt: &'r R,
@@ -72,14 +71,13 @@ where
     match text {
         Some(text) => read_held(rt.alloc(), file, text, path),
 
-        // Not reached: `hold` answers Missing where there is no file. No contract says so.
+        // Not reached: `hold` returns Missing if there is no file. No contract says so.
         None => Err(Fault::CannotRead(String::from_str(rt.alloc(), path)?)),
     }
 }
 
-/// Returns the file that is held and its text, or None for the text where there is no file yet. `held` is the
-/// attempt to hold the file at `path`. Faults: CannotRead, CannotWrite, BadBook where the text is not UTF-8, and
-/// NoMemory.
+/// Returns the held file and its text, or None for the text if there is no file yet. `held` is the outcome of holding the file at
+/// `path`. Faults: CannotRead, CannotWrite, BadBook if the text is not UTF-8, and NoMemory.
 pub fn file_and_text<'r, R, E>(
     rt: &'r R,
     path: &str,
@@ -101,9 +99,8 @@ where
     Ok((file, text))
 }
 
-// The fault of a command that could not hold the book at `path`: that it can't be read, or that a file can't be
-// written. Where other runs held the book, or it belongs to another user, a line on `faults` says so first. The error
-// is that memory ran out.
+// The fault of a command that could not hold the book at `path`: CannotRead, CannotWrite or NoMemory. If other runs held the book,
+// or it belongs to another user, a line on `faults` says so first. The error: memory ran out for a copy of the path.
 #[tactic(auto, using(crate::proofs::lemmas::HeldFaults::failed_read_prevents_holding))]
 fn hold_fault<E: Write>(
     alloc: Global,
@@ -111,7 +108,7 @@ fn hold_fault<E: Write>(
     fault: HoldFault,
     faults: &mut E,
 ) -> Result<Fault, AllocError>
-    ensures { IfOk result (CannotHold path.now) }
+    ensures { IfOk result (CannotHoldOrNoMemory path.now) }
 {
     let file = String::from_str(alloc, path)?;
     Ok(match fault {
@@ -135,8 +132,7 @@ fn hold_fault<E: Write>(
     })
 }
 
-// The text of a book's file, or None where there is no file. Faults: CannotRead, BadBook where the text is not UTF-8, and
-// NoMemory.
+// The text of a book's file, or None if there is no file. Faults: CannotRead, BadBook if the text is not UTF-8, and NoMemory.
 #[tactic(auto, using(crate::proofs::lemmas::HeldFaults::unread_file_prevents_holding))]
 fn text_of<R>(
     alloc: Global,
@@ -160,7 +156,7 @@ where
     }
 }
 
-/// Reads the book of `file`, whose text this is. Faults: BadBook where the text is no book, and NoMemory.
+/// Reads the book of `file` from its text, `text`. Faults: BadBook if the text is no book, and NoMemory.
 pub fn read_held<'a, 'r, R>(
     alloc: Global,
     file: BookFile<'r, R>,

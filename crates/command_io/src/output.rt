@@ -6,7 +6,7 @@ ghost use Rattle.std.specs.Io.KnownBytes.{Appends};
 use command_line::Fault;
 use std::io::Write;
 
-/// Prints this text. The only fault is CannotWriteOutput.
+/// Prints `text`. The only fault is CannotWriteOutput.
 pub fn print<O: Write>(text: &[u8], output: &mut O) -> Result<(), Fault>
     ensures printed { OnOk result (Appends (O.contents output.old) (O.contents output.new) text.now) }
     ensures err { IfErr result (λ fault. fault ≡ Fault.CannotWriteOutput) }
@@ -14,7 +14,7 @@ pub fn print<O: Write>(text: &[u8], output: &mut O) -> Result<(), Fault>
     output.write_all(text).map_err(|_| Fault::CannotWriteOutput)
 }
 
-/// Prints this text and flushes it. The only fault is CannotWriteOutput.
+/// Prints `text` and flushes the output. The only fault is CannotWriteOutput.
 pub fn print_and_flush<O: Write>(text: &[u8], output: &mut O) -> Result<(), Fault>
     ensures printed { OnOk result (Appends (O.contents output.old) (O.contents output.new) text.now) }
     ensures err { IfErr result (λ fault. fault ≡ Fault.CannotWriteOutput) }
@@ -23,7 +23,7 @@ pub fn print_and_flush<O: Write>(text: &[u8], output: &mut O) -> Result<(), Faul
     output.flush().map_err(|_| Fault::CannotWriteOutput)
 }
 
-/// Prints this line and an LF. The only fault is CannotWriteOutput.
+/// Prints `line` and an LF. The only fault is CannotWriteOutput.
 pub fn print_line<O: Write>(line: &str, output: &mut O) -> Result<(), Fault>
     ensures printed { OnOk result (Appends (O.contents output.old) (O.contents output.new) (line.now ++ byte "\n" ∷ [])) }
     ensures err { IfErr result (λ fault. fault ≡ Fault.CannotWriteOutput) }
@@ -31,7 +31,7 @@ pub fn print_line<O: Write>(line: &str, output: &mut O) -> Result<(), Fault>
     writeln!(output, "{line}").map_err(|_| Fault::CannotWriteOutput)
 }
 
-/// Prints what was done, as `enrolled`, to the account of this name. The only fault is CannotWriteOutput.
+/// Prints what was done, such as `enrolled`, a space, the name of the account, and an LF. The only fault is CannotWriteOutput.
 pub fn print_done<O: Write>(done: &str, name: &str, output: &mut O) -> Result<(), Fault>
     ensures printed { OnOk result (Appends (O.contents output.old) (O.contents output.new)
         (done.now ++ (byte " " ∷ name.now ++ byte "\n" ∷ []))) }

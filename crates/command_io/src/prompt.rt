@@ -1,4 +1,4 @@
-//! What is said to someone at a terminal before a command waits for input.
+//! The prompts that someone at a terminal sees before a command waits for input.
 ghost use Rattle.std.specs.Prelude.{◌≡◌, ◌&&◌, true, false, OnOk};
 ghost use Rattle.std.specs.Io.KnownBytes.{Appends};
 
@@ -6,26 +6,26 @@ use crate::terminal::{TerminalInput, TerminalOutput};
 use std::io;
 use std::io::Write;
 
-/// What `keys` and `enrol` wait for.
+/// The prompt of `keys` and `enrol`.
 pub const PASSWORD: &str = "Type the password and press Enter; it is shown as you type.\n";
 
-/// What `verify` waits for.
-pub const CODES: &str = "Type one code a line; it is shown as you type. Ctrl-D ends.\n";
+/// The prompt of `verify`.
+pub const CODES: &str = "Type one code per line; it is shown as you type. End with Ctrl-D.\n";
 
-/// What `login` waits for.
+/// The prompt of `login`.
 pub const LOGIN: &str =
-    "Type the password and press Enter, then one code a line; all is shown as you type. Ctrl-D ends.\n";
+    "Type the password, press Enter, then one code per line; all is shown as you type. End with Ctrl-D.\n";
 
-/// What `hall` waits for.
-pub const EVENTS: &str = "Type one event a line: open, line or gone; Ctrl-D ends.\n";
+/// The prompt of `hall`.
+pub const EVENTS: &str = "Type one event per line: open, line or gone. End with Ctrl-D.\n";
 
-/// Says on `faults` what is waited for, where `input` and `faults` are both terminals. Elsewhere it writes nothing.
-/// That it can't be said is no fault.
+/// Writes the prompt `line` to `faults` if `input` and `faults` are both terminals; otherwise writes nothing. A write that fails is
+/// ignored.
 pub fn ask<I: TerminalInput, E: TerminalOutput>(input: &I, faults: &mut E, line: &str) {
     let _ = say(input.is_terminal(), faults.is_terminal(), faults, line);
 }
 
-// Writes the line where someone types and watches, and nothing elsewhere.
+// Writes the line if someone types and watches; otherwise writes nothing.
 fn say<E: Write>(is_typed: bool, is_watched: bool, faults: &mut E, line: &str) -> io::Result<()>
     ensures said { (is_typed && is_watched) ≡ true
         → OnOk result (Appends (E.contents faults.old) (E.contents faults.new) line.now) }

@@ -1,9 +1,9 @@
 //! Streams that may be a terminal.
 use std::io::{BufRead, BufReader, BufWriter, IsTerminal, Read, Write};
 
-/// Where input is read, which may be a terminal.
+/// An input, which may be a terminal.
 pub trait TerminalInput: BufRead {
-    /// Whether it is a terminal, where someone types.
+    /// Whether the input is a terminal, at which someone types.
     fn is_terminal(&self) -> bool;
 }
 
@@ -13,9 +13,9 @@ impl<R: Read + IsTerminal + Drop> TerminalInput for BufReader<R> {
     }
 }
 
-/// Where faults are written, which may be a terminal.
+/// The stream for faults, which may be a terminal.
 pub trait TerminalOutput: Write {
-    /// Whether it is a terminal, where someone may be waiting.
+    /// Whether the stream is a terminal, at which someone may be waiting.
     fn is_terminal(&self) -> bool;
 }
 

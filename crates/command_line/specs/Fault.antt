@@ -1,4 +1,4 @@
--- How a command ends without its answer.
+-- The faults with which a command ends, and their exit statuses.
 use Rattle.std.specs.Prelude.{ℕ, ◌≡◌, List, Option, MatchOption, string_bytes}
 use Rattle.book_format.specs.Account.{AccountFields}
 use Rattle.book_format.specs.Faults.{book_why_number}
@@ -10,7 +10,7 @@ use Rattle.command_line.specs.declared.fault.Fault.TheVariants.{BadValue, BadPas
 use Rattle.command_line.specs.declared.fault.Fault.TheVariants.{NoSuchAccount, NoToken, BadBook, CannotRead, CannotWrite, BadEvent, Socket}
 use Rattle.command_line.specs.declared.fault.Fault.TheVariants.{CannotReadInput, CannotWriteOutput, NoMemory}
 
--- the exit status: 1 for a refusal, 2 where a value or the password is not in its form or an option is missing, 3 for files, sockets,
+-- the exit status: 1 for a refusal, 2 if a value or the password is malformed or an option is missing, 3 for files, sockets,
 -- streams and memory
 abbrev pub status_of : Fault → ℕ
 status_of (BadValue option) = 2
@@ -30,21 +30,21 @@ status_of CannotWriteOutput = 3
 status_of NoMemory = 3
 
 -- memory ran out, or the file of this path can't be written
-abbrev pub IsFileUnwritten : (path : List ℕ) → Fault → Type 0
-IsFileUnwritten path (CannotWrite file) = string_bytes file ≡ path
-IsFileUnwritten path fault = fault ≡ NoMemory
+abbrev pub IsFileUnwrittenOrNoMemory : (path : List ℕ) → Fault → Type 0
+IsFileUnwrittenOrNoMemory path (CannotWrite file) = string_bytes file ≡ path
+IsFileUnwrittenOrNoMemory path fault = fault ≡ NoMemory
 
 -- the fault of a change to the token of the account that was looked up, in the book whose file has this path:
 -- there is no account, it has no token, or the book can't be saved
 abbrev pub IsTokenFault : (path : List ℕ) → (found : Option AccountFields) → Fault → Type 0
 IsTokenFault path found fault = MatchOption found (fault ≡ NoSuchAccount)
-    (λ account. MatchOption account.token (fault ≡ NoToken) (λ token. IsFileUnwritten path fault))
+    (λ account. MatchOption account.token (fault ≡ NoToken) (λ token. IsFileUnwrittenOrNoMemory path fault))
 
--- what is wrong with a book's text, as a command says it: by its number, or that memory ran out
+-- what is wrong with a book's text, as a command reports it: by its number, or that memory ran out
 abbrev pub fault_of_book_why : BookWhy → Fault
 fault_of_book_why why.NoMemory = NoMemory
 fault_of_book_why other = BadBook (book_why_number other)
 
--- why a text is no account book, as a command says it
+-- why a text is no account book, as a command reports it
 abbrev pub fault_of_book : BookFault → Fault
 fault_of_book fault = fault_of_book_why fault.why

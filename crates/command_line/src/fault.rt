@@ -1,4 +1,4 @@
-//! Why a command ends without its answer: the text for standard error, and the exit status.
+//! Why a command fails: the text for standard error, and the exit status.
 ghost use Rattle.std.specs.Prelude.{◌≡◌, ◌≢◌};
 ghost use Rattle.std.specs.IoError.{error_kind};
 ghost use Rattle.command_line.specs.Fault.{status_of};
@@ -11,14 +11,14 @@ use std::io;
 use std::io::ErrorKind;
 use thiserror::Error;
 
-/// What ends a command without its answer.
+/// Why a command fails.
 #[derive(Debug, Drop, Error)]
 pub enum Fault {
-    /// The value of an option is not one that its help describes.
+    /// The value of this option is not one that its help describes.
     #[error("bad value for --{0}")]
     BadValue(OptionName),
 
-    /// The first input line is no password: 1 to 1024 bytes from space to tilde (20 to 7E hex).
+    /// The first input line is not a password: 1 to 1024 bytes of 20 to 7E hex.
     #[error("bad password")]
     BadPassword,
 
@@ -30,11 +30,11 @@ pub enum Fault {
     #[error("before the first step")]
     BeforeFirstStep,
 
-    /// The book already has an account of the name.
+    /// The book already has an account of this name.
     #[error("name is taken")]
     NameTaken,
 
-    /// The book has no account of the name.
+    /// The book has no account of this name.
     #[error("no such account")]
     NoSuchAccount,
 
@@ -42,7 +42,7 @@ pub enum Fault {
     #[error("no token")]
     NoToken,
 
-    /// The file is no account book; the number says why.
+    /// The file is not an account book; the number says why.
     #[error("bad book: {0}")]
     BadBook(u16),
 
@@ -54,11 +54,11 @@ pub enum Fault {
     #[error("cannot write {0}")]
     CannotWrite(String),
 
-    /// An input line of `hall` says no event, or one of a session that is not open.
+    /// An input line of `hall` is not an event, or is one of a session that is not open.
     #[error("bad event")]
     BadEvent,
 
-    /// The socket can't be made, or fails.
+    /// The socket can't be made, or failed.
     #[error("socket fault")]
     Socket,
 
@@ -76,9 +76,9 @@ pub enum Fault {
 }
 
 impl Fault {
-    /// The fault of a read that failed, from the file at the path `file`: NoMemory where memory ran out, else CannotRead.
+    /// The fault for a failed read of the file at the path `file`: NoMemory if memory ran out, else CannotRead.
     pub fn of_reading(file: String, error: &io::Error) -> Fault
-        ensures memory { error_kind error.now ≡ ErrorKind.OutOfMemory → result ≡ Fault.NoMemory }
+        ensures no_memory { error_kind error.now ≡ ErrorKind.OutOfMemory → result ≡ Fault.NoMemory }
         ensures unread { error_kind error.now ≢ ErrorKind.OutOfMemory → result ≡ Fault.CannotRead file }
         ensures status { status_of result ≡ 3 }
     {
@@ -89,7 +89,7 @@ impl Fault {
         }
     }
 
-    /// The exit status: USAGE where a value or the password is not in its form or an option is missing, FAILED for files, sockets,
+    /// The exit status: USAGE if a value or the password is not in its form or an option is missing, FAILED for files, sockets,
     /// streams and memory, else REFUSED.
     pub fn status(&self) -> u8
         ensures { result ≡ status_of self.now }

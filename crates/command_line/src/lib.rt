@@ -1,5 +1,5 @@
-//! What every command needs: `value` judges the values of options, `Fault` is what ends a command without its answer, with its
-//! text and exit status, and `TerminalText` shows a text that came from outside.
+//! What every command needs: `value` checks the values of options, `Fault` is why a command fails, with its text and exit status,
+//! and `TerminalText` shows a text that came from outside.
 //!
 //! ```rust
 //! use command_line::{Fault, OptionName, value};

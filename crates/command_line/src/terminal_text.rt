@@ -1,9 +1,9 @@
-//! Texts from outside, as they are shown on standard error.
+//! Shows texts from outside on standard error.
 use std::fmt;
 use std::fmt::{Display, Formatter, Write};
 
-/// A text whose control characters (00 to 1F, 7F to 9F hex) are shown as `\x` and two digits, so that a path or a word
-/// can't move the cursor of a terminal or begin a line.
+/// A text whose control characters (00 to 1F, 7F to 9F hex) are shown as `\x` and two digits, so that a path or a word can't move
+/// the cursor of a terminal or begin a line.
 #[derive(Clone, Copy)]
 pub struct TerminalText<'a>(pub &'a str);
 

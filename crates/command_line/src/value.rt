@@ -1,4 +1,4 @@
-//! Judges the values of options.
+//! Checks and reads the values of options.
 ghost use Rattle.std.specs.Prelude.{◌≡◌, ◌≢◌, ◌≤◌, ◌<◌, ◌^◌, ◌⊎◌, ℕ, List, Ok, length, IfOk, IfErr};
 ghost use Rattle.std.specs.Fmt.{decimal};
 ghost use Rattle.hex.specs.Hex.{decode_of};
@@ -15,8 +15,8 @@ use otp_core::{Digits, LAST_MOMENT, LEAST_DIGITS, MOST_DIGITS, Moment, OtpHash, 
 use scram_text::{MOST_COUNT, NoncePart, PlainName, Salt};
 use std::alloc::Global;
 
-/// The number from `least` to `most` that `text` spells in decimal: `0`, or a digit 1 to 9 and any digits. Answers BadValue of the
-/// option for any other text.
+/// The number from `least` to `most` that `text` spells in decimal: `0`, or a digit 1 to 9 and any digits. Errors: BadValue with
+/// the option for any other text.
 pub fn within(option: OptionName, text: &str, least: u64, most: u64) -> Result<u64, Fault>
     ensures ok { IfOk result (λ n. (text.now ≡ decimal n) × (least ≤ n) × (n ≤ most)) }
     ensures err { IfErr result (λ fault. (fault ≡ Fault.BadValue option)
@@ -28,7 +28,7 @@ pub fn within(option: OptionName, text: &str, least: u64, most: u64) -> Result<u
     }
 }
 
-/// The iteration count that `text` spells in decimal, 1 to 4294967295. Answers BadValue for any other text.
+/// The iteration count that `text` spells in decimal, 1 to 4294967295. Errors: BadValue for any other text.
 pub fn count(text: &str) -> Result<u32, Fault>
     ensures ok { IfOk result (λ n. (text.now ≡ decimal n) × IsCount n) }
     ensures err { IfErr result (λ fault. (fault ≡ Fault.BadValue OptionName.Count)
@@ -38,7 +38,7 @@ pub fn count(text: &str) -> Result<u32, Fault>
     Ok(n as u32)
 }
 
-/// The number of digits of a code that `text` spells, 6 to 8. Answers BadValue for any other text.
+/// The number of digits of a code that `text` spells, 6 to 8. Errors: BadValue for any other text.
 pub fn digits(text: &str) -> Result<Digits, Fault>
     ensures ok { IfOk result (λ digits. text.now ≡ decimal digits) }
     ensures err { IfErr result (λ fault. (fault ≡ Fault.BadValue OptionName.Digits)
@@ -52,8 +52,7 @@ pub fn digits(text: &str) -> Result<Digits, Fault>
     Ok(digits)
 }
 
-/// The moment that `text` spells in seconds since 1970, at most 253402300799. Answers BadValue of the
-/// option for any other text.
+/// The moment that `text` spells in seconds since 1970, at most 253402300799. Errors: BadValue with the option for any other text.
 pub fn moment(option: OptionName, text: &str) -> Result<Moment, Fault>
     ensures ok { IfOk result (λ moment. text.now ≡ decimal moment) }
     ensures err { IfErr result (λ fault. (fault ≡ Fault.BadValue option)
@@ -66,7 +65,7 @@ pub fn moment(option: OptionName, text: &str) -> Result<Moment, Fault>
     Ok(moment)
 }
 
-/// The account name of this text, 1 to 255 bytes from space to tilde. Answers BadValue for any other text.
+/// The account name that is this text, 1 to 255 bytes of 20 to 7E hex. Errors: BadValue for any other text.
 pub fn name(text: &str) -> Result<PlainName, Fault>
     ensures ok { IfOk result (λ name. name ≡ text.now) }
     ensures err { IfErr result (λ fault. (fault ≡ Fault.BadValue OptionName.Name)
@@ -75,7 +74,7 @@ pub fn name(text: &str) -> Result<PlainName, Fault>
     plain_name(OptionName::Name, text)
 }
 
-/// The name to act as, as this text gives it: 1 to 255 bytes from space to tilde. Answers BadValue for any other text.
+/// The name to act as that is this text, 1 to 255 bytes of 20 to 7E hex. Errors: BadValue for any other text.
 pub fn authzid(text: &str) -> Result<PlainName, Fault>
     ensures ok { IfOk result (λ name. name ≡ text.now) }
     ensures err { IfErr result (λ fault. (fault ≡ Fault.BadValue OptionName.As)
@@ -84,7 +83,7 @@ pub fn authzid(text: &str) -> Result<PlainName, Fault>
     plain_name(OptionName::As, text)
 }
 
-// The name of this text, 1 to 255 bytes from space to tilde. Answers BadValue of the option for any other text.
+// The name that is this text, 1 to 255 bytes of 20 to 7E hex. Errors: BadValue with the option for any other text.
 fn plain_name(option: OptionName, text: &str) -> Result<PlainName, Fault>
     ensures ok { IfOk result (λ name. name ≡ text.now) }
     ensures err { IfErr result (λ fault. (fault ≡ Fault.BadValue option)
@@ -93,8 +92,8 @@ fn plain_name(option: OptionName, text: &str) -> Result<PlainName, Fault>
     PlainName::new(text.as_bytes()).ok_or(Fault::BadValue(option))
 }
 
-/// What one end adds to the nonce, as this text gives it: 1 to 256 bytes from `!` to tilde, without a comma. Answers BadValue of
-/// the option for any other text.
+/// One end's part of the nonce, which is this text: 1 to 256 bytes of 21 to 7E hex, without a comma. Errors: BadValue with the
+/// option for any other text.
 pub fn nonce(option: OptionName, text: &str) -> Result<NoncePart, Fault>
     ensures ok { IfOk result (λ nonce. nonce ≡ text.now) }
     ensures err { IfErr result (λ fault. (fault ≡ Fault.BadValue option)
@@ -103,7 +102,7 @@ pub fn nonce(option: OptionName, text: &str) -> Result<NoncePart, Fault>
     NoncePart::new(text.as_bytes()).ok_or(Fault::BadValue(option))
 }
 
-/// The SCRAM mechanism of this name: SCRAM-SHA-1 or SCRAM-SHA-256. Answers BadValue for any other text.
+/// The SCRAM mechanism with this name: SCRAM-SHA-1 or SCRAM-SHA-256. Errors: BadValue for any other text.
 pub fn mechanism(name: &str) -> Result<Mechanism, Fault>
     ensures ok { IfOk result (λ mechanism. name.now ≡ name_of mechanism) }
     ensures err { IfErr result (λ fault. (fault ≡ Fault.BadValue OptionName.Mechanism)
@@ -112,7 +111,7 @@ pub fn mechanism(name: &str) -> Result<Mechanism, Fault>
     Mechanism::of_name(name.as_bytes()).ok_or(Fault::BadValue(OptionName::Mechanism))
 }
 
-/// The hash function of this name: `sha1`, `sha256` or `sha512`. Answers BadValue for any other text.
+/// The hash function with this name: `sha1`, `sha256` or `sha512`. Errors: BadValue for any other text.
 pub fn hash(name: &str) -> Result<OtpHash, Fault>
     ensures ok { IfOk result (λ hash. name.now ≡ hash_name hash) }
     ensures err { IfErr result (λ fault. (fault ≡ Fault.BadValue OptionName.Hash)
@@ -121,8 +120,8 @@ pub fn hash(name: &str) -> Result<OtpHash, Fault>
     OtpHash::of_name(name).ok_or(Fault::BadValue(OptionName::Hash))
 }
 
-// The bytes that `text` spells in hexadecimal, in either case. Answers BadValue of the option for any
-// other text, NoMemory where memory runs out.
+// The bytes that `text` spells in hexadecimal, in either case. Errors: BadValue with the option for any other text; NoMemory if
+// memory runs out.
 fn bytes(alloc: Global, option: OptionName, text: &str) -> Result<Vec<u8>, Fault>
     ensures ok { IfOk result (λ bytes. decode_of text.now ≡ Ok bytes.items) }
     ensures err { IfErr result (λ fault. (fault ≡ Fault.NoMemory)
@@ -135,8 +134,8 @@ fn bytes(alloc: Global, option: OptionName, text: &str) -> Result<Vec<u8>, Fault
     }
 }
 
-/// The salt that `text` spells in hexadecimal, in either case, 1 to 64 bytes. Answers BadValue for
-/// any other text, NoMemory where memory runs out.
+/// The salt that `text` spells in hexadecimal, in either case, 1 to 64 bytes. Errors: BadValue for any other text; NoMemory if
+/// memory runs out.
 pub fn salt(alloc: Global, text: &str) -> Result<Salt, Fault>
     ensures ok { IfOk result (λ salt. decode_of text.now ≡ Ok salt) }
     ensures err { IfErr result (λ fault. (fault ≡ Fault.NoMemory) ⊎ ((fault ≡ Fault.BadValue OptionName.Salt)
@@ -146,8 +145,8 @@ pub fn salt(alloc: Global, text: &str) -> Result<Salt, Fault>
     Salt::new(bytes.as_slice()).ok_or(Fault::BadValue(OptionName::Salt))
 }
 
-/// The secret that `text` spells in hexadecimal, in either case, 10 to 64 bytes. Answers BadValue for
-/// any other text, NoMemory where memory runs out.
+/// The secret that `text` spells in hexadecimal, in either case, 10 to 64 bytes. Errors: BadValue for any other text; NoMemory if
+/// memory runs out.
 pub fn secret(alloc: Global, text: &str) -> Result<Secret, Fault>
     ensures ok { IfOk result (λ secret. decode_of text.now ≡ Ok secret) }
     ensures err { IfErr result (λ fault. (fault ≡ Fault.NoMemory) ⊎ ((fault ≡ Fault.BadValue OptionName.Secret)

@@ -1,3 +1,3 @@
--- Lemmas: what the proofs of this crate and of those above it cite.
+-- The lemmas that the proofs of this crate, and of the crates above it, cite.
 pub mod Adding
 pub mod Naming

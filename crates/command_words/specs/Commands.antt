@@ -41,7 +41,7 @@ word_of Upgrade = codes "upgrade"
 abbrev pub one_value : OptionName → Rule
 one_value name = record (new_rule (option_name name)) { long = Some (option_name name); value_names = 1; action = Some Set }
 
--- an option that has to be given
+-- an option that must be given
 abbrev pub required : OptionName → Rule
 required name = record (one_value name) { required = true }
 
@@ -94,7 +94,7 @@ audit_options = required Book ∷ required Log ∷ []
 abbrev pub upgrade_options : List Rule
 upgrade_options = required Log ∷ []
 
--- the program: one of its commands has to be named, and none of them is `help`
+-- the program: one of its commands must be named, and none of them is `help`
 abbrev pub program : App
 program = record {
   top = record (new_shape (codes "scramotp")) {
@@ -118,6 +118,6 @@ program = record {
 abbrev pub NamesCommand : (found : Option (Text × List Row)) → Type 0
 NamesCommand found = (name : CommandName) × (values : List Row) × (found ≡ Some (word_of name, values))
 
--- clap reads the words of a command of this name by these options, none of which is global
+-- clap reads the words of the command of this name according to these options, none of which is global
 abbrev pub HasOptions : (name : List ℕ) → List Rule → Command → Type 0
 HasOptions name options c = (app_of c ≡ record { top = command name options; subs = [] }) × ((fields_of c).has_globals ≡ false)

@@ -6,11 +6,11 @@ use Rattle.clap.specs.declared.parser.matches.ArgMatches.{ArgMatches}
 use Rattle.command_line.specs.Options.{option_name}
 use Rattle.command_line.specs.declared.option_name.OptionName.{OptionName}
 
--- the value of an option, where the words give one or it has a default
+-- the value of an option, if the words give one or it has a default
 abbrev pub value_of : ArgMatches → OptionName → Option (List ℕ)
 value_of words option = first_value (found_of words) (option_name option)
 
--- the value of an option that is required or has a default; the empty text where the words give none, which is no name, number,
--- hash function, mechanism, salt or secret
+-- the value of an option that is required or has a default; the empty text if the words give none, which is no name, number, hash
+-- function, mechanism, salt or secret
 abbrev pub given_value : ArgMatches → OptionName → List ℕ
 given_value words option = unwrap_or (value_of words option) []

@@ -28,7 +28,7 @@ fn one_value<'a>(alloc: Global, name: OptionName, value: &'a str, help: &'a str)
         .action(ArgAction::Set)
 }
 
-// An option that has to be given.
+// A required option.
 fn required<'a>(alloc: Global, name: OptionName, value: &'a str, help: &'a str) -> Arg<'a>
     ensures rule { rule_of result ≡ required name }
     ensures local { result.global ≡ false }
@@ -50,6 +50,7 @@ fn with_default<'a>(
     one_value(alloc, name, value, help).default_value(default)
 }
 
+// `--book`, which is required.
 fn book<'a>(alloc: Global) -> Arg<'a>
     ensures rule { rule_of result ≡ required OptionName.Book }
     ensures local { result.global ≡ false }
@@ -57,6 +58,7 @@ fn book<'a>(alloc: Global) -> Arg<'a>
     required(alloc, OptionName::Book, "FILE", "The account book")
 }
 
+// `--name`, which is required.
 fn name<'a>(alloc: Global) -> Arg<'a>
     ensures rule { rule_of result ≡ required OptionName.Name }
     ensures local { result.global ≡ false }
@@ -65,10 +67,11 @@ fn name<'a>(alloc: Global) -> Arg<'a>
         alloc,
         OptionName::Name,
         "NAME",
-        "The account's name, 1 to 255 bytes from space to tilde",
+        "The account's name, 1 to 255 printable ASCII characters",
     )
 }
 
+// `--random`, whose default is /dev/urandom.
 fn random<'a>(alloc: Global) -> Arg<'a>
     ensures rule { rule_of result ≡ with_default OptionName.Random (codes "/dev/urandom") }
     ensures local { result.global ≡ false }
@@ -77,16 +80,17 @@ fn random<'a>(alloc: Global) -> Arg<'a>
         alloc,
         OptionName::Random,
         "FILE",
-        "Where random bytes are read",
+        "The file to read random bytes from",
         "/dev/urandom",
     )
 }
 
+// The command `keys`. Errors: `AllocError` if memory runs out.
 fn keys<'a>(alloc: Global) -> Result<Command<'a>, AllocError>
     ensures { IfOk result (HasOptions (codes "keys") keys_options) }
 {
     Command::new(alloc, "keys")
-        .about("Prints the stored key and the server key of a password")
+        .about("Print the stored key and the server key of a password")
         .after_help(KEYS_NOTES)
         .arg(required(
             alloc,
@@ -108,12 +112,13 @@ fn keys<'a>(alloc: Global) -> Result<Command<'a>, AllocError>
         ))
 }
 
+// The command `enrol`. Errors: `AllocError` if memory runs out.
 fn enrol<'a>(alloc: Global) -> Result<Command<'a>, AllocError>
     ensures { IfOk result (HasOptions (codes "enrol") enrol_options) }
 {
     let count = "The iteration count, 1 to 4294967295";
     Command::new(alloc, "enrol")
-        .about("Adds an account with a password to a book")
+        .about("Add an account with a password to a book")
         .after_help(ENROL_NOTES)
         .arg(book(alloc))?
         .arg(name(alloc))?
@@ -121,15 +126,16 @@ fn enrol<'a>(alloc: Global) -> Result<Command<'a>, AllocError>
         .arg(random(alloc))
 }
 
+// The command `code`. Errors: `AllocError` if memory runs out.
 fn code<'a>(alloc: Global) -> Result<Command<'a>, AllocError>
     ensures { IfOk result (HasOptions (codes "code") code_options) }
 {
-    let digits = "The digits of the code, 6 to 8";
-    let hash = "TOTP's hash function: sha1, sha256 or sha512";
-    let t0 = "The moment at which TOTP's step 0 begins, 0 to 253402300799";
-    let step = "The length of a step in seconds, 1 to 3600";
+    let digits = "The number of digits, 6 to 8";
+    let hash = "TOTP: the hash function, sha1, sha256 or sha512";
+    let t0 = "TOTP: the time at which step 0 begins, 0 to 253402300799";
+    let step = "TOTP: the length of a step in seconds, 1 to 3600";
     Command::new(alloc, "code")
-        .about("Prints a one-time code")
+        .about("Print a one-time code")
         .after_help(CODE_NOTES)
         .arg(required(
             alloc,
@@ -142,24 +148,25 @@ fn code<'a>(alloc: Global) -> Result<Command<'a>, AllocError>
             alloc,
             OptionName::Counter,
             "N",
-            "HOTP's counter, 0 to 9223372036854775806",
+            "HOTP: the counter, 0 to 9223372036854775806",
         ))?
         .arg(one_value(
             alloc,
             OptionName::Moment,
             "SECONDS",
-            "TOTP's moment, in seconds since 1970, 0 to 253402300799",
+            "TOTP: the time, in seconds since 1970, 0 to 253402300799",
         ))?
         .arg(with_default(alloc, OptionName::Hash, "NAME", hash, "sha1"))?
         .arg(with_default(alloc, OptionName::T0, "SECONDS", t0, "0"))?
         .arg(with_default(alloc, OptionName::Step, "SECONDS", step, "30"))
 }
 
+// The command `verify`. Errors: `AllocError` if memory runs out.
 fn verify<'a>(alloc: Global) -> Result<Command<'a>, AllocError>
     ensures { IfOk result (HasOptions (codes "verify") verify_options) }
 {
     Command::new(alloc, "verify")
-        .about("Judges one-time codes by an account's token")
+        .about("Check one-time codes against an account's token")
         .after_help(VERIFY_NOTES)
         .arg(book(alloc))?
         .arg(name(alloc))?
@@ -167,63 +174,72 @@ fn verify<'a>(alloc: Global) -> Result<Command<'a>, AllocError>
             alloc,
             OptionName::Moment,
             "SECONDS",
-            "The moment of the codes, in seconds since 1970, 0 to 253402300799",
+            "The time of the codes, in seconds since 1970, 0 to 253402300799",
         ))
 }
 
+// The command `unlock`. Errors: `AllocError` if memory runs out.
 fn unlock<'a>(alloc: Global) -> Result<Command<'a>, AllocError>
     ensures { IfOk result (HasOptions (codes "unlock") unlock_options) }
 {
     Command::new(alloc, "unlock")
-        .about("Lets a locked token take codes again")
+        .about("Unlock an account's token")
         .after_help(UNLOCK_NOTES)
         .arg(book(alloc))?
         .arg(name(alloc))
 }
 
+// The command `audit`. Errors: `AllocError` if memory runs out.
 fn audit<'a>(alloc: Global) -> Result<Command<'a>, AllocError>
     ensures { IfOk result (HasOptions (codes "audit") audit_options) }
 {
     Command::new(alloc, "audit")
-        .about("Judges a recorded log by the book that it began with")
+        .about("Check a log against the book that it began with")
         .after_help(AUDIT_NOTES)
         .arg(book(alloc))?
-        .arg(required(alloc, OptionName::Log, "FILE", "The log"))
+        .arg(required(alloc, OptionName::Log, "FILE", "The log to check"))
 }
 
+// The command `upgrade`. Errors: `AllocError` if memory runs out.
 fn upgrade<'a>(alloc: Global) -> Result<Command<'a>, AllocError>
     ensures { IfOk result (HasOptions (codes "upgrade") upgrade_options) }
 {
     Command::new(alloc, "upgrade")
-        .about("Prints a log of version 1 as one of version 2, whose sessions are numbered")
+        .about("Convert a log from version 1 to version 2, which numbers its sessions")
         .after_help(UPGRADE_NOTES)
-        .arg(required(alloc, OptionName::Log, "FILE", "The log"))
+        .arg(required(alloc, OptionName::Log, "FILE", "The log to convert"))
 }
 
+// The command `login`. Errors: `AllocError` if memory runs out.
 fn login<'a>(alloc: Global) -> Result<Command<'a>, AllocError>
     ensures { IfOk result (HasOptions (codes "login") login_options) }
 {
-    let mechanism = "SCRAM-SHA-1 or SCRAM-SHA-256 [default: the best that is offered]";
-    let moment = "The moment of the codes, in seconds since 1970 [default: the clock's]";
+    let mechanism = "SCRAM-SHA-1 or SCRAM-SHA-256 [default: the best one offered]";
+    let moment = "The time of the codes, in seconds since 1970 [default: now]";
     Command::new(alloc, "login")
-        .about("Runs one login over a book, as server and as client, and prints the server's log")
+        .about("Run one login, as server and as client, and print the server's log")
         .after_help(LOGIN_NOTES)
         .arg(book(alloc))?
         .arg(name(alloc))?
         .arg(one_value(alloc, OptionName::Mechanism, "NAME", mechanism))?
-        .arg(one_value(alloc, OptionName::As, "NAME", "The name to act as"))?
+        .arg(one_value(
+            alloc,
+            OptionName::As,
+            "NAME",
+            "The name to act as (authorization identity)",
+        ))?
         .arg(required(
             alloc,
             OptionName::Socket,
             "FILE",
-            "The socket to make, a path of at most 107 bytes",
+            "The path of the socket to create, at most 107 bytes",
         ))?
         .arg(random(alloc))?
         .arg(one_value(
             alloc,
             OptionName::ClientNonce,
             "TEXT",
-            "The client's nonce, 1 to 256 bytes from ! to tilde without a comma",
+            "The client's nonce, 1 to 256 bytes from ! to ~, except commas",
         ))?
         .arg(one_value(
             alloc,
@@ -234,16 +250,17 @@ fn login<'a>(alloc: Global) -> Result<Command<'a>, AllocError>
         .arg(one_value(alloc, OptionName::Moment, "SECONDS", moment))
 }
 
+// The command `hall`. Errors: `AllocError` if memory runs out.
 fn hall<'a>(alloc: Global) -> Result<Command<'a>, AllocError>
     ensures { IfOk result (HasOptions (codes "hall") hall_options) }
 {
     Command::new(alloc, "hall")
-        .about("Judges up to 64 logins at a time over a book, by events, and prints the log of all")
+        .about("Check up to 64 logins at a time, given as events, and print their log")
         .after_help(HALL_NOTES)
         .arg(book(alloc))
 }
 
-/// The program's commands and their options.
+/// The program's commands and their options, with their help. Errors: `AllocError` if memory runs out.
 pub fn program_commands<'a>(alloc: Global) -> Result<Command<'a>, AllocError>
     ensures { IfOk result (λ command. app_of command ≡ program) }
 {
@@ -251,7 +268,7 @@ pub fn program_commands<'a>(alloc: Global) -> Result<Command<'a>, AllocError>
         .bin_name("scramotp")?
         .version("0.1.0")
         .about(
-            "Judges SCRAM logins and one-time codes by a book of accounts, and audits logs of them",
+            "Check SCRAM logins and one-time codes against a book of accounts, and audit their logs",
         )
         .after_help(STATUSES)
         .subcommand_required(true)

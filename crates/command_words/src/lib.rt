@@ -1,5 +1,5 @@
-//! The words of the program's command line: its commands, with their options and their help, as `clap` reads them; the
-//! values that the words of a command give for its options; and what is said of words that are not understood.
+//! The words of the program's command line: its commands, with their options and their help, as `clap` reads them; the values that
+//! the words give for options; and the error text for words that are not understood.
 #![tactic(auto)]
 
 mod commands;

@@ -1,11 +1,11 @@
-//! The fault of words that the program does not understand.
+//! The error text for words that the program does not understand.
 use crate::commands::program_commands;
 use command_line::TerminalText;
 use std::alloc::{AllocError, Global};
 use std::convert::AsStr;
 
-/// What `clap` says of words that it refuses, which quotes them: so it is given the words as they are shown. An `AllocError`
-/// where memory runs out.
+/// The error text of `clap` for words that it refuses. The text quotes them, so `clap` gets them with their control characters
+/// escaped. Errors: `AllocError` if memory runs out.
 pub fn usage_text<S: AsStr>(alloc: Global, words: &[S]) -> Result<String, AllocError> {
     let shown = shown_words(alloc, words)?;
     match program_commands(alloc)?.try_get_matches_from(shown.as_slice()) {
@@ -14,6 +14,7 @@ pub fn usage_text<S: AsStr>(alloc: Global, words: &[S]) -> Result<String, AllocE
     }
 }
 
+// The words with their control characters escaped. Errors: `AllocError` if memory runs out.
 fn shown_words<S: AsStr>(alloc: Global, words: &[S]) -> Result<Vec<String>, AllocError> {
     let mut shown = Vec::new(alloc);
     for word in words {

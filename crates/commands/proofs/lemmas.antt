@@ -1,6 +1,7 @@
--- Lemmas: what the proofs of this crate cite.
+-- The lemmas that the proofs of this crate cite.
 pub mod Cases
 pub mod ClientLines
+pub mod DeskLogs
 pub mod EventWords
 pub mod Faults
 pub mod HallLogs

@@ -20,7 +20,7 @@ use Rattle.commands.specs.declared.login.client_end.Next.TheVariants.{Says, Logg
 use Rattle.commands.specs.declared.login.client_end.Stage.{Stage}
 use Rattle.commands.specs.declared.login.client_end.Stage.TheVariants.{Silent, Begun, Proved, Over}
 
--- a fact of what the client says, where it says anything
+-- the fact is true of what the client says, if it says anything
 abbrev pub IfSays : Next → (List ℕ → Type 0) → Type 0
 IfSays (Says line) fact = fact line.items
 IfSays LoggedIn fact = Unit {0}
@@ -40,14 +40,14 @@ abbrev pub WaitsForSignature : Stage → Answered → Type 0
 WaitsForSignature (Proved client) l = IsExpecting client l
 WaitsForSignature stage l = ⊥
 
--- the mechanism that is taken: the one that the user asks for, whether or not the server offers it; else the best of those whose
+-- the mechanism that is used: the one that the user asks for, whether or not the server offers it; else the best of those whose
 -- names it offers (RFC 5802, section 4; RFC 7677 prefers SCRAM-SHA-256)
 abbrev pub IsChosen : (asked : Option Mechanism) → (names : List ℕ) → Mechanism → Type 0
 IsChosen (Some asked) names mechanism = mechanism ≡ asked
 IsChosen None names mechanism = IsOffered mechanism names × (IsOffered ScramSha256 names → mechanism ≡ ScramSha256)
 
--- the client of this user begins a login with this nonce, where it is offered these mechanisms: it says one of them and the first
--- message of the login
+-- the client of this user begins a login with this nonce, when it is offered these mechanisms: it says the one that is chosen and
+-- the first message of the login
 pub record BeginsLogin (user : User) (nonce names said : List ℕ) (stage : Stage) : Type 0 where
   pub login : Started
   pub is_mechanism : IsChosen user.mechanism names login.mechanism
@@ -58,7 +58,7 @@ pub record BeginsLogin (user : User) (nonce names said : List ℕ) (stage : Stag
   pub waits : WaitsForChallenge stage login
   pub line : said ≡ said_line (auth_with (name_of login.mechanism) login.client_first)
 
--- the client answers the challenge of a login, which has nothing wrong, by this password: it says the last message of the login
+-- the client answers the challenge of a login, which has no fault, with this password: it says the last message of the login
 pub record AnswersChallenge (login : Started) (password server_first said : List ℕ) (stage : Stage) : Type 0 where
   pub challenge : ServerFirstParts
   pub answerable : IsAnswerable login.limits login.nonce server_first challenge
@@ -66,8 +66,8 @@ pub record AnswersChallenge (login : Started) (password server_first said : List
   pub waits : WaitsForSignature stage (answered_login login password server_first client_final)
   pub line : said ≡ said_line (resp client_final)
 
--- what a client may say when it is told a line, at the stage where it is: it begins a login by one of the mechanisms that
--- it is told, and in the login that it has begun it answers the challenge that it is told. It says nothing else.
+-- what a client may say when it receives a line. When it receives the mechanisms, it begins a login with the one that is chosen.
+-- When it receives the challenge of a login that it has begun, it answers that. It says nothing else.
 abbrev pub MaySay : ClientEnd → Stage → (told said : List ℕ) → Stage → Type 0
 MaySay client Silent told said new =
     (names : List ℕ) × IsLine told (from_server (mechs names)) × BeginsLogin client.user client.nonce names said new
@@ -84,35 +84,37 @@ ShowsKeys (Proved client) line = (message : List ℕ) × IsLine line (from_serve
     × ((l : Answered) (x : IsExpecting client l) → IsAuthentic message x.signature)
 ShowsKeys stage line = ⊥
 
--- there is a login for which the client stands, where it waits for the challenge or for the signature
+-- if the client waits for the challenge or for the signature, it stands for some login
 abbrev pub HasItsLogin : Stage → Type 0
 HasItsLogin Silent = Unit {0}
 HasItsLogin (Begun client) = (login : Started) × IsStarted client login
 HasItsLogin (Proved client) = (login : Answered) × IsExpecting client login
 HasItsLogin Over = Unit {0}
 
--- a client has to leave at a line: where it has its login, there is nothing that it may say, and the line does not show the account's
--- keys
+-- a client must leave at a line: if it has its login, there is nothing that it may say, and the line does not show that the server
+-- has the account's keys
 abbrev pub HasToLeave : ClientEnd → (told : List ℕ) → Type 0
 HasToLeave client told = HasItsLogin client.stage
     → ((said : List ℕ) (new : Stage) → MaySay client client.stage told said new → ⊥) × (ShowsKeys client.stage told → ⊥)
 
--- the login is one of this user, by this nonce and this password
+-- the login is one of this user, with this nonce and this password
 pub record IsOfUser (user : User) (nonce password : List ℕ) (login : Answered) : Type 0 where
   pub is_name : login.name ≡ user.name
   pub is_authzid : login.authzid ≡ user.authzid
   pub is_nonce : login.nonce ≡ nonce
   pub is_password : login.password ≡ password
 
--- the server has shown that it has the account's keys: of what the client is told, which the log has, the last line accepts a
--- login of this user, and bears the signature that the keys of the password make over the login's messages (RFC 5802, section 3)
+-- the server has shown that it has the account's keys (RFC 5802, section 3)
 pub record IsLoggedIn (user : User) (nonce password : List ℕ) (old new : Talked) : Type 0 where
+  -- the login is one of this user, and its messages are those of an honest client
   pub login : Answered
   pub is_of_user : IsOfUser user nonce password login
   pub honest : IsHonest login
+  -- the last line that the client receives is in the log, and accepts the login
   pub before : List ℕ
   pub line : List ℕ
   pub message : List ℕ
   pub told : IsTold old new (before ++ (line ++ byte "\n" ∷ []))
   pub is_acceptance : IsLine line (from_server (accepts message))
+  -- this line has the signature that the keys of the password make over the login's messages
   pub authentic : IsAuthentic message (honest_signature login honest)

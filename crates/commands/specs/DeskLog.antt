@@ -17,21 +17,20 @@ use Rattle.sasl_desk.specs.Saved.{IsLogSaved}
 use Rattle.sasl_desk.specs.declared.desk.Desk.{Desk}
 use Rattle.commands.specs.PrintedLog.{IsLogFault}
 
--- a moment is the one that was given, where one was
+-- a moment is the one that was given, if one was
 abbrev pub IsGiven : (given : Option ℕ) → (moment : ℕ) → Type 0
 IsGiven given moment = IfSome given (λ m. moment ≡ m)
 
--- where a desk is asked to begin a session, this is the server's part of the nonce; where it hears its client, `IsNow` holds of the
--- moment
+-- if a desk is asked to begin a session, this is the server's part of the nonce; if it hears its client, `IsNow` is true of the moment
 abbrev pub IsRequestWith : (server_nonce : List ℕ) → (IsNow : ℕ → Type 0) → Request → Type 0
 IsRequestWith server_nonce IsNow (greets part) = part ≡ server_nonce
 IsRequestWith server_nonce IsNow (hears event moment) = IsNow moment
 
--- the log of a desk: `facts` are those of its store, `IsStored` holds of each text that is stored, and `IsNow` of each moment of its
--- clock
+-- the log of a desk: `facts` are those of its store, `IsStored` is true of each text that is stored, and `IsNow` of each moment of
+-- its clock
 module _ {S : Type 0} (facts : S → StoreFacts) (IsStored : List ℕ → Type 0) (IsNow : ℕ → Type 0) where
-  -- a desk that began with this book has answered some calls: it began each session with this part of the nonce, and heard its client at
-  -- moments of which `IsNow` holds. The log took the lines of the calls after what it had before
+  -- a desk that began with this book has answered some calls: it began each session with this part of the nonce, and heard its
+  -- client at moments of which `IsNow` is true. The log took the lines of the calls after what it had before.
   pub record IsDeskLog (start : BookFields) (before : Option (List ℕ)) (server_nonce : List ℕ) (desk : Desk S) (log : SinkFacts)
       : Type 0 where
     pub calls : List Call
@@ -39,17 +38,17 @@ module _ {S : Type 0} (facts : S → StoreFacts) (IsStored : List ℕ → Type 0
     pub requests : AllByRecursion (λ c. IsRequestWith server_nonce IsNow c.request) calls
     pub logged : Appends before log.given (log_bytes (run_lines calls))
 
-  -- where the log was that of the desk, with this part of the nonce, it is so still
+  -- if the log was that of the desk, with this part of the nonce, it still is
   abbrev pub StaysItsLogWith : (server_nonce : List ℕ) → (old : Desk S) → (log : SinkFacts) → (new : Desk S) → (log' : SinkFacts) → Type 0
   StaysItsLogWith server_nonce old log new log' =
       (start : BookFields) (before : Option (List ℕ)) → IsDeskLog start before server_nonce old log
       → IsDeskLog start before server_nonce new log'
 
-  -- where the log was that of the desk, with whichever part of the nonce, it is so still
+  -- if the log was that of the desk, with any part of the nonce, it still is
   abbrev pub StaysItsLog : (old : Desk S) → (log : SinkFacts) → (new : Desk S) → (log' : SinkFacts) → Type 0
   StaysItsLog old log new log' = (server_nonce : List ℕ) → StaysItsLogWith server_nonce old log new log'
 
-  -- what holds of the log after a fault: the fault is that it has failed, or it is still the desk's
+  -- what is true of the log after a fault: the fault is that it has failed, or it is still the desk's
   abbrev pub IsLogAfterFault : (old : Desk S) → (log : SinkFacts) → (new : Desk S) → (log' : SinkFacts) → Fault → Type 0
   IsLogAfterFault old log new log' fault = IsLogFault log' fault ⊎ StaysItsLog old log new log'
 
@@ -58,8 +57,8 @@ module _ {S : Type 0} (facts : S → StoreFacts) (IsStored : List ℕ → Type 0
       → Fault → Type 0
   IsLogAfterFaultWith server_nonce old log new log' fault = IsLogFault log' fault ⊎ StaysItsLogWith server_nonce old log new log'
 
--- the log is that of a desk over these accounts, which began each session with this server's part of the nonce, and heard its client at
--- moments of which `IsNow` holds: so by `IsRun` each challenge has that part, and each reply bears such a moment
+-- the log is that of a desk over these accounts, which began each session with this server's part of the nonce, and heard its
+-- client at moments of which `IsNow` is true. So by `IsRun` each challenge has that part, and each reply has such a moment.
 pub record IsRunLog (accounts : Accounts) (server_nonce : List ℕ) (IsNow : ℕ → Type 0) (log : List ℕ) : Type 0 where
   pub calls : List Call
   pub place : Place
@@ -68,8 +67,8 @@ pub record IsRunLog (accounts : Accounts) (server_nonce : List ℕ) (IsNow : ℕ
   pub is_log : log ≡ log_bytes (run_lines calls)
 
 -- what was there before is followed by a log of this kind, for example a clean one, judged by the accounts of a book. It is the log
--- of a desk with this part of the nonce and moments of which `IsNow` holds; and the store has saved the text of the book to which the
--- replies in it lead
+-- of a desk with this part of the nonce and moments of which `IsNow` is true; and the store has saved the text of the book to which
+-- the replies in it lead.
 abbrev pub HasSavedLog : (IsStored : List ℕ → Type 0) → (IsNow : ℕ → Type 0) → (IsOfKind : Accounts → List ℕ → Type 0) → BookFields
     → (server_nonce : List ℕ) → (before after : Option (List ℕ)) → Type 0
 HasSavedLog IsStored IsNow IsOfKind book server_nonce before after =

@@ -11,7 +11,7 @@ use Rattle.book_format.specs.Book.{BookFields}
 use Rattle.account_book.specs.Store.{StoreFacts}
 use Rattle.book_file.specs.Text.{IsWritten}
 use Rattle.clap.specs.declared.parser.matches.ArgMatches.{ArgMatches}
-use Rattle.command_line.specs.Fault.{IsFileUnwritten}
+use Rattle.command_line.specs.Fault.{IsFileUnwrittenOrNoMemory}
 use Rattle.command_line.specs.declared.fault.Fault.{Fault}
 use Rattle.command_line.specs.declared.fault.Fault.TheVariants.{BadEvent, CannotWriteOutput}
 use Rattle.command_line.specs.declared.option_name.OptionName.TheVariants as option
@@ -29,27 +29,27 @@ use Rattle.sasl_desk.specs.Runs.{greets, hears, Call}
 use Rattle.sasl_desk.specs.Saved.{AreLinesSaved}
 use Rattle.sasl_desk.specs.declared.hall.Hall.{Hall}
 use Rattle.command_io.specs.HeldBook.{IsReadBook, CannotOpenBook}
-use Rattle.command_io.specs.Input.{AreLinesOf, IsInputUnread}
+use Rattle.command_io.specs.Input.{AreLinesOf, IsInputUnreadOrNoMemory}
 use Rattle.commands.specs.PrintedLog.{IsLogFault}
 
--- what happens to a hall: a client comes, and this is the server's part of its nonce; or the client of the session of this number
+-- an event of a hall: a client arrives, and this is the server's part of its nonce; or the client of the session of this number
 -- does this at this moment
 pub data InputEvent : Type 0 where
   opens : (server_nonce : List ℕ) → InputEvent
   does_at : (session : ℕ) (event : ClientEvent) (moment : ℕ) → InputEvent
 
--- the input line for it
+-- the input line for an event
 abbrev pub event_text : InputEvent → List ℕ
 event_text (opens server_nonce) = codes "open " ++ server_nonce
 event_text (does_at session (sends text) moment) = codes "line " ++ (decimal session ++ (byte " " ∷ (decimal moment ++ (byte " " ∷ text))))
 event_text (does_at session goes_away moment) = codes "gone " ++ (decimal session ++ (byte " " ∷ decimal moment))
 
--- its nonce, its number and its moment are in their ranges
+-- the nonce, the number and the moment of an event are in their ranges
 abbrev pub IsEventInRange : InputEvent → Type 0
 IsEventInRange (opens server_nonce) = IsNoncePart server_nonce
 IsEventInRange (does_at session event moment) = IsSessionNumber session × IsMoment moment
 
--- an input line says this
+-- an input line says this event
 pub record SaysEvent (line : List ℕ) (event : InputEvent) : Type 0 where
   pub spelled : line ≡ event_text event
   pub ranges : IsEventInRange event
@@ -59,7 +59,7 @@ abbrev pub IsOfClosedSession : {S : Type 0} → HallFields S → InputEvent → 
 IsOfClosedSession hall (opens server_nonce) = ⊥
 IsOfClosedSession hall (does_at session event moment) = phase_in hall session ≡ None
 
--- by these calls of a hall the event is that of a session that is not open: the session stands where none has begun, or where it is over
+-- after these calls of a hall the event is that of a session that is not open: it has not begun, or it is over
 abbrev pub IsOfClosedSessionAfter : Accounts → List (Numbered Call) → InputEvent → Type 0
 IsOfClosedSessionAfter accounts calls (opens server_nonce) = ⊥
 IsOfClosedSessionAfter accounts calls (does_at session event moment) = IsSessionRun accounts (of_number session calls) between
@@ -72,23 +72,23 @@ SaysNoEvent line = (event : InputEvent) → SaysEvent line event → ⊥
 abbrev pub IsBadEvent : {S : Type 0} → List ℕ → HallFields S → Type 0
 IsBadEvent line hall = SaysNoEvent line ⊎ ((event : InputEvent) × SaysEvent line event × IsOfClosedSession hall event)
 
--- the call of a hall by which it hears an event: a greeting, or one of the session of its number
+-- the call with which a hall hears an event: a greeting, or one of the session of its number
 abbrev pub IsCallFor : InputEvent → Numbered Call → Type 0
 IsCallFor (opens server_nonce) c = c.value.request ≡ greets server_nonce
 IsCallFor (does_at session event moment) c = (c.number ≡ session) × (c.value.request ≡ hears event moment)
 
--- calls by which a hall heard these events, the latest of which comes first
+-- calls with which a hall heard these events, the latest of which comes first
 abbrev pub AreCallsFor : List InputEvent → List (Numbered Call) → Type 0
 AreCallsFor events calls = AllZip IsCallFor events calls
 
--- the events that the lines of an input say, in their order; `last` are its last lines, which are left out
+-- the events that the lines of an input say, in order; `last` are its last lines, which are left out
 pub record SaysEvents (input : Option (List ℕ)) (last : List (List ℕ)) : Type 0 where
   pub lines : List (List ℕ)
   pub events : List InputEvent
   pub are : IfSome input (λ bytes. AreLinesOf bytes (lines ++ last))
   pub said : AllZip SaysEvent lines events
 
--- what a hall hears: `facts` are those of its store, and `IsStored` holds of each text that is stored
+-- what a hall hears: `facts` are those of its store, and `IsStored` is true of each text that is stored
 module _ {S : Type 0} (facts : S → StoreFacts) (IsStored : List ℕ → Type 0) where
   -- a hall that began with this book has heard these events, the latest of which comes first, and the log took its lines after
   -- what it had before
@@ -99,7 +99,7 @@ module _ {S : Type 0} (facts : S → StoreFacts) (IsStored : List ℕ → Type 0
     pub stands : IsHallAfter facts IsStored start calls (hall_shown hall)
     pub logged : Appends before log.given (hall_bytes calls)
 
-  -- the hall has heard these events more: where the log was the hall's, it is still
+  -- the hall has heard these events as well: if the log was the hall's, it still is
   abbrev pub Hears : List InputEvent → (old : Hall S) → (log : SinkFacts) → (new : Hall S) → (log' : SinkFacts) → Type 0
   Hears events old log new log' =
       (start : BookFields) (before : Option (List ℕ)) (earlier : List InputEvent)
@@ -109,17 +109,17 @@ module _ {S : Type 0} (facts : S → StoreFacts) (IsStored : List ℕ → Type 0
   abbrev pub HearsLine : (line : List ℕ) → (old : Hall S) → (log : SinkFacts) → (new : Hall S) → (log' : SinkFacts) → Type 0
   HearsLine line old log new log' = (event : InputEvent) × SaysEvent line event × Hears (event ∷ []) old log new log'
 
-  -- the hall has heard what the lines of an input say, in their order; `last` are its last lines, which are left out
+  -- the hall has heard what the lines of an input say, in order; `last` are its last lines, which are left out
   pub record HearsUpTo (input : Option (List ℕ)) (last : List (List ℕ)) (old : Hall S) (log : SinkFacts) (new : Hall S)
       (log' : SinkFacts) : Type 0 where
     pub says : SaysEvents input last
     pub heard : Hears (reverse says.events) old log new log'
 
-  -- the hall has heard what each line of the input says, in their order
+  -- the hall has heard what each line of the input says, in order
   abbrev pub HearsAllLines : Option (List ℕ) → (old : Hall S) → (log : SinkFacts) → (new : Hall S) → (log' : SinkFacts) → Type 0
   HearsAllLines input old log new log' = HearsUpTo input [] old log new log'
 
-  -- a fault came: it is that the log has failed, or the hall has heard what the first lines of the input say, and its log has that
+  -- after a fault: the fault is that the log has failed, or the hall has heard what the first lines of the input say, and its log has that
   abbrev pub HearsFirstLines : Option (List ℕ) → (old : Hall S) → (log : SinkFacts) → (new : Hall S) → (log' : SinkFacts) → Fault → Type 0
   HearsFirstLines input old log new log' fault =
       IsLogFault log' fault ⊎ ((last : List (List ℕ)) × HearsUpTo input last old log new log')
@@ -129,15 +129,17 @@ module _ {S : Type 0} (facts : S → StoreFacts) (IsStored : List ℕ → Type 0
   MeetsBadEvent input old log new log' =
       (line : List ℕ) × (last : List (List ℕ)) × HearsUpTo input (line ∷ last) old log new log' × IsBadEvent line (hall_shown new)
 
--- a hall that began with this book heard what the lines of an input say, in their order; `last` are its last lines, which are left
--- out. What it logged is printed, and is a front; and the store has saved the text of the book to which the replies in it lead.
+-- a hall that began with this book heard the lines of an input; `last` are its last lines, which are left out
 pub record PrintsHallLog (IsStored : List ℕ → Type 0) (book : BookFields) (input : Option (List ℕ)) (last : List (List ℕ))
     (old new : Option (List ℕ)) : Type 0 where
+  -- the hall heard what the lines say, in order
   pub says : SaysEvents input last
   pub calls : List (Numbered Call)
   pub heard : AreCallsFor (reverse says.events) calls
+  -- what it logged is a front, and is printed
   pub is_front : IsFront (accounts_in book) (hall_bytes calls)
   pub printed : Appends old new (hall_bytes calls)
+  -- the store has saved the text of the book to which the replies in the log lead
   pub saved : AreLinesSaved IsStored book (hall_lines calls)
 
 -- after these calls of a hall the line says no event, or one of a session that is not open
@@ -151,7 +153,7 @@ PrintsToBadEvent IsStored book input old new =
     (line : List ℕ) × (last : List (List ℕ)) × (log : PrintsHallLog IsStored book input (line ∷ last) old new)
     × IsBadEventAfter (accounts_in book) log.calls line
 
--- `PrintsHallLog`, with a book that was read from a file, and saved in being written to one
+-- `PrintsHallLog`, with a book that was read from a file, and saved by being written to one
 pub record RunsHall {File : Type 0} (bytes_of written_to : File → Option (List ℕ)) (input : Option (List ℕ)) (last : List (List ℕ))
     (old new : Option (List ℕ)) : Type 0 where
   pub text : List ℕ
@@ -167,7 +169,8 @@ RunsToBadEvent bytes_of written_to input old new =
 -- the fault at which a hall stops hearing: a line of its input can't be read, says no event, or one of a session that is not open; the
 -- book, whose file has this path, can't be saved; the output can't be written; or memory ran out
 abbrev pub StopsHearing : (path : List ℕ) → Fault → Type 0
-StopsHearing path fault = IsInputUnread fault ⊎ ((fault ≡ BadEvent) ⊎ (IsFileUnwritten path fault ⊎ (fault ≡ CannotWriteOutput)))
+StopsHearing path fault = IsInputUnreadOrNoMemory fault ⊎ ((fault ≡ BadEvent) ⊎ (IsFileUnwrittenOrNoMemory path fault
+    ⊎ (fault ≡ CannotWriteOutput)))
 
 -- the fault that ends `hall`: the book can't be held or read, or the hall stops hearing
 abbrev pub CannotRunHall : {File : Type 0} → (bytes_of : File → Option (List ℕ)) → ArgMatches → Fault → Type 0

@@ -26,13 +26,13 @@ pub record LogsInAndPasses (user : User) (nonce password : List ℕ) (input : Op
   pub is_in : IsLoggedIn user nonce password old middle
   pub passes : LinesInTurn SendsLine input [] middle true new
 
--- the client is logged in, each line passes, and then the server says nothing more
+-- the client is logged in, each line passes, and then the server sends nothing more
 pub record TalkPasses (user : User) (nonce password : List ℕ) (input : Option (List ℕ)) (old new : Talked) : Type 0 where
   pub last : Talked
   pub passes : LogsInAndPasses user nonce password input old last
   pub ends : LogSays last.logged new.logged []
 
--- a log is printed that begins with some lines, and goes on with a talk in which this user is let in, by this nonce and this
+-- a log is printed that begins with some lines, and continues with a talk in which this user is let in, with this nonce and this
 -- password, and in which each line of the input is sent and passes
 pub record PrintsPasses (user : User) (nonce password : List ℕ) (input old new : Option (List ℕ)) : Type 0 where
   pub begun : List LogLine
@@ -42,38 +42,42 @@ pub record PrintsPasses (user : User) (nonce password : List ℕ) (input old new
   pub passes : TalkPasses user nonce password input first last
   pub printed : last.logged ≡ new
 
--- the user whom the words describe: the name, and, where they give one, the name to act as and the mechanism
+-- the user whom the words describe: the name, and, if they give them, the name to act as and the mechanism
 pub record IsUserAsked (words : ArgMatches) (user : User) : Type 0 where
   pub is_name : user.name ≡ given_value words option.Name
   pub is_authzid : user.authzid ≡ value_of words option.As
   pub is_mechanism : option_map name_of user.mechanism ≡ value_of words option.Mechanism
 
--- `PrintsPasses` holds of the user whom the words describe, by the nonce that they give, or a fresh one where they give none, and by
--- the password that is the first line of the input
+-- `PrintsPasses` is true of what the words and the input ask for
 pub record PrintsPassesAsked {File : Type 0} (bytes_of : File → Option (List ℕ)) (words : ArgMatches) (input old new : Option (List ℕ))
     : Type 0 where
+  -- the user is the one whom the words describe
   pub user : User
   pub is_user : IsUserAsked words user
+  -- the nonce is the one that the words give, or a fresh one if they give none
   pub nonce : List ℕ
   pub server_nonce : List ℕ
   pub are_nonces : AreNonces bytes_of words nonce server_nonce
+  -- the password is the first line of the input
   pub password : List ℕ
   pub has_lf : Bool
   pub rest : Option (List ℕ)
   pub is_first_line : TakesLine input password has_lf rest
   pub passes : PrintsPasses user nonce password rest old new
 
--- a log of this kind, for example a clean one, is printed. It is judged by a book that was read from a file. The desk's part of the nonce
--- is the one that the words give, or a fresh one; each moment is the one that they give, where they give one. The text of the book after
--- what the log tells was written to a file
+-- a log of this kind, for example a clean one, is printed
 pub record PrintsLogin {File : Type 0} (bytes_of written_to : File → Option (List ℕ)) (words : ArgMatches)
     (IsOfKind : Accounts → List ℕ → Type 0) (old new : Option (List ℕ)) : Type 0 where
+  -- it is judged by a book that was read from a file
   pub text : List ℕ
   pub book : BookFields
   pub is_read : IsReadBook bytes_of text book
+  -- the desk's part of the nonce is the one that the words give, or a fresh one
   pub nonce : List ℕ
   pub server_nonce : List ℕ
   pub are_nonces : AreNonces bytes_of words nonce server_nonce
+  -- each moment is the one that the words give, if they give one
   pub moment : Option ℕ
   pub is_moment : option_map decimal moment ≡ value_of words option.Moment
+  -- the text of the book to which the replies in the log lead was written to a file
   pub printed : HasSavedLog (IsWritten written_to) (IsGiven moment) IsOfKind book server_nonce old new

@@ -3,7 +3,7 @@ use Rattle.std.specs.Prelude.{ℕ, ◌≡◌, ◌≤◌, length, ◌⊎◌, true
 use Rattle.std.specs.Io.KnownBytes.{Consumes, IsAtEnd}
 use Rattle.std.specs.declared.option.Option.{Option}
 use Rattle.clap.specs.declared.parser.matches.ArgMatches.{ArgMatches}
-use Rattle.command_line.specs.Fault.{IsFileUnwritten}
+use Rattle.command_line.specs.Fault.{IsFileUnwrittenOrNoMemory}
 use Rattle.command_line.specs.declared.option_name.OptionName.TheVariants as option
 use Rattle.command_line.specs.declared.fault.Fault.{Fault}
 use Rattle.command_line.specs.declared.fault.Fault.TheVariants.{Socket, CannotWriteOutput, NoMemory}
@@ -13,23 +13,23 @@ use Rattle.sasl_log.specs.Source.{SourceFacts}
 use Rattle.sasl_desk.specs.declared.fault.ServeFault.{ServeFault}
 use Rattle.sasl_desk.specs.declared.fault.ServeFault.TheVariants as serve
 use Rattle.command_io.specs.BadValues.{GivesBadValue, HasBadPassword, HasBadValue}
-use Rattle.command_io.specs.File.{IsFileUnread}
+use Rattle.command_io.specs.File.{IsFileUnreadOrNoMemory}
 use Rattle.command_io.specs.HeldBook.{CannotOpenBook}
-use Rattle.command_io.specs.Input.{IsInputUnread}
+use Rattle.command_io.specs.Input.{IsInputUnreadOrNoMemory}
 use Rattle.command_words.specs.Values.{given_value}
 use Rattle.commands.specs.PrintedLog.{IsUnsavedOrUnlogged}
 
--- a source gives no line of at most so many bytes with its LF: it has failed, or it has ended, or these bytes have no LF
+-- a source gives no line of at most `most` bytes with its LF: it has failed, or it has ended, or these bytes have no LF
 pub record GivesNoLine (most : ℕ) (old new : SourceFacts) : Type 0 where
   pub begun : List ℕ
   pub taken : Consumes old.left new.left begun
   pub lacks : LacksLf begun
   pub why : (new.failed ≡ true) ⊎ (IsAtEnd new.left ⊎ (most ≤ length begun))
 
--- why a client is not served, as the command says it: the book, whose file has this path, can't be saved, the log has failed, or
+-- why a client is not served, as the command reports it: the book, whose file has this path, can't be saved, the log has failed, or
 -- memory ran out. `WriteFault` is that memory ran out: what the desk says is first kept in memory.
 abbrev pub IsFaultOfServing : (path : List ℕ) → ServeFault → Fault → Type 0
-IsFaultOfServing path serve.Halted fault = IsFileUnwritten path fault
+IsFaultOfServing path serve.Halted fault = IsFileUnwrittenOrNoMemory path fault
 IsFaultOfServing path serve.Unwritable fault = ⊥
 IsFaultOfServing path serve.NoMemory fault = fault ≡ NoMemory
 IsFaultOfServing path serve.WriteFault fault = fault ≡ NoMemory
@@ -54,13 +54,14 @@ abbrev pub CannotPrepare : {File : Type 0} → (bytes_of : File → Option (List
 CannotPrepare bytes_of words input fault =
     HasBadLoginValue words fault
     ⊎ (HasBadPassword input fault
-    ⊎ (IsInputUnread fault
-    ⊎ (CannotOpenBook bytes_of (given_value words option.Book) fault ⊎ IsFileUnread (given_value words option.Random) fault)))
+    ⊎ (IsInputUnreadOrNoMemory fault
+    ⊎ (CannotOpenBook bytes_of (given_value words option.Book) fault ⊎ IsFileUnreadOrNoMemory (given_value words option.Random) fault)))
 
 -- the fault that ends a talk: a line of the input can't be read, the socket fails, the book, whose file has this path, can't be saved, the
 -- output can't be written, or memory ran out
 abbrev pub StopsTalking : (path : List ℕ) → Fault → Type 0
-StopsTalking path fault = IsInputUnread fault ⊎ ((fault ≡ Socket) ⊎ (IsFileUnwritten path fault ⊎ (fault ≡ CannotWriteOutput)))
+StopsTalking path fault = IsInputUnreadOrNoMemory fault ⊎ ((fault ≡ Socket) ⊎ (IsFileUnwrittenOrNoMemory path fault
+    ⊎ (fault ≡ CannotWriteOutput)))
 
 -- the fault that ends `login`: what it begins with is not there, or its talk ends
 abbrev pub CannotLogIn : {File : Type 0} → (bytes_of : File → Option (List ℕ)) → ArgMatches → (input : Option (List ℕ)) → Fault → Type 0

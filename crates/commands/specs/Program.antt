@@ -46,9 +46,9 @@ Names found name words = found ≡ Some (word_of name, rows_of (found_of words))
 abbrev pub PrintsText : (status : ℕ) → (old new : Option (List ℕ)) → Type 0
 PrintsText status old new = ((status ≡ 0) × ((text : List ℕ) × Appends old new text)) ⊎ (status ≡ 3)
 
--- what is done at an error of this kind, of the words of a command line: at one of memory the status is 3; where help or the version
--- is asked for, a text is printed, with status 0, or 3 where that fails; at any other the status is 2 or 3. Where no help or
--- version is asked for, nothing is printed
+-- what is done about an error of this kind in the words of a command line: if memory ran out, the status is 3; if help or the
+-- version is asked for, a text is printed, with status 0, or 3 if that fails; for any other the status is 2 or 3. If neither help
+-- nor the version is asked for, nothing is printed.
 abbrev pub Explains : ErrorKind → (status : ℕ) → (old new : Option (List ℕ)) → Type 0
 Explains kind.OutOfMemory status old new = (status ≡ 3) × (new ≡ old)
 Explains kind.DisplayHelp status old new = PrintsText status old new
@@ -63,15 +63,15 @@ found_in line = subcommand_of program line
 abbrev pub IsWordsError : (line : List Text) → ErrorKind → Type 0
 IsWordsError line error = (error ≡ kind.OutOfMemory) ⊎ IsAmong error (fault_of program line)
 
--- what a run does, where files have these bytes, and this was written to them
+-- what a run does, given the bytes of files and those written to them
 module _ {File : Type 0} (bytes_of written_to : File → Option (List ℕ)) where
-  -- a clean log of a server is printed. Where the answer is yes, it is of a login that the words ask for, which is accepted, and in
-  -- which each code passes
+  -- a clean log of a server is printed. If the answer is yes, it is that of a login that the words ask for, which is accepted, and
+  -- in which each code passes.
   abbrev pub RunsLogin : ArgMatches → (input old : Option (List ℕ)) → (passed : Bool) → (new : Option (List ℕ)) → Type 0
   RunsLogin words input old passed new =
       PrintsLogin bytes_of written_to words IsClean old new × (passed ≡ true → PrintsPassesAsked bytes_of words input old new)
 
-  -- what a command has done by its words where it ends with this status: `verify` and `login` with that of their answer, `audit` and
+  -- what a command has done for its words if it ends with this status: `verify` and `login` with that of their answer, `audit` and
   -- `upgrade` with that of a log, and the others with 0
   abbrev pub HasDone : CommandName → ArgMatches → (status : ℕ) → (input old new : Option (List ℕ)) → Type 0
   HasDone Keys words status input old new = (status ≡ 0) × PrintsKeysAsked words input old new
@@ -85,7 +85,7 @@ module _ {File : Type 0} (bytes_of written_to : File → Option (List ℕ)) wher
   HasDone Audit words status input old new = PrintsAudit bytes_of status old new
   HasDone Upgrade words status input old new = PrintsUpgrade bytes_of status old new
 
-  -- what a command has printed where it ends with this fault: nothing, or what its first lines or events ask for; and why it ends so
+  -- what a command has printed if it ends with this fault: nothing, or what its first lines or events ask for; and why it ends
   abbrev pub StopsAt : CommandName → ArgMatches → Fault → (input old new : Option (List ℕ)) → Type 0
   StopsAt Verify words fault input old new =
       (CannotBeginToVerify bytes_of words fault × (new ≡ old)) ⊎ VerifiesFirstLines bytes_of written_to words input old fault new
@@ -125,7 +125,7 @@ module _ {File : Type 0} (bytes_of written_to : File → Option (List ℕ)) wher
       (λ fault. (fault ≡ CannotWriteOutput) ⊎ RunsUntil found fault input old new)
 
   -- a run ends: nothing is wrong with the command line, and the command that it names has run, with this exit status; or what is
-  -- wrong with the line is said
+  -- wrong with the line is reported
   abbrev pub EndsRun : (line : List Text) → (status : ℕ) → (input old new : Option (List ℕ)) → Type 0
   EndsRun line status input old new =
       ((fault_of program line ≡ [])

@@ -1,4 +1,4 @@
--- What an input line of `verify` and of `login` says, and what a client sends for it and is told.
+-- What an input line of `verify` and of `login` says, and what a client sends for it and receives.
 use Rattle.std.specs.Prelude.{ℕ, ◌≡◌, ◌+◌, ◌↔◌, Bool, List, [], ◌∷◌, ◌++◌, codes, take, IsTrue}
 use Rattle.std.specs.Str.{byte}
 use Rattle.std.specs.Io.KnownBytes.{Appends}
@@ -10,12 +10,12 @@ use Rattle.log_grammar.specs.Bytes.{LacksLf}
 use Rattle.log_grammar.specs.Lines.{IsLine, longest_line, from_server, from_client, replies, sync}
 use Rattle.commands.specs.Talked.{Talked, IsTold}
 
--- a line says two codes in a row where it is a SYNC line of the protocol, and else itself, as one code
+-- a line says two codes in a row if it is a SYNC line of the protocol, and else one code, the line itself
 abbrev pub SaysCodes : List ℕ → CodeTexts → Type 0
 SaysCodes line (TwoTexts first second) = IsLine line (from_client (sync first second))
 SaysCodes line (OneText text) = (text ≡ line) × ((first second : List ℕ) → IsLine line (from_client (sync first second)) → ⊥)
 
--- what is sent for an input line, by what the line says: the line itself where it is two codes in a row; else `CODE ` and at most the
+-- what is sent for an input line, by what the line says: the line itself if it is two codes in a row; else `CODE ` and at most the
 -- first 6201 bytes of the line. A line with more is too long either way.
 abbrev pub sent_for : List ℕ → CodeTexts → List ℕ
 sent_for line (TwoTexts first second) = line ++ byte "\n" ∷ []
@@ -25,8 +25,8 @@ sent_for line (OneText text) = codes "CODE " ++ (take (longest_line + 1) line ++
 abbrev pub IsPassLine : List ℕ → Type 0
 IsPassLine line = (moment counter : ℕ) × IsLine line (from_server (replies moment (Some (Pass counter))))
 
--- the client sends what an input line says, one code or two in a row, and is told one line, which the log has; and whether that is
--- PASS
+-- the client sends what an input line says, one code or two in a row, and receives one line, which is in the log; `passed` says
+-- whether that is PASS
 pub record SendsLine (line : List ℕ) (old : Talked) (passed : Bool) (new : Talked) : Type 0 where
   pub texts : CodeTexts
   pub says : SaysCodes line texts

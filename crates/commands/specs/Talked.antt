@@ -1,4 +1,4 @@
--- What the client of the command `login` says and is told, and that the log has what it is told.
+-- What the client of the command `login` says and receives, and that what it receives is in the log.
 use Rattle.std.specs.Prelude.{ℕ, ◌≡◌, List}
 use Rattle.std.specs.Io.KnownBytes.{Appends, Consumes}
 use Rattle.std.specs.declared.option.Option.{Option}
@@ -14,13 +14,16 @@ pub record LogSays (old new : Option (List ℕ)) (said : List ℕ) : Type 0 wher
   pub logged : Appends old new (log_bytes lines)
   pub says : wire_bytes lines ≡ said
 
--- what a client has said to the server, what it is still to be told, and what stands in the log, where these are known
+-- what is known of a talk between a client and the server
 pub record Talked : Type 0 where
+  -- what the client has said to the server
   pub said : Option (List ℕ)
+  -- what the client has yet to receive
   pub untold : Option (List ℕ)
+  -- what is in the log
   pub logged : Option (List ℕ)
 
--- the client of a talk, by its end of the connection and by the log
+-- what is known of the client of a talk, from its end of the connection and from the log
 abbrev pub talked_in : {S R W L C : Type 0} → (R → SourceFacts) → (W → SinkFacts) → (L → SinkFacts) → Talk S R W L C → Talked
 talked_in source sink log talk = record {
   said = (sink talk.ends.client.writer).given;
@@ -28,7 +31,7 @@ talked_in source sink log talk = record {
   logged = (log talk.log).given;
 }
 
--- the client is told these bytes, and they are what the server says in the lines that the log takes meanwhile
+-- the client receives these bytes, and they are what the server says in the lines that the log takes meanwhile
 pub record IsTold (old new : Talked) (bytes : List ℕ) : Type 0 where
   pub given : Consumes old.untold new.untold bytes
   pub logged : LogSays old.logged new.logged bytes

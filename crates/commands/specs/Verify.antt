@@ -1,4 +1,4 @@
--- What the command `verify` prints, what is saved before, and which faults end it.
+-- What the command `verify` prints, what is saved before that, and which faults end it.
 use Rattle.std.specs.Prelude.{ℕ, ◌≡◌, ◌⊎◌, Bool, true, false, List, [], ◌∷◌, ◌++◌}
 use Rattle.std.specs.Str.{byte}
 use Rattle.std.specs.Fmt.{decimal}
@@ -21,7 +21,7 @@ use Rattle.command_line.specs.declared.option_name.OptionName.TheVariants as opt
 use Rattle.command_io.specs.BadValues.{HasBadValue}
 use Rattle.command_io.specs.HeldBook.{HeldFacts, held_shown, IsReadBook, IsReplySaved, IsReplyUnsaved, CannotOpenBook}
 use Rattle.command_io.specs.HeldBook.{LacksToken}
-use Rattle.command_io.specs.Input.{LinesInTurn, IsInputUnread}
+use Rattle.command_io.specs.Input.{LinesInTurn, IsInputUnreadOrNoMemory}
 use Rattle.commands.specs.SentCodes.{SaysCodes}
 use Rattle.command_words.specs.Values.{given_value}
 use Rattle.command_io.specs.declared.held_book.HeldBook.{HeldBook}
@@ -36,12 +36,12 @@ is_passed Locked = false
 abbrev pub printed_reply : Reply → (moment : ℕ) → List ℕ
 printed_reply reply moment = reply_text moment (Some reply) ++ byte "\n" ∷ []
 
--- the book that a run of `verify` holds, and what it has printed, where that is known
+-- the book that a run of `verify` holds, and what it has printed, if that is known
 pub record VerifyRun : Type 0 where
   pub held : HeldFacts
   pub printed : Option (List ℕ)
 
--- such a run, by its held book
+-- a run of `verify`, from its held book
 abbrev pub run_of : {S : Type 0} → (S → StoreFacts) → HeldBook S → Option (List ℕ) → VerifyRun
 run_of facts held printed = record { held = held_shown facts held; printed = printed }
 
@@ -56,7 +56,7 @@ IsReplyLost path name moment sent old fault new =
     IsReplyUnsaved old.held name moment sent new.held × IsTokenFault path (account_at old.held.book name) fault
     × (new.printed ≡ old.printed)
 
--- how the lines of an input are answered: `IsStored` holds of each text that is stored
+-- how the lines of an input are answered: `IsStored` is true of each text that is stored
 module _ (IsStored : List ℕ → Type 0) where
   -- a line is answered: the reply is due to what it says, what the reply changes is saved, and then the reply is printed
   pub record IsLineAnswered (name : List ℕ) (moment : ℕ) (line : List ℕ) (old : VerifyRun) (reply : Reply) (new : VerifyRun) : Type 0 where
@@ -76,11 +76,11 @@ module _ (IsStored : List ℕ → Type 0) where
       (sent : CodeTexts) × SaysCodes line sent
       × (IsReplyLost path name moment sent old fault new ⊎ IsReplyUnprinted name moment sent old fault new)
 
-  -- a line is answered, and whether its code passed
+  -- a line is answered; `passed` says whether its code passed
   abbrev pub AnswersLine : (name : List ℕ) → (moment : ℕ) → (line : List ℕ) → VerifyRun → (passed : Bool) → VerifyRun → Type 0
   AnswersLine name moment line old passed new = (reply : Reply) × IsLineAnswered name moment line old reply new × (passed ≡ is_passed reply)
 
-  -- each line of the input is answered, in their order
+  -- each line of the input is answered, in order
   abbrev pub AnswersAllLines : (name : List ℕ) → (moment : ℕ) → Option (List ℕ) → VerifyRun → (all_passed : Bool) → VerifyRun → Type 0
   AnswersAllLines name moment input old all_passed new = LinesInTurn (AnswersLine name moment) input [] old all_passed new
 
@@ -89,7 +89,7 @@ module _ (IsStored : List ℕ → Type 0) where
       → (new : VerifyRun) → Type 0
   AnswersFirstLines path name moment input old fault new =
       ((last : List (List ℕ)) × (all_passed : Bool) × LinesInTurn (AnswersLine name moment) input last old all_passed new
-      × IsInputUnread fault)
+      × IsInputUnreadOrNoMemory fault)
       ⊎ ((line : List ℕ) × (last : List (List ℕ)) × (all_passed : Bool) × (middle : VerifyRun)
       × LinesInTurn (AnswersLine name moment) input (line ∷ last) old all_passed middle
       × FailsAtLine path name moment line middle fault new)
@@ -110,7 +110,7 @@ pub record BeginsToVerify {File : Type 0} (bytes_of : File → Option (List ℕ)
   pub is_book : IsReadBook bytes_of run.held.store.saved run.held.book
   pub is_printed : run.printed ≡ printed
 
--- a run, where files have these bytes, and this was written to them
+-- a run, given the bytes of files and those written to them
 module _ {File : Type 0} (bytes_of written_to : File → Option (List ℕ)) where
   -- a run begins, and each line of the input is answered by the token of the name that the words give; what a reply changes was
   -- written to a file
@@ -122,7 +122,7 @@ module _ {File : Type 0} (bytes_of written_to : File → Option (List ℕ)) wher
     pub answers : AnswersAllLines (IsWritten written_to) (given_value words option.Name) moment input first all_passed last
     pub printed : last.printed ≡ new
 
-  -- a run begins, and the first lines of the input are answered so; then comes this fault
+  -- a run begins, and the first lines of the input are answered in this way; then comes this fault
   pub record VerifiesFirstLines (words : ArgMatches) (input old : Option (List ℕ)) (fault : Fault) (new : Option (List ℕ)) : Type 0 where
     pub moment : ℕ
     pub first : VerifyRun

@@ -1,4 +1,4 @@
-//! The line that is printed for the answer of an audit or an upgrade, and the exit status that goes with it.
+//! The line printed for the answer of an audit or an upgrade, and the exit status for it.
 ghost use Rattle.std.specs.Prelude.{◌≡◌, ◌≢◌, ◌++◌, Err, IfErr, IfOk, OnOk, string_bytes};
 ghost use Rattle.log_grammar.specs.Lines.{line_text};
 ghost use Rattle.commands.specs.Audit.{acceptance_line, audit_status, fault_status, outcome_line, printed_audit, printed_clean};
@@ -10,7 +10,7 @@ use command_line::status::{DONE, FAILED, REFUSED};
 use sasl_log::{AuditFault, AuditWhy, Clean, DueOutcome, NoText, write_reply};
 use std::alloc::Global;
 
-/// The exit status that goes with an answer.
+/// The exit status for an answer of an audit.
 pub(crate) fn audit_status(answer: &Result<Clean, AuditFault>) -> u8
     ensures { result ≡ audit_status answer.now }
 {
@@ -20,8 +20,7 @@ pub(crate) fn audit_status(answer: &Result<Clean, AuditFault>) -> u8
     }
 }
 
-/// The exit status that goes with a fault of a log: 1 for a line at fault or too many lines, 3 where a read failed or memory
-/// ran out.
+/// The exit status for a fault of a log: 1 for a line at fault or too many lines, 3 if a read failed or memory ran out.
 pub(crate) fn fault_status(fault: &AuditFault) -> u8
     ensures { result ≡ fault_status fault.now }
 {
@@ -31,7 +30,7 @@ pub(crate) fn fault_status(fault: &AuditFault) -> u8
     }
 }
 
-/// The line that is printed for an answer.
+/// The line, with its LF, printed for an answer of an audit. The only fault is NoMemory.
 pub(crate) fn audit_line(
     alloc: Global,
     answer: &Result<Clean, AuditFault>,
@@ -45,7 +44,7 @@ pub(crate) fn audit_line(
     }
 }
 
-/// The line that is printed for a fault of a log. That memory ran out is a fault of the command, and has no line: NoMemory.
+/// The line, with its LF, printed for a fault of a log. `AuditFault::NoMemory` has no line: it is the command's fault NoMemory.
 pub(crate) fn fault_line(alloc: Global, fault: &AuditFault) -> Result<Vec<u8>, Fault>
     ensures ok { IfOk result (λ line. (line.items ≡ printed_fault fault.now) × (fault.now ≢ AuditFault.NoMemory)) }
     ensures err { IfErr result (λ fault. fault ≡ Fault.NoMemory) }
@@ -64,7 +63,7 @@ pub(crate) fn fault_line(alloc: Global, fault: &AuditFault) -> Result<Vec<u8>, F
     Ok(text)
 }
 
-// The line that is printed for a clean log.
+// The line, with its LF, printed for a clean log.
 fn clean_line(alloc: Global, clean: &Clean) -> Result<Vec<u8>, Fault>
     ensures ok { IfOk result (λ line. line.items ≡ printed_clean clean.now) }
     ensures err { IfErr result (λ fault. fault ≡ Fault.NoMemory) }
@@ -74,7 +73,7 @@ fn clean_line(alloc: Global, clean: &Clean) -> Result<Vec<u8>, Fault>
     Ok(line.into_bytes())
 }
 
-// Adds why a line is at fault, as it is printed.
+// Appends why a line is at fault, as it is printed.
 fn add_why(alloc: Global, why: &AuditWhy, text: &mut Vec<u8>) -> Result<(), Fault>
     ensures ok { OnOk result (text.new.items ≡ text.old.items ++ printed_why why.now) }
     ensures err { IfErr result (λ fault. fault ≡ Fault.NoMemory) }
@@ -97,7 +96,7 @@ fn add_why(alloc: Global, why: &AuditWhy, text: &mut Vec<u8>) -> Result<(), Faul
     Ok(())
 }
 
-// The line of an outcome that is due.
+// The line, without an LF, of the outcome that is due.
 fn outcome_text(alloc: Global, due: &DueOutcome) -> Result<String, Fault>
     ensures ok { IfOk result (λ text. string_bytes text ≡ line_text (outcome_line due.now)) }
     ensures err { IfErr result (λ fault. fault ≡ Fault.NoMemory) }
@@ -108,7 +107,7 @@ fn outcome_text(alloc: Global, due: &DueOutcome) -> Result<String, Fault>
     }
 }
 
-// The line of an acceptance with this signature.
+// The line, without an LF, of an acceptance with this signature.
 fn acceptance(alloc: Global, signature: &[u8]) -> Result<String, Fault>
     ensures ok { IfOk result (λ text. string_bytes text ≡ line_text (acceptance_line signature.now)) }
     ensures err { IfErr result (λ fault. fault ≡ Fault.NoMemory) }
@@ -117,7 +116,7 @@ fn acceptance(alloc: Global, signature: &[u8]) -> Result<String, Fault>
     Ok(format!(in alloc; "OK :v={verifier}")?)
 }
 
-// The line of a refusal that is due. No byte of its message has to be escaped.
+// The line, without an LF, of the refusal that is due. No byte of its message has to be escaped.
 #[tactic(auto, using(crate::proofs::lemmas::Spellings::refusal_line_is_spelled, crate::proofs::lemmas::Spellings::bare_refusal_line_is_spelled))]
 fn refusal(alloc: Global, text: NoText) -> Result<String, Fault>
     ensures ok { IfOk result (λ line. string_bytes line ≡ line_text (refusal_line text)) }

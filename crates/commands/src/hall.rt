@@ -1,4 +1,4 @@
-//! The command `hall`: lets up to 64 users in at a time, over one book, by the events of its input, and prints the log.
+//! The command `hall`: judges up to 64 logins at a time, over one book, from the events in its input, and prints the log.
 ghost use Rattle.std.specs.Prelude.{ℕ, List, [], IfErr, IsErrOf, OnOk};
 ghost use Rattle.commands.specs.Hall.{CannotRunHall, PrintsHallLog, PrintsToBadEvent, RunsHall, RunsToBadEvent, StopsHearing};
 ghost use Rattle.commands.specs.PrintedLog.{StopsAfter};
@@ -24,10 +24,11 @@ use std::fs::Files;
 use std::io::{BufRead, Write};
 use std::time::Clock;
 
-/// Holds and reads the book, and lets a hall over it hear the event of each input line. Prints the hall's log, of version 2, each
-/// event's lines as it is heard; a fault ends it where it stands. Hands back the output. At a terminal it asks for the events once
-/// the book is held. Faults: CannotRead or CannotWrite where the book can't be held, BadBook, and CannotWrite where the book can't
-/// be saved, in this order, then for each line CannotReadInput, BadEvent, CannotWrite and CannotWriteOutput, and NoMemory.
+/// Holds and reads the book, and gives a hall over it the event in each input line. Prints the hall's log, of version 2: each
+/// event's lines as soon as the hall has heard it. A fault cuts the log short. Returns the output too. At a terminal it asks for
+/// the events once the book is held. Faults: CannotRead or CannotWrite if the book can't be held, BadBook, and CannotWrite if the
+/// book can't be saved, in this order (no clause says so); then, for each line, CannotReadInput, BadEvent, CannotWrite and
+/// CannotWriteOutput; also NoMemory.
 pub fn hall<R, I, O, E>(
     rt: &R,
     matches: &ArgMatches<'_>,
@@ -59,7 +60,7 @@ where
     }
 }
 
-// Lets a hall over a held book hear the event of each input line, and prints its log. Hands back the output.
+// Gives a hall over a held book the event in each input line, and prints its log. Returns the output too.
 fn hear_input<S, I, O>(
     alloc: Global,
     held: HeldBook<'_, S>,

@@ -1,10 +1,10 @@
-//! The program's commands: `verify`, `login`, `hall`, `audit` and `upgrade` stand here, the others in `account_commands`.
+//! The program's commands: `verify`, `login`, `hall`, `audit` and `upgrade` are here, the others in `account_commands`.
 //!
-//! `run` finds the command that the words name, and does all the work of a run of the program, over words, streams and a
-//! runtime that are handed to it. So tests can hand in files and streams that fail.
+//! `run` finds the command that the words name, and does all the work of a run of the program. It is given the words, the streams
+//! and a runtime, so tests can pass in files and streams that fail.
 //!
-//! The order in which a command tells its faults, and what it asks at a terminal, are tested: no clause says them. A call of a law
-//! does nothing at run time: it tells the proof what the law says.
+//! No contract states in which order a command reports its faults, or what it asks at a terminal. Tests check both. A call of a law
+//! does nothing at run time: it only gives the proof a fact.
 #![tactic(auto)]
 
 mod audit;

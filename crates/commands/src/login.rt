@@ -1,13 +1,13 @@
-//! The command `login`: logs a user in to a server over a book, and prints the server's log.
+//! The command `login`: runs one login and its codes, as server and as client, and prints the server's log.
 ghost use Rattle.std.specs.Prelude.{◌≡◌, ◌⊎◌, true, ℕ, Bool, List, [], Option, Ok, decimal, option_map, IfOk, IfErr, OnOk};
 ghost use Rattle.book_format.specs.Book.{BookFields};
 ghost use Rattle.log_grammar.specs.Versions.{IsClean, IsFront};
-ghost use Rattle.sasl_desk.specs.Desks.{phase_of};
+ghost use Rattle.sasl_desk.specs.Desks.{desk_phase};
 ghost use Rattle.sasl_desk.specs.declared.session.phase.Phase.TheVariants as Phase;
 ghost use Rattle.commands.specs.declared.login.client_end.Stage.{Stage};
 ghost use Rattle.command_io.specs.HeldBook.{IsReadBook};
 ghost use Rattle.command_io.specs.BadValues.{HasBadPassword};
-ghost use Rattle.command_io.specs.Input.{IsInputUnread, TakesLine};
+ghost use Rattle.command_io.specs.Input.{IsInputUnreadOrNoMemory, TakesLine};
 ghost use Rattle.command_words.specs.Values.{given_value, value_of};
 ghost use Rattle.commands.specs.DeskLog.{IsDeskLog, StaysItsLog, StaysItsLogWith, IsLogAfterFault, IsLogAfterFaultWith, HasSavedLog};
 ghost use Rattle.commands.specs.DeskLog.{IsGiven};
@@ -52,11 +52,11 @@ use std::net::Net;
 use std::time::Clock;
 use talk::Talk;
 
-/// The most bytes of a line of the protocol with its LF; more are not read.
+/// The most bytes of a line of the protocol with its LF. No more are read.
 const MOST_WITH_LF: usize = LONGEST_LINE + 1;
 
 // What a login begins with: the book, the client and the lines that it is to send, the server's part of the nonce, and the moment
-// of all codes, where one is given.
+// of all codes, if one was given.
 #[derive(Drop)]
 struct LoginSetup<'a, S, I> {
     held: HeldBook<'a, S>,
@@ -68,12 +68,12 @@ struct LoginSetup<'a, S, I> {
     ghost silent: { client.stage ≡ Stage.Silent },
 }
 
-/// Judges the options in their order, reads the password, the book and the random bytes, makes the socket, and lets the client
-/// log in and send a code for each further input line. Prints the server's log, each line before the client is told of it; a
-/// fault ends it where it stands. Returns whether the client was logged in and each code passed, and hands back the output. At a
-/// terminal it asks for the input. Faults: BadValue, CannotReadInput, BadPassword, CannotRead or CannotWrite where the book can't
-/// be held, BadBook, CannotRead of the random file, Socket, and CannotWrite where the book can't be saved, in this order, then
-/// for each line CannotReadInput, CannotWrite, CannotWriteOutput and Socket, and NoMemory.
+/// Checks the options in their order, reads the password, the book and the random bytes, makes the socket, and lets the client log
+/// in and send a code for each further input line. Prints the server's log, each line before it is sent to the client. A fault cuts
+/// the log short. Returns whether the client was logged in and each code passed, and the output. At a terminal it asks for the
+/// input. Faults: BadValue, CannotReadInput, BadPassword, CannotRead or CannotWrite if the book can't be held, BadBook, CannotRead
+/// of the random file, Socket, and CannotWrite if the book can't be saved, in this order (no clause says so); then, for each line,
+/// CannotReadInput, CannotWrite, CannotWriteOutput and Socket; also NoMemory.
 pub fn login<R, I, O, E>(
     rt: &R,
     matches: &ArgMatches<'_>,
@@ -89,9 +89,9 @@ where
     E: TerminalOutput,
     ensures ok { OnOk result.0 (PrintsLogin R.File.remaining R.File.contents matches.now IsClean (O.contents output)
         (O.contents result.1)) }
-    // It answers true only where the log has a login of the user whom the words describe, by the nonce that they give, or a fresh
-    // one where they give none, and by the password that is the input's first line, and then nothing but passes, one for each
-    // further line of the input. Of the answer false it promises no more than the log.
+    // It returns true only if the log has a login of the user whom the words describe, with the nonce that they give (a fresh one
+    // if they give none) and with the password in the input's first line, and after it only passes, one for each further line of
+    // the input. If it returns false, only the log is promised.
     ensures passes { result.0 ≡ Ok true → PrintsPassesAsked R.File.remaining matches.now (I.remaining input.old) (O.contents output)
         (O.contents result.1) }
     ensures err { IfErr result.0 (λ fault. StopsAfter fault (O.contents output) (O.contents result.1)
@@ -103,13 +103,13 @@ where
         Err(fault) => return (Err(fault), output),
     };
     match socket::open(rt, given(matches, OptionName::Socket)) {
-        // In this call the moment of `Brand` is `login.moment`: `ghosts-talk_over` in proofs/login/login/Invariants.antt says so.
+        // In this call the moment of `Brand` is `login.moment`, as `ghosts-talk_over` in proofs/login/login/Invariants.antt says.
         Ok((connection, _file)) => talk_over::<Brand, R, _, _, _>(rt, login, &connection, output),
         Err(fault) => (Err(fault), output),
     }
 }
 
-// Judges the options, asks for the input, and reads the password, the book and the random bytes.
+// Checks the options, asks for the input, and reads the password, the book and the random bytes.
 fn prepare<'a, R, I, E>(
     rt: &'a R,
     matches: &'a ArgMatches<'_>,
@@ -147,8 +147,8 @@ where
     })
 }
 
-// Lets the client of a login talk to a desk over the book, and prints the desk's log. Returns whether the client was logged in
-// and each code passed, and hands back the output.
+// Lets the client of a login talk to a desk over the book, and prints the desk's log. Returns whether the client was logged in and
+// each code passed, and the output.
 fn talk_over<G, R, S, I, O>(
     rt: &R,
     login: LoginSetup<'_, S, I>,
@@ -205,8 +205,8 @@ where
     }
 }
 
-// Lets the client log in, send its codes and go away. Returns whether it was logged in, and each line was sent and passed; no
-// session is open then. Faults: CannotReadInput, CannotWrite, CannotWriteOutput, Socket and NoMemory.
+// Lets the client log in, send its codes and go away. Returns whether it was logged in, and each line was sent and passed; then no
+// session is open. Faults: CannotReadInput, CannotWrite, CannotWriteOutput, Socket and NoMemory.
 fn converse<S, R, W, L, C, I>(
     alloc: Global,
     talk: &mut Talk<'_, S, R, W, L, C>,
@@ -222,14 +222,14 @@ where
     L: Sink + Drop,
     C: sasl_desk::Clock + Drop,
     I: BufRead,
-    requires closed { phase_of talk.old.desk.state ≡ Phase.Closed }
+    requires closed { desk_phase talk.old.desk ≡ Phase.Closed }
     requires silent { client.stage ≡ Stage.Silent }
     ensures passes { result ≡ Ok true → TalkPasses client.user client.nonce client.password
         (I.remaining lines.old.input.now)
         (talked_in R.facts W.facts L.facts talk.old) (talked_in R.facts W.facts L.facts talk.new) }
     ensures log { OnOk result (StaysItsLogWith S.facts S.IsStored C.IsNow server_nonce
         talk.old.desk (L.facts talk.old.log) talk.new.desk (L.facts talk.new.log)) }
-    ensures closed { OnOk result (phase_of talk.new.desk.state ≡ Phase.Closed) }
+    ensures closed { OnOk result (desk_phase talk.new.desk ≡ Phase.Closed) }
     ensures clean { OnOk result ((start : BookFields) (before : Option (List ℕ))
         → IsDeskLog S.facts S.IsStored C.IsNow start before server_nonce talk.old.desk (L.facts talk.old.log)
         → HasSavedLog S.IsStored C.IsNow IsClean start server_nonce before (L.facts talk.new.log).given) }
@@ -244,7 +244,7 @@ where
     Ok(passed)
 }
 
-// Lets the client go away, where its session is still open; the desk says nothing to that. Faults: those of a turn.
+// Lets the client go away if its session is still open; the desk sends nothing for that. Faults: those of a turn.
 #[tactic(auto, using(crate::proofs::lemmas::Told::log_says_nothing))]
 fn hang_up<S, R, W, L, C>(
     alloc: Global,
@@ -261,7 +261,7 @@ where
     ensures silent { OnOk result (LogSays (L.facts talk.old.log).given (L.facts talk.new.log).given []) }
     ensures log { OnOk result (StaysItsLog S.facts S.IsStored C.IsNow talk.old.desk (L.facts talk.old.log)
         talk.new.desk (L.facts talk.new.log)) }
-    ensures closed { OnOk result (phase_of talk.new.desk.state ≡ Phase.Closed) }
+    ensures closed { OnOk result (desk_phase talk.new.desk ≡ Phase.Closed) }
     ensures after_fault { IfErr result (IsLogAfterFault S.facts S.IsStored C.IsNow talk.old.desk (L.facts talk.old.log)
         talk.new.desk (L.facts talk.new.log)) }
     ensures err { IfErr result (StopsTalking talk.old.path.now) }
@@ -277,11 +277,12 @@ where
     Ok(())
 }
 
-// Reads the first line, which is the password. BadPassword where it is none, and where there is no line.
+// Reads the first line, which is the password. Faults: BadPassword if it is no password or there is no line; CannotReadInput; and
+// NoMemory.
 fn read_password<I: BufRead>(alloc: Global, lines: &mut Lines<'_, I>) -> Result<Password, Fault>
     ensures ok { IfOk result (λ password. (has_lf : Bool)
         × TakesLine (I.remaining lines.old.input.now) password has_lf (I.remaining lines.new.input.now)) }
-    ensures err { IfErr result (λ fault. IsInputUnread fault ⊎ HasBadPassword (I.remaining lines.old.input.now) fault) }
+    ensures err { IfErr result (λ fault. IsInputUnreadOrNoMemory fault ⊎ HasBadPassword (I.remaining lines.old.input.now) fault) }
 {
     let Some(line) = lines.next(alloc)? else {
         return Err(Fault::BadPassword);

@@ -1,4 +1,4 @@
-//! One run of the program over words and streams.
+//! One run of the program, over its words and streams.
 ghost use Rattle.std.specs.Prelude.{◌≡◌, ◌≤◌, ◌⊎◌, ℕ, List, map, Ok, Err, IfOk, IfErr, OnOk, MatchResult};
 ghost use Rattle.std.specs.Io.KnownBytes.{Appends};
 ghost use Rattle.clap.specs.Words.{kind_of, subcommand_rows_of};
@@ -30,10 +30,10 @@ use std::io::Write;
 use std::net::Net;
 use std::time::Clock;
 
-/// Runs the command that `words` name, the program's own name first, and returns the exit status: 0 done, passed or clean; 1 refused
-/// or at fault; 2 wrong usage, or a value or password that is not in its form; 3 a file, a socket, the input or the output failed, or
-/// memory ran out. The answer, help and version go to `output`, which is handed back, everything else to `faults`; both are flushed.
-/// No clause says what goes to `faults`, or that they are flushed.
+/// Runs the command that `words` name, the program's own name first, and returns the exit status: 0 done, passed or clean; 1
+/// refused or at fault; 2 wrong usage, or a value or password that is not in its form; 3 a file, a socket, the input or the output
+/// failed, or memory ran out. The answer, help and version go to `output`, which is returned, and everything else to `faults`. Both
+/// are flushed. No contract states what goes to `faults`, or that the streams are flushed.
 pub fn run<R, S, I, O, E>(rt: &R, words: &[S], input: &mut I, output: O, faults: &mut E) -> (u8, O)
 where
     R: Files + Net + Clock + AllocGlobal,
@@ -63,8 +63,7 @@ where
     }
 }
 
-// Says why there is nothing to run: the words are not understood, or help or the version is asked for. Returns the status, and
-// hands back the output.
+// Handles words that run no command: they are not understood, or ask for help or the version. Returns the status and the output.
 fn explain<S, O, E>(
     alloc: Global,
     words: &[S],
@@ -90,7 +89,7 @@ where
     }
 }
 
-// Prints the help or the version that `error` has, and flushes it. Faults: CannotWriteOutput and NoMemory.
+// Prints the help or the version that `error` holds, and flushes the output. Faults: CannotWriteOutput and NoMemory.
 fn print_help<O: Write>(alloc: Global, error: &Error, output: &mut O) -> Result<(), Fault>
     ensures ok { OnOk result ((text : List ℕ) × Appends (O.contents output.old) (O.contents output.new) text) }
     ensures err { IfErr result (λ fault. status_of fault ≡ 3) }
@@ -99,7 +98,7 @@ fn print_help<O: Write>(alloc: Global, error: &Error, output: &mut O) -> Result<
     print_and_flush(text.as_bytes(), output)
 }
 
-// Says what is wrong with words that are not understood. Returns USAGE, or the status of NoMemory.
+// Reports what is wrong with words that are not understood. Returns USAGE, or the status of NoMemory.
 fn report_usage<S: AsStr, E: Write>(alloc: Global, words: &[S], faults: &mut E) -> u8
     ensures { (result ≡ 2) ⊎ (result ≡ 3) }
 {
@@ -113,8 +112,8 @@ fn report_usage<S: AsStr, E: Write>(alloc: Global, words: &[S], faults: &mut E) 
     }
 }
 
-// Runs the command that the matches name, flushes what it printed, and hands back the output. Returns the status: 0, or another
-// where a code or a login was refused, or a log is not clean. Faults: those of the command, and CannotWriteOutput.
+// Runs the command that the matches name, and flushes what it printed. Returns the output and the status, which is 0 unless a code
+// or a login was refused, or a log is not clean or can't be upgraded. Faults: those of the command, and CannotWriteOutput.
 fn dispatch<R, I: TerminalInput, O: Write + Drop, E: TerminalOutput>(
     rt: &R,
     matches: &ArgMatches<'_>,
@@ -140,7 +139,7 @@ where
     }
 }
 
-// As `dispatch`, but for the flush.
+// As `dispatch`, without the flush.
 fn run_command<R, I: TerminalInput, O: Write + Drop, E: TerminalOutput>(
     rt: &R,
     matches: &ArgMatches<'_>,
@@ -180,7 +179,7 @@ where
     }
 }
 
-// The status of a command that ends with no answer but what it printed.
+// The status of a command whose only answer is what it printed.
 fn done(ended: Result<(), Fault>) -> Result<u8, Fault>
     ensures { MatchResult ended (λ _. result ≡ Ok 0) (λ fault. result ≡ Err fault) }
 {
@@ -188,7 +187,7 @@ fn done(ended: Result<(), Fault>) -> Result<u8, Fault>
     Ok(DONE)
 }
 
-// The status of a command that answers whether each code, or the login too, was right.
+// The status of a command that returns whether each code passed and, for `login`, the login was accepted.
 fn answered(passed: Result<bool, Fault>) -> Result<u8, Fault>
     ensures { MatchResult passed (λ yes. result ≡ Ok (answer_status yes)) (λ fault. result ≡ Err fault) }
 {

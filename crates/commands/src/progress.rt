@@ -1,4 +1,4 @@
-//! How far a log was read, shown to someone who waits at a terminal.
+//! Shows someone who waits at a terminal how much of a log has been read.
 ghost use Rattle.std.specs.Prelude.{◌≡◌};
 
 use command_io::terminal::TerminalOutput;
@@ -6,28 +6,28 @@ use std::io;
 use std::io::{Read, Write};
 use std::time::{Clock, Instant};
 
-/// The seconds in which nothing is shown.
+/// For how many seconds nothing is shown at first.
 const QUIET_SECONDS: u64 = 2;
 
-/// Shows someone who waits at a terminal how many lines and bytes were read: on one line, after two seconds and then once a second.
+/// Shows at a terminal how many lines and bytes have been read: on one line, after two seconds and then once a second.
 #[derive(Drop)]
 pub struct Progress<'a, R, E> {
     clock: &'a R,
     faults: &'a mut E,
 
-    // When the count began, or None where nothing is ever shown.
+    // When the count began, or None if nothing is ever to be shown.
     begun: Option<Instant>,
 
-    // How many seconds after that the counts were last shown, or None where nothing is shown yet.
+    // How many seconds after that the counts were last shown, or None if they have not been shown yet.
     shown_at: Option<u64>,
 
-    // The lines and bytes so far. Where nothing is ever shown, they are not counted.
+    // The lines and bytes so far. They are not counted if nothing is ever to be shown.
     lines: u64,
     bytes: u64,
 }
 
 impl<'a, R: Clock, E: TerminalOutput> Progress<'a, R, E> {
-    /// Begins to count. Nothing is ever shown where `faults` is no terminal, or the clock can't be read.
+    /// Begins to count. Nothing is ever shown if `faults` is no terminal or the clock can't be read.
     pub fn begin(clock: &'a R, faults: &'a mut E) -> Progress<'a, R, E>
         ensures { (result.lines ≡ 0) × (result.bytes ≡ 0) }
     {
@@ -46,7 +46,7 @@ impl<'a, R: Clock, E: TerminalOutput> Progress<'a, R, E> {
         }
     }
 
-    // Counts these bytes where someone waits, and shows the counts where it is time.
+    // Counts these bytes if the counts are to be shown, and shows the counts when it is time.
     fn add(&mut self, bytes: &[u8]) {
         let Some(begun) = self.begun else {
             return;
@@ -64,7 +64,7 @@ impl<'a, R: Clock, E: TerminalOutput> Progress<'a, R, E> {
         }
     }
 
-    /// Clears what is shown.
+    /// Clears the counts from the terminal, if they were shown.
     pub fn end(self) {
         if self.shown_at.is_some() {
             let _ = self.faults.write_all(b"\r\x1b[K");
@@ -78,7 +78,7 @@ fn lines_in(bytes: &[u8]) -> u64 {
     bytes.iter().filter(|byte| **byte == b'\n').count() as u64
 }
 
-/// The file of a log, whose reads are counted.
+/// A log's file that reports what is read from it to a `Progress`.
 #[derive(Drop)]
 pub struct Counted<'a, 'b, F, R, E> {
     file: F,
@@ -86,7 +86,7 @@ pub struct Counted<'a, 'b, F, R, E> {
 }
 
 impl<'a, 'b, F, R, E> Counted<'a, 'b, F, R, E> {
-    /// The file, before anything was read from it.
+    /// Wraps `file`, from which nothing has been read yet.
     pub fn new(file: F, progress: &'a mut Progress<'b, R, E>) -> Counted<'a, 'b, F, R, E>
         ensures { result.file ≡ file }
     {

@@ -1,11 +1,11 @@
-//! What an input line of `verify` and of `login` says: one code, or two in a row.
+//! Reads an input line of `verify` or `login`: one code, or two in a row.
 ghost use Rattle.otp_core.specs.Sent.{texts_of};
 ghost use Rattle.commands.specs.SentCodes.{SaysCodes};
 
 use otp_core::Sent;
 use sasl_log::{ClientLine, Line, read_line};
 
-/// What a line without its LF says: two texts where it is a SYNC line of the protocol, else itself, as one text.
+/// The codes in a line without its LF: two texts if it is a SYNC line of the protocol; otherwise the line itself, as one text.
 pub fn sent_by(line: &[u8]) -> Sent<'_>
     ensures { SaysCodes line.now (texts_of result) }
 {

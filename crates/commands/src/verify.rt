@@ -24,10 +24,10 @@ use std::fs::Files;
 use std::io::{BufRead, Write};
 use std::time::Clock;
 
-/// Judges the options in their order, holds and reads the book, answers each input line, and returns whether every
-/// code passed. At a terminal it asks for the codes once the book is held. Faults: BadValue, CannotRead or CannotWrite
-/// where the book can't be held, BadBook, NoSuchAccount and NoToken, in this order, then for each line
-/// CannotReadInput, CannotWrite and CannotWriteOutput, and NoMemory.
+/// Checks the options in their order, holds and reads the book, answers each input line, and returns whether every code passed. At
+/// a terminal it asks for the codes once the book is held. Faults: BadValue, CannotRead or CannotWrite if the book can't be held,
+/// BadBook, NoSuchAccount and NoToken, in this order (no clause says so); then, for each line, CannotReadInput, CannotWrite and
+/// CannotWriteOutput; also NoMemory.
 pub fn verify<R, I, O, E>(
     rt: &R,
     matches: &ArgMatches<'_>,
@@ -56,7 +56,7 @@ where
     answer_lines(alloc, &mut held, &name, moment, input, output)
 }
 
-// Answers each line, and returns whether each code passed. What a line changes is saved before its reply is printed.
+// Answers each line, and returns whether every code passed. What a line changes is saved before its reply is printed.
 fn answer_lines<S: BookStore, I: BufRead, O: Write>(
     alloc: Global,
     held: &mut HeldBook<'_, S>,
@@ -79,7 +79,7 @@ fn answer_lines<S: BookStore, I: BufRead, O: Write>(
     Ok(all_passed)
 }
 
-// Answers one line: judges what it sends, saves what that changes, and prints the reply.
+// Answers one line: judges its code or codes, saves what that changes, and prints the reply.
 fn answer_line<S: BookStore, O: Write>(
     alloc: Global,
     held: &mut HeldBook<'_, S>,
@@ -99,14 +99,14 @@ fn answer_line<S: BookStore, O: Write>(
     Ok(reply)
 }
 
-// Whether each reply so far is a pass, and this one too.
+// Whether each reply so far was a pass, and this one is too.
 fn and_reply_passed(so_far: bool, reply: Reply) -> bool
     ensures { result ≡ (so_far && is_passed reply) }
 {
     so_far && matches!(reply, Reply::Pass(_))
 }
 
-// Prints a reply, and flushes it.
+// Prints a reply and flushes the output. Faults: CannotWriteOutput and NoMemory.
 fn print_reply<O: Write>(
     alloc: Global,
     moment: Moment,

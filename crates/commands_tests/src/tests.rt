@@ -1,6 +1,6 @@
-//! Tests of `run`: commands over a book, their prompts, and how a run ends where streams and files fail. What the
-//! program prints, case by case, and `login`, `hall` and `upgrade`, is tested on the built program by the scripts in the
-//! repository's folder `tests`.
+//! Tests of `run`: commands over a book, their prompts, and how a run ends when streams and files fail. The scripts in the
+//! repository's folder `tests` test the built program: what it prints, case by case, and the commands `login`, `hall` and
+//! `upgrade`.
 mod books;
 mod prompts;
 mod streams;
@@ -16,7 +16,7 @@ use std::test::Fail;
 use std::time::Clock;
 use streams::{Faults, Input};
 
-// The words of RFC 5802's example; what is printed for them and the password `pencil` is by Python's hashlib.
+// The words for RFC 5802's example. What they print for the password `pencil` was computed with Python's hashlib.
 const KEYS: [&str; 8] = [
     "scramotp",
     "keys",
@@ -34,7 +34,7 @@ server=0fe09258b3ac852ba502cc62ba903eaacdbf7d31
 
 const CANNOT_WRITE: &str = "scramotp: cannot write output\n";
 
-// Input that has these bytes, and whose every read after them fails with this kind of error: no terminal.
+// Input that is no terminal: it gives the bytes of `front`, and then each read fails with an error of this kind.
 #[derive(Drop)]
 struct Broken<'a> {
     front: &'a [u8],
@@ -91,7 +91,7 @@ impl Write for Stuck {
     }
 }
 
-// Runs the words with the input, and compares status, output and faults.
+// Runs the words with the input, and compares the status, the output and the faults with those in `want`.
 fn check<R>(rt: &R, words: &[&str], input: &str, want: (u8, &str, &str))
 where
     R: Abort + Files + Net + Clock + AllocGlobal,
@@ -100,7 +100,7 @@ where
     check_at_terminals(rt, words, input, (false, false), want);
 }
 
-// The same, where the input and the faults are at a terminal or not, as `are_terminals` says of each.
+// As `check`; `are_terminals` says whether the input and whether the faults are at a terminal.
 fn check_at_terminals<R>(
     rt: &R,
     words: &[&str],
@@ -118,17 +118,20 @@ where
     let (status, _) = run(rt, words, &mut input, &mut output, &mut faults);
     let (want_status, want_output, want_faults) = want;
     assert_eq!(rt; status, want_status, "status of {words:?}");
-    assert!(rt;
-        output.as_slice() == want_output.as_bytes(),
-        "output of {words:?}"
-    );
-    assert!(rt;
-        faults.bytes.as_slice() == want_faults.as_bytes(),
+    assert_eq!(rt; text_of(&output), Some(want_output), "output of {words:?}");
+    assert_eq!(rt;
+        text_of(&faults.bytes),
+        Some(want_faults),
         "faults of {words:?}"
     );
 }
 
-// RFC 5802's example, and the first codes of RFC 4226, appendix D, and RFC 6238, appendix B.
+// These bytes as a text, or None if they are no UTF-8.
+fn text_of(bytes: &Vec<u8>) -> Option<&str> {
+    str::from_utf8(bytes.as_slice()).ok()
+}
+
+// RFC 5802's example, and the first codes in RFC 4226, appendix D, and RFC 6238, appendix B.
 #[test]
 fn without_a_book(rt: HostRuntime) {
     let secret = "3132333435363738393031323334353637383930";
@@ -170,8 +173,8 @@ fn failing_input(rt: HostRuntime) -> Result<(), Fail> {
         let mut input = BufReader::new(alloc, Broken { front, kind })?;
         let (status, _) = run(&rt, &KEYS, &mut input, &mut output, &mut faults);
         assert_eq!(rt; status, 3, "{want}");
-        assert!(rt; output.is_empty(), "{want}");
-        assert!(rt; faults.bytes.as_slice() == want.as_bytes(), "{want}");
+        assert_eq!(rt; text_of(&output), Some(""), "{want}");
+        assert_eq!(rt; text_of(&faults.bytes), Some(want));
     }
     Ok(())
 }
@@ -187,8 +190,8 @@ fn input_after_the_first_line(rt: HostRuntime) -> Result<(), Fail> {
     let mut input = BufReader::new(alloc, Broken { front, kind })?;
     let (status, _) = run(&rt, &KEYS, &mut input, &mut output, &mut faults);
     assert_eq!(rt; status, 0);
-    assert!(rt; faults.bytes.is_empty());
-    assert!(rt; output.as_slice() == PRINTED.as_bytes());
+    assert_eq!(rt; text_of(&faults.bytes), Some(""));
+    assert_eq!(rt; text_of(&output), Some(PRINTED));
     Ok(())
 }
 
@@ -200,10 +203,7 @@ fn failing_output(rt: HostRuntime) {
         let mut input = Input::new("pencil\n", false);
         let (status, _) = run(&rt, &KEYS, &mut input, &mut output, &mut faults);
         assert_eq!(rt; status, 3, "{room}");
-        assert!(rt;
-            faults.bytes.as_slice() == CANNOT_WRITE.as_bytes(),
-            "{room}"
-        );
+        assert_eq!(rt; text_of(&faults.bytes), Some(CANNOT_WRITE), "{room}");
     }
 }
 
@@ -214,7 +214,7 @@ fn output_that_is_not_handed_on(rt: HostRuntime) {
         let mut faults = Faults::new(rt.alloc(), false);
         let mut input = Input::new("pencil\n", false);
         let (status, _) = run(&rt, words, &mut input, &mut Stuck, &mut faults);
-        assert_eq!(rt; status, 3);
-        assert!(rt; faults.bytes.as_slice() == CANNOT_WRITE.as_bytes());
+        assert_eq!(rt; status, 3, "{words:?}");
+        assert_eq!(rt; text_of(&faults.bytes), Some(CANNOT_WRITE), "{words:?}");
     }
 }

@@ -1,7 +1,7 @@
 //! `scramotp`: SCRAM keys and logins (RFC 5802, RFC 7677), one-time codes (RFC 4226, RFC 6238), a book of accounts, and the
 //! audit of a log, on the command line.
 //!
-//! `main` hands the words, the streams and the runtime to `commands::run`, which does all the work.
+//! `main` passes the words, the streams and the runtime to `commands::run`, which does all the work.
 #![tactic(auto)]
 
 use command_line::Fault;
@@ -32,7 +32,7 @@ fn main(rt: HostRuntime) -> ExitCode {
     ExitCode::from(status)
 }
 
-// Ends a run that has no memory even for its words and streams.
+// Ends a run that has too little memory even for its words and streams.
 fn no_memory(rt: &impl Eprint) -> ExitCode {
     let fault = Fault::NoMemory;
     let _ = eprintln!(rt; "scramotp: {fault}");

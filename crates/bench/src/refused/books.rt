@@ -1,17 +1,17 @@
-//! A book that is read, changed and written while one request for memory is refused, whichever it is: the call then answers 99, the book
-//! is as before, and the same call again goes on.
+//! Reads, changes and writes a book while one request for memory, whichever it is, is refused. The call then returns 99, the book is
+//! unchanged, and the same call made again succeeds.
 use account_book::{Book, BookFault, BookWhy, EnrolFault};
 use scram_text::{Password, PlainName, Salt};
 use std::alloc::Global;
 use std::fs::Files;
 use std::{fs, io};
 
-// The salts of the account that is added.
+// The salts of the new account's keys.
 const SALT_1: &[u8; 16] = b"\x00\x01\x02\x03\x04\x05\x06\x07\x08\x09\x0a\x0b\x0c\x0d\x0e\x0f";
 
 const SALT_256: &[u8; 16] = b"\x10\x11\x12\x13\x14\x15\x16\x17\x18\x19\x1a\x1b\x1c\x1d\x1e\x1f";
 
-// The book of these bytes, and how often memory ran out first, at most once.
+// The book in these bytes, and how often memory ran out first: 0 or 1.
 fn read(alloc: Global, bytes: &[u8]) -> Option<(Book, u32)> {
     for refused in [0, 1] {
         match Book::read(alloc, bytes) {
@@ -28,7 +28,7 @@ fn read(alloc: Global, bytes: &[u8]) -> Option<(Book, u32)> {
     None
 }
 
-// The book's text, and how often memory ran out first, at most once.
+// The book's text, and how often memory ran out first: 0 or 1.
 fn written(alloc: Global, book: &Book) -> Option<(String, u32)> {
     for refused in [0, 1] {
         if let Ok(text) = book.write(alloc) {
@@ -38,7 +38,8 @@ fn written(alloc: Global, book: &Book) -> Option<(String, u32)> {
     None
 }
 
-// Adds the account `new`, with the password `pencil`. How often memory ran out first, at most once, and the book still had this text.
+// Adds the account `new`, with the password `pencil`. Returns how often memory ran out first, 0 or 1; None after any other fault, or
+// if the book did not keep the text `before`.
 fn enrolled(alloc: Global, book: &mut Book, before: &str) -> Option<u32> {
     let (name, password) = (PlainName::new(b"new")?, Password::new(b"pencil")?);
     let (salt1, salt256) = (Salt::new(SALT_1)?, Salt::new(SALT_256)?);
@@ -52,7 +53,8 @@ fn enrolled(alloc: Global, book: &mut Book, before: &str) -> Option<u32> {
     None
 }
 
-// Adds the account to the book of these bytes, and writes it before and after. How often memory ran out in the calls of each kind.
+// Adds the account to the book in these bytes, and writes the book before and after. Returns both texts, and how often memory ran
+// out in the calls of each kind.
 fn changed(alloc: Global, bytes: &[u8]) -> Option<(String, String, [u32; 3])> {
     let (mut book, reading) = read(alloc, bytes)?;
     let (before, writing) = written(alloc, &book)?;
@@ -65,8 +67,8 @@ fn changed(alloc: Global, bytes: &[u8]) -> Option<(String, String, [u32; 3])> {
     ))
 }
 
-/// Reads the book in the file at `path`, adds the account `new` and writes it before and after. Prints both texts, with a line `---`
-/// between them, and how often memory ran out for a reading, a text and an account. A call that is answered so is made again.
+/// Reads the book in the file at `path`, adds the account `new`, and writes the book before and after. Prints both texts, with a line
+/// `---` between them, and how often memory ran out in reading, writing and adding. A call that runs out of memory is made again.
 pub(crate) fn print_book<R>(rt: &R, path: &str) -> io::Result<()>
 where
     R: Print + Files + AllocGlobal,

@@ -1,7 +1,7 @@
-//! A hall with two clients, whose calls are made while one request for memory is refused, as `refused` has those of a desk.
+//! Serves two clients in a hall while one request for memory is refused, as `refused` does at a desk.
 use crate::memory::Memory;
 use crate::refused::print_end;
-use crate::service::{OWN, book_at, login_and_codes};
+use crate::service::{SERVER_NONCE, book_at, login_and_codes};
 use account_book::Book;
 use otp_core::Moment;
 use sasl_desk::{DeskFault, Event, Hall};
@@ -10,7 +10,7 @@ use std::alloc::{Allocator, Global};
 use std::fs::Files;
 use std::io;
 
-// A hall over this book, and how often it was told first that memory ran out, at most once. None where it does not begin.
+// A hall over this book, and how often `Hall::begin` ran out of memory first: 0 or 1. None if it does not begin.
 fn begun<A: Allocator>(
     alloc: Global,
     book: Book,
@@ -25,8 +25,8 @@ fn begun<A: Allocator>(
     }
 }
 
-// Lets the hall greet a client, who is to have this number. How often it was told first that memory ran out, at most once; None
-// where it gives another number or none.
+// Lets the hall greet a client, whose session should get the number `session`. Returns how often the call ran out of memory first,
+// 0 or 1; None if the session gets another number or none.
 fn greeted(
     hall: &mut Hall<Memory>,
     session: u64,
@@ -34,7 +34,7 @@ fn greeted(
     log: &mut Vec<u8>,
 ) -> Option<u32> {
     for refused in [0, 1] {
-        match hall.greet(NoncePart::new(OWN)?, wire, log) {
+        match hall.greet(NoncePart::new(SERVER_NONCE)?, wire, log) {
             Ok((number, _)) if number == session => return Some(refused),
             Err(DeskFault::NoMemory) => {}
             _ => return None,
@@ -43,7 +43,7 @@ fn greeted(
     None
 }
 
-// Lets the hall hear what the client of this number does, and counts as `greeted` does.
+// Lets the hall hear what the client of this session does, and returns a count as `greeted` does.
 fn heard(
     alloc: Global,
     hall: &mut Hall<Memory>,
@@ -66,7 +66,8 @@ fn heard(
     None
 }
 
-// Lets the hall hear these lines of the first client, and that it and then the second have gone away; counts as `greeted` does.
+// Lets the hall hear these lines of the first client, and then that it and the second have gone away. Returns how often memory ran
+// out, or None.
 fn all_heard(
     alloc: Global,
     hall: &mut Hall<Memory>,
@@ -85,8 +86,8 @@ fn all_heard(
     Some(refused)
 }
 
-// Hands two clients to a hall over this book, call by call: the first sends these lines. A call that is refused memory is made again;
-// counts as `greeted` does.
+// Serves two clients in a hall over this book, call by call; the first sends these lines. A call that runs out of memory is made
+// again. Returns how often memory ran out, or None.
 fn called(alloc: Global, book: Book, lines: &str, log: &mut Vec<u8>) -> Option<u32> {
     let mut wire = Vec::new(alloc);
     let (mut hall, mut refused) = begun(alloc, book, log)?;
@@ -97,8 +98,8 @@ fn called(alloc: Global, book: Book, lines: &str, log: &mut Vec<u8>) -> Option<u
     Some(refused.saturating_add(rest))
 }
 
-/// Hands two clients to a hall over the book in the file at `path`, call by call: the first logs in and sends `count` codes. Prints
-/// the hall's log, and how often memory ran out. A call that is answered so is made again.
+/// Serves two clients in a hall over the book in the file at `path`, call by call; the first logs in and sends `count` codes. A call
+/// that runs out of memory is made again. Prints the hall's log, and how often memory ran out.
 pub(crate) fn print_hall<R>(rt: &R, path: &str, count: u32) -> io::Result<()>
 where
     R: Print + Files + AllocGlobal,

@@ -1,5 +1,5 @@
-//! Texts that are written while one request for memory is refused, whichever it is: the call then answers 99 and leaves what it
-//! appends to as it was, and the same call again writes the text.
+//! Writes texts while one request for memory, whichever it is, is refused. The call then returns 99 and leaves the vector that it
+//! appends to unchanged, and the same call made again writes the text.
 use crate::service::refusal;
 use sasl_log::{
     ClientLine, Line, NoMemory, Payload, ServerLine, escape, read_line, read_log_line,
@@ -14,7 +14,7 @@ use std::alloc::Global;
 use std::fs::Files;
 use std::{fs, io, str};
 
-// The answer of a writer of messages, by the number of its fault.
+// The result of a function that writes a message, with its fault as a number.
 fn of_message(answer: Result<(), WriteFault>) -> Result<(), u16> {
     match answer {
         Ok(()) => Ok(()),
@@ -22,7 +22,7 @@ fn of_message(answer: Result<(), WriteFault>) -> Result<(), u16> {
     }
 }
 
-// The name that the client wants to act as, where it gives one. None where that is no name.
+// The name that the client wants to act as, if it gives one. None if that is no name.
 fn acting_as(authzid: Option<SaslText<'_>>) -> Option<Option<PlainName>> {
     match authzid {
         Some(spelled) => Some(Some(spelled.plain()?)),
@@ -30,7 +30,7 @@ fn acting_as(authzid: Option<SaslText<'_>>) -> Option<Option<PlainName>> {
     }
 }
 
-// Reads a client-first message, and appends what was read.
+// Reads a client-first message, and writes it again to `out`.
 fn client_first(text: &[u8], out: &mut Vec<u8>) -> Option<Result<(), u16>> {
     let read = read_client_first(text).ok()?;
     let (name, nonce) = (read.name.plain()?, NoncePart::new(read.nonce)?);
@@ -39,31 +39,31 @@ fn client_first(text: &[u8], out: &mut Vec<u8>) -> Option<Result<(), u16>> {
     Some(of_message(write_client_first(read.flag, authzid, &name, &nonce, read.extensions, out)))
 }
 
-// Reads a server-first message, and appends what was read.
+// Reads a server-first message, and writes it again to `out`.
 fn server_first(text: &[u8], out: &mut Vec<u8>) -> Option<Result<(), u16>> {
     let read = read_server_first(text).ok()?;
     Some(of_message(write_server_first(read.nonce, &read.salt, read.count, read.extensions, out)))
 }
 
-// Reads a client-final message, and appends what was read.
+// Reads a client-final message, and writes it again to `out`.
 fn client_final(text: &[u8], out: &mut Vec<u8>) -> Option<Result<(), u16>> {
     let read = read_client_final(text).ok()?;
     let channel = read.channel.as_slice();
     Some(of_message(write_client_final(channel, read.nonce, read.extensions, &read.proof, out)))
 }
 
-// Reads a server-final message, and appends what was read.
+// Reads a server-final message, and writes it again to `out`.
 fn server_final(text: &[u8], out: &mut Vec<u8>) -> Option<Result<(), u16>> {
     let read = read_server_final(text).ok()?;
     Some(of_message(write_server_final(read.result, read.extensions, out)))
 }
 
-// Appends a name as messages spell it.
+// Appends a name as it is written in messages (RFC 5802, section 5.1).
 fn name(text: &[u8], out: &mut Vec<u8>) -> Option<Result<(), u16>> {
     Some(of_message(write_name(&PlainName::new(text)?, out)))
 }
 
-// The answer of a writer of lines, by the number of its fault.
+// The result of a function that writes a line, with its fault as a number.
 fn of_line(answer: Result<(), NoMemory>) -> Result<(), u16> {
     match answer {
         Ok(()) => Ok(()),
@@ -71,30 +71,30 @@ fn of_line(answer: Result<(), NoMemory>) -> Result<(), u16> {
     }
 }
 
-// Reads a line of the protocol, and appends what was read.
+// Reads a line of the protocol, and writes it again to `out`.
 fn line(text: &[u8], out: &mut Vec<u8>) -> Option<Result<(), u16>> {
     let line = read_line(text).ok()?;
     Some(of_line(write_line(&line, out)))
 }
 
-// Reads a line of a log of version 1, and appends what was read.
+// Reads a line of a log of version 1, and writes it again to `out`.
 fn log_line(text: &[u8], out: &mut Vec<u8>) -> Option<Result<(), u16>> {
     let line = read_log_line(text).ok()?;
     Some(of_line(write_log_line(&line, out)))
 }
 
-// Reads a line of a log of version 2, and appends what was read.
+// Reads a line of a log of version 2, and writes it again to `out`.
 fn numbered_line(text: &[u8], out: &mut Vec<u8>) -> Option<Result<(), u16>> {
     let (session, line) = read_numbered_line(text).ok()?;
     Some(of_line(write_numbered_line(session, &line, out)))
 }
 
-// Appends a message as lines spell it.
+// Appends a message as it is escaped in lines.
 fn spelled(text: &[u8], out: &mut Vec<u8>) -> Option<Result<(), u16>> {
     Some(of_line(escape(text, out)))
 }
 
-// The message of a line that has one.
+// The message of a line, or None if the line has none.
 fn message_of(line: Line<'_>) -> Option<Payload<'_>> {
     match line {
         Line::FromServer(
@@ -107,7 +107,7 @@ fn message_of(line: Line<'_>) -> Option<Payload<'_>> {
     }
 }
 
-// Appends the bytes of a line's message. 99, too, where there is no memory to append them.
+// Appends the bytes of a line's message. Also 99 if there is no memory to append them.
 fn message(alloc: Global, text: &[u8], out: &mut Vec<u8>) -> Option<Result<(), u16>> {
     match message_of(read_line(text).ok()?)?.bytes(alloc) {
         Ok(bytes) => Some(out.extend_from_slice(bytes.as_slice()).map_err(|_| 99)),
@@ -115,7 +115,7 @@ fn message(alloc: Global, text: &[u8], out: &mut Vec<u8>) -> Option<Result<(), u
     }
 }
 
-// Appends what is written of a text of this kind. None where the text is none of that kind; else the number of the fault.
+// Reads a text of this kind, and writes it again to `out`. None if it is not of that kind; an error is the number of the fault.
 fn appended(alloc: Global, kind: &str, text: &[u8], out: &mut Vec<u8>) -> Option<Result<(), u16>> {
     match kind {
         "client-first" => client_first(text, out),
@@ -132,8 +132,8 @@ fn appended(alloc: Global, kind: &str, text: &[u8], out: &mut Vec<u8>) -> Option
     }
 }
 
-// Appends as `appended` does, and again where it answered 99 and appended nothing. How often it did that; None where it has
-// another answer.
+// Calls `appended`, and calls it again if it returned 99 and appended nothing. Returns how often it did so, 0 or 1; None for any
+// other outcome.
 fn written(alloc: Global, kind: &str, text: &[u8], out: &mut Vec<u8>) -> Option<u32> {
     for refused in [0, 1] {
         match appended(alloc, kind, text, out)? {
@@ -160,8 +160,8 @@ fn print_text(rt: &(impl Print + AllocGlobal), kind: &str, text: &[u8]) -> io::R
     }
 }
 
-/// Writes the text of each line of the file at `path` after the line's first word, its kind, and prints how often memory ran out for
-/// it, and what was written.
+/// Each line of the file at `path` is a kind, a space and a text of that kind. Writes each text again, and prints how often memory
+/// ran out for it, the kind, and what was written.
 pub(crate) fn print_texts<R>(rt: &R, path: &str) -> io::Result<()>
 where
     R: Print + Files + AllocGlobal,

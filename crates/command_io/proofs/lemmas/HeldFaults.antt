@@ -16,45 +16,45 @@ use Rattle.book_format.specs.declared.fault.BookWhy.TheVariants as why
 use Rattle.command_line.specs.Fault.{fault_of_book_why, fault_of_book}
 use Rattle.command_line.specs.declared.fault.Fault.{Fault}
 use Rattle.command_line.specs.declared.fault.Fault.TheVariants.{BadBook, CannotRead, CannotWrite, NoMemory}
-use Rattle.command_io.specs.File.{IsFileUnread}
-use Rattle.command_io.specs.HeldBook.{CannotHold, IsFaultOfText, CannotOpenBook}
+use Rattle.command_io.specs.File.{IsFileUnreadOrNoMemory}
+use Rattle.command_io.specs.HeldBook.{CannotHoldOrNoMemory, IsFaultOfText, CannotOpenBook}
 
--- a kind of error is that memory ran out, or it is another
+-- a kind of error is `OutOfMemory` or another
 decided_out_of_memory : (kind : ErrorKind) → (kind ≡ OutOfMemory) ⊎ (kind ≢ OutOfMemory)
 decided_out_of_memory OutOfMemory = inl refl
 decided_out_of_memory other = inr (λ same. cc same)
 
--- after a failed read of a file the fault is that this file can't be read, or that memory ran out
+-- after a failed read, the fault says that this file can't be read or that memory ran out
 pub failed_read_leaves_file_unread : (path : List ℕ) (kind : ErrorKind) (file : _) (fault : Fault) → string_bytes file ≡ path
-    → (kind ≡ OutOfMemory → fault ≡ NoMemory) → (kind ≢ OutOfMemory → fault ≡ CannotRead file) → IsFileUnread path fault
+    → (kind ≡ OutOfMemory → fault ≡ NoMemory) → (kind ≢ OutOfMemory → fault ≡ CannotRead file) → IsFileUnreadOrNoMemory path fault
 failed_read_leaves_file_unread path kind file fault named memory plain = elim (decided_out_of_memory kind) [
-  | inl same ↦ subst (IsFileUnread path) (sym (memory same)) refl
-  | inr other ↦ subst (IsFileUnread path) (sym (plain other)) named
+  | inl same ↦ subst (IsFileUnreadOrNoMemory path) (sym (memory same)) refl
+  | inr other ↦ subst (IsFileUnreadOrNoMemory path) (sym (plain other)) named
 ]
 
--- the fault of a book's file that can't be read is one of a book that can't be held
-pub unread_file_prevents_holding : (path : List ℕ) (fault : Fault) → IsFileUnread path fault → CannotHold path fault
+-- the fault of a book's file that can't be read is a fault of a book that can't be held
+pub unread_file_prevents_holding : (path : List ℕ) (fault : Fault) → IsFileUnreadOrNoMemory path fault → CannotHoldOrNoMemory path fault
 unread_file_prevents_holding path (CannotRead file) is = is
 unread_file_prevents_holding path (CannotWrite file) is = tt
 unread_file_prevents_holding path fault is = is
 
--- a failed read of the book's file gives a fault of a book that can't be held
+-- a failed read of the book's file is a fault of a book that can't be held
 pub failed_read_prevents_holding : (path : List ℕ) (kind : ErrorKind) (file : _) (fault : Fault) → string_bytes file ≡ path
-    → (kind ≡ OutOfMemory → fault ≡ NoMemory) → (kind ≢ OutOfMemory → fault ≡ CannotRead file) → CannotHold path fault
+    → (kind ≡ OutOfMemory → fault ≡ NoMemory) → (kind ≢ OutOfMemory → fault ≡ CannotRead file) → CannotHoldOrNoMemory path fault
 failed_read_prevents_holding path kind file fault named memory plain =
     unread_file_prevents_holding path fault (failed_read_leaves_file_unread path kind file fault named memory plain)
 
--- where a text was read that is no book, the fault is that the file can't be read, or that of the text
+-- if a text was read that is no book, the fault is that the file can't be read, or it is the text's own fault
 pub bad_text_leaves_book_unread : {File : Type 0} (bytes_of : File → Option (List ℕ)) (path text : List ℕ) (found : BookFault)
     (fault : Fault)
     → IsRead bytes_of text
     → fault ≡ fault_of_book found → (found.why ≡ why.NoMemory) ⊎ IsFirstFault text found
-    → IsFileUnread path fault ⊎ IsFaultOfText bytes_of fault
+    → IsFileUnreadOrNoMemory path fault ⊎ IsFaultOfText bytes_of fault
 bad_text_leaves_book_unread bytes_of path text found fault read is (inl memory) =
-    inl (subst (IsFileUnread path) (sym (is ∙ ap fault_of_book_why memory)) refl)
+    inl (subst (IsFileUnreadOrNoMemory path) (sym (is ∙ ap fault_of_book_why memory)) refl)
 bad_text_leaves_book_unread bytes_of path text found fault read is (inr first) = inr (text, found, read, first, is)
 
--- where a text was read that is no book, the fault is one of a book that can't be held
+-- if a text was read that is no book, the fault is one of a book that can't be held or read
 pub bad_text_prevents_opening : {File : Type 0} (bytes_of : File → Option (List ℕ)) (path text : List ℕ) (found : BookFault) (fault : Fault)
     → IsRead bytes_of text
     → fault ≡ fault_of_book found → (found.why ≡ why.NoMemory) ⊎ IsFirstFault text found → CannotOpenBook bytes_of path fault
@@ -75,7 +75,7 @@ non_utf8_is_no_toml bytes none = elim (cases_Bool (is_utf8 bytes)) [
       (inl (ap (λ test. must test toml) not, λ met. both_ways (is_utf8 bytes) not met))
 ]
 
--- where bytes were read that are not UTF-8, the fault is one of a book that can't be held
+-- if bytes were read that are not UTF-8, the fault is one of a book that can't be held or read
 pub non_utf8_prevents_opening : {File T E : Type 0} (bytes_of : File → Option (List ℕ)) (path bytes : List ℕ) (number : ℕ)
     (result : Result T E) (error : E)
     → IsRead bytes_of bytes

@@ -6,7 +6,7 @@ use Rattle.std.proofs.Math.Bool.{and_assoc, and-true}
 use Rattle.command_io.specs.Input.{line_bytes, TakesLine, AreLinesOf, LinesInTurn}
 use Rattle.command_io.proofs.lemmas.InputLines.{end_has_no_lines, taken_line_begins_lines, some_lines}
 
--- a run has come to a place in its input: what it does from there on, it does from the start, after the lines so far
+-- a run has come to a place in its input: what it does from there on extends what it has done since the start
 abbrev pub HasCome : {State : Type 0} → (Step : List ℕ → State → Bool → State → Type 0) → (first : Option (List ℕ)) → (start : State)
     → (passed : Bool)
     → (left : Option (List ℕ)) → (now : State) → Type 0
@@ -14,7 +14,7 @@ HasCome {State} Step first start passed left now =
     (last : List (List ℕ)) (others : Bool) (new : State) → LinesInTurn Step left last now others new
     → LinesInTurn Step first last start (passed && others) new
 
--- a run that works on one more line has come one line further in its input
+-- a run that works on one more line has come one line further
 pub run_comes_past_line : {State : Type 0} (Step : List ℕ → State → Bool → State → Type 0) (first : Option (List ℕ)) (start : State)
     (so_far : Bool)
     (left : Option (List ℕ)) (now : State)
@@ -30,7 +30,7 @@ run_comes_past_line Step first start so_far left now line has_lf rest passed nex
     subst (λ (b : Bool). LinesInTurn Step first last start b new) (sym (and_assoc so_far passed others))
     (come last (passed && others) new more)
 
--- a run that stops leaves the lines after the place to which it has come
+-- a run that stops leaves the lines after the place that it has come to
 stopped_run_leaves_rest : {State : Type 0} (Step : List ℕ → State → Bool → State → Type 0) (first : Option (List ℕ)) (start : State)
     (so_far : Bool)
     (left : Option (List ℕ)) (now : State)

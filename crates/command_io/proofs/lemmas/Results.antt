@@ -1,39 +1,39 @@
--- Facts of a result, put together or handed on.
+-- Facts about a result, combined or passed on.
 use Rattle.std.proofs.Common.{◌≡◌, Bool, true, ap, subst, sym}
 use Rattle.std.specs.Prelude.{IfErr, IfOk, IsErrAnd, OnOk}
 use Rattle.std.specs.declared.result.Result.{Result}
 use Rattle.std.specs.declared.result.Result.TheVariants.{Ok, Err}
 
--- where a result is Ok, a fact that follows from two others, each of which holds of an Ok, holds of it
+-- if two facts are true on `Ok`, so is a third that follows from them
 pub on_ok_from_both : {T E P Q R : Type 0} (result : Result T E) → OnOk result P → OnOk result Q → (P → Q → R) → OnOk result R
 on_ok_from_both (Ok x) p q follows = follows p q
 on_ok_from_both (Err e) p q follows = tt
 
--- where a result is Ok, what follows from a fact of its value, and from another fact that holds then, holds of its value
+-- if the value of an `Ok` has a property, and another fact is true on `Ok`, the value has each property that follows from these
 pub if_ok_from_both : {T E : Type 0} (result : Result T E) (fact more : T → Type 0) (done : Type 0) → IfOk result fact → OnOk result done
     → ((x : T) → fact x → done → more x) → IfOk result more
 if_ok_from_both (Ok x) fact more done is did follows = follows x is did
 if_ok_from_both (Err e) fact more done is did follows = tt
 
--- what holds of each Ok, and what holds of `Ok true` alone, hold together
+-- what is true on each `Ok` and what is true only on `Ok true` are combined
 pub if_ok_and_if_true : {R E : Type 0} (P : Type 0) (result : Result Bool E) → OnOk result P → (result ≡ Ok true → R)
     → IfOk result (λ answer. P × (answer ≡ true → R))
 if_ok_and_if_true P (Ok answer) always true_alone = (always, λ is. true_alone (ap (λ (b : Bool). Ok b) is))
 if_ok_and_if_true P (Err e) always true_alone = tt
 
--- two facts that each error has hold together of the error
+-- two facts that are true of each error are combined
 pub if_err_both : {T E : Type 0} (P S : E → Type 0) (result : Result T E) → IfErr result P → IfErr result S
     → IfErr result (λ e. P e × S e)
 if_err_both P S (Ok x) one two = tt
 if_err_both P S (Err e) one two = (one, two)
 
--- a fact of every error, one of this error alone, and one more of every error hold together
+-- a fact about each error, one about only this error, and another about each error are combined
 pub if_err_all_three : {T E Q : Type 0} (r : Result T E) (one : E) (P S : E → Type 0) → IfErr r P → (r ≡ Err one → Q) → IfErr r S
     → IfErr r (λ e. P e × (e ≡ one → Q) × S e)
 if_err_all_three (Ok value) one P S all this more = tt
 if_err_all_three (Err e) one P S all this more = (all, (λ is. this (ap Err is)), more)
 
--- what holds of a fault holds of it where it is handed on
+-- what is true of a fault is true of it when it is passed on
 pub handed_fault_keeps_fact : {T E : Type 0} (r : Result T E) (fault : E) (Fact : E → Type 0) → IsErrAnd r (λ e. e ≡ fault) → Fact fault
     → IfErr r Fact
 handed_fault_keeps_fact (Ok value) fault Fact is fact = absurd is

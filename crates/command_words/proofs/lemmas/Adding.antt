@@ -21,7 +21,7 @@ pub command_has_added_option : (name : List ℕ) (options : List Rule) (option :
 command_has_added_option name options option old new arg added is local (has, globals) =
     (added.shape local ∙ ap₂ with_rule has is, added.globals ∙ ap₂ (λ (old : Bool) (new : Bool). old || new) globals local)
 
--- an app with one more command is the app with that command's name and options
+-- an app with one more command has that command's name and options too
 pub app_has_added_command : (app : App) (name : List ℕ) (options : List Rule) (old sub new : Command) → AddsSubcommand old sub new
     → app_of old ≡ app
     → HasOptions name options sub → app_of new ≡ with_subcommand app (command name options)

@@ -1,4 +1,4 @@
--- A command line with which nothing is wrong names one of the commands.
+-- A command line without a fault names one of the commands.
 use Rattle.std.proofs.Common.{◌≡◌, ◌&&◌, Bool, true, false, not, List, [], ◌∷◌, Option, Some, None, is_some, map, refl}
 use Rattle.std.specs.Prelude.{IfSome, ⊤, find, if◌then◌else◌, option_map}
 use Rattle.clap.specs.Faults.{check_fault, defaults_fault, entered_fault, level_fault, settle_fault, walk_fault}
@@ -9,24 +9,24 @@ use Rattle.clap.specs.Words.{App, Kinds, Row, Shape, Text, built, fault_of, subc
 use Rattle.command_words.specs.Commands.CommandName.{Keys, Enrol, Code, Verify, Unlock, Login, Hall, Audit, Upgrade}
 use Rattle.command_words.specs.Commands.{CommandName, NamesCommand, program, word_of}
 
--- where two steps find no error, the second finds none
+-- if two steps find no error, the second finds none
 second_finds_none : (one two : Kinds) → or_else one two ≡ [] → two ≡ []
 second_finds_none [] two none = none
 second_finds_none (kind ∷ kinds) two none = absurd (cc none)
 
--- where the checks of wants find no error, no subcommand is wanted
+-- if the checks of what is required find no error, no subcommand is missing
 no_subcommand_is_wanted : (help command argument : Bool) → check_kinds help command argument ≡ [] → command ≡ false
 no_subcommand_is_wanted true command argument none = absurd (cc none)
 no_subcommand_is_wanted false true argument none = absurd (cc none)
 no_subcommand_is_wanted false false argument none = refl
 
--- what was wanted, and is not missing, is there
+-- what is required, and not missing, is present
 wanted_is_there : (there wanted : Bool) → not there && wanted ≡ false → wanted ≡ true → there ≡ true
 wanted_is_there true wanted none is = refl
 wanted_is_there false true none is = absurd (cc none)
 wanted_is_there false false none is = absurd (cc is)
 
--- a command that needs a subcommand has entered one, where nothing is wrong with its words
+-- a command that needs a subcommand has entered one if its words have no fault
 needed_subcommand_is_entered : (shape : Shape) (names : Names) (held : Held) (words : List Text) (enters : Bool) (below : Kinds)
     → level_fault shape names held words enters below ≡ [] → shape.subcommand_required ≡ true → enters ≡ true
 needed_subcommand_is_entered shape names held words enters below none is =
@@ -47,7 +47,7 @@ Each P (name ∷ names) = P name × Each P names
 abbrev names_in : App → List Text
 names_in app = map (λ shape. shape.name) app.subs
 
--- where each name has a property, the name of the shape that is found has it
+-- if each name has a property, the name of the shape that is found has it
 found_shape_has_property : (P : Text → Type 0) (test : Shape → Bool) (shapes : List Shape) → Each P (map (λ shape. shape.name) shapes)
     → IfSome (find test shapes) (λ shape. P shape.name)
 found_shape_has_property P test [] each = tt
@@ -58,7 +58,7 @@ found_shape_has_property P test (shape ∷ shapes) (first, rest) = by (test shap
     by true later = first
     by false later = later
 
--- where each name has a property, what was entered has a name with this property, and values
+-- if each name has a property, what was entered has a name with this property, and values
 entered_name_has_property : (P : Text → Type 0) (app : App) (stop : Option (Text × List Text)) → Each P (names_in app)
     → is_some (entered app stop) ≡ true
     → (name : Text) × (rows : List Row) × P name × (entered app stop ≡ Some (name, rows))
@@ -72,8 +72,7 @@ entered_name_has_property P app (Some (word, rest)) each there =
     by None is there = absurd (cc there)
     by (Some shape) is there = (_, _, is, refl)
 
--- where each name of an app's commands has a property, and the app needs a command, a line with which nothing is wrong
--- gives the name of one that has it
+-- if the app needs a command and each command's name has a property, a line without a fault gives the name of one that has it
 faultless_line_enters_subcommand : (P : Text → Type 0) (app : App) (line : List Text) → (built app).top.subcommand_required ≡ true
     → Each P (names_in (built app))
     → fault_of app line ≡ [] → (name : Text) × (rows : List Row) × P name × (subcommand_of app line ≡ Some (name, rows))
@@ -95,7 +94,7 @@ each_is_command_word : (commands : List CommandName) → Each IsCommandWord (map
 each_is_command_word [] = tt
 each_is_command_word (command ∷ commands) = ((command, refl), each_is_command_word commands)
 
--- a command line with which nothing is wrong names one of the program's commands
+-- a command line without a fault names one of the program's commands
 pub faultless_line_names_command : (line : List Text) → fault_of program line ≡ [] → NamesCommand (subcommand_of program line)
 faultless_line_names_command line none =
     let one = faultless_line_enters_subcommand IsCommandWord program line refl (each_is_command_word all_commands) none in

@@ -1,15 +1,18 @@
-//! What stands at the end of the help: the exit statuses for the program, and notes and an example for each command. An example
-//! runs as it stands, once the examples that it names have run. All its files are in a folder that nobody else can enter.
+//! The texts at the end of the help: the exit statuses of the program, and notes and an example for each command. An example runs
+//! as it stands, once the examples that it names have run. All its files are in a folder that nobody else can enter.
 
 /// The exit statuses, at the end of the program's help.
-pub(crate) const STATUSES: &str =
-    "Exit status: 0 done, passed and clean; 1 refused or at fault; 2 wrong usage, or a value or password
-that is not in its form; 3 a file, a socket, the input or output failed, or memory ran out.";
+pub(crate) const STATUSES: &str = "Exit status:
+  0  done, passed or clean
+  1  something was refused or is at fault, such as a login, a code, a book or a log
+  2  wrong usage, an invalid option value, or an input line that cannot be a password
+  3  a file, a socket, the input or the output failed, or memory ran out";
 
 /// The notes of `keys`.
 pub(crate) const KEYS_NOTES: &str =
-    "Prints `stored=` and `server=`, each with a key in hexadecimal. The password is the first line of
-standard input, 1 to 1024 bytes from space to tilde. Typed at a terminal, it is shown.
+    "Prints `stored=` and `server=`, each followed by a key in hexadecimal. The password is the first
+line of standard input, 1 to 1024 printable ASCII characters. It is visible if you type it at a
+terminal.
 
 Example:
   echo pencil | scramotp keys --mechanism SCRAM-SHA-1 \\
@@ -17,11 +20,11 @@ Example:
 
 /// The notes of `code`.
 pub(crate) const CODE_NOTES: &str =
-    "With --counter the code is HOTP's, with SHA-1. Else --moment is needed, and it is TOTP's. Standard
-input is not read.
+    "With --counter, prints an HOTP code, made with SHA-1. Otherwise --moment is required, and the code
+is a TOTP code. Standard input is not read.
 
-Other users of the machine can read the words of a command while it runs (`ps`), so give no secret
-that they must not learn.
+Other users of the machine can see a command's arguments while it runs (with `ps`), so do not pass a
+secret that they must not learn.
 
 Examples:
   scramotp code --secret 3132333435363738393031323334353637383930 --counter 0
@@ -29,16 +32,17 @@ Examples:
 
 /// The notes of `enrol`.
 pub(crate) const ENROL_NOTES: &str =
-    "The password is the first line of standard input, 1 to 1024 bytes from space to tilde. Typed at a
-terminal, it is shown. Prints `enrolled` and the name once the book is saved.
+    "The password is the first line of standard input, 1 to 1024 printable ASCII characters. It is
+visible if you type it at a terminal. Prints `enrolled` and the name after the book has been saved.
 
-The book is made, readable by its owner alone, where the file is not there. Keep it in a folder that
-only you and root can write, below folders that only you and root can write.
+If the book does not exist, it is created as a file that only its owner can read and write. Only you
+and root should have write access to its folder and to every folder above it.
 
-The account gets keys for SCRAM-SHA-1 and SCRAM-SHA-256, with salts of 16 bytes. A login name
-without an account is answered by a decoy: with a salt of 16 bytes, and the count that the book has
-as decoy_count, 4096 in a new book. So with another --count, set decoy_count to it; else the count
-shows which names have accounts.
+The account gets keys for SCRAM-SHA-1 and SCRAM-SHA-256, each with a random salt of 16 bytes.
+
+To hide which names have accounts, a login under any other name is also sent a salt of 16 bytes and
+an iteration count: the book's decoy_count, which is 4096 in a new book. If you use another --count,
+set decoy_count to the same number. Otherwise the count shows which names have accounts.
 
 Example:
   mkdir -m 0700 logins
@@ -46,18 +50,23 @@ Example:
 
 /// The notes of `verify`.
 pub(crate) const VERIFY_NOTES: &str =
-    "Each line of standard input is an attempt. Its reply is PASS, the moment and the counter that
-passed, or FAIL or LOCKED and the moment. PASS and FAIL are printed once the book is saved; LOCKED
-saves nothing. The run holds the book until the input ends; others wait for it, up to 30 seconds.
-Exit status 0 means that every reply was PASS, also where there was none. So let nobody in by the
-status alone: look for PASS.
+    "Each line of standard input is an attempt. Prints one line for each, with the value of --moment:
 
-A line such as `SYNC 399871 520489`, with two codes in a row, finds a HOTP token that ran ahead of
-the book: it passes where the first is the code of `next` or of one of the `sync_ahead` counters
-after it, and the second that of the counter after that.
+  PASS MOMENT COUNTER  it passed, with the code of this counter
+  FAIL MOMENT          it failed
+  LOCKED MOMENT        the token is locked, so nothing passes until `scramotp unlock`
 
-Keep the book in a folder that only you and root can write, below folders that only you and root can
-write.
+PASS and FAIL are printed after the book has been saved. LOCKED saves nothing. The run holds the
+book until the input ends. Other runs wait for it, up to 30 seconds.
+
+Exit status 0 means that every attempt passed, and is also the status if there was none. So do not
+let anyone in because of the status: look for PASS.
+
+An attempt such as `SYNC 399871 520489`, with two codes in a row, is for an HOTP token that has run
+ahead of the book. It passes if the first code is that of the counter `next`, or of one of the
+`sync_ahead` counters after it, and the second code is that of the following counter.
+
+Only you and root should have write access to the book's folder and to every folder above it.
 
 Example, after that of enrol: a token, and its first code
   # while nothing else uses the book
@@ -73,23 +82,25 @@ Example, after that of enrol: a token, and its first code
 
 /// The notes of `unlock`.
 pub(crate) const UNLOCK_NOTES: &str =
-    "A token is locked once as many codes in a row have failed as its limit says. Prints `unlocked` and
-the name once the book is saved. Standard input is not read.
+    "A token is locked when as many attempts in a row have failed as its `limit` says. Prints `unlocked`
+and the name after the book has been saved. Standard input is not read.
 
-Keep the book in a folder that only you and root can write, below folders that only you and root can
-write.
+Only you and root should have write access to the book's folder and to every folder above it.
 
 Example, after those of enrol and verify:
   scramotp unlock --book logins/book.toml --name user";
 
 /// The notes of `audit`.
 pub(crate) const AUDIT_NOTES: &str =
-    "The book is the one that the log began with, so keep a copy of it: a token has moved on since. It
-is read as it is, without a lock, and nothing is written. Standard input is read only where the log
-is /dev/stdin. Prints `clean` and the counts of sessions, accepted logins and codes that passed, or
-the first line at fault, why, and what was due. Exit status 0 means that the log is clean, 1 that a
-line is at fault, that there are too many lines, or that the book is no account book, 3 also that a
-read of the log failed.
+    "The book must be a copy from when the log began, because codes change the book. It is read without a
+lock, and no file is written. Standard input is read only if the log is /dev/stdin.
+
+Prints `clean` and the numbers of sessions, of accepted logins and of codes that passed. If the log
+is not clean, prints the number of the first line at fault and the reason. If that line has a wrong
+outcome or reply, prints the right one too.
+
+Exit status 0 means that the log is clean; 1, that a line is at fault, that there are more than
+1000000 lines, or that the book is invalid; 3, among others, that the log cannot be read.
 
 Example, after that of enrol: a log whose client leaves at once
   printf '%s\\n' 'SCRAMLOG 1' 'S MECHS SCRAM-SHA-256 SCRAM-SHA-1' 'C GONE' E >logins/log.txt
@@ -97,12 +108,15 @@ Example, after that of enrol: a log whose client leaves at once
 
 /// The notes of `upgrade`.
 pub(crate) const UPGRADE_NOTES: &str =
-    "A log of version 2 begins with `SCRAMLOG 2`, and the number of its session stands before each other
-line: one more than the number of `E` lines before. The new log is clean if, and only if, the old
-one is, by the same book. Lines may be at fault, but each has to be in the form of a log's line. If
-one is not, nothing is printed, and standard error names the first such line, as `audit` does. The
-log is read whole, up to 1000000 lines, before anything is printed. Standard input is read only
-where the log is /dev/stdin.
+    "A log of version 2 begins with `SCRAMLOG 2`. Each other line begins with the number of its session,
+counted from 1. In version 1 a session ends with its `E` line.
+
+Audited with the same book, the new log is clean if and only if the old one is. Lines may be at
+fault, but each must have the form of a log line. If one does not, its number and the reason go to
+standard error, as `audit` prints them, and nothing else is printed.
+
+The whole log is read, up to 1000000 lines, before anything is printed. Standard input is read only
+if the log is /dev/stdin.
 
 Example, after those of enrol and audit:
   scramotp upgrade --log logins/log.txt >logins/log2.txt
@@ -110,24 +124,26 @@ Example, after those of enrol and audit:
 
 /// The notes of `login`.
 pub(crate) const LOGIN_NOTES: &str =
-    "The first line of standard input is the password, and each line after it a code, sent once the
-client is logged in. A line such as `SYNC 399871 520489` is two codes in a row. Typed at a terminal,
-all is shown.
+    "The first line of standard input is the password. Each line after it is a code, which is sent once
+the client is logged in. A line such as `SYNC 399871 520489` is two codes in a row. All input is
+visible if you type it at a terminal.
 
-Both ends run here: a server over the book, and a client. They talk through a socket, whose file is
-made for this run and removed at its end. Put it into a folder that nobody else can enter; a file
-that is there already is a socket fault, also one that a killed run left. The client learns only
-what any server would tell it, and ends the login where the server does not show that it has the
-account's keys.
+Both ends run in this command: a server with the book, and a client. They talk through a socket,
+which is created for this run and removed at its end. Put it into a folder that nobody else can
+enter. The file must not exist yet: remove a socket that a killed run has left. The client knows
+only what the server sends, and ends the login unless the server proves that it has the account's
+keys.
 
-Prints the server's log, each line before the client is told of it. What a code changes in the book
-is saved before its reply is told. The run holds the book to the end of the input, and other runs
-wait for it, up to 30 seconds.
+Prints the server's log. What a code changes in the book is saved before the reply is printed, and
+each reply is printed before the client receives it. The run holds the book until the input ends.
+Other runs wait for it, up to 30 seconds.
+
 Exit status 0 means that the login was accepted and every code passed.
 
-Nonces are made of 18 random bytes each, unless they are given: give them only to repeat a recorded
-login. Keep the book in a folder that only you and root can write, below folders that only you and
-root can write.
+Each nonce that is not given is made from 18 random bytes. Give nonces only to repeat a recorded
+login.
+
+Only you and root should have write access to the book's folder and to every folder above it.
 
 Example, after those of enrol and verify: a login and a code, and the audit of its log
   cp logins/book.toml logins/before.toml
@@ -138,23 +154,25 @@ Example, after those of enrol and verify: a login and a code, and the audit of i
 /// The notes of `hall`.
 pub(crate) const HALL_NOTES: &str = "Each line of standard input is an event:
 
-  open NONCE          a client comes; NONCE, fresh and random, is the server's part of the nonce
-  line N MOMENT TEXT  the client of session N sends a line: TEXT is the whole line, and MOMENT is in
-                      seconds since 1970
-  gone N MOMENT       the client of session N goes away
+  open NONCE          a client connects; NONCE is the server's part of the nonce, new and random for
+                      each client
+  line N MOMENT TEXT  the client of session N sends a line; TEXT is the whole line, and MOMENT is
+                      the time in seconds since 1970
+  gone N MOMENT       the client of session N disconnects
 
-Sessions get the numbers 1, 2 and so on as their clients come. Up to 64 are open at a time; a client
-that comes while 64 are open is told BUSY. Any other line, or the number of a session that is not
-open, is a bad event and ends the run, with exit status 1.
+Sessions are numbered 1, 2 and so on, in the order in which clients connect. Up to 64 can be open. A
+client that connects while 64 are open gets the reply BUSY. Any other input line, or an event for a
+session that is not open, is a bad event: it ends the run with exit status 1.
 
-Prints the log, of version 2, each event's lines before the next event is read. What client N is to
-be told is in the lines that begin with its number and ` S `. What a code changes in the book is
-saved before its reply is told. The run holds the book to the end of the input, and other runs wait
-for it, up to 30 seconds. Where the save of a code fails the log ends with that client's ` S HALT`,
-and the run with it. Where the first save fails nothing is printed.
+Prints the log, in version 2. All lines for an event are printed before the next event is read. Send
+the client of session N the rest of each line that begins with `N S `. What a code changes in the
+book is saved before the reply is printed. The run holds the book until the input ends. Other runs
+wait for it, up to 30 seconds.
 
-Keep the book in a folder that only you and root can write, below folders that only you and root can
-write.
+If the book cannot be saved after a code, the run ends, and the last line of the log is `N S HALT`
+for that client. If it cannot be saved at the start, nothing is printed.
+
+Only you and root should have write access to the book's folder and to every folder above it.
 
 Example, after that of enrol: two clients at a time, and the audit of their log
   cp logins/book.toml logins/opened.toml

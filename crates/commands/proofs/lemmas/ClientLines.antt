@@ -1,4 +1,4 @@
--- What a client may say, from what the calls that it makes have promised.
+-- What a client may say, from the contracts of its calls.
 use Rattle.std.proofs.Common.{◌≡◌, ℕ, List, Option, None, Some, IfSome, sym, subst}
 use Rattle.std.specs.Prelude.{IfOk, IfNone}
 use Rattle.std.specs.Option.{option_or}
@@ -23,7 +23,7 @@ use Rattle.commands.specs.declared.login.client_end.Next.TheVariants.{Says, Logg
 use Rattle.commands.specs.declared.login.client_end.Stage.{Stage}
 use Rattle.commands.specs.declared.login.client_end.Stage.TheVariants.{Silent, Begun, Proved, Over}
 
--- the mechanism that is asked for, or else the best one that is offered, is the one that is to be taken
+-- the mechanism that was asked for, or else the best one offered, is the one to choose
 pub asked_or_best_is_chosen : (asked best : Option Mechanism) (names : List ℕ) (mechanism : Mechanism)
     → option_or asked best ≡ Some mechanism
     → IfSome best (λ one. IsOffered one names) → (IsOffered ScramSha256 names → best ≡ Some ScramSha256) → IsChosen asked names mechanism
@@ -33,14 +33,14 @@ asked_or_best_is_chosen None best names mechanism is offered preferred = (
   λ has. cc (is, preferred has),
 )
 
--- where what is said has one property, it has a weaker one
+-- if what is said has a property, it has a weaker one
 says_weaker : (next : Next) (fact other : List ℕ → Type 0) → ((said : List ℕ) → fact said → other said) → IfSays next fact
     → IfSays next other
 says_weaker (Says line) fact other follows says = follows line.items says
 says_weaker LoggedIn fact other follows says = tt
 says_weaker Leaves fact other follows says = tt
 
--- what a client may say from the stage where it stands, it may say from an equal stage
+-- a client may say from its stage what it may say from an equal stage
 next_may_be_said : (client : ClientEnd) (old stage new : Stage) (told : List ℕ) (result : Result Next Fault) (fact : List ℕ → Type 0)
     → old ≡ stage
     → ((said : List ℕ) → fact said → MaySay client stage told said new) → IfOk result (λ next. IfSays next fact)
@@ -50,7 +50,7 @@ next_may_be_said client old stage new told result fact is follows says =
     (λ next. says_weaker next _ _ (λ said holds. subst (λ (s : Stage). MaySay client s told said new) (sym is) (follows said holds)))
     says
 
--- a client that has said nothing may begin a login, by the mechanisms that it was told
+-- a client that has said nothing may begin a login with one of the mechanisms that it was offered
 pub beginning_may_be_said : (client : ClientEnd) (old new : Stage) (told names : List ℕ) (result : Result Next Fault) → old ≡ Silent
     → IsLine told (from_server (mechs names))
     → IfOk result (λ next. IfSays next (λ said. BeginsLogin client.user client.nonce names said new))
@@ -58,7 +58,7 @@ pub beginning_may_be_said : (client : ClientEnd) (old new : Stage) (told names :
 beginning_may_be_said client old new told names result is line says =
     next_may_be_said client old Silent new told result _ is (λ said begins. (names, line, begins)) says
 
--- a client that waits for the challenge may say its answer to the one that it was told
+-- a client that waits for the challenge may say its answer to the one that it was sent
 pub answer_may_be_said : (client : ClientEnd) (one : ClientOne) (old new : Stage) (told server_first : List ℕ) (result : Result Next Fault)
     → old ≡ Begun one
     → IsLine told (from_server (cont server_first))
@@ -74,31 +74,32 @@ pub silence_may_be_kept : (client : ClientEnd) (old new : Stage) (told : List �
 silence_may_be_kept client old new told result silent =
     IfOk-weaker result _ _ (λ next. says_weaker next _ _ (λ said never. absurd never)) silent
 
--- no mechanism is taken where none is asked for and none is offered
+-- no mechanism is chosen if none was asked for and none is offered
 pub no_mechanism_is_chosen : (asked best : Option Mechanism) (names : List ℕ) (mechanism : Mechanism) → option_or asked best ≡ None
     → IfNone best ((one : Mechanism) → IsOffered one names → ⊥) → IsChosen asked names mechanism → ⊥
 no_mechanism_is_chosen (Some one) best names mechanism is none chosen = cc is
 no_mechanism_is_chosen None None names mechanism is none chosen = none mechanism chosen.0
 no_mechanism_is_chosen None (Some one) names mechanism is none chosen = cc is
 
--- a client at this stage may go on at this line of the server
+-- a client at this stage may continue after this line of the server
 abbrev pub IsDueTo : Stage → ServerLine → Type 0
 IsDueTo Silent (mechs names) = Unit {0}
 IsDueTo (Begun one) (cont message) = Unit {0}
 IsDueTo (Proved two) (accepts message) = Unit {0}
 IsDueTo stage line = ⊥
 
--- the client, at a stage of its own login, may say nothing to what it was told, and is not shown the keys by it
+-- if the client has its login at this stage, there is nothing that it may say to this line, and the line does not show that the server
+-- has the keys
 abbrev pub LeavesAt : ClientEnd → Stage → (told : List ℕ) → Type 0
 LeavesAt client stage told = HasItsLogin stage → ((said : List ℕ) (new : Stage) → MaySay client stage told said new → ⊥)
     × (ShowsKeys stage told → ⊥)
 
--- what makes a client leave at a stage makes it leave where it stands at that stage
+-- if a client at this stage has to leave, so does one whose stage is equal
 stage_makes_client_leave : (client : ClientEnd) (stage : Stage) (told : List ℕ) → client.stage ≡ stage → LeavesAt client stage told
     → HasToLeave client told
 stage_makes_client_leave client stage told is leaves = subst (λ (s : Stage). LeavesAt client s told) (sym is) leaves
 
--- a client that was told no line at which it may go on has to leave
+-- a client that was sent no line after which it may continue has to leave
 undue_line_makes_client_leave : (client : ClientEnd) (stage : Stage) (told : List ℕ)
     → ((line : ServerLine) → IsLine told (from_server line) → IsDueTo stage line → ⊥)
     → LeavesAt client stage told
@@ -107,16 +108,16 @@ undue_line_makes_client_leave client (Begun one) told none stands = (λ said new
 undue_line_makes_client_leave client (Proved two) told none stands = (λ said new never. never, λ shows. none (accepts shows.0) shows.1 tt)
 undue_line_makes_client_leave client Over told none stands = (λ said new never. never, λ shows. shows)
 
--- a client has to leave where it is told something that is no line of the server
+-- a client has to leave if what it was sent is no line of the server
 pub no_line_makes_client_leave : (client : ClientEnd) (told : List ℕ) → ((line : ServerLine) → IsLine told (from_server line) → ⊥)
     → HasToLeave client told
 no_line_makes_client_leave client told none = undue_line_makes_client_leave client client.stage told (λ line is due. none line is)
 
--- a text is one line of the server at most
+-- a text is at most one line of the server
 one_server_line : (told : List ℕ) (one other : ServerLine) → IsLine told (from_server one) → IsLine told (from_server other) → one ≡ other
 one_server_line told one other is also = let same = one_line told (from_server one) (from_server other) is also in cc same
 
--- a client that leaves after an offer leaves where it has to: the offer has no mechanism that it takes
+-- a client that leaves after an offer has to: the offer has no mechanism that it takes
 pub offer_leaver_has_to_leave : (client : ClientEnd) (told names : List ℕ) (result : Result Next Fault) → client.stage ≡ Silent
     → IsLine told (from_server (mechs names))
     → IfOk result (λ next. next ≡ Leaves → (mechanism : Mechanism) → IsChosen client.user.mechanism names mechanism → ⊥)
@@ -133,7 +134,7 @@ offer_leaver_has_to_leave client told names result is line leaves =
       λ shows. shows,
     ))) leaves
 
--- a client that leaves after a challenge leaves where it has to: the challenge is none that it answers
+-- a client that leaves after a challenge has to: the challenge is none that it answers
 pub challenge_leaver_has_to_leave : (client : ClientEnd) (one : ClientOne) (told server_first : List ℕ) (result : Result Next Fault)
     → client.stage ≡ Begun one
     → IsLine told (from_server (cont server_first))
@@ -154,7 +155,7 @@ challenge_leaver_has_to_leave client one told server_first result is line leaves
       λ shows. shows,
     ))) leaves
 
--- a client that leaves after an acceptance leaves where it has to: the message bears no signature that it expects
+-- a client that leaves after an acceptance has to: the message does not have the signature that it expects
 pub acceptance_leaver_has_to_leave : (client : ClientEnd) (two : ClientTwo) (told message : List ℕ) (result : Result Next Fault)
     → client.stage ≡ Proved two
     → IsLine told (from_server (accepts message))

@@ -1,5 +1,5 @@
 -- The words of a hall's input lines: a moment before a space, and what follows a session's number.
-use Rattle.std.proofs.Common.{◌≡◌, ◌≢◌, ℕ, List, ◌∷◌, ◌++◌, sym, ◌∙◌}
+use Rattle.std.proofs.Common.{◌≡◌, ℕ, List, ◌∷◌, ◌++◌, sym, ◌∙◌}
 use Rattle.std.specs.Prelude.{decimal}
 use Rattle.std.specs.Str.{byte}
 use Rattle.std.proofs.lemmas.List.{append_cancel_left}
@@ -9,13 +9,9 @@ use Rattle.log_grammar.proofs.lemmas.lines.Words.{number_is_spaceless, moment_fi
 use Rattle.sasl_log.specs.NumberedFaults.{BeginsWithNumber}
 use Rattle.sasl_log.specs.Words.{LacksSpace}
 use Rattle.sasl_log.proofs.lemmas.texts.NumberedLines.{one_rest_after_number}
-use Rattle.sasl_log.proofs.lemmas.texts.Spaces.{text_is_spaceless, spaceless_text_is_not_cut, one_cut_at_space}
+use Rattle.sasl_log.proofs.lemmas.texts.Spaces.{text_is_spaceless, one_cut_at_space}
 
--- a text without a space does not begin with a number and a space
-pub spaceless_text_has_no_number : (text : List ℕ) → LacksSpace text → (n : ℕ) (rest : List ℕ) → text ≢ decimal n ++ byte " " ∷ rest
-spaceless_text_has_no_number text lacks n rest whole = spaceless_text_is_not_cut text (decimal n) rest (text_is_spaceless text lacks) whole
-
--- where a text begins with a moment and a space, the text before its first space is that moment
+-- if a text begins with a moment and a space, the text before its first space is that moment
 pub text_before_space_is_moment : (text front back : List ℕ) → LacksSpace front × (text ≡ front ++ byte " " ∷ back) → (n : ℕ) → IsMoment n
     → (rest : List ℕ)
     → text ≡ decimal n ++ byte " " ∷ rest → front ≡ decimal n
@@ -23,21 +19,18 @@ text_before_space_is_moment text front back (lacks, whole) n is rest same =
     (one_cut_at_space front (decimal n) back rest (text_is_spaceless front lacks) (number_is_spaceless n (moment_fits_64_bits n is))
     (sym whole ∙ same)).0
 
--- at most one text follows the first word of a line
-one_text_follows_word : (word line text rest : List ℕ) → line ≡ word ++ text → line ≡ word ++ rest → text ≡ rest
-one_text_follows_word word line text rest is same = append_cancel_left word text rest (sym is ∙ same)
+-- a line of this word and a text
+module _ (word line text : List ℕ) (is : line ≡ word ++ text) where
+  -- if the number of a session and a space follow the word, the text begins with them
+  pub text_begins_with_number : (session : ℕ) (rest : List ℕ) → IsSessionNumber session
+      → line ≡ word ++ (decimal session ++ (byte " " ∷ rest)) → BeginsWithNumber text session rest
+  text_begins_with_number session rest number whole = record {
+    number = number;
+    whole = append_cancel_left word text (decimal session ++ (byte " " ∷ rest)) (sym is ∙ whole);
+  }
 
--- after its first word the line has the number of a session and a space
-pub text_begins_with_number : (word line text : List ℕ) → line ≡ word ++ text → (session : ℕ) (rest : List ℕ) → IsSessionNumber session
-    → line ≡ word ++ (decimal session ++ (byte " " ∷ rest)) → BeginsWithNumber text session rest
-text_begins_with_number word line text is session rest number whole = record {
-  number = number;
-  whole = one_text_follows_word word line text (decimal session ++ (byte " " ∷ rest)) is whole;
-}
-
--- at most one text follows the first word of a line, the number of a session and a space
-pub one_text_follows_number : (word line text : List ℕ) (n : ℕ) (rest : List ℕ) → line ≡ word ++ text → BeginsWithNumber text n rest
-    → (session : ℕ)
-    (more : List ℕ) → IsSessionNumber session → line ≡ word ++ (decimal session ++ (byte " " ∷ more)) → rest ≡ more
-one_text_follows_number word line text n rest is begins session more number whole =
-    one_rest_after_number text n session rest more begins (text_begins_with_number word line text is session more number whole)
+  -- at most one text follows them
+  pub one_text_follows_number : (n : ℕ) (rest : List ℕ) → BeginsWithNumber text n rest → (session : ℕ) (more : List ℕ)
+      → IsSessionNumber session → line ≡ word ++ (decimal session ++ (byte " " ∷ more)) → rest ≡ more
+  one_text_follows_number n rest begins session more number whole =
+      one_rest_after_number text n session rest more begins (text_begins_with_number session more number whole)

@@ -1,17 +1,16 @@
--- A desk or a hall that can't begin, the faults at which a hall stops hearing, and which faults are not that of
--- a bad event.
+-- The faults with which a desk or a hall can't begin, those at which a hall stops hearing, and which faults are not `BadEvent`.
 use Rattle.std.proofs.Common.{◌≡◌, ◌⊎◌, inl, inr, ℕ, List, Option, ap, ◌∙◌, sym, subst}
 use Rattle.book_format.specs.declared.fault.BookWhy.{BookWhy}
 use Rattle.book_format.specs.declared.fault.BookWhy.TheVariants as why
-use Rattle.command_line.specs.Fault.{IsFileUnwritten, fault_of_book_why}
+use Rattle.command_line.specs.Fault.{IsFileUnwrittenOrNoMemory, fault_of_book_why}
 use Rattle.command_line.specs.declared.fault.Fault.{Fault}
 use Rattle.command_line.specs.declared.fault.Fault.TheVariants.{BadEvent}
 use Rattle.sasl_log.specs.Sink.{SinkFacts}
-use Rattle.command_io.specs.HeldBook.{CannotHold, CannotOpenBook}
+use Rattle.command_io.specs.HeldBook.{CannotHoldOrNoMemory, CannotOpenBook}
 use Rattle.commands.specs.Hall.{StopsHearing}
 use Rattle.commands.specs.PrintedLog.{FailsToBegin, IsUnsavedOrUnlogged, StopsAfter}
 
--- where a desk or a hall can't begin, nothing was printed, or the output can't be written, by the output before and after
+-- if a desk or a hall can't begin, it has printed nothing, or the output can't be written
 pub failed_begin_prints_nothing : (path : List ℕ) (old new : SinkFacts) (fault : Fault) (before after : Option (List ℕ)) (Printed : Type 0)
     → old.given ≡ before
     → after ≡ new.given → FailsToBegin path old new fault → StopsAfter fault before after Printed
@@ -19,34 +18,34 @@ failed_begin_prints_nothing path old new fault before after Printed was is (inl 
 failed_begin_prints_nothing path old new fault before after Printed was is (inr (same, unwritten)) =
     inl (inr (is ∙ (ap (λ (f : SinkFacts). f.given) same ∙ was)))
 
--- the fault of a desk or a hall that can't begin is not that of a bad event
+-- the fault of a desk or a hall that can't begin is not a `BadEvent`
 pub failed_begin_excludes_bad_event : (path : List ℕ) (old new : SinkFacts) (fault : Fault) → FailsToBegin path old new fault
     → fault ≡ BadEvent → ⊥
 failed_begin_excludes_bad_event path old new fault (inl (output, failed)) is = cc (output, is)
 failed_begin_excludes_bad_event path old new fault (inr (same, unwritten)) is =
-    let wrong = subst (IsFileUnwritten path) is unwritten in cc wrong
+    let wrong = subst (IsFileUnwrittenOrNoMemory path) is unwritten in cc wrong
 
--- no fault that says why a text is no book is that of a bad event
+-- no fault that says why a text is no book is a `BadEvent`
 book_why_excludes_bad_event : (reason : BookWhy) → fault_of_book_why reason ≡ BadEvent → ⊥
 book_why_excludes_bad_event why.NoMemory is = cc is
 book_why_excludes_bad_event reason is = cc is
 
--- the fault of a book that can't be held or read is not that of a bad event
+-- the fault of a book that can't be held or read is not a `BadEvent`
 pub unopened_book_excludes_bad_event : {File : Type 0} (bytes_of : File → Option (List ℕ)) (path : List ℕ) (fault : Fault)
     → CannotOpenBook bytes_of path fault
     → fault ≡ BadEvent → ⊥
-unopened_book_excludes_bad_event bytes_of path fault (inl held) is = let wrong = subst (CannotHold path) is held in cc wrong
+unopened_book_excludes_bad_event bytes_of path fault (inl held) is = let wrong = subst (CannotHoldOrNoMemory path) is held in cc wrong
 unopened_book_excludes_bad_event bytes_of path fault (inr (text, found, read, first, by)) is =
     book_why_excludes_bad_event found.why (sym by ∙ is)
 
--- the fault of a bad event, of an unsaved book or of a failed log is one at which a hall stops hearing
+-- a hall stops hearing at a bad event, an unsaved book or a failed log
 pub line_fault_stops_hearing : (path : List ℕ) (log : SinkFacts) (fault : Fault) → (fault ≡ BadEvent) ⊎ IsUnsavedOrUnlogged path log fault
     → StopsHearing path fault
 line_fault_stops_hearing path log fault (inl bad) = inr (inl bad)
 line_fault_stops_hearing path log fault (inr (inl unwritten)) = inr (inr (inl unwritten))
 line_fault_stops_hearing path log fault (inr (inr (output, failed))) = inr (inr (inr output))
 
--- a fault by which a hall can't begin is one at which it stops hearing
+-- a fault with which a hall can't begin is one at which it stops hearing
 pub failed_begin_stops_hearing : (path : List ℕ) (old new : SinkFacts) (fault : Fault) → FailsToBegin path old new fault
     → StopsHearing path fault
 failed_begin_stops_hearing path old new fault (inl (output, failed)) = inr (inr (inr output))

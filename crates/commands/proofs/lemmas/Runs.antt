@@ -1,4 +1,4 @@
--- One run of the program, by the command that it runs.
+-- One run of the program, in terms of the command that it runs.
 use Rattle.std.proofs.Common.{◌≡◌, ◌≢◌, ◌⊎◌, ◌∙◌, inl, inr, ℕ, List, [], Option, refl, sym, subst, ap}
 use Rattle.std.specs.Prelude.{Some, None, Ok, Err, Box, true, codes, option_map, IfErr, IfOk, MatchResult}
 use Rattle.std.specs.Box.{box_value}
@@ -18,7 +18,7 @@ use Rattle.command_words.specs.Commands.{CommandName, NamesCommand, program, wor
 use Rattle.command_words.proofs.lemmas.Naming.{faultless_line_names_command}
 use Rattle.commands.specs.Program.{EndsCommand, EndsRun, HasDone, IsWordsError, Names, RunsCommand, RunsUntil, StopsAt, exit_status, found_in}
 
--- what follows from a fact of a command's answer, or from one of its fault, holds where the command ends
+-- what follows from the facts known about a command's answer and about its fault is true when the command ends
 pub command_ends_as_known : {T : Type 0} {P : T → Type 0} {S : Fault → Type 0} (Q : T → Type 0) (R : Fault → Type 0)
     (ended : Result T Fault)
     → IfOk ended P → IfErr ended S
@@ -26,7 +26,7 @@ pub command_ends_as_known : {T : Type 0} {P : T → Type 0} {S : Fault → Type 
 command_ends_as_known Q R (Ok x) did stopped runs stops = runs x did
 command_ends_as_known Q R (Err fault) did stopped runs stops = stops fault stopped
 
--- what follows so holds where a command ends whose exit status is computed from its answer
+-- what follows from the facts known about a command's answer, and about its fault, is true of a result computed from the answer
 pub computed_status_ends_as_known : {T : Type 0} {P : T → Type 0} {S : Fault → Type 0} (Q : ℕ → Type 0) (R : Fault → Type 0) (value : T → ℕ)
     (ended : Result T Fault)
     (result : Result ℕ Fault) → MatchResult ended (λ x. result ≡ Ok (value x)) (λ fault. result ≡ Err fault) → IfOk ended P → IfErr ended S
@@ -37,21 +37,21 @@ computed_status_ends_as_known Q R value (Err fault) result is did stopped runs s
     subst (λ (r : Result ℕ Fault). MatchResult r Q R) (sym is)
     (stops fault stopped)
 
--- the subcommand that a parse has entered, by its name and the values of its options
+-- the subcommand that a parse has entered has this name and these values of its options
 entered_subcommand_has_rows : {Z : Type 0} (o : Option (Box SubCommand Z)) (name word : Text) (rows : List Row)
     → Some name ≡ option_map (λ b. (out-SubCommand (box_value b)).name.now) o → Some rows ≡ option_map (λ p. p.1) (subcommand_rows o)
     → name ≡ word → subcommand_rows o ≡ Some (word, rows)
 entered_subcommand_has_rows None name word rows is are known = absurd (cc is)
 entered_subcommand_has_rows (Some b) name word rows is are known = cc
 
--- what a parse finds is this word and these values of its options, where it has entered a subcommand of that name with those values
+-- if a parse has entered a subcommand of this name with these option values, they are what the parse finds
 pub parse_finds_named_command : (matches words : ArgMatches) (name word : Text) → Some name ≡ subcommand_name_of matches
     → Some (rows_of (found_of words)) ≡ option_map (λ p. p.1) (subcommand_rows (out-ArgMatches matches).subcommand)
     → name ≡ word → subcommand_rows_of matches ≡ Some (word, rows_of (found_of words))
 parse_finds_named_command matches words name word is are known =
     entered_subcommand_has_rows (out-ArgMatches matches).subcommand name word (rows_of (found_of words)) is are known
 
--- a command that was named and has done what it does is a run of a named command
+-- a named command that has done its work is a run of a named command
 pub done_command_has_run : {File : Type 0} {bytes_of written_to : File
     → Option (List ℕ)} {found : Option (Text × List Row)} {status : ℕ} {input old new : Option (List ℕ)}
     (name : CommandName) (words : ArgMatches) → Names found name words → HasDone bytes_of written_to name words status input old new
@@ -59,14 +59,14 @@ pub done_command_has_run : {File : Type 0} {bytes_of written_to : File
 done_command_has_run name words is done =
     record { name = name; words = words; is_named = is; printed = _; has_done = done; kept = Keeps-refl _ }
 
--- a command that was named and has a fault is a run until the fault, or the output can't be written
+-- a named command that stops with a fault is a run until the fault, unless the output can't be written
 pub stopped_command_has_run : {File : Type 0} {bytes_of written_to : File
     → Option (List ℕ)} {found : Option (Text × List Row)} {fault : Fault} {input old new : Option (List ℕ)}
     (name : CommandName) (words : ArgMatches) → Names found name words → StopsAt bytes_of written_to name words fault input old new
     → (fault ≡ CannotWriteOutput) ⊎ RunsUntil bytes_of written_to found fault input old new
 stopped_command_has_run name words is stopped = inr (record { name = name; words = words; is_named = is; stops = stopped })
 
--- where no subcommand was entered, no command is found
+-- if no subcommand was entered, no command is found
 unentered_finds_no_command : {Z : Type 0} (o : Option (Box SubCommand Z)) (word : Text) (rows : List Row)
     → None ≡ option_map (λ b. (out-SubCommand (box_value b)).name.now) o → subcommand_rows o ≡ Some (word, rows) → ⊥
 unentered_finds_no_command None word rows is are = cc
@@ -84,13 +84,13 @@ name_is_word None name word rows is are = absurd (cc is)
 name_is_word (Some b) name word rows is are =
     let named : Some (out-SubCommand (box_value b)).name.now ≡ Some word = ap (option_map (λ (p : Text × List Row). p.0)) are in cc
 
--- the name is that of no command
+-- no command has this name
 abbrev pub IsUnknownName : Text → Type 0
 IsUnknownName name =
     (name ≢ codes "keys") × (name ≢ codes "enrol") × (name ≢ codes "code") × (name ≢ codes "verify") × (name ≢ codes "unlock")
     × (name ≢ codes "login") × (name ≢ codes "hall") × (name ≢ codes "audit") × (name ≢ codes "upgrade")
 
--- a name that is that of no command is no command's word
+-- a name that no command has is not the word of any command
 unknown_name_is_no_word : (name : Text) (command : CommandName) → IsUnknownName name → name ≡ word_of command → ⊥
 unknown_name_is_no_word name Keys (keys, enrol, code, verify, unlock, login, hall, audit, upgrade) is = keys is
 unknown_name_is_no_word name Enrol (keys, enrol, code, verify, unlock, login, hall, audit, upgrade) is = enrol is
@@ -102,14 +102,14 @@ unknown_name_is_no_word name Hall (keys, enrol, code, verify, unlock, login, hal
 unknown_name_is_no_word name Audit (keys, enrol, code, verify, unlock, login, hall, audit, upgrade) is = audit is
 unknown_name_is_no_word name Upgrade (keys, enrol, code, verify, unlock, login, hall, audit, upgrade) is = upgrade is
 
--- where a parse finds a command, the subcommand that it has entered has the name of one
+-- if a parse finds a command, the subcommand that it has entered has a known command's name
 pub found_command_is_known : (matches : ArgMatches) (name : Text) → NamesCommand (subcommand_rows_of matches)
     → Some name ≡ subcommand_name_of matches
     → IsUnknownName name → ⊥
 found_command_is_known matches name (command, values, are) is others =
     unknown_name_is_no_word name command others (name_is_word (out-ArgMatches matches).subcommand name (word_of command) values is are)
 
--- the program's app is simple, and free of conflicts; of such an app the functions of `clap` tell all:
+-- the program's app is simple and free of conflicts, so that the contracts of `clap` say everything about it:
 program_is_simple : is_simple program ≡ true
 unfolding clap_on_literals
 program_is_simple = refl
@@ -118,31 +118,31 @@ program_is_free : is_simple_and_free program ≡ true
 unfolding clap_on_literals
 program_is_free = refl
 
--- the subcommand and the values that a parse of a command line gives are those found in that line
+-- the subcommand and the values that a parse returns are those found in the command line
 pub parse_agrees_with_line : (app : App) (line : List Text) (matches : ArgMatches) → app ≡ program → HasMatchesOf app line matches
     → subcommand_rows_of matches ≡ found_in line
 parse_agrees_with_line app line matches is has = (has (ap is_simple is ∙ program_is_simple)).1 ∙ ap (λ (a : App). subcommand_of a line) is
 
--- nothing is wrong with a line that is parsed
+-- a line that parses has no fault
 pub parsed_line_has_no_fault : (app : App) (line : List Text) → app ≡ program → (is_simple_and_free app ≡ true → fault_of app line ≡ [])
     → fault_of program line ≡ []
 parsed_line_has_no_fault app line is fails = sym (ap (λ (a : App). fault_of a line) is) ∙ fails (ap is_simple_and_free is ∙ program_is_free)
 
--- a line that is parsed names a command
+-- a line that parses names a command
 pub parsed_line_names_command : (app : App) (line : List Text) (matches : ArgMatches) → app ≡ program → HasMatchesOf app line matches
     → (is_simple_and_free app ≡ true → fault_of app line ≡ []) → NamesCommand (subcommand_rows_of matches)
 parsed_line_names_command app line matches is has fails =
     subst NamesCommand (sym (parse_agrees_with_line app line matches is has)) (faultless_line_names_command line
     (parsed_line_has_no_fault app line is fails))
 
--- an error of the parser is an error in the words of the line
+-- an error of the parser is an error in the line's words
 pub parse_error_is_words_error : (app : App) (line : List Text) (error : Error) → app ≡ program
     → (is_simple_and_free app ≡ true → HasKind (fault_of app line) error)
     → IsWordsError line (kind_of error)
 parse_error_is_words_error app line error is fails =
     subst (λ (a : App). HasKind (fault_of a line) error) is (fails (ap is_simple_and_free is ∙ program_is_free))
 
--- a run whose command has ended has ended with the status of that end
+-- a run ends with the exit status of its command
 pub ended_command_ends_run : {File : Type 0} (bytes_of written_to : File → Option (List ℕ)) (found : Option (Text × List Row))
     (line : List Text)
     (ended : Result ℕ Fault)

@@ -1,4 +1,4 @@
-//! The client's end of a login: what it says next, by what it was told.
+//! The client's end of a login: what it sends next, depending on what it has received.
 ghost use Rattle.std.specs.Prelude.{◌≡◌, ◌≢◌, [], ◌∷◌, ◌++◌, IfOk, IfErr};
 ghost use Rattle.std.specs.Str.{byte};
 ghost use Rattle.log_grammar.specs.Payload.{escaped};
@@ -20,20 +20,20 @@ use std::mem;
 /// Who logs in, and how.
 #[derive(Drop)]
 pub struct User {
-    /// The mechanism, or None for the best of those that are offered.
+    /// The mechanism, or None for the best one offered.
     pub mechanism: Option<Mechanism>,
 
     /// The name of the account that the user logs in to.
     pub name: PlainName,
 
-    /// The name to act as, where it is another.
+    /// The name to act as (the authzid of RFC 5802), if one is given.
     pub authzid: Option<PlainName>,
 }
 
 /// What a client does next.
 #[derive(Drop)]
 pub enum Next {
-    /// It says this line, which has its LF.
+    /// It sends this line, which ends in an LF.
     Says(Vec<u8>),
 
     /// It is logged in: the server has shown that it has the account's keys.
@@ -43,10 +43,10 @@ pub enum Next {
     Leaves,
 }
 
-// How far a login has come.
+// The stage of a login, seen from the client.
 #[derive(Drop)]
 enum Stage {
-    // The client has said nothing yet.
+    // The client has sent nothing yet.
     Silent,
 
     // It has sent its first message, and waits for the challenge.
@@ -69,7 +69,7 @@ pub struct ClientEnd {
 }
 
 impl ClientEnd {
-    /// A client of this user that has said nothing yet. The nonce is to be a fresh random one.
+    /// A client for this user that has sent nothing yet. The nonce should be a fresh random one.
     pub fn new(user: User, password: Password, nonce: NoncePart) -> ClientEnd
         ensures user { result.user ≡ user }
         ensures nonce { result.nonce ≡ nonce }
@@ -84,8 +84,8 @@ impl ClientEnd {
         }
     }
 
-    /// What the client does next, where it was told this line, without its LF. It leaves at a line that is not due, and
-    /// where its own end of the login finds a fault (RFC 5802, section 5). The only fault is NoMemory.
+    /// Returns what the client does after the server has sent `line`, which is given without its LF. It leaves if another line was
+    /// due, or if it finds an error in the server's message (RFC 5802, section 5). The only fault is NoMemory.
     pub fn hear(&mut self, alloc: Global, line: &[u8]) -> Result<Next, Fault>
         ensures kept { (self.new.user ≡ self.old.user) × (self.new.nonce ≡ self.old.nonce) × (self.new.password ≡ self.old.password) }
         ensures is_in { IfOk result (λ next. next ≡ Next.LoggedIn → ShowsKeys self.old.stage line.now) }
@@ -109,7 +109,7 @@ impl ClientEnd {
         }
     }
 
-    // Says which of the mechanisms of these names the client takes, with its first message.
+    // Chooses one of the mechanisms with these names, and sends it with the client's first message.
     fn send_first(&mut self, alloc: Global, names: &[u8]) -> Result<Next, Fault>
         ensures kept { (self.new.user ≡ self.old.user) × (self.new.nonce ≡ self.old.nonce) × (self.new.password ≡ self.old.password) }
         ensures not_in { IfOk result (λ next. next ≢ Next.LoggedIn) }
@@ -160,7 +160,7 @@ impl ClientEnd {
     }
 }
 
-// Whether the client is in, by the message with which the server accepts it.
+// Checks the server's signature in the message by which it accepts the client, and returns LoggedIn or Leaves.
 fn check_signature(alloc: Global, client: ClientTwo, message: Payload<'_>) -> Result<Next, Fault>
     ensures is_in { IfOk result (λ next. next ≡ Next.LoggedIn
         → (l : Answered) (x : IsExpecting client l) → IsAuthentic message.entry x.signature) }
@@ -178,7 +178,7 @@ fn check_signature(alloc: Global, client: ClientTwo, message: Payload<'_>) -> Re
     }
 }
 
-// The line of this front and this message, with its LF. The only fault is NoMemory.
+// A line with this front and this message, escaped, and an LF. The only fault is NoMemory.
 fn message_line(alloc: Global, front: &[u8], message: &[u8]) -> Result<Vec<u8>, Fault>
     ensures ok { IfOk result (λ line. line.items ≡ front.now ++ (escaped message.now ++ byte "\n" ∷ [])) }
     ensures err { IfErr result (λ fault. fault ≡ Fault.NoMemory) }

@@ -1,4 +1,4 @@
-//! The moments by which a login's codes are judged.
+//! The moments at which a login's codes are judged.
 ghost use Rattle.std.specs.Prelude.{◌≡◌, ℕ, Option, None};
 ghost use Rattle.commands.specs.DeskLog.{IsGiven};
 
@@ -6,24 +6,24 @@ use otp_core::Moment;
 use std::marker::{Brand, PhantomData};
 use std::time::{Clock, SystemTime, UNIX_EPOCH};
 
-/// The moment of `--moment`, or None, as a type, so that contracts over any clock can name it.
+/// The moment that `--moment` gives, or None, as part of a type, so that contracts over any clock can name it.
 pub trait GivenMoment {
     ghost moment: { Option ℕ };
 }
 
-// A caller writes `Brand` as the type where its proof picks the moment. This None is only there so that it can be written: no
-// clock has it.
+// A caller passes `Brand` as the type, and its proof picks the moment. This impl only lets the call be written: no clock has its
+// None.
 impl GivenMoment for Brand {
     ghost moment = { None };
 }
 
-/// A clock that stands still at a moment that was given, or else the machine's.
+/// A clock that stands still at a given moment; without one, the machine's clock.
 #[derive(Drop)]
 pub struct LoginClock<'a, R, G: GivenMoment> {
     rt: &'a R,
     given: Option<Moment>,
 
-    // The moment that was told last; the start of 1970 where none was.
+    // The moment that was returned last; the start of 1970 if none was.
     last: Moment,
     of: PhantomData<G>,
 
@@ -31,7 +31,7 @@ pub struct LoginClock<'a, R, G: GivenMoment> {
 }
 
 impl<'a, R: Clock, G: GivenMoment> LoginClock<'a, R, G> {
-    /// A clock by the moment that was given.
+    /// A clock for the moment `given`, or for the machine's time if it is None.
     pub fn new(rt: &'a R, given: Option<Moment>) -> LoginClock<'a, R, G>
         requires { given ≡ G.moment }
         ensures { result.given ≡ given }
@@ -59,8 +59,7 @@ impl<R: Clock, G: GivenMoment> sasl_desk::Clock for LoginClock<'_, R, G> {
     }
 }
 
-// The moment of the machine's clock, or the start of 1970 where the clock can't be read, or is before 1970 or after the year
-// 9999.
+// The moment of the machine's clock, or the start of 1970 if the clock can't be read, or is before 1970 or after the year 9999.
 fn machine_moment<R: Clock>(rt: &R) -> Moment {
     let Ok(now) = SystemTime::now(rt) else {
         return start_of_1970();
@@ -71,6 +70,7 @@ fn machine_moment<R: Clock>(rt: &R) -> Moment {
     Moment::new(since.as_secs()).unwrap_or(start_of_1970())
 }
 
+// The moment 0.
 fn start_of_1970() -> Moment {
     let Some(moment) = Moment::new(0) else {
         unreachable!()

@@ -11,8 +11,8 @@ use command_line::Fault;
 use otp_core::Sent;
 use std::alloc::Global;
 
-/// The line for this input line, with its LF: itself where it is a SYNC line of the protocol, else as the text of a CODE
-/// line, whether it can be one or not. The only fault is NoMemory.
+/// The line to send for an input line, with its LF: the input line itself if it is a SYNC line of the protocol; otherwise a CODE
+/// line with it as the text, even if it can't be a code. The only fault is NoMemory.
 pub fn code_line(alloc: Global, line: &[u8]) -> Result<Vec<u8>, Fault>
     ensures ok { IfOk result (λ said. (texts : CodeTexts) × SaysCodes line.now texts × (said.items ≡ sent_for line.now texts)) }
     ensures err { IfErr result (λ fault. fault ≡ Fault.NoMemory) }
@@ -23,7 +23,7 @@ pub fn code_line(alloc: Global, line: &[u8]) -> Result<Vec<u8>, Fault>
     }
 }
 
-// The line of this front and as much of this text as a line and its LF may have, with its LF. Nothing more is ever read.
+// The front, then at most MOST_WITH_LF bytes of the text, then an LF. A server reads no more of a line.
 fn code_text_line(alloc: Global, front: &[u8], text: &[u8]) -> Result<Vec<u8>, Fault>
     ensures ok { IfOk result (λ line. line.items ≡ front.now ++ (take MOST_WITH_LF text.now ++ byte "\n" ∷ [])) }
     ensures err { IfErr result (λ fault. fault ≡ Fault.NoMemory) }
@@ -35,7 +35,7 @@ fn code_text_line(alloc: Global, front: &[u8], text: &[u8]) -> Result<Vec<u8>, F
     Ok(line)
 }
 
-// As many bytes of a text as a line and its LF may have, or all of them where it has no more.
+// The first MOST_WITH_LF bytes of the text, or all of it if it has fewer.
 fn first_bytes(text: &[u8]) -> &[u8]
     ensures { result.now ≡ take MOST_WITH_LF text.now }
 {

@@ -1,7 +1,7 @@
 //! The nonces of a login: those that the words give, or fresh random ones.
 ghost use Rattle.std.specs.Prelude.{◌≡◌, IfOk, IfErr, length};
 ghost use Rattle.scram_text.specs.Base64Field.{base64};
-ghost use Rattle.command_io.specs.File.{IsFileUnread};
+ghost use Rattle.command_io.specs.File.{IsFileUnreadOrNoMemory};
 ghost use Rattle.commands.specs.Nonces.{AreGivenOrFresh, TakesNonce, TakesNonces};
 
 use base64::engine::general_purpose::STANDARD;
@@ -22,8 +22,8 @@ pub struct Nonces {
     pub server: NoncePart,
 }
 
-/// Both nonces. Each that is not given is the base64 text of the next 18 bytes of the file at `path`, which is opened only where one is
-/// needed; the client's comes first. Faults: CannotRead and NoMemory.
+/// Both nonces. One that is not given is the base64 text of the next 18 bytes of the file at `path`, which is opened only if such a
+/// nonce is needed. The client's nonce comes first. Faults: CannotRead and NoMemory.
 pub fn both<R: Files + AllocGlobal>(
     rt: &R,
     path: &str,
@@ -31,7 +31,7 @@ pub fn both<R: Files + AllocGlobal>(
     server: Option<NoncePart>,
 ) -> Result<Nonces, Fault>
     ensures ok { IfOk result (λ nonces. AreGivenOrFresh R.File.remaining client server nonces.client nonces.server) }
-    ensures err { IfErr result (IsFileUnread path.now) }
+    ensures err { IfErr result (IsFileUnreadOrNoMemory path.now) }
 {
     match (client, server) {
         (Some(client), Some(server)) => Ok(Nonces { client, server }),
@@ -42,7 +42,7 @@ pub fn both<R: Files + AllocGlobal>(
     }
 }
 
-// Both nonces, each that is not given from the next random bytes.
+// Both nonces; one that is not given is made from the next random bytes.
 fn both_from<F: Read + Drop>(
     alloc: Global,
     client: Option<NoncePart>,
@@ -51,21 +51,21 @@ fn both_from<F: Read + Drop>(
 ) -> Result<Nonces, Fault>
     ensures ok { IfOk result (λ nonces.
         TakesNonces (F.remaining random.old.file) client server nonces.client nonces.server (F.remaining random.new.file)) }
-    ensures err { IfErr result (IsFileUnread random.old.path.now) }
+    ensures err { IfErr result (IsFileUnreadOrNoMemory random.old.path.now) }
 {
     let client = given_or_random(alloc, client, random)?;
     let server = given_or_random(alloc, server, random)?;
     Ok(Nonces { client, server })
 }
 
-// The nonce that is given, or one of the next random bytes.
+// The nonce `given`, or one made from the next random bytes.
 fn given_or_random<F: Read + Drop>(
     alloc: Global,
     given: Option<NoncePart>,
     random: &mut RandomFile<'_, F>,
 ) -> Result<NoncePart, Fault>
     ensures ok { IfOk result (λ nonce. TakesNonce (F.remaining random.old.file) given nonce (F.remaining random.new.file)) }
-    ensures err { IfErr result (IsFileUnread random.old.path.now) }
+    ensures err { IfErr result (IsFileUnreadOrNoMemory random.old.path.now) }
     ensures path { random.new.path.now ≡ random.old.path.now }
 {
     match given {

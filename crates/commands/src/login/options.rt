@@ -1,4 +1,4 @@
-//! The options of a login, judged.
+//! Checks the options of a login.
 ghost use Rattle.std.specs.Prelude.{◌≡◌, ℕ, List, Some, decimal, option_map, IfOk, IfErr};
 ghost use Rattle.scram_text.specs.Class.{IsNoncePart};
 ghost use Rattle.command_words.specs.Values.{value_of};
@@ -12,23 +12,23 @@ use command_words::{given, optional};
 use otp_core::Moment;
 use scram_text::NoncePart;
 
-/// What the words say of a login.
+/// What the words say about a login.
 #[derive(Drop)]
 pub struct LoginOptions {
     /// Who logs in, and how.
     pub user: User,
 
-    /// The client's nonce, where it is given.
+    /// The client's nonce, if it is given.
     pub client_nonce: Option<NoncePart>,
 
-    /// The server's part of the nonce, where it is given.
+    /// The server's part of the nonce, if it is given.
     pub server_nonce: Option<NoncePart>,
 
-    /// The moment of all codes, where it is given.
+    /// The moment of all codes, if it is given.
     pub moment: Option<Moment>,
 }
 
-/// Judges the options that are not taken as they are, in their order. The only fault is BadValue.
+/// Checks all options except the paths, in their order. The only fault is BadValue.
 pub fn read_options(matches: &ArgMatches<'_>) -> Result<LoginOptions, Fault>
     ensures user { IfOk result (λ options. IsUserAsked matches.now options.user) }
     ensures client_nonce { IfOk result (λ options. options.client_nonce ≡ value_of matches.now OptionName.ClientNonce) }
@@ -63,7 +63,7 @@ pub fn read_options(matches: &ArgMatches<'_>) -> Result<LoginOptions, Fault>
     })
 }
 
-// The nonce that an option gives, or None where it is not given. Answers BadValue where it is none.
+// The nonce that an option gives, or None if the option is not given. The only fault is BadValue, if the value is no nonce.
 fn optional_nonce(matches: &ArgMatches<'_>, option: OptionName) -> Result<Option<NoncePart>, Fault>
     ensures ok { IfOk result (λ nonce. nonce ≡ value_of matches.now option) }
     ensures err { IfErr result (λ fault. (fault ≡ Fault.BadValue option)

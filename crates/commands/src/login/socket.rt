@@ -1,7 +1,7 @@
-//! The socket of a login. One run holds both its ends.
+//! The socket of a login. One run holds both of its ends.
 //!
-//! No read and no write on it waits. What one end says is written before the other end reads, so a read that would have
-//! to wait means that the other end is a stranger, who came to the socket in between.
+//! No read or write on it waits. One end writes before the other end reads, so a read that would have to wait means that the other
+//! end is a stranger, who connected to the socket first.
 ghost use Rattle.std.specs.Prelude.{◌≡◌, IfErr};
 
 use book_file::is_same_file;
@@ -13,13 +13,12 @@ use std::net::{Net, Shutdown};
 use std::os::unix::net::{UnixListener, UnixStream};
 use std::{fs, io};
 
-/// The file of a socket that this run has made. It is removed when this value is dropped, unless another file has its name by
-/// then.
+/// The file of a socket that this run has made. Dropping this value removes the file, unless another file has its name by then.
 pub struct SocketFile<'a, R: Files> {
     rt: &'a R,
     path: &'a str,
 
-    // What the system says of the file, where it could be asked.
+    // The file's metadata just after it was made, or None if they could not be read.
     made: Option<Metadata>,
 }
 
@@ -37,13 +36,13 @@ impl<'a, R: Files> Drop for SocketFile<'a, R> {
 }
 
 impl<'a, R: Files> SocketFile<'a, R> {
-    // The file of this name, which was just made.
+    // The file at `path`, which was just made.
     fn new(rt: &'a R, path: &'a str) -> SocketFile<'a, R> {
         let made = fs::symlink_metadata(rt, path).ok();
         SocketFile { rt, path, made }
     }
 
-    // Whether another file has the name, as far as the system can be asked.
+    // Whether another file has the name now. False if the metadata can't be read.
     fn is_replaced(&self) -> bool {
         match (&self.made, fs::symlink_metadata(self.rt, self.path)) {
             (Some(made), Ok(found)) => !is_same_file(made, &found),
@@ -52,23 +51,23 @@ impl<'a, R: Files> SocketFile<'a, R> {
     }
 }
 
-/// A connection that has both its ends in this run.
+/// A connection with both ends in this run.
 #[derive(Drop)]
 pub struct Connection {
     // The client's end.
     client: UnixStream,
 
-    // The server's.
+    // The server's end.
     server: UnixStream,
 }
 
-/// One end of a connection: where it reads, and where it writes.
+/// One end of a connection, to read and to write.
 #[derive(Drop)]
 pub struct End<R, W> {
-    /// Where what the other end says comes from.
+    /// Reads what the other end writes.
     pub reader: R,
 
-    /// Where what is said goes.
+    /// Writes what the other end reads.
     pub writer: W,
 }
 
@@ -78,7 +77,7 @@ pub struct Ends<R, W> {
     /// The client's end.
     pub client: End<R, W>,
 
-    /// The server's.
+    /// The server's end.
     pub server: End<R, W>,
 }
 
@@ -91,7 +90,7 @@ impl Connection {
         }
     }
 
-    /// Ends what the client says, so that the server reads to the end of it. The only fault is Socket.
+    /// Shuts down the client's writing half, so that the server reads to the end. The only fault is Socket.
     pub fn hang_up(&self) -> Result<(), Fault>
         ensures { IfErr result (λ fault. fault ≡ Fault.Socket) }
     {
@@ -101,6 +100,7 @@ impl Connection {
     }
 }
 
+// The reader and the writer of one end of the connection.
 fn end_of(stream: &UnixStream) -> End<OverRead<&UnixStream>, OverWrite<&UnixStream>> {
     End {
         reader: OverRead::new(stream),
@@ -108,8 +108,8 @@ fn end_of(stream: &UnixStream) -> End<OverRead<&UnixStream>, OverWrite<&UnixStre
     }
 }
 
-/// Makes a socket at `path`, which is at most 107 bytes long and where nothing may be yet, and connects to it. The only
-/// fault is Socket; where the socket was made, its file is then removed.
+/// Makes a socket at `path`, and connects to it. The path has at most 107 bytes, and nothing may be there yet. The only fault is
+/// Socket; if the socket was made, its file is then removed.
 pub fn open<'a, R: Files + Net>(
     rt: &'a R,
     path: &'a str,
@@ -123,8 +123,8 @@ pub fn open<'a, R: Files + Net>(
     }
 }
 
-// Makes a socket at `path`. To bind makes the file before the socket listens, so a failure between the two leaves one that is
-// removed here; what had the name before, or takes it meanwhile, is another's and stays.
+// Makes a socket at `path`. `UnixListener::bind` makes the file before the socket listens, so a failure between the two leaves a
+// file, which is removed here. A file that had the name before, or takes it meanwhile, is another's and stays.
 fn bind<'a, R: Files + Net>(
     rt: &'a R,
     path: &'a str,
@@ -148,7 +148,7 @@ fn is_free<R: Files>(rt: &R, path: &str) -> bool {
     matches!(fs::symlink_metadata(rt, path), Err(error) if error.kind() == ErrorKind::NotFound)
 }
 
-// Connects to the socket at `path`, and accepts the connection.
+// Connects to the socket at `path` and accepts the connection.
 fn connect<R: Net>(rt: &R, path: &str, listener: &UnixListener) -> io::Result<Connection> {
     listener.set_nonblocking(true)?;
     let client = UnixStream::connect(rt, path)?;

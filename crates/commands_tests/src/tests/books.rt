@@ -1,13 +1,15 @@
 //! Tests of the commands that work on an account book.
 use super::streams::{Faults, Input};
+use super::text_of;
 use commands::run;
 use faulty_files::{Calls, Faulty};
 use std::io::ErrorKind;
+use std::process::Abort;
 use std::test::Fail;
 use std::{env, fs, process};
 
-// A book with the account `user`, whose keys are those of RFC 5802's example by Python's hashlib, and whose token has the
-// secret of RFC 4226's appendix D.
+// A book with the account `user`. Its keys are those of RFC 5802's example, computed with Python's hashlib, and its token has the
+// secret of RFC 4226, appendix D.
 pub const BOOK: &str = "format = 1
 decoy_key = \"000102030405060708090a0b0c0d0e0f101112131415161718191a1b1c1d1e1f\"
 decoy_count = 4096
@@ -35,7 +37,7 @@ failures = 0
 pub fn path_of_book(rt: &HostRuntime, test: &str) -> Result<String, Fail> {
     let temp = env::temp_dir(rt)?;
     let id = process::id(rt.process());
-    // A run that failed leaves its folder, and the number of a process may come again.
+    // A run that failed leaves its folder, and process numbers are reused.
     for number in 0..1000u32 {
         let folder = format!(in rt.alloc(); "{}/scramotp-{test}-{id}-{number}", temp.as_str())?;
         match fs::create_dir(rt, folder.as_str()) {
@@ -60,16 +62,15 @@ pub fn verify(book: &str) -> [&str; 8] {
     ]
 }
 
-// Whether the book's text has this line.
-fn has(rt: &HostRuntime, book: &str, line: &[u8]) -> bool {
-    match fs::read(rt, book) {
-        Ok(text) => contains(text.as_slice(), line),
-        Err(_) => false,
-    }
+fn contains(text: &str, part: &str) -> bool {
+    text.as_bytes()
+        .windows(part.len().max(1))
+        .any(|front| front == part.as_bytes())
 }
 
-fn contains(text: &[u8], part: &[u8]) -> bool {
-    text.windows(part.len().max(1)).any(|front| front == part)
+// Asserts that the text has this line.
+fn check_line(rt: &impl Abort, text: &str, line: &str) {
+    assert!(rt; contains(text, line), "no {line:?} in {text}");
 }
 
 #[test]
@@ -88,23 +89,26 @@ fn each_command(rt: HostRuntime) -> Result<(), Fail> {
         "755224\n000000\n",
         (1, "PASS 5 0\nFAIL 5\n", ""),
     );
-    assert!(rt; has(&rt, book, b"failures = 1\n"));
+    let failed = fs::read_to_string(&rt, book)?;
+    check_line(&rt, failed.as_str(), "failures = 1\n");
     super::check(&rt, &unlock, "", (0, "unlocked user\n", ""));
-    assert!(rt; has(&rt, book, b"failures = 0\n"));
-    assert!(rt; has(&rt, book, b"next = 1\n"));
-    assert!(rt; has(&rt, book, b"[accounts.other.sha1]\n"));
+    let unlocked = fs::read_to_string(&rt, book)?;
+    check_line(&rt, unlocked.as_str(), "failures = 0\n");
+    check_line(&rt, unlocked.as_str(), "next = 1\n");
+    check_line(&rt, unlocked.as_str(), "[accounts.other.sha1]\n");
     super::check(
         &rt,
         &verify(book),
         "SYNC 359152 969429\nSYNC 287082 359152\n",
         (1, "FAIL 5\nPASS 5 2\n", ""),
     );
-    assert!(rt; has(&rt, book, b"next = 3\n"));
-    assert!(rt; has(&rt, book, b"sync_ahead = 0\n"));
+    let passed = fs::read_to_string(&rt, book)?;
+    check_line(&rt, passed.as_str(), "next = 3\n");
+    check_line(&rt, passed.as_str(), "sync_ahead = 0\n");
     remove(&rt, book)
 }
 
-// Whichever call of the file system fails, a code that was reported as passed is spent, and a run that reports
+// Whichever file system call fails, a code that was reported as passed is spent, and a run that reports
 // nothing has status 3.
 #[test]
 fn verify_with_each_call_failing(rt: HostRuntime) -> Result<(), Fail> {
@@ -115,26 +119,28 @@ fn verify_with_each_call_failing(rt: HostRuntime) -> Result<(), Fail> {
     for failing in 1..60u32 {
         fs::write(&rt, book, BOOK)?;
         let calls = Calls::new(rt.alloc(), failing);
-        let faulty = Faulty {
-            rt: &rt,
-            calls: &calls,
-        };
+        let faulty = Faulty::new(&rt, &calls);
         let mut output = Vec::new(rt.alloc());
         let mut faults = Faults::new(rt.alloc(), false);
         let mut input = Input::new("755224", false);
         let (status, _) = run(&faulty, &verify(book), &mut input, &mut output, &mut faults);
-        let is_spent = has(&rt, book, b"next = 1\n");
+        let left = fs::read_to_string(&rt, book)?;
+        let is_spent = contains(left.as_str(), "next = 1\n");
         if output.is_empty() {
             assert_eq!(rt; status, 3, "{failing}");
+            let fault = text_of(&faults.bytes).ok_or("a text")?;
             assert!(rt;
-                faults.bytes.as_slice().starts_with(b"scramotp: cannot "),
-                "{failing}"
+                fault.starts_with("scramotp: cannot "),
+                "{failing}: {fault}"
             );
-            assert!(rt; is_spent || has(&rt, book, b"next = 0\n"), "{failing}");
+            assert!(rt;
+                is_spent || contains(left.as_str(), "next = 0\n"),
+                "{failing}: {left}"
+            );
         } else {
             assert_eq!(rt; status, 0, "{failing}");
-            assert!(rt; output.as_slice() == b"PASS 5 0\n".as_slice(), "{failing}");
-            assert!(rt; is_spent, "{failing}");
+            assert_eq!(rt; text_of(&output), Some("PASS 5 0\n"), "{failing}");
+            assert!(rt; is_spent, "{failing}: {left}");
         }
         assert!(rt; fs::metadata(&rt, next.as_str()).is_err(), "{failing}");
         passed_at_last = status == 0 && !calls.are_over();
@@ -155,7 +161,7 @@ E
 
 const CLEAN: &str = "clean sessions=1 accepted=0 codes=0\n";
 
-// Whichever call of the file system fails, a run that could not read the whole log does not call it clean.
+// Whichever file system call fails, a run that could not read the whole log does not call it clean.
 #[test]
 fn audit_with_each_call_failing(rt: HostRuntime) -> Result<(), Fail> {
     let path = path_of_book(&rt, "audit")?;

@@ -1,4 +1,4 @@
-//! Tests of what is said to someone at a terminal.
+//! Tests of the prompts at a terminal.
 use super::books::{BOOK, path_of_book, remove, verify};
 use super::{KEYS, PRINTED, check_at_terminals};
 use std::fs;
@@ -6,9 +6,9 @@ use std::test::Fail;
 
 const PASSWORD: &str = "Type the password and press Enter; it is shown as you type.\n";
 
-const CODES: &str = "Type one code a line; it is shown as you type. Ctrl-D ends.\n";
+const CODES: &str = "Type one code per line; it is shown as you type. End with Ctrl-D.\n";
 
-// The line comes where both are terminals, and nowhere else.
+// The prompt is shown if and only if the input and standard error are both terminals.
 #[test]
 fn at_terminals_alone(rt: HostRuntime) -> Result<(), Fail> {
     let path = path_of_book(&rt, "prompts")?;
@@ -48,8 +48,7 @@ fn at_terminals_alone(rt: HostRuntime) -> Result<(), Fail> {
     remove(&rt, book)
 }
 
-// Words and a book that are at fault are told before anything is asked for; and a command that reads no input asks
-// for none.
+// Faults of the words and of the book are reported before any prompt, and a command that reads no input shows no prompt.
 #[test]
 fn nothing_to_ask_for(rt: HostRuntime) -> Result<(), Fail> {
     let path = path_of_book(&rt, "unasked")?;

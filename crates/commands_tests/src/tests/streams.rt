@@ -1,10 +1,10 @@
-//! Input and faults that are kept in memory, and said to be terminals or not.
+//! Input and standard error in memory, which claim to be terminals or not.
 use commands::{TerminalInput, TerminalOutput};
 use std::alloc::Global;
 use std::io;
 use std::io::{BufRead, Read, Write};
 
-/// Input from this source.
+/// Input from `source`, which claims to be a terminal if `is_typed`.
 #[derive(Drop)]
 pub struct Input<R> {
     source: R,
@@ -12,7 +12,7 @@ pub struct Input<R> {
 }
 
 impl<'a> Input<&'a [u8]> {
-    /// Input of this text, at a terminal or not.
+    /// Input with this text, at a terminal or not.
     pub fn new(text: &'a str, is_typed: bool) -> Input<&'a [u8]> {
         let source = text.as_bytes();
         Input { source, is_typed }
@@ -49,7 +49,7 @@ pub struct Faults {
 }
 
 impl Faults {
-    /// Nothing is written yet; `is_watched` says whether it is a terminal.
+    /// A stream to which nothing has been written; `is_watched` says whether it is a terminal.
     pub fn new(alloc: Global, is_watched: bool) -> Faults {
         let bytes = Vec::new(alloc);
         Faults { bytes, is_watched }

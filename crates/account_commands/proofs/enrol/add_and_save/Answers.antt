@@ -4,7 +4,7 @@ use Rattle.account_commands.proofs.lemmas.EnrolFaults.{failed_adding_has_reason,
 use Rattle.command_io.proofs.lemmas.Results.{on_ok_from_both}
 use Rattle.account_commands.proofs.enrol.add_and_save.Goals as goal
 
--- the book of the file has changed, and the account is added to the one that is there now
+-- the book's file has changed, and the account is added to the book that it holds now
 pub returns-in_ok-held-in-Some-found-clause-saved : goal.returns-in_ok-held-in-Some-found-clause-saved
 returns-in_ok-held-in-Some-found-clause-saved g c =
     let read = rw c.in-Some-found.is at c.in_ok-file.ensures.read in

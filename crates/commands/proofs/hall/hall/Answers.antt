@@ -1,14 +1,22 @@
 use Rattle.std.proofs.Common.{inr, ℕ, List, ◌∙◌, subst}
 use Rattle.std.proofs.lemmas.Result.{IfErr-weaker}
 use Rattle.commands.specs.Hall.{StopsHearing}
-use Rattle.commands.proofs.lemmas.Cases.{second_weaker}
+use Rattle.commands.proofs.lemmas.Cases.{second_case_weakens}
 use Rattle.commands.proofs.lemmas.Faults.{unopened_book_excludes_bad_event}
 use Rattle.commands.proofs.hall.hall.Goals as goal
 
 pub returns-in-Ok-clause-err : goal.returns-in-Ok-clause-err
 returns-in-Ok-clause-err g c =
     IfErr-weaker c.hear_input.result.0 _ _
-    (λ fault. second_weaker (λ printed. (printed.0, record { text = _; book = _; is_read = c.in-Ok.ensures.read; printed = printed.1 })))
+    (λ fault. second_case_weakens (λ printed. (
+      printed.0,
+      record {
+        text = _;
+        book = _;
+        is_read = c.in-Ok.ensures.read;
+        printed = printed.1;
+      },
+    )))
     c.hear_input.ensures.err
 
 pub returns-in-Ok-clause-bad : goal.returns-in-Ok-clause-bad

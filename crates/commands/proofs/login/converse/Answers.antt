@@ -2,7 +2,8 @@ use Rattle.std.proofs.Common.{inl, refl}
 use Rattle.commands.specs.DeskLog.{IsLogAfterFaultWith}
 use Rattle.commands.specs.Talked.{talked_in}
 use Rattle.command_io.proofs.lemmas.Results.{handed_fault_keeps_fact}
-use Rattle.commands.proofs.lemmas.Logins.{two_steps_keep_log, later_fault_leaves_nonce_log}
+use Rattle.commands.proofs.lemmas.Cases.{second_case_weakens}
+use Rattle.commands.proofs.lemmas.DeskLogs.{two_steps_keep_log}
 use Rattle.commands.proofs.login.converse.Goals as goal
 
 pub returns-in_err-hang_up-clause-after_fault : goal.returns-in_err-hang_up-clause-after_fault
@@ -11,10 +12,9 @@ returns-in_err-hang_up-clause-after_fault g c =
     (IsLogAfterFaultWith g.S.BookStore.facts g.S.BookStore.IsStored g.C.Clock.IsNow c.args.server_nonce c.args.talk.now.desk
     (g.L.Sink.facts c.args.talk.now.log) c.hang_up.new.talk.desk (g.L.Sink.facts c.hang_up.new.talk.log))
     c.from_residual-in_err-hang_up.ensures.1
-    (later_fault_leaves_nonce_log g.S.BookStore.facts g.S.BookStore.IsStored g.C.Clock.IsNow _ _ _ _ _ _ _ _ c.in_ok-passed.ensures.log
-    c.in_err-hang_up.ensures.after_fault)
+    (second_case_weakens (two_steps_keep_log c.in_ok-passed.ensures.log) c.in_err-hang_up.ensures.after_fault)
 
--- where the client was let in and each code passed, it is told nothing more
+-- if the client was let in and each code passed, it is sent nothing more
 pub returns-clause-passes : goal.returns-clause-passes
 returns-clause-passes g c = λ is. record {
   last = talked_in g.R.Source.facts g.W.Sink.facts g.L.Sink.facts c.log_in_and_send.new.self;
@@ -25,8 +25,7 @@ returns-clause-passes g c = λ is. record {
 -- no session is open, so the log is clean
 pub returns-clause-clean : goal.returns-clause-clean
 returns-clause-clean g c = λ start before l.
-    let desk = two_steps_keep_log g.S.BookStore.facts g.S.BookStore.IsStored g.C.Clock.IsNow _ _ _ _ _ _ _ c.in_ok-passed.ensures.log
-    c.in_ok-hang_up.ensures.log start before l in (
+    let desk = two_steps_keep_log c.in_ok-passed.ensures.log c.in_ok-hang_up.ensures.log start before l in (
       _,
       c.log_is_clean.ensures.closed start desk.calls c.hang_up.new.talk.desk desk.stands (inl c.in_ok-hang_up.ensures.closed),
       record { calls = desk.calls; place = desk.stands.place; is_run = desk.stands.is_run; requests = desk.requests; is_log = refl },

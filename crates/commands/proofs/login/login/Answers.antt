@@ -1,6 +1,6 @@
 use Rattle.std.proofs.Common.{inl, inr}
 use Rattle.std.proofs.lemmas.Result.{IfErr-weaker, on_ok_weaker}
-use Rattle.commands.proofs.lemmas.Cases.{second_weaker}
+use Rattle.commands.proofs.lemmas.Cases.{second_case_weakens}
 use Rattle.commands.proofs.login.login.Goals as goal
 
 pub returns-in-Ok-open-clause-ok : goal.returns-in-Ok-open-clause-ok
@@ -22,7 +22,7 @@ returns-in-Ok-open-clause-ok g c =
 pub returns-in-Ok-open-clause-err : goal.returns-in-Ok-open-clause-err
 returns-in-Ok-open-clause-err g c =
     IfErr-weaker c.talk_over.result.0 _ _
-    (λ fault. second_weaker (λ printed. record {
+    (λ fault. second_case_weakens (λ printed. record {
       text = _;
       book = _;
       is_read = c.in-Ok.ensures.book;

@@ -11,8 +11,7 @@ returns-in-Ok-clause-ok g c =
     let before = ap (λ (f : SinkFacts). f.given) c.new.ensures in
     let after = c.into_output.ensures ∙ ap (λ (l : PrintedLog _). g.O.Write.contents l.output) c.into_log.ensures in
     on_ok_weaker c.converse-passed.result
-    (clean_log_is_printed g.S.BookStore.facts g.S.BookStore.IsStored _ _ c.args.login.server_nonce _ _ _ _ _ _ before after
-    (c.in-Ok.ensures.log c.args.login.server_nonce))
+    (clean_log_is_printed before (c.in-Ok.ensures.log c.args.login.server_nonce) after)
     c.converse-passed.ensures.clean
 
 pub returns-in-Ok-clause-err : goal.returns-in-Ok-clause-err
@@ -20,8 +19,8 @@ returns-in-Ok-clause-err g c =
     let before = ap (λ (f : SinkFacts). f.given) c.new.ensures in
     let after = c.into_output.ensures ∙ ap (λ (l : PrintedLog _). g.O.Write.contents l.output) c.into_log.ensures in
     IfErr-weaker c.converse-passed.result _ _
-    (λ fault. login_stops_after g.S.BookStore.facts g.S.BookStore.IsStored _ _ _ _ _ _ _ _ _ _ fault c.log_is_a_front.ensures
-    c.log_is_saved.ensures before after (c.in-Ok.ensures.log _))
+    (λ fault. login_stops_after before (c.in-Ok.ensures.log c.args.login.server_nonce) after
+    c.log_is_a_front.ensures c.log_is_saved.ensures)
     c.converse-passed.ensures.after_fault
 
 pub returns-in-Ok-clause-passes : goal.returns-in-Ok-clause-passes

@@ -13,5 +13,5 @@ returns-in_default-clause-none c = λ session moment said is at whole.
 pub returns-in-None-clause-none : goal.returns-in-None-clause-none
 returns-in-None-clause-none c = λ session moment said is at whole.
     c.in-None.ensures.none moment said at
-    (one_text_follows_number (codes "line ") c.args.line.now c.in_ok-text.text.now c.in-Some.session c.in-Some.rest.now
-    c.in_ok-text.ensures c.in-Some.ensures.some session (decimal moment ++ (byte " " ∷ said)) is whole)
+    (one_text_follows_number (codes "line ") c.args.line.now c.in_ok-text.text.now c.in_ok-text.ensures
+    c.in-Some.session c.in-Some.rest.now c.in-Some.ensures.some session (decimal moment ++ (byte " " ∷ said)) is whole)

@@ -11,5 +11,5 @@ pub returns-clause-leaves : goal.returns-clause-leaves
 returns-clause-leaves c =
     let message : c.as_slice.result.now ≡ c.args.message = search rules in
     λ is l x authentic.
-    let accepted = c.in-Err.ensures.only l x
+    let accepted = c.in-Err.ensures.every l x
     (subst (λ (text : List ℕ). IsAuthentic text x.signature) (sym message) authentic) in cc accepted

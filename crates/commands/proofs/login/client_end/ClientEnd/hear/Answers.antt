@@ -13,8 +13,8 @@ pub returns-in_default-clause-leaves : goal.returns-in_default-clause-leaves
 returns-in_default-clause-leaves c = λ left.
     no_line_makes_client_leave c.args.self.now c.args.line.now (λ line is. elim c.in_default.branch [
       | in_default-via-in-Ok+in_default w ↦
-          let only = rw w.in_default.is at (c.read_line.ensures.only (from_server line) is) in search (rules, only)
-      | in_default-via-in_default w ↦ rw w.in_default.is at (c.read_line.ensures.only (from_server line) is)
+          let only = rw w.in_default.is at (c.read_line.ensures.every (from_server line) is) in search (rules, only)
+      | in_default-via-in_default w ↦ rw w.in_default.is at (c.read_line.ensures.every (from_server line) is)
     ])
 
 pub returns-in-Proved-Accepts-clause-is_in : goal.returns-in-Proved-Accepts-clause-is_in

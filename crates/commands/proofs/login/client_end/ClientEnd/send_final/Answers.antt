@@ -20,4 +20,4 @@ returns-in-Ok-clause-says c = λ login started.
 
 pub returns-in-Err-Spent-clause-leaves : goal.returns-in-Err-Spent-clause-leaves
 returns-in-Err-Spent-clause-leaves c = λ is login started parts answerable.
-    rw c.in-Err-Spent.field-0-is at (c.in-Err-Spent.ensures.only login parts started answerable)
+    rw c.in-Err-Spent.field-0-is at (c.in-Err-Spent.ensures.every login parts started answerable)
