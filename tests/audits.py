@@ -1,13 +1,13 @@
 #!/usr/bin/env python3
-"""Compares what the built program answers to recorded logs, most of them faulty, with a table.
+"""Compares the built program's answers to recorded logs, most of them faulty, with a table.
 
-Usage: audits.py PROGRAM
+Usage: audits.py PROGRAM [TEST ..]
 
-Each row of data/audits/cases.csv, as audit_cases.py reads it. The logs were put together by hand: sha1.log from the example of RFC 5802,
-section 5, and sha256.log from that of RFC 7677, section 3; twice.log, which docs/OPERATING.md names, and interleaved.log from the former
-and codes of RFC 4226. The keys in their books are by Python's hashlib. Then come a login whose challenge has an extension, its proof made
-by Python's hmac; logs of a million lines; logs that are pipes; progress shown at a terminal; files that can't be read; and a book that
-another run holds.
+The table is data/audits/cases.csv, as audit_cases.py reads it. The logs were put together by hand: sha1.log from the example of RFC 5802,
+section 5, and sha256.log from that of RFC 7677, section 3; twice.log, which docs/OPERATING.md names, and interleaved.log from sha1.log
+and codes of RFC 4226. The keys in their books were computed with Python's hashlib. Then come a login whose challenge has an extension,
+with a proof made by Python's hmac; logs of a million lines; logs that are pipes; progress shown at a terminal; files that can't be read;
+and a book that another run holds.
 """
 import base64
 import fcntl
@@ -22,13 +22,13 @@ import suite
 from audit_cases import TABLE, cases
 from checks import equal
 from expected import AUDITS, SESSION_LEFT, login_keys, proved
-from suite import MOST_BYTES, PROGRAM, SALT, audit_says, prints, sleeps, until
+from suite import LIMIT, MOST_BYTES, PROGRAM, SALT, audit_says, prints, sleeps, until
 
 KEYS = AUDITS / "keys.toml"
 LOGIN = AUDITS / "sha1.log"
 CLEAN = "clean sessions=1 accepted=1 codes=0"
 
-# Why a line can be at fault, as docs/FORMATS.md has it.
+# Why a line can be at fault, as docs/FORMATS.md lists it.
 REASONS = {"cut", "not a line", "order", "mechs", "challenge", "outcome", "reply"}
 
 HEADER = b"SCRAMLOG 1\n"
@@ -37,13 +37,13 @@ ABORTED = b"S MECHS SCRAM-SHA-256 SCRAM-SHA-1\nC ABORT\nS NO :\nE\n"
 
 
 def reason(answer):
-    """The reason for which an answer calls a line at fault, or nothing."""
+    """The reason for which an answer calls a line at fault, or None."""
     found = re.fullmatch(r"line \d+: ([a-z ]+)(?:, due .*)?", answer)
     return found and found[1]
 
 
 def rows_of_table(folder):
-    """Each row, which leaves the book as it is. Each reason has one."""
+    """Each row has its answer, and leaves the book unchanged. Each reason has a row."""
     rows, log = cases(), pathlib.Path(folder, "log")
     equal({reason(row.answer) for row in rows} - {None}, REASONS, "the reasons that have a row")
     for line, (book, text, answer, shows) in enumerate(rows, 2):
@@ -54,7 +54,7 @@ def rows_of_table(folder):
 
 
 def signed(challenge):
-    """The proof and the signature of the first log's login to this challenge (RFC 5802, section 3)."""
+    """The proof and the signature of the first log's login for this challenge (RFC 5802, section 3)."""
     client, server = login_keys("sha1", b"pencil", bytes.fromhex(SALT), 4096)
     nonce = challenge.split(",")[0]
     joined = f"n=user,r=fyko+d2lbbFgONRv9qkxdawL,{challenge},c=biws,{nonce}".encode()
@@ -62,7 +62,7 @@ def signed(challenge):
 
 
 def other_challenges(folder):
-    """A recorded challenge may have extensions and a long own part; the proof is over the challenge as it was recorded."""
+    """A recorded challenge may have extensions and a long server's part of the nonce; the proof is over the challenge as recorded."""
     log = pathlib.Path(folder, "log")
     first = "r=fyko+d2lbbFgONRv9qkxdawL3rfcNHYJY1ZVvWVs7j,s=QSXCR+Q6sek8bf92,i=4096"
     proof, signature = signed(first)
@@ -88,13 +88,13 @@ def other_challenges(folder):
 
 
 def logs_from_pipes(folder):
-    """A log is read as it comes, and not past the line at fault: a pipe that stays open keeps no audit waiting."""
+    """A log is read as it arrives, and not past the line at fault: an audit does not wait for a pipe that stays open."""
     words = [PROGRAM, "audit", "--book", KEYS, "--log", "/dev/stdin"]
     audit_says(KEYS, "/dev/stdin", CLEAN, "a pipe", text=LOGIN.read_bytes())
     running = subprocess.Popen(words, stdin=subprocess.PIPE, stdout=subprocess.PIPE, stderr=subprocess.PIPE)
     running.stdin.write(HEADER + b"S MECHS SCRAM-SHA-1\n")
     running.stdin.flush()
-    equal((running.wait(20), running.stdout.read()), (1, b"line 2: mechs\n"), "a pipe that stays open")
+    equal((running.wait(LIMIT), running.stdout.read()), (1, b"line 2: mechs\n"), "a pipe that stays open")
     running.stdin.close()
     fifo = pathlib.Path(folder, "fifo")
     os.mkfifo(fifo)
@@ -105,7 +105,7 @@ def logs_from_pipes(folder):
 
 
 def shown_at(terminal):
-    """What is shown at a terminal, up to an exclamation mark."""
+    """The bytes shown at a terminal, up to an exclamation mark."""
     shown = b""
     while not shown.endswith(b"!"):
         shown += os.read(terminal, 4096)
@@ -113,20 +113,20 @@ def shown_at(terminal):
 
 
 def audit_at_a_terminal(wait):
-    """What an audit shows whose standard error is a terminal, and which waits so many seconds for more of its log. And how many seconds
-    it took."""
+    """Runs an audit whose standard error is a terminal, and which waits `wait` seconds for more of its log. Returns what it shows at
+    the terminal, and how many seconds it took."""
     terminal, end = os.openpty()
     words = [PROGRAM, "audit", "--book", KEYS, "--log", "/dev/stdin"]
     began = time.monotonic()
     running = subprocess.Popen(words, stdin=subprocess.PIPE, stdout=subprocess.PIPE, stderr=end)
     running.stdin.write(HEADER + SESSION_LEFT)
     running.stdin.flush()
-    # The program counts its two seconds from when it begins to read, and sleeps once it has read what is there.
+    # The program counts its two seconds from the start of its reading, and sleeps once it has read what is there.
     until(lambda: sleeps(running.pid))
     time.sleep(wait)
     running.stdin.write(SESSION_LEFT)
     running.stdin.close()
-    equal((running.stdout.read(), running.wait(20)), (b"clean sessions=2 accepted=0 codes=0\n", 0), "an audit at a terminal")
+    equal((running.stdout.read(), running.wait(LIMIT)), (b"clean sessions=2 accepted=0 codes=0\n", 0), "an audit at a terminal")
     seconds = time.monotonic() - began
     os.write(end, b"!")
     shown = shown_at(terminal)
@@ -136,21 +136,21 @@ def audit_at_a_terminal(wait):
 
 
 def progress_on_a_terminal(folder):
-    """Where standard error is a terminal, a run of two seconds shows its progress there, and clears it at the end."""
+    """If standard error is a terminal, a run of two seconds shows its progress there, and clears it at the end."""
     shown, _ = audit_at_a_terminal(2.2)
     equal(shown, f"\r7 lines, {len(HEADER + SESSION_LEFT * 2)} bytes\r\x1b[K".encode(), "what is shown at the terminal")
 
 
 def no_progress_of_a_short_run(folder):
     """A run of less than two seconds shows nothing at the terminal."""
-    # A machine that is busy may hold up even a short run, which is then tried again.
+    # A busy machine may delay even a short run, which is then tried again.
     runs = (audit_at_a_terminal(0) for _ in range(20))
     shown = next((shown for shown, seconds in runs if seconds < 1.5), None)
     equal(shown, b"", "what is shown at the terminal in a short run, of which one takes less than 1.5 seconds")
 
 
 def long_logs(folder):
-    """A log may have 1000000 lines; the limit is the audit's own."""
+    """A log may have 1000000 lines: the limit of the audit itself."""
     log = pathlib.Path(folder, "log")
     sessions = HEADER + SESSION_LEFT * 333333
     unfinished = HEADER + ABORTED + SESSION_LEFT * 333332
@@ -165,7 +165,7 @@ def long_logs(folder):
 
 
 def refuses(what, book, log, status, fault):
-    """Runs an audit that prints nothing, and compares its status and its fault, which is given without its beginning."""
+    """Runs an audit that prints nothing, and compares its status and its fault, which is given without its prefix."""
     prints([PROGRAM, "audit", "--book", book, "--log", log], b"", status, "", fault, what)
 
 
@@ -188,7 +188,7 @@ def unreadable_files(folder):
 
 
 def without_the_lock(folder):
-    """A book that another run holds keeps no audit waiting, and nothing is left in its folder."""
+    """An audit does not wait for a book that another run holds, and leaves nothing in the book's folder."""
     book, log = pathlib.Path(folder, "book"), pathlib.Path(folder, "log")
     book.write_bytes(KEYS.read_bytes())
     log.write_bytes(LOGIN.read_bytes())

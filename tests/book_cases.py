@@ -1,8 +1,8 @@
 """The rows of data/book_faults/cases.csv: account books, most of them faulty.
 
-Each row is a book: a file beside the table, in which `old`, which is there once, is replaced by `new`, and then `old2` by `new2`. `\\n`,
+Each row is a book: a file next to the table, in which `old`, which occurs once, is replaced by `new`, and then `old2` by `new2`. `\\n`,
 `\\\\` and `\\xNN` are written as in Python. `base` names the file, and `shows` says what the row is about. The answer is a fault's number,
-as docs/FORMATS.md has it, or what `unlock` prints for the account `user` in a book that it reads.
+from docs/FORMATS.md, or what `unlock` prints for the account `user` in a book that it reads.
 """
 import csv
 from typing import NamedTuple
@@ -13,7 +13,7 @@ TABLE = BOOK_FAULTS / "cases.csv"
 
 
 class Case(NamedTuple):
-    """A book, the answer, and what it is about."""
+    """A book, the answer, and what the case shows."""
 
     book: bytes
     answer: str
@@ -21,11 +21,11 @@ class Case(NamedTuple):
 
 
 def case(row):
-    """The case of a row."""
+    """The case that a row describes."""
     return Case(edited((BOOK_FAULTS / row["base"]).with_suffix(".toml").read_bytes(), row), row["answer"], row["shows"])
 
 
 def cases():
-    """The cases of the table, in its order."""
+    """The cases of all rows, in the table's order."""
     with open(TABLE, newline="", encoding="ascii") as table:
         return [case(row) for row in csv.DictReader(table)]

@@ -1,9 +1,9 @@
 #!/usr/bin/env python3
-"""What the commands on an account book print, in which order they look at things, and what they leave in its folder.
+"""What the commands on an account book print, in which order they check things, and what they leave in its folder.
 
-Usage: book_commands.py PROGRAM
+Usage: book_commands.py PROGRAM [TEST ..]
 
-As root, runs the program as the user nobody where permissions matter. Takes the 30 seconds for which runs
+When root runs it, the program runs as the user nobody in tests of permissions. Takes the 30 seconds for which runs
 wait for a lock.
 """
 import fcntl
@@ -25,13 +25,13 @@ COPY = tempfile.TemporaryDirectory()
 os.chmod(COPY.name, 0o755)
 PROGRAM = shutil.copy(sys.argv[1], COPY.name)
 
-# A book without accounts; an account without a token; and books with it and with `user`, whose token takes codes, or is locked.
+# A book without accounts; an account without a token; and books with that account and `user`, whose token takes codes or is locked.
 EMPTY = BOOK_OF_USER.removesuffix("\n[accounts.user]\n")
 BARE = "\n[accounts.bare]\n"
 BOOK = EMPTY + hotp(3, 3) + BARE
 LOCKED = EMPTY + hotp(3, 3, failures=3) + BARE
 
-# Each command's options beside the book, its input and its answer, where all is as it should be.
+# Each command's options besides the book, its input and its answer, when nothing is wrong.
 GOOD = {
     "enrol": ({"name": "new", "count": "1"}, "pencil\n", "enrolled new\n"),
     "verify": ({"name": "user", "moment": "5"}, CODES[0], "PASS 5 0\n"),
@@ -40,7 +40,7 @@ GOOD = {
 
 
 def run(command, options, text="", **how):
-    """Runs a command. A text is its input, a number the open file that is its input."""
+    """Runs a command. Its input is `text`, or the open file with that descriptor if it is a number."""
     words = [f"--{name}={value}" for name, value in options.items()]
     given = {"stdin": text} if isinstance(text, int) else {"input": text}
     streams = {"stdout": subprocess.PIPE, "stderr": subprocess.PIPE, "text": True, **given, **how}
@@ -48,13 +48,13 @@ def run(command, options, text="", **how):
 
 
 def well(command, book, **how):
-    """Runs a command on a book, with all else as it should be."""
+    """Runs a command on a book, with nothing else wrong."""
     options, text, _ = GOOD[command]
     return run(command, {"book": book, **options}, text, **how)
 
 
 def says(what, done, status, output, fault=""):
-    """Compares what a run answered. A fault is given without its beginning."""
+    """Compares what a run answered. A fault is given without its prefix."""
     equal((done.returncode, done.stdout, done.stderr), (status, output, fault_text(fault)), what)
 
 
@@ -73,8 +73,8 @@ def access(path):
 
 
 def climb(command, options, text, rungs):
-    """Runs a command that has many faults, and mends the one that it answers: each rung is an answer (status,
-    output, fault) and what is mended after it, which is options, another input, or a call."""
+    """Runs a command that has many faults, and mends the one that it reports. Each rung is an answer (status,
+    output, fault) and what mends it: options, another input, or a call."""
     for answer, mended in rungs:
         says(f"{command} {options}", run(command, options, text), *answer)
         if isinstance(mended, dict):
@@ -86,7 +86,7 @@ def climb(command, options, text, rungs):
 
 
 def order_of_enrol(folder):
-    """The options, the password, the book, the random file, and only then whether the name is taken."""
+    """`enrol` checks the options, the password, the book, the random file, and only then whether the name is taken."""
     book, random = os.path.join(folder, "book"), pathlib.Path(folder, "random")
     random.write_bytes(bytes(31))
     climb("enrol", {"random": random, "count": "0", "name": "", "book": book}, "", [
@@ -102,7 +102,7 @@ def order_of_enrol(folder):
 
 
 def order_of_a_new_book(folder):
-    """A bad password, or a random file that is not there or has less than 64 bytes, makes no book."""
+    """After a bad password, or with a random file that is missing or has less than 64 bytes, no book is made."""
     book, random = os.path.join(folder, "book"), pathlib.Path(folder, "random")
     climb("enrol", {"random": random, "name": "user", "count": "1", "book": book}, "\n", [
         ((2, "", "bad password"), "pencil"),
@@ -115,7 +115,7 @@ def order_of_a_new_book(folder):
 
 
 def order_of_verify(folder):
-    """The options, the book, the account, its token, and only then the input, which can't be read here."""
+    """`verify` checks the options, the book, the account, its token, and only then the input, which can't be read here."""
     book = os.path.join(folder, "book")
     unreadable = os.open(folder, os.O_RDONLY)
     climb("verify", {"moment": "x", "name": "", "book": book}, unreadable, [
@@ -132,7 +132,7 @@ def order_of_verify(folder):
 
 
 def order_of_unlock(folder):
-    """The name, the book, the account, its token."""
+    """`unlock` checks the name, the book, the account and its token."""
     book = os.path.join(folder, "book")
     climb("unlock", {"name": "", "book": book}, "", [
         ((2, "", "bad value for --name"), {"name": "nobody"}),
@@ -145,7 +145,7 @@ def order_of_unlock(folder):
 
 
 def bad_values(folder):
-    """Each value that an option refuses, with a book that is none."""
+    """Each bad value of an option is refused before the book is read, whose text is bad here too."""
     book = put(os.path.join(folder, "book"), "")
     numbers = ["", "-1", "+1", "01", "1 ", "1.0", "1e3", "0x1", "one", "18446744073709551616"]
     bad = [("enrol", "count", value) for value in [*numbers, "0", "4294967296"]]
@@ -159,7 +159,7 @@ def bad_values(folder):
 
 
 def values_at_their_limits(folder):
-    """The greatest count would take long, so the password is a bad one there."""
+    """Each option accepts its limits. The greatest count would take long, so the password is a bad one there."""
     book = put(os.path.join(folder, "book"))
     done = run("enrol", {"book": book, "name": "n" * 255, "count": "4294967295"}, "")
     says("the greatest count", done, 2, "", "bad password")
@@ -169,8 +169,8 @@ def values_at_their_limits(folder):
 
 
 def no_file(folder):
-    """No book is at the name of a folder or a pipe, at a link to nothing, in a folder that does not exist, or at no
-    name. A name with a slash after it is a folder's, even where there is nothing yet."""
+    """A folder, a pipe, a link to nothing, a path in a folder that does not exist, and an empty path are no book. Nor
+    is a path with a slash at its end, even if nothing is there yet."""
     inner, pipe, link = (os.path.join(folder, name) for name in ["inner", "pipe", "link"])
     os.mkdir(inner)
     os.mkfifo(pipe)
@@ -184,7 +184,7 @@ def no_file(folder):
 
 
 def unreadable(folder):
-    """A book that may not be read, and one in a folder that may not."""
+    """A book that may not be read, and a book in a folder that may not be read."""
     os.chmod(folder, 0o755)
     book = put(os.path.join(folder, "book"))
     for path, mode in [(book, 0o000), (folder, 0o311)]:
@@ -197,7 +197,7 @@ def unreadable(folder):
 
 
 def longest(folder):
-    """A book of 16777216 bytes is read, and one of one more byte is not."""
+    """A book of 16777216 bytes is read, and a book of one more byte is not."""
     book = os.path.join(folder, "book")
     for command in GOOD:
         text = BOOK + "#" * (MOST_BYTES - len(BOOK))
@@ -208,7 +208,7 @@ def longest(folder):
 
 
 def unwritable(folder):
-    """Where the folder may not be written the old book stays, and no change is reported."""
+    """If the folder may not be written, the old book stays, and no change is reported."""
     book, new = put(os.path.join(folder, "book")), os.path.join(folder, "new")
     if ROOT:
         for path in [book, folder]:
@@ -226,7 +226,7 @@ def unwritable(folder):
 
 
 def each_line(folder):
-    """Each line is a code as it is, whatever came before it; where one is refused the status says so."""
+    """Each line is judged as a code as it stands, whatever came before it. If one is refused, the status says so."""
     book, right = os.path.join(folder, "book"), CODES[0]
     for text, status, printed in [
         (f"000000\n{right}\n", 1, "FAIL 5\nPASS 5 0\n"),
@@ -241,7 +241,7 @@ def each_line(folder):
 
 
 def random_bytes(folder):
-    """An account that is added to a book takes 16 bytes for each salt, SHA-1's first. The book keeps its key for decoys."""
+    """A new account takes 16 random bytes for each salt, that of SHA-1 first. The book keeps its decoy key."""
     book, random = put(os.path.join(folder, "book")), pathlib.Path(folder, "random")
     random.write_bytes(bytes(range(64)))
     before = read_book(book)
@@ -254,7 +254,7 @@ def random_bytes(folder):
 
 
 def unsaved(folder):
-    """LOCKED saves nothing, nor does what is refused, nor an empty input."""
+    """Nothing is saved for the reply LOCKED, for a command that is refused, or for an empty input."""
     book = put(os.path.join(folder, "book"), LOCKED)
     before = seen(book)
     user, bare = {"book": book, **GOOD["verify"][0]}, {"book": book, "name": "bare"}
@@ -266,7 +266,7 @@ def unsaved(folder):
 
 
 def unlocked(folder):
-    """`unlock` always saves, even where no code has failed."""
+    """`unlock` always saves, even if no code has failed."""
     book = put(os.path.join(folder, "book"), LOCKED)
     for _ in range(2):
         before = seen(book)
@@ -292,8 +292,8 @@ def owner(folder):
 
 
 def shared_book(folder):
-    """A book of root that a group shares is not worked on by a member, who could not keep its owner; root works on it,
-    and the group then has no rights to it. Only root can try this."""
+    """A member of the group that shares a book of root's can't use it, since a save could not keep its owner. Root can,
+    and then the group has no rights to it. Only root can try this."""
     book = put(os.path.join(folder, "book"))
     for path, mode in [(book, 0o660), (folder, 0o2770)]:
         os.chown(path, 0, 4321)
@@ -304,7 +304,7 @@ def shared_book(folder):
 
 
 def group_of_others(folder):
-    """A book whose group its owner is not in is worked on and saved: the file then has the owner's group, and nobody but
+    """A book whose owner is not in its group can be used and saved: the file then has the owner's group, and only
     the owner may read it. Only root can try this."""
     book = put(os.path.join(folder, "book"))
     os.chown(folder, NOBODY.pw_uid, NOBODY.pw_gid)
@@ -317,7 +317,7 @@ def group_of_others(folder):
 
 
 def check_refused(book, runner):
-    """Each command on a book of another says why it is not worked on, and leaves it as it was."""
+    """Each command on another user's book says why it can't be used, and leaves it as it was."""
     before = seen(book)
     for command in GOOD:
         fault = f"{book} belongs to another user: only that user and root can save it\nscramotp: cannot write {book}"
@@ -327,8 +327,8 @@ def check_refused(book, runner):
 
 
 def others_book(folder):
-    """In a folder that others may write, or that belongs to another, a book of another is not read. Only root can try
-    this."""
+    """Another user's book is not read in a folder that others may write or that belongs to another user. Only root can
+    try this."""
     book = put(os.path.join(folder, "book"))
     os.chown(book, 1234, 4321)
     os.chmod(book, 0o666)
@@ -347,7 +347,7 @@ def others_book(folder):
 
 
 def others_next(folder):
-    """A file of another in the place of the next text, which can't be removed, is named in the fault. Only root can
+    """If another user's file is at the path of the next text and can't be removed, the fault names it. Only root can
     try this."""
     book, next_text = os.path.join(folder, "book"), put(os.path.join(folder, "book.new"))
     os.chown(put(book), NOBODY.pw_uid, NOBODY.pw_gid)
@@ -364,8 +364,8 @@ def others_next(folder):
 
 
 def closed_next(folder):
-    """A next text that its owner may not open is named in the fault, and stays: no run can tell whether another one holds it. Once it may
-    be opened the next run removes it."""
+    """If a file at the path of the next text may not be opened by its owner, the fault names it, and it stays: no run can tell whether
+    another one holds it. Once it may be opened, the next run removes it."""
     book, next_text = (put(os.path.join(folder, name)) for name in ["book", "book.new"])
     if ROOT:
         for path in [folder, book, next_text]:
@@ -381,7 +381,7 @@ def closed_next(folder):
     equal(os.listdir(folder), ["book"], "the folder")
 
 
-# Names that TOML takes bare, has to quote, has to escape, or could take for something else.
+# Names that TOML allows bare, that it has to quote or escape, or that it could take for something else.
 NAMES = [
     *" !\"#$%&'()*+,-./09:;<=>?@AZ[\\]^_`az{|}~",
     *["a.b", "a b", " a ", "it's", 'say "a"', "''", '""', "'''", '"""', '\'"\\', "C:\\mail", "\\n", "\\u0041"],
@@ -391,7 +391,7 @@ NAMES = [
 
 
 def names(folder):
-    """Each name is in the book as it was given, and is found there, even where a person quoted it in another way."""
+    """Each name is in the book as it was given, and is found there, even if a person quoted it in another way."""
     book = put(os.path.join(folder, "book"), EMPTY)
     for name in NAMES:
         options = {"book": book, "name": name}
@@ -409,7 +409,7 @@ def names(folder):
 
 
 def hard_links(folder):
-    """A file of two names can't be read as a book: a save would leave the old text under one of them."""
+    """A file with two names can't be read as a book: a save would leave the old text under one of them."""
     book, other = put(os.path.join(folder, "book")), os.path.join(folder, "other")
     os.link(book, other)
     before = seen(book)
@@ -424,7 +424,7 @@ def hard_links(folder):
 
 
 def held_by_another(folder):
-    """The commands that wait for a lock all the time leave the book as it was, and no other file."""
+    """Commands that wait in vain for a lock leave the book as it was, and no other file."""
     book, new = put(os.path.join(folder, "book")), os.path.join(folder, "new")
     runs = [*[(command, book) for command in GOOD], ("enrol", new)]
     with open(book) as old, open(put(new + ".new", "")) as next_text, ThreadPoolExecutor(len(runs)) as pool:

@@ -1,9 +1,9 @@
 #!/usr/bin/env python3
-"""Compares what the built program answers to account books, most of them faulty, with a table.
+"""Compares the built program's answers to account books, most of them faulty, with a table.
 
-Usage: book_faults.py PROGRAM
+Usage: book_faults.py PROGRAM [TEST ..]
 
-The table is data/book_faults/cases.csv. A book is judged before a name is looked up, and one that is refused is left as it is.
+The table is data/book_faults/cases.csv. A book is judged before a name is looked up, and a book that is refused is left as it is.
 """
 import pathlib
 
@@ -16,14 +16,14 @@ NUMBERS = {str(number) for number in range(60, 68)}
 
 
 def due(answer):
-    """The status, the output and the fault of `unlock` where this is the answer."""
+    """The status, the output and the fault of `unlock` for this answer."""
     if answer == "unlocked user":
         return 0, "unlocked user\n", ""
     return 1, "", f"bad book: {answer}" if answer in NUMBERS else answer
 
 
 def check(where, path, case):
-    """Runs a case, and compares what the program answers, and the book that it refuses."""
+    """Runs a case, and compares what the program answers; a book that it refuses has to be unchanged."""
     path.write_bytes(case.book)
     status, output, fault = due(case.answer)
     prints([PROGRAM, "unlock", "--book", path, "--name", "user"], b"", status, output, fault, where)
@@ -32,7 +32,7 @@ def check(where, path, case):
 
 
 def rows_of_table(folder):
-    """Each row. Each number has one."""
+    """Each row has its answer, and each fault's number has a row."""
     rows = cases()
     for line, case in enumerate(rows, 2):
         check(f"{TABLE.name}: line {line}: {case.shows}", pathlib.Path(folder, "book"), case)

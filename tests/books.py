@@ -1,9 +1,9 @@
 #!/usr/bin/env python3
-"""What only processes show of the commands on an account book: runs at the same time, runs that are
+"""Tests of the commands on an account book that need processes: runs at the same time, runs that are
 killed, links, modes, access lists, a save that can't be made, a lock that another run keeps, which files a run opens,
 files that take the book's place, and how paths are shown.
 
-Usage: books.py PROGRAM
+Usage: books.py PROGRAM [TEST ..]
 """
 import ctypes
 import errno
@@ -29,7 +29,7 @@ from suite import (
 
 BOOK = BOOK_OF_USER + hotp(look_ahead=3, limit=100)
 FIRST_CODE = CODES[0]
-# The user in those entries of an access list that name no user.
+# The user ID in the entries of an access list that name no user.
 NONE = 0xFFFFFFFF
 
 
@@ -59,14 +59,14 @@ def start_enrol(path, name, count):
 
 
 def locked(path):
-    """A descriptor that holds the lock of a file or a folder."""
+    """Locks a file or a folder, and returns the descriptor that holds the lock."""
     held = os.open(path, os.O_RDONLY)
     fcntl.flock(held, fcntl.LOCK_EX | fcntl.LOCK_NB)
     return held
 
 
 def waiting_verify(path, text=""):
-    """A run that holds the book, and waits for more input than this."""
+    """Starts a run that holds the book, is sent this text, and waits for more input."""
     run = subprocess.Popen(verify_words(path), stdin=subprocess.PIPE, stdout=subprocess.PIPE, stderr=subprocess.PIPE, text=True)
     run.stdin.write(text)
     run.stdin.flush()
@@ -81,7 +81,7 @@ def answered(run, text, want):
 
 
 def twenty_at_once(folder):
-    """A code passes once, whichever of the book's two names a run is given."""
+    """A code passes once, whichever of the book's two names each run is given."""
     book, link = os.path.join(folder, "book"), os.path.join(folder, "link")
     os.symlink("book", link)
     for _ in range(5):
@@ -97,7 +97,7 @@ def twenty_at_once(folder):
 
 
 def killed_at_any_moment(folder):
-    """Runs that are killed; the next one goes on from the book that they leave."""
+    """Runs are killed at any moment, and each next one goes on from the book that they leave."""
     here = BookFolder(folder, BOOK)
 
     def started(at, output):
@@ -111,25 +111,28 @@ def killed_at_any_moment(folder):
 
 
 def modes(folder):
-    """Only its owner can read a new book, whatever the mask; of a rewritten one's mode the owner's bits stay."""
+    """Only its owner can read a new book, whatever the umask. A rewritten book keeps only the owner's bits of its mode."""
     book = os.path.join(folder, "book")
     for mask in [0o000, 0o022, 0o077]:
         old = os.umask(mask)
-        equal(start_enrol(book, "user", 1).wait(LIMIT), 0)
-        os.umask(old)
-        equal(os.stat(book).st_mode & 0o7777, 0o600)
+        try:
+            enrolling = start_enrol(book, "user", 1)
+        finally:
+            os.umask(old)
+        equal(enrolling.wait(LIMIT), 0)
+        equal(oct(os.stat(book).st_mode & 0o7777), oct(0o600), f"umask {mask:03o}")
         os.remove(book)
     for before, after in [(0o640, 0o600), (0o604, 0o600), (0o600, 0o600), (0o444, 0o400)]:
         put_book(book)
         os.chmod(book, before)
         equal(verify(book, FIRST_CODE).stdout, "PASS 5 0\n")
-        equal(os.stat(book).st_mode & 0o7777, after)
+        equal(oct(os.stat(book).st_mode & 0o7777), oct(after), f"mode {before:03o} before")
         os.remove(book)
 
 
 def access_lists(folder):
-    """A save gives nobody more access by an access list: neither the group, whose bits in the mode are the list's mask,
-    nor those whom the folder's list names for new files."""
+    """A save gives nobody more access through an access list: neither the group, whose bits in the mode are the list's mask,
+    nor the users and groups that the folder's list names for new files."""
     book = os.path.join(folder, "book")
     put_book(book)
     os.chmod(book, 0o600)
@@ -161,7 +164,7 @@ def unwritable(folder):
 
 
 def locked_by_another(folder):
-    """A run waits for up to 30 seconds, and goes on at once where the lock becomes free."""
+    """A run waits for up to 30 seconds for the lock, and goes on as soon as it becomes free."""
     book = os.path.join(folder, "book")
     put_book(book)
     lock = locked(book)
@@ -181,7 +184,7 @@ def locked_by_another(folder):
 
 
 def locked_folder(folder):
-    """A lock of the folder keeps no run from the book; nor does a lock of another book in it."""
+    """A run does not wait for a lock on the folder, or on another book in it."""
     book, other = os.path.join(folder, "book"), os.path.join(folder, "other")
     put_book(book)
     put_book(other)
@@ -193,7 +196,7 @@ def locked_folder(folder):
 
 
 def one_lock(folder):
-    """The book is opened once, and each next file once: the run keeps its lock, even when it saves."""
+    """The book is opened once, and the file of each next text once: the run keeps its lock, even when it saves."""
     book = os.path.join(folder, "book")
     put_book(book)
     kinds = {0x20: "open", 0x80: "take its place"}
@@ -217,7 +220,7 @@ def one_lock(folder):
 
 
 def swapped(folder):
-    """A file that takes the book's path while a run waits for input is not written, and the run ends."""
+    """A file that takes the book's path while a run waits for input is not overwritten, and the run ends."""
     held = os.path.join(folder, "held")
     book, other, away = (os.path.join(held, name) for name in ["book", "other", "away"])
     os.mkdir(held)
@@ -258,11 +261,11 @@ def swapped(folder):
 
 
 def keys_before_the_lock(folder):
-    """`enrol` makes its keys while others use the book, or make it, and adds its account to the book as it is then."""
+    """`enrol` makes its keys while other runs use or make the book, and adds its account to the book as it is afterwards."""
     book, new = os.path.join(folder, "book"), os.path.join(folder, "new")
     put_book(book)
     slow = [start_enrol(path, "slow", 3000000) for path in [book, new]]
-    # Each of the two makes its keys for seconds of processor time, and is stopped early in that.
+    # Each of the two needs seconds of processor time for its keys, and is stopped early in that.
     until(lambda: all(taken(run.pid) > 0.1 for run in slow))
     for run in slow:
         run.send_signal(signal.SIGSTOP)
@@ -280,7 +283,7 @@ def keys_before_the_lock(folder):
 
 
 def made_at_once(folder):
-    """Runs that make a book at the same time find what the others have added, even where some are killed."""
+    """Runs that make a book at the same time find what the others have added, even if some are killed."""
     book = os.path.join(folder, "book")
     for _ in range(40):
         runs = [start_enrol(book, f"user{number}", 1) for number in range(6)]
@@ -297,7 +300,7 @@ def made_at_once(folder):
 
 
 def pipes(folder):
-    """In a folder that others may write, a pipe that takes the book's place at any moment keeps no run waiting."""
+    """In a folder that others may write, no run waits for a pipe that takes the book's place at any moment."""
     book, pipe, file = (os.path.join(folder, name) for name in ["book", "pipe", "file"])
     os.chmod(folder, 0o777)
     put_book(file)
@@ -324,7 +327,7 @@ def pipes(folder):
 
 
 def left_by_a_killed_run(folder):
-    """The next run removes the next text that a killed run left, even where it saves nothing."""
+    """The next run removes the file of a next text that a killed run left, even if it saves nothing."""
     book = os.path.join(folder, "book")
     put_book(book)
     put_book(book + ".new")
@@ -337,7 +340,7 @@ def left_by_a_killed_run(folder):
 
 
 def too_long(folder):
-    """A text that no command would read is not saved: here accounts take three times the bytes once written."""
+    """A text that no command would read is not saved: here the accounts take three times the bytes when they are written."""
     book = os.path.join(folder, "book")
     with open(book, "w") as file:
         file.write(BOOK + "[accounts]\n")
@@ -351,7 +354,7 @@ def too_long(folder):
 
 
 def shown_texts(folder):
-    """No path and no word sends control characters to a terminal, or begins a line of its own."""
+    """No path or word sends control characters to a terminal, or starts a new line there."""
     book = os.path.join(folder, "a\n\x1b[2J\x7f\u009b\u00e9")
     shown = os.path.join(folder, "a\\x0a\\x1b[2J\\x7f\\x9b\u00e9")
     run = verify(book, "")
@@ -370,7 +373,7 @@ def shown_texts(folder):
 
 
 def input_limit(folder):
-    """All lines together may have 16777216 bytes; the replies before that are printed."""
+    """All lines together may have 16777216 bytes. The replies to the lines before the limit are printed."""
     book = os.path.join(folder, "book")
     put_book(book)
     run = verify(book, "x\n" + "a" * (MOST_BYTES - 2))

@@ -1,5 +1,5 @@
-"""What the scripts on all commands share: each command with words and an input that it takes, what it prints for them, and what the
-book has after each of its saves, worked out by Python from RFC 4226, RFC 5802 and RFC 7677."""
+"""What the scripts on all commands share: each command with words and an input that it accepts, what it prints for them, and what the
+book has after each of its saves, computed in Python from RFC 4226, RFC 5802 and RFC 7677."""
 import copy
 import os
 import pathlib
@@ -13,18 +13,18 @@ from typing import NamedTuple
 import suite
 from checks import equal
 from expected import ACCEPTED, AUDITS, AUTH, GONE, RESP, keys_of, numbered
-from suite import CODES, KEYS_OF_PENCIL, NONCES, PROGRAM, SALT, SECRET
+from suite import CODES, KEYS_OF_PENCIL, LIMIT, NONCES, PROGRAM, SALT, SECRET
 
-# RFC 5802's user with RFC 4226's token, of which two codes have failed.
+# RFC 5802's user with RFC 4226's token, at which two codes have failed.
 BOOK = (AUDITS / "hotp.toml").read_text().replace("failures = 0", "failures = 2")
-# The same with a token that is locked by 100 failures, and not by three.
+# The same with a token that is locked after 100 failures, not after three.
 LIMIT_100 = BOOK.replace("limit = 3", "limit = 100")
 LOG = ACCEPTED + GONE
 RANDOM = bytes(range(64))
 
 
 def parsed_book(text):
-    """What a book says, whichever of its keys are left out."""
+    """What a book states, with values for the keys that it may leave out."""
     book = tomllib.loads(text)
     for account in book["accounts"].values():
         account.setdefault("act_as", [])
@@ -34,14 +34,14 @@ def parsed_book(text):
 
 
 def with_token(book, **fields):
-    """A book whose token has these values."""
+    """The book with these values for its token."""
     changed = copy.deepcopy(book)
     changed["accounts"]["user"]["token"].update(fields)
     return changed
 
 
 def new_account(salts):
-    """The account that `enrol` makes with these salts, of the password `pencil`."""
+    """The account that `enrol` makes with these salts and the password `pencil`."""
     tables = {"act_as": []}
     for function, salt in zip(["sha1", "sha256"], salts):
         stored, server = keys_of(function, b"pencil", salt, 1)
@@ -50,26 +50,26 @@ def new_account(salts):
 
 
 def with_account(book):
-    """A book to which `enrol` has added the account `new`: RANDOM begins with its salts."""
+    """The book after `enrol` has added the account `new`: RANDOM begins with its salts."""
     changed = copy.deepcopy(book)
     changed["accounts"]["new"] = new_account([RANDOM[:16], RANDOM[16:32]])
     return changed
 
 
 def made_book():
-    """The book that `enrol` makes where there is none: RANDOM begins with its key for decoys, and the salts follow."""
+    """The book that `enrol` makes if there is none: RANDOM begins with its decoy key, and the salts follow."""
     accounts = {"new": new_account([RANDOM[32:48], RANDOM[48:]])}
     return {"format": 1, "decoy_key": RANDOM[:32].hex(), "decoy_count": 4096, "accounts": accounts}
 
 
 def after_codes(book, count):
-    """A book before and after each of so many codes, which all pass."""
+    """A book before `count` codes that all pass, and after each of them."""
     return [book] + [with_token(book, next=number, failures=0) for number in range(1, count + 1)]
 
 
 class Command(NamedTuple):
-    """A command, its words but for the paths, its input, what it prints where all is well, and the book before and after
-    each save, or None where there is none."""
+    """A command, its words without the paths, its input, what it prints when all goes well, and the book before the run
+    and after each save, or None if there is no book."""
 
     name: str
     words: list
@@ -78,31 +78,31 @@ class Command(NamedTuple):
     books: list
 
     def in_folder(self, folder):
-        """The whole words, with the paths of files of this folder."""
+        """All words, with the paths of files in this folder."""
         paths = {name: os.path.join(folder, name) for name in ["book", "log", "random", "socket"]}
         return [PROGRAM, self.name, *[word.format(**paths) for word in self.words]]
 
     def saves_told(self, printed):
-        """How many saves are told by what was printed."""
+        """How many saves the printed text implies."""
         if self.name in ("login", "hall"):
             return printed.startswith("SCRAMLOG") + printed.count(" PASS ")
         return len(re.findall(r"^(?:PASS .*|enrolled new|unlocked user)\n", printed, re.M)) if len(self.books) > 1 else 0
 
 
 def events(count):
-    """Events of a hall: a login and so many codes; and its log."""
+    """The events of a hall with one login and `count` codes, and its log."""
     sent = [f"line 1 5 {AUTH[2:]}", f"line 1 5 {RESP[2:]}", *[f"line 1 5 CODE {code}" for code in CODES[:count]], "gone 1 5"]
     text = "".join(f"{line}\n" for line in ["open 3rfcNHYJY1ZVvWVs7j", *sent])
     return text, numbered(login_log(count))
 
 
 def login_log(count):
-    """The log of a login with so many codes."""
+    """The log of a login with `count` codes."""
     return ACCEPTED + "".join(f"C CODE {code}\nS PASS 5 {number}\n" for number, code in enumerate(CODES[:count])) + GONE
 
 
 def commands(count=2):
-    """All commands. Those that take codes are sent so many."""
+    """All commands. Those that take codes are sent `count` of them."""
     book, codes = parsed_book(BOOK), "".join(f"{code}\n" for code in CODES[:count])
     on = ["--book", "{book}", "--name"]
     login = [*on, "user", "--socket", "{socket}", "--mechanism", "SCRAM-SHA-1", *NONCES, "--moment", "5"]
@@ -129,12 +129,12 @@ def command_of(name, count=2):
 
 
 def new_book():
-    """`enrol` where there is no book yet."""
+    """`enrol` for a book that does not exist yet."""
     return command_of("enrol")._replace(books=[None, made_book()])
 
 
 def prepare(folder, command, mode=0o600):
-    """Makes the log, the random file and the book, unless the command is to make that, in a folder that had files of another run."""
+    """Empties a folder of an earlier run's files, and makes there the log, the random file and, unless the command makes it, the book."""
     here = pathlib.Path(folder)
     for name in os.listdir(folder):
         if (here / name).is_dir():
@@ -149,21 +149,21 @@ def prepare(folder, command, mode=0o600):
 
 
 def left(folder):
-    """What is in a folder beside the files that every run finds there."""
+    """The names in a folder, except those of files that every run finds there."""
     return set(os.listdir(folder)) - {"book", "log", "random"}
 
 
 def run(command, folder, **how):
-    """Runs a command on the files of a folder, with its input unless another is given: its status, output and faults."""
+    """Runs a command on the files of a folder, with its input unless another is given. Returns its status, output and faults."""
     given = {"stdout": subprocess.PIPE, "stderr": subprocess.PIPE, **how}
     if "stdin" not in given:
         given.setdefault("input", command.text.encode())
-    done = subprocess.run(command.in_folder(folder), timeout=60, **given)
+    done = subprocess.run(command.in_folder(folder), timeout=LIMIT, **given)
     return done.returncode, *((text or b"").decode() for text in (done.stdout, done.stderr))
 
 
 def book_of(folder):
-    """What the book of a folder says, or None where there is none; its text where that is no book."""
+    """What the book in a folder states, or None if there is none; its text if that is not TOML."""
     path = pathlib.Path(folder, "book")
     if not path.exists():
         return None
@@ -174,7 +174,7 @@ def book_of(folder):
 
 
 def is_untouched(folder, command, mode=0o600):
-    """Whether the book is, byte for byte and in its mode, as it was, or there still is none."""
+    """Whether the book's bytes and mode are as they were, or there still is no book."""
     path = pathlib.Path(folder, "book")
     if command.books[0] is None:
         return not os.path.lexists(path)
@@ -182,7 +182,7 @@ def is_untouched(folder, command, mode=0o600):
 
 
 def is_kept(folder, command, printed):
-    """Whether the book is whole, has each change that was told and at most one more, and only its owner can read it."""
+    """Whether the book is whole, has each change that was reported and at most one more, and only its owner can read it."""
     saved = command.saves_told(printed)
     path = pathlib.Path(folder, "book")
     if path.exists() and stat.S_IMODE(path.stat().st_mode) != 0o600:
@@ -191,12 +191,12 @@ def is_kept(folder, command, printed):
 
 
 def is_done(folder, command):
-    """Whether all that the command has to save is saved, and it left no file beside."""
+    """Whether the command has saved all that it has to save, and left no other file."""
     return is_kept(folder, command, command.printed) and book_of(folder) == command.books[-1] and left(folder) == set()
 
 
 def audited(folder, before, log):
-    """Compares what an audit says of a log of one login, by the book of this text: as many codes passed as the log says."""
+    """Audits a log of one login by the book with the text `before`: the log is clean, with as many codes passed as it has PASS lines."""
     book = pathlib.Path(folder, "book")
     after = book.read_text()
     book.write_text(before)
@@ -207,7 +207,7 @@ def audited(folder, before, log):
 
 
 def printed_begins_clean(folder, printed):
-    """Whether a log of `login` or `hall` is at fault in no line that it has, whole or not, by the book that it began with."""
+    """Whether no line of a log of `login` or `hall`, whole or not, is at fault by the book that it began with."""
     before = pathlib.Path(folder, "before")
     before.write_text(BOOK)
     is_clean = suite.begins_clean(before, printed)
@@ -216,8 +216,8 @@ def printed_begins_clean(folder, printed):
 
 
 def is_front(command, printed):
-    """Whether this begins what the command prints; or is the log of a desk or a hall that halted at the code that it judged last, or
-    that of a desk which could hear its client no more."""
+    """Whether what was printed begins the command's whole output; or is the log of a desk or a hall that halted at the last code that it
+    judged, or of a desk that could no longer hear its client."""
     ends = {"login": r"(?:C CODE \d+\nS HALT|C GONE\nE)\n\Z", "hall": r"1 C CODE \d+\n1 S HALT\n\Z"}
     front = re.sub(ends[command.name], "", printed) if command.name in ends else printed
     return command.printed.startswith(front)

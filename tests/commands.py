@@ -1,7 +1,7 @@
 #!/usr/bin/env python3
-"""What the built program prints, with which status it ends, and what it writes into a book, case by case.
+"""What the built program prints, with which status it ends, and what it writes to a book, case by case.
 
-Usage: commands.py PROGRAM
+Usage: commands.py PROGRAM [TEST ..]
 """
 import os
 import re
@@ -25,12 +25,12 @@ LONGEST = "00112233445566778899aabbccddeeff00112233445566778899AABBCCDDEEFF" * 2
 
 TOTP = totp(limit=3)
 
-# The pages of help
+# The help pages
 HELP = DATA / "help"
 
-# What the example of each command prints, in an order in which they can be run: the keys of RFC 5802's example, by Python's hashlib;
-# RFC 4226, appendix D, and RFC 6238, appendix B; the first code of RFC 4226 once more; logs in which no login was accepted; one of a login
-# and a code; a hall in which no login was accepted.
+# What the example of each command prints, in an order in which they can be run: the keys of RFC 5802's example, from Python's hashlib;
+# RFC 4226, appendix D, and RFC 6238, appendix B; the first code of RFC 4226 once more; logs in which no login was accepted; a log of a
+# login and a code; a hall in which no login was accepted.
 EXAMPLES = [
     ("keys", KEYS_OF_PENCIL),
     ("code", "755224\n94287082\n"),
@@ -45,12 +45,12 @@ EXAMPLES = [
 
 
 def check(words, text, status, printed="", fault=""):
-    """Runs the program, and compares status, output and fault; a fault of its own is given without its beginning."""
+    """Runs the program, and compares its status, output and fault, which is given without its prefix."""
     prints([PROGRAM, *words], text, status, printed, fault)
 
 
 def check_usage(words, begin):
-    """Runs the program with faulty words, and compares its status and how its fault begins, which is `begin`."""
+    """Runs the program with faulty words, and compares its status; its fault has to begin with `begin`."""
     status, output, faults = ran([PROGRAM, *words], "pencil\n")
     equal((status, output), (2, ""), words, faults)
     holds(faults.startswith(begin), words, faults)
@@ -83,13 +83,13 @@ def passwords(folder):
 
 
 def key_lines(name, password, salt, count):
-    """The two lines of `keys`, by Python's own Hi and HMAC (RFC 5802, section 3)."""
+    """The two lines of `keys`, from Python's own Hi and HMAC (RFC 5802, section 3)."""
     stored, server = keys_of({"SCRAM-SHA-1": "sha1", "SCRAM-SHA-256": "sha256"}[name], password, salt, count)
     return f"stored={stored}\nserver={server}\n"
 
 
 def values_at_their_limits(folder):
-    """The longest password and salts, and the least count; of the greatest count only that it is taken."""
+    """The longest password and salts, and the least count. The greatest count takes too long, so it is only seen to be accepted."""
     for mechanism in ["SCRAM-SHA-1", "SCRAM-SHA-256"]:
         for salt, count in [("00", 1), (LONGEST, 2)]:
             printed = key_lines(mechanism, b"a" * 1024, bytes.fromhex(salt), count)
@@ -98,7 +98,7 @@ def values_at_their_limits(folder):
 
 
 def bad_values(folder):
-    """Options are judged in the order mechanism, salt, count, before the password."""
+    """Options are checked in the order mechanism, salt, count, and before the password."""
     for mechanism, salt, count, option in [
         ("SCRAM-SHA-512", SALT, "4096", "mechanism"),
         ("scram-sha-1", "", "0", "mechanism"),
@@ -137,7 +137,7 @@ def codes(folder):
 
 
 def bad_codes(folder):
-    """Options are judged in the order secret, digits, counter, moment, hash, t0, step, and only then used."""
+    """Options are checked in the order secret, digits, counter, moment, hash, t0, step, and only then used."""
     def refused(words, status, fault, secret=SECRET):
         check(["code", "--secret", secret, *words.split()], "", status, fault=fault)
 
@@ -157,7 +157,7 @@ def bad_codes(folder):
 
 
 def usage(folder):
-    """Words that name no command or option, or not all of them."""
+    """Words that name no command or no option, or that leave out what is needed."""
     for words, begin in [
         ("", "error: 'scramotp' requires a subcommand but one was not provided"),
         ("nothing", "error: unrecognized subcommand 'nothing'"),
@@ -182,7 +182,7 @@ def usage(folder):
 
 
 def help_of(words):
-    """What is printed for --help, in lines of at most 100 columns."""
+    """The output of --help, whose lines have at most 100 columns."""
     status, output, faults = ran([PROGRAM, *words, "--help"])
     equal((status, faults), (0, ""), words, output)
     holds(all(len(line) <= 100 for line in output.splitlines()), output)
@@ -190,7 +190,7 @@ def help_of(words):
 
 
 def help_and_version(folder):
-    """Each page of help is that of data/help, and each page there is of a command, or of the program."""
+    """Each help page is that in data/help, and each page there belongs to a command or to the program."""
     check(["--version"], "", 0, "scramotp 0.1.0\n")
     pages = {"scramotp": [], **{command: [command] for command, _ in EXAMPLES}}
     equal({path.stem for path in HELP.iterdir()}, set(pages))
@@ -201,14 +201,14 @@ def help_and_version(folder):
 
 
 def example_of(command):
-    """The commands whose examples come before that of this command, as its help names them, and its example."""
+    """The commands whose examples have to be run before that of this command, as its help names them; and its example."""
     form = r"^Examples?(?:, after (?:that|those) of ([a-z]+(?: and [a-z]+)*))?:.*\n((?:  .*\n?)+)\Z"
     [(before, example)] = re.findall(form, help_of([command]), re.M)
     return before.split(" and ") if before else [], example
 
 
 def runs_example(folder, command):
-    """The example of a command runs as it stands, with the program on the PATH; `verify` has the moment of now."""
+    """The example of a command runs as it stands, with the program on the PATH; that of `verify` prints the present moment."""
     with tempfile.TemporaryDirectory() as beside:
         environment, words = program_on_path(beside), ["sh", "-ec", example_of(command)[1]]
         began = int(time.time())
@@ -219,7 +219,7 @@ def runs_example(folder, command):
 
 
 def examples(folder):
-    """All examples run in a folder that is empty at first. Nobody else can read what they leave, also with a umask that lets everyone."""
+    """All examples run in a folder that is empty at first. Nobody else can read what they leave, even with umask 0."""
     for command, _ in EXAMPLES:
         runs_example(folder, command)
     equal(os.listdir(folder), ["logins"])
@@ -228,7 +228,7 @@ def examples(folder):
 
 
 def examples_alone(folder):
-    """Each example needs those alone that it names."""
+    """Each example needs only those that it names."""
     for command, _ in EXAMPLES:
         before, _ = example_of(command)
         place = Path(folder, command)
@@ -262,7 +262,7 @@ def server_signature(folder):
 
 
 def hotp_codes(folder):
-    """Codes of RFC 4226, appendix D: each passes once, in order, at most three counters ahead."""
+    """Codes of RFC 4226, appendix D: each passes once, in order, and at most three counters ahead."""
     book = os.path.join(folder, "book")
     write(book, BOOK_OF_USER, hotp(3, 3))
     text = "755224\n755224\n338314\n359152\n162583\n755224x\n"
@@ -279,8 +279,8 @@ FAR_PAIR = "SYNC 399871 520489\n"
 
 
 def pairs_of_codes(folder):
-    """A line `SYNC text text` passes by two codes of RFC 4226, appendix D, in a row, and spends both; with no key sync_ahead by those of
-    the next two counters alone."""
+    """A line `SYNC text text` passes with two codes of RFC 4226, appendix D, in a row, and spends both. Without the key sync_ahead it
+    passes only with those of the next two counters."""
     book = os.path.join(folder, "book")
     runs = [
         (8, "399871\nSYNC 338314 969429\n" + FAR_PAIR, "FAIL 5\nFAIL 5\nPASS 5 9\n"),
@@ -316,7 +316,7 @@ def texts_that_are_no_pair(folder):
 
 
 def two_steps_in_a_row(folder):
-    """A TOTP token passes by no two codes: a line `SYNC text text` fails, and counts."""
+    """A TOTP token accepts no two codes in a row: a line `SYNC text text` fails, and counts as a failure."""
     book = os.path.join(folder, "book")
     write(book, BOOK_OF_USER, TOTP)
     verify(book, "59", "SYNC 94287082 37359152\n94287082\n", 1, "FAIL 59\nPASS 59 1\n")
@@ -324,7 +324,7 @@ def two_steps_in_a_row(folder):
 
 
 def totp_codes(folder):
-    """Codes of RFC 6238, appendix B: that of the next step passes too, and none passes again or after a later one."""
+    """Codes of RFC 6238, appendix B: that of the next step passes too, and no code passes again, or after one of a later step."""
     book, moment = os.path.join(folder, "book"), "1111111109"
     write(book, BOOK_OF_USER, TOTP)
     verify(book, moment, "14050471\n07081804\n", 1, f"PASS {moment} 37037037\nFAIL {moment}\n")
@@ -341,7 +341,7 @@ def totp_codes(folder):
 
 
 def totp_codes_of_each_hash(folder):
-    """Codes of RFC 6238, appendix B, of tokens by each hash function: each passes once, and none at a token by another."""
+    """Codes of RFC 6238, appendix B, at tokens with each hash function: each passes once, and none at a token with another one."""
     book, moment = os.path.join(folder, "book"), "1111111109"
     codes_of = {"sha1": "07081804", "sha256": "68084774", "sha512": "25091201"}
     for function, passes in codes_of.items():
@@ -354,7 +354,7 @@ def totp_codes_of_each_hash(folder):
 
 
 def locked_tokens(folder):
-    """A locked token takes no code until it is unlocked, and never again a code that has passed."""
+    """A locked token accepts no code until it is unlocked, and never again a code that has passed."""
     book = os.path.join(folder, "book")
     write(book, BOOK_OF_USER, hotp(0, 2))
     verify(book, "3", "000000\n111111\n755224\n", 1, "FAIL 3\nFAIL 3\nLOCKED 3\n")
@@ -387,7 +387,7 @@ def enrolling(folder):
 
 
 def words_that_are_no_text(folder):
-    """A word that is not UTF-8 is refused before any is looked at."""
+    """A word that is not UTF-8 is refused before any word is looked at."""
     equal(ran([PROGRAM, "keys", "--salt", b"\xff"]), (2, "", "error: the arguments are not UTF-8 text\n"))
 
 

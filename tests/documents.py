@@ -1,41 +1,50 @@
 #!/usr/bin/env python3
-"""Checks that what the documents name is there: links and their sections, paths, and the names of the sources that they cite; that no
+"""Checks that what the documents name exists: links and their sections, paths, and the names in the sources that they cite; that no
 test is left out; and that sizes are not stale.
 
 Usage: documents.py
 
-Each link between pages leads to a page and a section of it. Each path between backquotes is one of the repository, and each file of
-sources that is named is one of a crate. Each name that a page of promises has between backquotes is one of the sources. So is each of a
-page for maintainers, of docs/REFUSALS.md and of docs/TESTING.md, or one of a script, where it has no space. run.py runs each script of
-this folder that takes a program, and docs/TESTING.md names each script. The sizes of docs/PROMISES.md and README.md are about those of the
-sources, and docs/TESTING.md tells how many rows the tables of vectors and of faulty books have. The kit that the Makefile names is that of
-docs/PROMISES.md and README.md.
+Each link between pages leads to a page and a section in it. Each path between backquotes is in the repository, and each source file that
+is named is in a crate. Each name that a page of promises has between backquotes is in the sources. Each name without a space in a page
+for maintainers, in docs/REFUSALS.md or in docs/TESTING.md is in the sources or in a script. A name that a page gives together with a
+file, as in `name` of `file.rt` or `file.rt` (`name`, `other`), is in that file. So is each law of docs/LOG_PROMISES.md in one of the
+files that are named before its table. run.py runs each script in this folder that takes a program, and docs/TESTING.md names each
+script. A script that runs a list of tests uses all of its functions. The sizes in docs/PROMISES.md and README.md are about those of the
+sources, and docs/TESTING.md says how many rows the tables of vectors and of faulty books have. The kit that the Makefile names is that in
+docs/PROMISES.md and README.md. Each fault has a line, and the status is then 1.
 """
+import ast
 import csv
 import re
+import sys
 from pathlib import Path
 
 import run
-from checks import equal
+from edit_sources import Unusable, read_edit
 
 TOP = Path(__file__).resolve().parent.parent
 PAGES = [TOP / "README.md", TOP / "CONTRIBUTING.md", TOP / "CHANGELOG.md", *sorted(TOP.glob("docs/*.md")), TOP / "bench" / "README.md"]
 PROMISES = ["PROMISES.md", "LOG_PROMISES.md", "CONTRACTS.md"]
 MAINTAINERS = ["ARCHITECTURE.md", "DECISIONS.md", "MUTATIONS.md", "PROVING.md", "REFUSALS.md", "TESTING.md", "TIMES.md"]
 
-# The kit by which all was proved: its name, and what tells its logic from that of another.
+# The kit with which everything was proved: its name, and the checksum of its logic.
 KIT = re.search(r"^KIT = (.+)$", (TOP / "Makefile").read_text(encoding="utf-8"), re.MULTILINE).group(1)
 
-# What pages of promises have between backquotes that no source has: an example of a name, and the kit's own identity.
+# What pages of promises have between backquotes although no source has it: an example of a name, and the kit's own identity.
 NOT_OF_THE_SOURCES = {"IsX", *KIT.split()}
-# What the pages of MAINTAINERS have that no source and no script has: calls that are not made, types and options, the beginning of some
-# names, and a command of the system.
+# What the pages of MAINTAINERS have although no source or script has it: calls that are not made, types and options, the beginning of
+# some names, and a command of the system.
 NOT_OF_THE_REPOSITORY = {"shrink_to_fit", "wrapping_abs", "getxattr", "O_NOFOLLOW", "O_NONBLOCK", "read_", "read_until", "as_mut_slice"}
 NOT_OF_THE_REPOSITORY |= {"i32", "self-test", "df"}
 
+# How a page gives a name together with the file in which it stands: the name first, or the file and then some names.
+FILE = r"`([\w/.-]+\.(?:rt|antt|py))`"
+NAME_FIRST = re.compile(rf"((?:`[^`\n]+`,\s+)*`[^`\n]+`)\s+(?:in|of)\s+{FILE}")
+FILE_FIRST = re.compile(rf"{FILE}(?: \| |\s+\()((?:`[^`\n]+`,\s+)*`[^`\n]+`)")
+
 
 def prose(page):
-    """The lines of a page, numbered from 1, but for those of its blocks."""
+    """The lines of a page, numbered from 1, without those of its code blocks."""
     is_block = False
     for number, line in enumerate(page.read_text(encoding="utf-8").splitlines(), 1):
         if line.startswith("```"):
@@ -45,13 +54,13 @@ def prose(page):
 
 
 def sections(page):
-    """The names by which a link finds the sections of a page, made from their titles as GitHub makes them."""
+    """The anchors of a page's sections, made from their titles as GitHub makes them."""
     titles = [line.lstrip("#").strip().lower() for _, line in prose(page) if re.match(r"#+ ", line)]
     return {re.sub(r"[^\w\- ]", "", title).replace(" ", "-") for title in titles}
 
 
 def broken_links(page):
-    """The links of a page that lead to no file, or to no section of it."""
+    """The links of a page that lead to no file, or to no section of the file."""
     for number, line in prose(page):
         for target in re.findall(r"\]\(([^)\s]+)\)|^\[\w+\]: (\S+)", line):
             path, _, section = "".join(target).partition("#")
@@ -63,7 +72,7 @@ def broken_links(page):
 
 
 def missing_paths(page):
-    """The paths of a page, from the repository's top, at which nothing is."""
+    """The paths of a page, relative to the repository's top, at which nothing exists."""
     for number, line in prose(page):
         for path in re.findall(r"`((?:bench|crates|docs|tests|tools)/[\w./-]+)`", line):
             is_of_any_crate = "NAME" in path
@@ -73,28 +82,33 @@ def missing_paths(page):
 
 
 def sources():
-    """The files of all crates, as paths from the repository's top and as one text."""
+    """The text of each file of all crates, by its path from the repository's top."""
     files = [file for file in sorted(TOP.glob("crates/**/*")) if file.suffix in (".rt", ".antt") and "out" not in file.parts]
-    paths = [str(file.relative_to(TOP)) for file in files]
-    return paths, "\n".join(file.read_text(encoding="utf-8") for file in files)
+    return {str(file.relative_to(TOP)): file.read_text(encoding="utf-8") for file in files}
+
+
+def words_of(text):
+    """The names in a text of sources or scripts."""
+    return set(re.findall(r"[\w◌'-]+", text))
 
 
 def quoted(page):
-    """The names between backquotes of a page, each with where it stands."""
+    """The names between backquotes in a page, each with its place."""
     for number, line in prose(page):
         for name in re.findall(r"`([^`]+)`", line):
             yield f"{page.name}:{number}: {name}", name
 
 
 def unknown_files(page, paths):
-    """The files of sources that a page names and no crate has, by the end of their path."""
+    """The source files that a page names, by the end of their path, and that no crate has."""
     for where, name in quoted(page):
         if re.fullmatch(r"[\w/]+\.(rt|antt)", name) and "NAME" not in name and not any(f"/{path}".endswith(f"/{name}") for path in paths):
             yield where
 
 
 def unknown_names(page, paths, known, skipped=r"\.(rt|antt)$"):
-    """The names of a page that nothing has, but for those that are skipped, as files of sources: paths, and all others by each word."""
+    """The names of a page that are unknown, without those skipped, such as source files. A path has to exist; of any other name, each
+    word has to be known."""
     for where, name in quoted(page):
         if re.search(skipped, name):
             continue
@@ -107,34 +121,68 @@ def unknown_names(page, paths, known, skipped=r"\.(rt|antt)$"):
             yield where
 
 
+def misplaced_names(page, texts):
+    """The names of a page that it gives together with a file, of sources or a script, and that do not stand in that file."""
+    lines = dict(prose(page))
+    text = "\n".join(lines.get(number, "") for number in range(1, max(lines) + 1))
+    found = [(match, match[1], match[2]) for match in NAME_FIRST.finditer(text)]
+    found += [(match, match[2], match[1]) for match in FILE_FIRST.finditer(text)]
+    for match, names, file in found:
+        has = [words_of(texts[path]) for path in texts if f"/{path}".endswith(f"/{file}")]
+        for name in re.findall(r"`([^`]+)`", names):
+            is_file = re.fullmatch(FILE, f"`{name}`") or "/" in name
+            if not is_file and not any(set(re.findall(r"[A-Za-z_][\w-]*", name)) <= words for words in has):
+                yield f"{page.name}:{text.count(chr(10), 0, match.start()) + 1}: {name} in {file}"
+
+
+def misplaced_laws(page, texts):
+    """The laws in the first column of a page's tables that none of the files has which the paragraph before the table names."""
+    for files, table in re.findall(r"^\*\*[^|]*? \(((?:[^()|]*`\w+\.rt`)+)[^|]*((?:\|.*\n)+)", page.read_text(encoding="utf-8"), re.M):
+        named = re.findall(r"`(\w+\.rt)`", files)
+        has = {law for path in texts if path.rpartition("/")[2] in named for law in re.findall(r"pub fn (\w+)", texts[path])}
+        told = [law for cell in re.findall(r"^\| (.*?) \|", table, re.M) for law in re.findall(r"`(\w+)`", cell)]
+        yield from (f"{page.name}: {law} in {', '.join(named)}" for law in told if law not in has)
+
+
 def words_of_scripts():
-    """The words of the tests, the benchmarks, the tools, the Makefile and the list of crates."""
+    """The words in the tests, the benchmarks, the tools, the Makefile and the list of crates."""
     files = [TOP / "Makefile", TOP / "crates.txt", *TOP.glob("tests/*.*"), *TOP.glob("bench/*.py"), *TOP.glob("tools/*")]
     return {word for file in files for word in re.findall(r"[\w-]+", file.read_text(encoding="utf-8"))}
 
 
 def untold_tests():
-    """The scripts of this folder that docs/TESTING.md does not name, or that take a program and run.py does not run."""
+    """The scripts in this folder that docs/TESTING.md does not name, or that take a program but are not run by run.py."""
     told = (TOP / "docs" / "TESTING.md").read_text(encoding="utf-8")
     for path in sorted(TOP.glob("tests/*.py")):
         takes_program = f"Usage: {path.name} PROGRAM" in path.read_text(encoding="utf-8")
-        if f"`{path.name}`" not in told or takes_program and path.name not in run.TESTS:
+        is_run = path.name in run.TESTS or path.name == "run.py" or not takes_program
+        if f"`{path.name}`" not in told or not is_run:
             yield path.name
 
 
+def unused_functions():
+    """The functions that their script never uses, such as a test that is not in the list for `run_all`."""
+    for path in sorted(TOP.glob("tests/*.py")):
+        text = path.read_text(encoding="utf-8")
+        if "suite.run_all(" in text:
+            script = ast.parse(text)
+            used = {it.id for it in ast.walk(script) if isinstance(it, ast.Name)}
+            yield from (f"{path.name}: {it.name}" for it in script.body if isinstance(it, ast.FunctionDef) and it.name not in used)
+
+
 def lines_of(*patterns):
-    """How many lines these files have, whose paths begin at the repository's top."""
+    """How many lines the files have that match these patterns, relative to the repository's top."""
     return sum(file.read_bytes().count(b"\n") for pattern in patterns for file in TOP.glob(pattern))
 
 
 def rows_of(table):
-    """How many rows a table of tests/data has."""
+    """How many rows a table in tests/data has."""
     with open(TOP / "tests" / "data" / table, newline="", encoding="utf-8") as file:
         return sum(1 for _ in csv.DictReader(file))
 
 
 def stale_sizes():
-    """The sizes that a page does not tell, or that are others: of the sources by more than one in fifty, of a table by any row."""
+    """The sizes that a page does not state, or states wrongly: of the sources by more than one in fifty, of a table by any row."""
     libraries = re.search(r"^LIBRARIES = (.+)$", (TOP / "Makefile").read_text(encoding="utf-8"), re.MULTILINE).group(1).split()
     edits = len([*TOP.glob("crates/*/edits/*.edit"), *TOP.glob("crates/*/must-fail/*.edit")])
     code = [f"crates/{name}/src/**/*.rt" for name in [*libraries, "scramotp"]]
@@ -155,31 +203,69 @@ def stale_sizes():
 
 
 def pages_of_another_kit():
-    """The pages that do not tell the kit: docs/PROMISES.md has to tell all of it, README.md its name."""
+    """The pages that do not name the kit: docs/PROMISES.md has to give all of KIT, README.md only its name."""
     for page, told in [(TOP / "docs" / "PROMISES.md", KIT), (TOP / "README.md", KIT.split()[0])]:
         if not any(name == told for _, name in quoted(page)):
             yield f"{page.name}: {told}"
 
 
-def main():
-    paths, text = sources()
-    known = set(re.findall(r"[\w◌'-]+", text)) | NOT_OF_THE_SOURCES
-    for what, find in [("links", broken_links), ("paths", missing_paths)]:
-        equal([fault for page in PAGES for fault in find(page)], [], what)
-    equal([fault for page in PAGES for fault in unknown_files(page, paths)], [], "files that no crate has")
+def stale_bugs():
+    """The rows of planted.csv that have no edit or no test, and the edits in tested/ that have no row or do not apply."""
+    with open(TOP / "tests/data/planted.csv", newline="", encoding="utf-8") as file:
+        rows = list(csv.DictReader(file))
+    edits = {(path.parent.parent.name, path.stem): path for path in TOP.glob("crates/*/tested/*.edit")}
+    yield from (f"no row for {crate}/{bug}" for crate, bug in edits.keys() - {(row["crate"], row["bug"]) for row in rows})
+    for row in rows:
+        name, by = f"{row['crate']}/{row['bug']}", row["by"]
+        try:
+            read_edit(edits[row["crate"], row["bug"]], TOP / "crates" / row["crate"], [])
+        except (KeyError, Unusable) as fault:
+            yield f"{name}: {fault}"
+        files = [TOP / "tests" / by] if by.endswith(".py") else [*(TOP / "crates" / by / "src").rglob("*.rt")]
+        if not any(re.search(rf"\b(?:def|fn) {row['test']}\(", file.read_text(encoding="utf-8")) for file in files if file.exists()):
+            yield f"{name}: {by} has no test {row['test']}"
+
+
+def faults():
+    """Each fault of the documents and of the lists of tests, with its kind."""
+    texts = sources()
+    paths = list(texts)
+    known = words_of("\n".join(texts.values())) | NOT_OF_THE_SOURCES
+    scripts = {str(file.relative_to(TOP)): file.read_text(encoding="utf-8") for file in TOP.glob("tests/*.py")}
+    known_to_maintainers = known | words_of_scripts() | NOT_OF_THE_REPOSITORY
     promises = [TOP / "docs" / name for name in PROMISES]
-    equal([fault for page in promises for fault in unknown_names(page, paths, known)], [], "names that no source has")
-    known |= words_of_scripts() | NOT_OF_THE_REPOSITORY
     maintainers = [TOP / "docs" / name for name in MAINTAINERS]
-    # Files of sources are looked at above. The others are no names of one thing that is there: commands, and paths of any crate, of what
-    # is built or of several files.
+    # Source files have a kind of their own. The others name no single thing that exists: commands, and paths in any crate, of build
+    # results or of several files.
     skipped = r"\.(rt|antt)$| |NAME|/out/|\*"
-    equal([fault for page in maintainers for fault in unknown_names(page, paths, known, skipped)], [], "names that nothing has")
-    equal(list(stale_sizes()), [], "sizes that pages have")
-    equal(list(pages_of_another_kit()), [], "pages that do not name the kit of the Makefile")
-    equal(list(untold_tests()), ["run.py"], "scripts that run.py does not run, or docs/TESTING.md does not name")
-    print(f"documents.py: {len(PAGES)} pages name what is there")
+    for kind, pages, find in [
+        ("no such link", PAGES, broken_links),
+        ("no such path", PAGES, missing_paths),
+        ("no crate has this file", PAGES, lambda page: unknown_files(page, paths)),
+        ("the file beside this name does not have it", PAGES, lambda page: misplaced_names(page, texts | scripts)),
+        ("no source has this name", promises, lambda page: unknown_names(page, paths, known)),
+        ("nothing has this name", maintainers, lambda page: unknown_names(page, paths, known_to_maintainers, skipped)),
+        ("no file before its table has this law", [TOP / "docs" / "LOG_PROMISES.md"], lambda page: misplaced_laws(page, texts)),
+    ]:
+        yield from ((kind, fault) for page in pages for fault in find(page))
+    for kind, found in [
+        ("a stale size", stale_sizes()),
+        ("the kit of the Makefile is missing", pages_of_another_kit()),
+        ("run.py does not run this script, or docs/TESTING.md does not name it", untold_tests()),
+        ("its script never uses this function", unused_functions()),
+        ("planted.csv and crates/NAME/tested/ do not fit", stale_bugs()),
+    ]:
+        yield from ((kind, fault) for fault in found)
+
+
+def main():
+    found = list(faults())
+    for kind, fault in found:
+        print(f"documents.py: {kind}: {fault}", file=sys.stderr)
+    if not found:
+        print(f"documents.py: {len(PAGES)} pages name what is there")
+    return 1 if found else 0
 
 
 if __name__ == "__main__":
-    main()
+    sys.exit(main())

@@ -1,15 +1,15 @@
-"""Where the functions of a crate stand in its sources, and what its edits change: for edits.py.
+"""For edits.py and planted.py: where the functions of a crate are in its sources, and what its edits change.
 
-An edit has the form that `rt help` describes, and changes src/ or specs/. One of a definition in specs/ belongs to no function.
+An edit has the form that `rt help` describes, and changes src/ or specs/. An edit of a definition in specs/ belongs to no function.
 """
 import re
 from collections.abc import Iterable
 from dataclasses import dataclass
 from pathlib import Path
 
-# Where the edits of a crate are.
+# Where the edits of a crate are that edits.py tries.
 FOLDERS = ("must-fail", "edits")
-# Where an edit may change it.
+# Where in a crate an edit may make changes.
 EDITED = ("src/", "specs/")
 
 FUNCTION = re.compile(r"( *)(?:pub(?:\([a-z ]+\))? )?(?:(?:const|unsafe) )*fn (\w+)")
@@ -22,7 +22,7 @@ class Unusable(Exception):
 
 @dataclass(frozen=True)
 class Function:
-    """A function: the path of its module, its type and trait or nothing, its name, and its first and last line in a file of src/."""
+    """A function: the path of its module, its type and trait or empty texts, its name, and its first and last line in a file of src/."""
 
     module: tuple[str, ...]
     of: str
@@ -36,17 +36,17 @@ class Function:
         return "::".join([*self.module, *[self.of] * bool(self.of), self.name])
 
     def path(self) -> str:
-        """Returns the end of its name as a check prints it, in which the name of a trait and of its arguments follow the type's in one
-        word, as `FaultFromIoError`. A method's module is left out, since it is that of its type."""
+        """Returns the end of its name as a check prints it. The names of a trait and of its arguments follow the type's in one word, such
+        as `FaultFromIoError`. A method's module is left out, since the check prints that of its type."""
         return f"{self.of}{self.trait}::{self.name}" if self.of else str(self)
 
     def holds(self, file: str, line: int) -> bool:
-        """Returns whether the line is one of its lines."""
+        """Returns whether the line belongs to the function."""
         return self.file == file and self.first <= line <= self.last
 
     def is_proved_in(self, folder: tuple[str, ...]) -> bool:
-        """Returns whether this folder below proofs/ is its own. A method's is at the module of its type, which may be another
-        than its own; the name of a trait follows the type's in one word."""
+        """Returns whether this folder below proofs/ is its own. A method's folder is at the module of its type, which may not be
+        the method's; the name of a trait follows the type's in one word."""
         if self.of:
             return len(folder) > 1 and folder[-1] == self.name and folder[-2].startswith(self.of)
         return folder == (*self.module, self.name)
@@ -54,7 +54,8 @@ class Function:
 
 @dataclass
 class Edit:
-    """A wrong body: the lines that it writes, by file and number, the functions from its first line to its last, and its text."""
+    """An edit: the lines that it writes, by file and number, the functions between its first line and its last, whether all its lines
+    are in functions, and its text."""
 
     name: str
     lines: dict[tuple[str, int], str]
@@ -64,7 +65,7 @@ class Edit:
 
 
 def functions_of(crate: Path) -> list[Function]:
-    """Finds a crate's functions by the layout of `rt fmt`, in which a body ends with a brace below its first letter."""
+    """Finds a crate's functions by the layout of `rt fmt`, in which a body ends with a brace below the function's first letter."""
     found = []
     for path in sorted((crate / "src").rglob("*.rt")):
         file, of, trait = path.relative_to(crate).as_posix(), "", ""
@@ -80,14 +81,14 @@ def functions_of(crate: Path) -> list[Function]:
 
 
 def first_line(lines: list[str], at: int, indent: str) -> int:
-    """Returns the number of the first line of the function whose `fn` is at index `at`, with its attributes, after this indent."""
+    """Returns the number of the first line, attributes included, of the function whose `fn` is at index `at` with this indent."""
     while at > 0 and lines[at - 1].startswith(indent + "#["):
         at -= 1
     return at + 1
 
 
 def last_line(lines: list[str], at: int, indent: str) -> int:
-    """Returns the number of the last line of the function that begins at index `at`, after this indent."""
+    """Returns the number of the last line of the function that begins at index `at` with this indent."""
     if lines[at].endswith((";", "}")):
         return at + 1
     for below in range(at + 1, len(lines)):
@@ -124,14 +125,14 @@ def read_edit(path: Path, crate: Path, functions: list[Function]) -> Edit:
             raise Unusable(f"a line begins with none of 'file:', 'old:' and 'new:': {line.strip()[:60]}")
     if not places:
         raise Unusable("it has no pair of 'old:' and 'new:'")
-    # no text has the end of a line in it, so lines keep their numbers
+    # no text contains the end of a line, so lines keep their numbers
     lines = {(file, at): texts[file].split("\n")[at - 1] for file, at in places}
     owners = {it for it in functions for place in between(places) if it.holds(*place)}
     return Edit(path.stem, lines, owners, all(any(it.holds(*place) for it in functions) for place in places), whole)
 
 
 def between(places: set[tuple[str, int]]) -> Iterable[tuple[str, int]]:
-    """Returns each line from a file's first place to its last."""
+    """Returns each line from the first place in a file to the last."""
     for file in {file for file, _ in places}:
         lines = [at for it, at in places if it == file]
         yield from ((file, at) for at in range(min(lines), max(lines) + 1))

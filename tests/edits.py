@@ -1,25 +1,25 @@
 #!/usr/bin/env python3
-"""Tries the wrong bodies in crates/NAME/must-fail/ and crates/NAME/edits/: the contract of what each changes must refuse it.
-By default it takes the crates that have a folder edits/; rt ci tries those in must-fail/ one by one.
+"""Tries the wrong bodies in crates/NAME/must-fail/ and crates/NAME/edits/: the contract of what each one changes has to refuse it.
+By default it takes the crates that have a folder edits/. rt ci tries those in must-fail/ one by one.
 
 Usage: edits.py [--jobs N] [--anew] [--built] [--self-test] [CRATE..]
 
-A function is proved from its own body and the contracts of what it calls, so a wrong body fails its own function and no
-other. Edits of different functions are therefore put into one copy of their crate and judged by one check of these functions and of
-those that they call, in which the function of each must fail at a goal of its own: that it calls what failed does not count. An edit
-that is not refused so is tried again alone, by a check of the whole crate. A batch that the check cannot read, or in which a function
-fails that none of them changes, is tried in halves.
+A function is proved from its own body and the contracts of what it calls, so a wrong body fails only its own function. Edits of
+different functions are therefore put into one copy of their crate and judged by one check of these functions and of those that they
+call. There the function of each edit has to fail at a goal of its own; a call of a function that failed does not count. An edit that is
+not refused in this way is tried again by itself, by a check of the whole crate. A batch that the check can't read, or in which a
+function fails that no edit changes, is tried in halves.
 
-An edit has the form that `rt help` describes, and changes src/ or specs/. One of a definition in specs/ belongs to no function, and is
-refused where a proof of the crate falls with it. One that makes the same change as an earlier one of its crate counts as let through.
-The script works in a temporary folder, over the libraries that `rt ci` or `rt lib` left in crates/NAME/out/, if they are newer than
-their sources, or else builds them there; with --built it takes them as they are, as after an `rt ci`, whose libraries may be older files
-that are kept. Whether the crates are proved as they are, `rt ci` says.
+An edit has the form that `rt help` describes, and changes src/ or specs/. An edit of a definition in specs/ belongs to no function, and
+is refused if a proof of the crate then fails. An edit that makes the same change as an earlier one of its crate counts as let through.
+The script works in a temporary folder, with the libraries that `rt ci` or `rt lib` left in crates/NAME/out/ if they are newer than
+their sources, and otherwise builds them there. With --built it takes them in any case, for use after an `rt ci`, whose libraries may be
+older files that it kept. `rt ci` shows whether the crates are proved without edits.
 
-What was refused is kept on this machine, as `rt ci` keeps what it proved: by the sum of all that the trial read, which is the kit, this
-script, the edit, and the sources of its crate and of those below. A later run tries the others, and with --anew all.
+Refusals are kept on this machine, as `rt ci` keeps what it proved: by the checksum of everything that the trial read, which is the kit,
+this script, the edit, and the sources of its crate and of those below. A later run tries the other edits, and with --anew all.
 Each run begins with a test of the script in the smallest of its crates, unless that has only edits of definitions: an edit without a
-change is let through, and one whose text is gone, or of which a line would not be read, is unusable.
+change is let through, and an edit whose text is gone, or with a line that would not be read, is unusable.
 """
 import argparse
 import hashlib
@@ -42,17 +42,17 @@ from edit_sources import EDITED, Edit, Function, Unusable, edits_of, functions_o
 Uses = dict[str, list[str]]
 
 TOP = Path(__file__).resolve().parent.parent
-# What a check reads of a crate.
+# The folders of a crate that a check reads.
 PARTS = ("src", "specs", "proofs")
-# The status of a check of a path that fits no function, or several.
+# The status of a check whose path fits no function, or several.
 FITS_NOTHING = 2
-# More than a check of the largest crate here takes, in bytes.
+# More bytes of memory than a check of the largest crate here takes.
 MEMORY = 3 << 30
 
-# What a check says of a place: an error in a file, or a goal of a function that has no proof.
+# What a check says of a place: an error in a file, or a goal in src/ that is not proved.
 ERROR = re.compile(r"(?:\./)?(src|specs|proofs)/([^\s:]+):(\d+):\d+: error: (.*)")
 GOAL = re.compile(r"note: (src)/([^\s:]+):(\d+):\d+: (it is not proved that .*)")
-# The errors of a text that cannot be read, so that it makes no statement.
+# The errors for a text that can't be read, and so states nothing.
 UNREAD = re.compile(
     r"is not in scope|has no field|has no `|is no name|was not admitted|operand is missing|expected the end|cannot continue"
 )
@@ -60,7 +60,7 @@ UNREAD = re.compile(
 
 @dataclass
 class Report:
-    """What a check said: whether all is proved, whether it came to judge the functions, the goals refused, the first error."""
+    """What a check said: whether all is proved, whether it got as far as judging functions, the goals refused, the first error."""
 
     is_proved: bool
     is_judged: bool
@@ -77,7 +77,7 @@ class Outcome:
 
 
 def batches_of(edits: Iterable[Edit]) -> list[list[Edit]]:
-    """Puts edits of different functions together, into as few batches as one function has edits."""
+    """Puts edits of different functions together in batches. Edits that share a function are in different batches."""
     batches: list[list[Edit]] = []
     for edit in edits:
         free = (batch for batch in batches if not any(edit.owners & it.owners for it in batch))
@@ -90,7 +90,7 @@ def batches_of(edits: Iterable[Edit]) -> list[list[Edit]]:
 
 
 class Refusals:
-    """What edits of a crate came to in earlier runs, where they were refused: a file for each, named by the sum of what was read."""
+    """The refusals of a crate's edits in earlier runs: a file for each, named by the checksum of what was read."""
 
     def __init__(self, crate: str, uses: Uses) -> None:
         cache_home = os.environ.get("XDG_CACHE_HOME") or Path.home() / ".cache"
@@ -103,7 +103,7 @@ class Refusals:
             self.sum.update(repr((str(it.relative_to(TOP)), it.read_bytes())).encode())
 
     def place(self, edit: Edit) -> Path:
-        """Returns where the refusal of this edit is kept."""
+        """Returns the path at which the refusal of this edit is kept."""
         whole = self.sum.copy()
         whole.update(repr((edit.name, edit.text)).encode())
         return self.folder / whole.hexdigest()
@@ -116,7 +116,7 @@ class Refusals:
             return None
 
     def keep(self, edit: Edit, outcome: Outcome) -> None:
-        """Keeps a refusal for later runs, where the folder can be written."""
+        """Keeps a refusal for later runs, if the folder can be written."""
         try:
             self.folder.mkdir(parents=True, exist_ok=True)
             with tempfile.NamedTemporaryFile("w", encoding="utf-8", dir=self.folder, delete=False) as it:
@@ -145,8 +145,8 @@ class Room:
             self.words += ["-L", f"dependency={folder}"]
 
     def check(self, edits: list[Edit], is_whole: bool = False) -> Report:
-        """Checks the crate with these edits, which change different lines, and no others: the functions that they change, or the file's
-        where they change none, and what these call; or all of it, also where a path does not name one function."""
+        """Checks the crate with only these edits, which change different lines. Checks the functions that they change, or those of the
+        file if they change none, and what these call. Checks the whole crate if `is_whole`, or if a path does not name one function."""
         lines = {place: text for edit in edits for place, text in edit.lines.items()}
         for path in (it for part in EDITED for it in (self.source / part).rglob("*") if it.is_file()):
             file = path.relative_to(self.source).as_posix()
@@ -161,7 +161,7 @@ class Room:
             if ran.returncode != FITS_NOTHING:
                 return self.report(ran)
             print(f"{self.crate}: all of it is checked: {ran.stdout.rstrip()[-200:]}", file=sys.stderr, flush=True)
-        # A build proves what a check does. It does not make the files to start a failed proof from, which take a check a third of its time.
+        # A build proves what a check does, but does not write the files from which to start a failed proof. These take a third of a check.
         return self.report(run([f"{kit()}/bin/rattle", "build", *self.words, "-o", f"{self.crate}.rlib"], self.folder))
 
     def report(self, ran: subprocess.CompletedProcess[str]) -> Report:
@@ -191,13 +191,13 @@ class Room:
 
 
 def goal_in(text: str) -> str:
-    """Returns the name of the goal in what a check says of it."""
+    """Returns the name of the goal in a check's message."""
     it = re.search(r"\(`([^`]*)`\)", text) or re.match(r"`([^`]*)`", text)
     return it[1] if it else text[:60]
 
 
 def try_together(room: Room, batch: list[Edit]) -> dict[str, Outcome]:
-    """Returns the outcomes of those edits that one check of them all refuses, each at a goal of its own function."""
+    """Checks these edits all at once, and returns the outcomes of those that are refused, each at a goal of its own function."""
     report = room.check(batch)
     strangers = [it for it in report.goals if not any(it in edit.owners for edit in batch)]
     if not report.is_judged or strangers:
@@ -209,7 +209,7 @@ def try_together(room: Room, batch: list[Edit]) -> dict[str, Outcome]:
 
 
 def try_alone(room: Room, edit: Edit) -> Outcome:
-    """Returns the outcome of one edit, which any goal may refuse, since nothing else is changed."""
+    """Returns the outcome of one edit by itself. Any goal may refuse it, since nothing else is changed."""
     report = room.check([edit])
     if report.is_proved or not report.is_judged or not report.goals:
         report = room.check([edit], is_whole=True)
@@ -222,14 +222,14 @@ def try_alone(room: Room, edit: Edit) -> Outcome:
 
 
 def refused(edit: Edit, report: Report) -> Outcome:
-    """Returns the outcome of an edit that was refused, by its own function where that is among those that fail."""
+    """Returns the outcome of an edit that was refused, by its own function if that is among those that fail."""
     owner = next((it for it in report.goals if it in edit.owners), next(iter(report.goals)))
     return Outcome(True, f"{owner or 'outside its functions'}: refused at {', '.join(dict.fromkeys(report.goals[owner]))}")
 
 
 @dataclass
 class Count:
-    """How many edits were refused, how many of those by an earlier run, and how many were not."""
+    """How many edits were refused, how many of those in an earlier run, and how many were not refused."""
 
     refused: int = 0
     before: int = 0
@@ -237,7 +237,7 @@ class Count:
 
 
 def read_all(room: Room) -> tuple[list[Edit], dict[str, str]]:
-    """Reads the edits of a crate, and returns those that can be tried, and why each other can't."""
+    """Reads the edits of a crate, and returns those that can be tried, and for each other one why it can't."""
     usable: dict[tuple[tuple[tuple[str, int], str], ...], Edit] = {}
     unusable: dict[str, str] = {}
     for path in edits_of(room.source):
@@ -253,7 +253,7 @@ def read_all(room: Room) -> tuple[list[Edit], dict[str, str]]:
 
 
 def try_crate(room: Room, is_first: bool, options: argparse.Namespace) -> Count:
-    """Tries the edits of a crate, and counts how that ends; the first crate begins with the script's test."""
+    """Tries the edits of a crate, and counts the outcomes. The first crate begins with the script's own test."""
     began, tried, count = time.monotonic(), set(), Count()
 
     def tell(name: str, outcome: Outcome, when: str = "") -> None:
@@ -292,10 +292,10 @@ def try_crate(room: Room, is_first: bool, options: argparse.Namespace) -> Count:
 
 
 def self_test(room: Room, edits: list[Edit]) -> None:
-    """Ends the run unless an edit without a change is let through, and one whose text is gone, or a line of it not read, is unusable.
-    A crate without a method, or whose edits are all of definitions, has nothing for this test."""
+    """Ends the run unless an edit without a change is let through, and an edit whose text is gone, or with a line that is not read, is
+    unusable. The test needs a crate with a method and with an edit of a function."""
     wrong = next((it for it in edits if it.is_inside), None)
-    # a method of a type has a body, and a trait's need not
+    # a method of a type has a body; one of a trait may have none
     other = next((it for it in room.functions if wrong and it.of and it not in wrong.owners), None)
     if not (wrong and other):
         print(f"{room.crate}: nothing here can test the script itself", file=sys.stderr, flush=True)
@@ -328,12 +328,12 @@ def below(crate: str, uses: Uses) -> list[str]:
 
 
 def rlib_of(root: Path, name: str) -> Path:
-    """Returns where a library is when it is built."""
+    """Returns the path of a built library."""
     return root / "crates" / name / "out/rlib" / f"{name}.rlib"
 
 
 def build(base: Path, names: list[str], uses: Uses, are_built: bool) -> None:
-    """Copies the sources of all crates, and these libraries where they are built or newer than their sources, or else builds them."""
+    """Copies the sources of all crates. Copies each of these libraries if `are_built` or it is newer than its sources, else builds it."""
     for path in [TOP / "crates.txt", TOP / "HANDLES", *TOP.glob("crates/*/*")]:
         to = base / path.relative_to(TOP)
         to.parent.mkdir(parents=True, exist_ok=True)
@@ -356,7 +356,7 @@ def build(base: Path, names: list[str], uses: Uses, are_built: bool) -> None:
 
 
 def linked(source: str, to: str) -> None:
-    """Gives a file a second name, or copies it to another file system. No run writes into a file of a built library."""
+    """Gives a file a second name, or copies it if that is on another file system. No run writes to a file of a built library."""
     try:
         os.link(source, to)
     except OSError:
@@ -371,12 +371,12 @@ def kit() -> Path:
 
 @cache
 def kit_version() -> str:
-    """Returns the line by which the kit tells itself from others."""
+    """Returns the line by which the kit identifies itself."""
     return run(["rt", "version"], TOP).stdout
 
 
 def run(words: list[str], folder: Path) -> subprocess.CompletedProcess[str]:
-    """Runs a command without input and returns all that it said."""
+    """Runs a command without input, and returns its status and all its output."""
     ways = {"stdin": subprocess.DEVNULL, "stdout": subprocess.PIPE, "stderr": subprocess.STDOUT}
     return subprocess.run(words, cwd=folder, text=True, **ways)
 
@@ -404,7 +404,7 @@ def main() -> int:
         parser.error(f"no edits of {', '.join(without)}")
     functions = {it: len(functions_of(TOP / "crates" / it)) for it in listed}
     first = min(functions, key=lambda it: (len(below(it, uses)), functions[it]))
-    # the longest work begins first: a check of a crate that stands on many others takes the longest
+    # the longest work begins first: a check takes longest in a crate that uses many others
     names = [first] if options.self_test else sorted(functions, key=lambda it: (-len(below(it, uses)), -functions[it] * edits[it]))
     with tempfile.TemporaryDirectory(prefix="edits-") as temp, ThreadPoolExecutor(options.jobs) as pool:
         base = Path(temp) / "base"

@@ -1,5 +1,5 @@
-"""What several scripts compare with or begin from, worked out by Python and not by the program: codes, keys, salts of decoys, the texts
-of the tables' rows, sessions, logs with numbers, and orders of turns; and where the recorded logs, books and vectors are."""
+"""What several scripts compare with or start from, computed in Python and not by the program: codes, keys, salts of decoys, the texts
+of the tables' rows, sessions, logs with numbers, and orders of turns. Also the paths of the recorded logs, books and vectors."""
 import hashlib
 import hmac
 import itertools
@@ -8,18 +8,18 @@ import pathlib
 from checks import equal
 
 DATA = pathlib.Path(__file__).resolve().parent / "data"
-# Logs that were put together by hand from the examples of RFC 5802 and RFC 7677 and codes of RFC 4226, the books that they are judged
-# by, and the table cases.csv.
+# Logs that were put together by hand from the examples of RFC 5802 and RFC 7677 and codes of RFC 4226, the books by which they are
+# judged, and the table cases.csv.
 AUDITS = DATA / "audits"
 # Books, and the table cases.csv of their faults.
 BOOK_FAULTS = DATA / "book_faults"
 # keys.csv and codes.csv: keys and codes that other software made.
 VECTORS = DATA / "vectors"
 
-# The login of RFC 5802's example, section 5, line by line without LF; of these, the lines from the mechanisms to the acceptance.
+# The login of RFC 5802's example, section 5, as lines without LF; and those of its lines from the mechanisms to the acceptance.
 LOGIN_LINES = (AUDITS / "sha1.log").read_text().splitlines()
 MECHS, AUTH, CONT, RESP, OK = LOGIN_LINES[1:6]
-# The text of that log up to the acceptance, and the text of the end of a session whose client goes away.
+# The text of that log up to the acceptance, and how a session ends whose client goes away.
 ACCEPTED = "".join(f"{line}\n" for line in LOGIN_LINES[:6])
 GONE = "C GONE\nE\n"
 
@@ -28,36 +28,36 @@ SESSION_LEFT = f"{MECHS}\n{GONE}".encode()
 
 
 def code(secret, counter, digits=6, function="sha1"):
-    """The code of a counter (RFC 4226, section 5.3; RFC 6238 for other hash functions)."""
+    """The code for a counter (RFC 4226, section 5.3; RFC 6238 for other hash functions)."""
     tag = hmac.digest(secret, counter.to_bytes(8, "big"), function)
     at = tag[-1] & 15
     return f"{(int.from_bytes(tag[at:at + 4], 'big') & 0x7FFFFFFF) % 10**digits:0{digits}}"
 
 
 def login_keys(function, password, salt, count):
-    """The client's key and the server's of a password (RFC 5802, section 3)."""
+    """The client key and the server key of a password (RFC 5802, section 3)."""
     salted = hashlib.pbkdf2_hmac(function, password, salt, count)
     return hmac.digest(salted, b"Client Key", function), hmac.digest(salted, b"Server Key", function)
 
 
 def keys_of(function, password, salt, count):
-    """The stored key and the server key of a password, as hexadecimal text (RFC 5802, section 3)."""
+    """The stored key and the server key of a password, in hexadecimal (RFC 5802, section 3)."""
     client, server = login_keys(function, password, salt, count)
     return hashlib.new(function, client).hexdigest(), server.hex()
 
 
 def proved(function, client, server, auth_message):
-    """The proof and the signature of a login with this AuthMessage, by the client's key and the server's (RFC 5802, section 3)."""
+    """The proof and the signature of a login with this AuthMessage, from the client key and the server key (RFC 5802, section 3)."""
     mask = hmac.digest(hashlib.new(function, client).digest(), auth_message, function)
     return bytes(one ^ other for one, other in zip(client, mask)), hmac.digest(server, auth_message, function)
 
 
-# The key for decoys of the books.
+# The decoy key of the books.
 DECOY_KEY = bytes(range(32))
 
 
 def decoy_salt(name):
-    """The salt that a name without an account is shown for SCRAM-SHA-1: this project's form, as docs/PROMISES.md has it."""
+    """The salt in the SCRAM-SHA-1 challenge for a name without an account. The form is this project's own, given in docs/PROMISES.md."""
     return hmac.digest(DECOY_KEY, b"SCRAM-SHA-1\0" + name.encode(), "sha256")[:16]
 
 
@@ -69,12 +69,12 @@ def orders_of_turns():
 
 
 def spelled(text):
-    """The bytes that a cell of a table spells."""
+    """The bytes that the text in a table's cell stands for."""
     return text.encode("latin-1").decode("unicode_escape").encode("latin-1")
 
 
 def edited(text, row):
-    """A text in which `old` of a table's row, which is there once, is replaced by `new`, and then `old2` by `new2`."""
+    """A text in which `old` of a table's row, which occurs once, is replaced by `new`, and then `old2` by `new2`."""
     for old, new in [(row["old"], row["new"]), (row["old2"], row["new2"])]:
         if old:
             equal(text.count(spelled(old)), 1, f"{row}: what is replaced does not stand there once")
@@ -83,7 +83,7 @@ def edited(text, row):
 
 
 def numbered(log):
-    """A log of version 1 as one of version 2."""
+    """A log of version 1, converted to version 2."""
     first, *lines = log.splitlines(keepends=True)
     equal(first, "SCRAMLOG 1\n", log)
     session, upgraded = 1, ["SCRAMLOG 2\n"]

@@ -1,11 +1,11 @@
 #!/usr/bin/env python3
-"""Books that can't be saved, at each save of a run of the built program, once with the old text kept and once with the new one in its
+"""Books that can't be saved, at each save of a run of the built program: sometimes the old text stays, sometimes the new one takes its
 place.
 
-Usage: failed_saves.py PROGRAM
+Usage: failed_saves.py PROGRAM [TEST ..]
 
-The run halts there: it tells no reply that is not saved. Another run that goes on from the saved book is sent the same codes, and lets
-none pass that has passed. Logs are audited, each by the book that it began with. Needs `cc`.
+The run halts there: it prints no reply that is not saved. Another run, which goes on from the saved book, is sent the same codes, and
+no code passes again that has passed. Each log is audited by the book that it began with. Needs `cc`.
 """
 import os
 import pathlib
@@ -17,8 +17,8 @@ from command_table import BOOK, LIMIT_100, audited, book_of, commands, left, new
 from expected import ACCEPTED, GONE, numbered
 from suite import CODES, token
 
-# The token of BOOK (RFC 4226, appendix D): a single code may be up to three counters ahead, and the first of two in a row has to be the
-# next one.
+# For the token of BOOK (RFC 4226, appendix D), a single code may be up to three counters ahead, and the first of two in a row has to be
+# the next one.
 AHEAD = 3
 # What is sent: codes, and lines with two in a row.
 SENT = [
@@ -30,7 +30,7 @@ COUNTERS = {text: counter for counter, text in enumerate(CODES)}
 
 
 def replied(next_counter, line):
-    """Whether a line passes where this counter is the next, and the counters that it uses (RFC 4226, sections 7.2 and 7.4)."""
+    """The counters that a line uses if it passes when this counter is the next; else none (RFC 4226, sections 7.2 and 7.4)."""
     texts = line.removeprefix("SYNC ").split()
     first, *second = (COUNTERS.get(text, -1) for text in texts)
     if second:
@@ -47,7 +47,7 @@ def exchanged(next_counter, lines):
 
 
 def printed(name, lines, replies, is_halted):
-    """What a run prints for lines with these replies, the last of which was not saved where it halted."""
+    """What a run prints for lines with these replies. If it halted, it did so at the line after them."""
     if name == "verify":
         return "".join(f"{reply}\n" for reply in replies)
     words = [line if line.startswith("SYNC") else f"CODE {line}" for line in lines]
@@ -57,7 +57,7 @@ def printed(name, lines, replies, is_halted):
 
 
 def sent(command, lines):
-    """A command that is sent these lines in the place of its codes."""
+    """The command with these lines instead of its codes."""
     if command.name == "hall":
         codes = "".join(f"line 1 5 {line if line.startswith('SYNC') else f'CODE {line}'}\n" for line in lines)
         return command._replace(text=command.text.replace("gone", f"{codes}gone"))
@@ -67,8 +67,8 @@ def sent(command, lines):
 class Saves:
     """A folder with a book that can't be saved at a given save."""
 
-    # The call that fails at a save, how, how many of it each save makes, how many of those come after it, and whether the new text is
-    # then in its place.
+    # The call that fails at a save; how; how many such calls each save makes; how many of these come after it; and whether the new text
+    # is then in place.
     WAYS = [
         ("rename", "refused", 1, 0, False),
         ("fsync", "refused", 2, 1, False),
@@ -84,7 +84,7 @@ class Saves:
         self.count = 0
 
     def fails(self, command, number, way):
-        """What a run answers whose save of this number fails."""
+        """Runs a command whose save with this number fails, and returns its answer."""
         call, how, each, before, _ = way
         more = {"LD_PRELOAD": self.shim, "CALLS": call, "REFUSED": str(number * each - before), "HOW": how}
         self.count += 1
@@ -95,7 +95,7 @@ class Saves:
 
 
 def twice(here, command, lines, number, way):
-    """A run whose save fails, and one after it that is sent the same: no counter is used by both."""
+    """Makes a run whose save fails, and then a run that is sent the same lines: no counter passes in both."""
     first_save = 0 if command.name == "verify" else 1
     prepare(here.folder, command)
     here.book.write_text(LIMIT_100)
@@ -120,7 +120,7 @@ def twice(here, command, lines, number, way):
 
 
 def codes_of_two_runs(folder):
-    """Whichever save of a code fails, no counter passes both in that run and in the next."""
+    """Whichever save of a code fails, no counter passes in that run and again in the next."""
     here = Saves(folder)
     for command in commands(0):
         if command.name in ("verify", "login", "hall"):
@@ -134,7 +134,7 @@ def codes_of_two_runs(folder):
 
 
 def first_saves(folder):
-    """Where the first save fails, nothing is printed, and the book has the old text or the new one."""
+    """If the first save fails, nothing is printed, and the book has the old text or the new one."""
     here = Saves(folder)
     for command in commands():
         if len(command.books) > 1:

@@ -1,27 +1,31 @@
 #!/usr/bin/env python3
-"""Looks at each block of docs/FORMATS.md: the book and the logs are good ones, and the commands do what the page says of them.
+"""Checks each block of docs/FORMATS.md: the book and the logs are good ones, and the commands do what the page says they do.
 
-Usage: formats.py PROGRAM [FORMATS]
+Usage: formats.py PROGRAM [TEST ..]
 
-The login of RFC 5802's user is the recorded one, data/audits/sha1.log. Of the commands for many logs all run but that of `parallel`.
-A block at which no test looks is a fault.
+The login of RFC 5802's user is the recorded one, data/audits/sha1.log. All commands for many logs are run, except that with `parallel`.
+The grammar has the lines that audit_cases.py says are lines, and no others. A block that no test checks is a fault. DOCUMENT=PATH in the
+environment names another page.
 """
+import functools
 import gzip
+import math
+import re
 import subprocess
-import sys
 from pathlib import Path
 
+import audit_cases
 import suite
-from checks import equal
+from checks import equal, holds
 from expected import AUDITS
-from suite import PROGRAM, blocks_of, program_on_path
+from suite import LIMIT, PROGRAM, blocks_of, document, program_on_path
 
-DOCUMENT = Path(sys.argv[2]) if len(sys.argv) > 2 else Path(__file__).resolve().parent.parent / "docs" / "FORMATS.md"
+DOCUMENT = document("docs/FORMATS.md")
 LOGIN, TWO_SESSIONS = "clean sessions=1 accepted=1 codes=0", "clean sessions=2 accepted=0 codes=0"
 
 
 def block(title, language=""):
-    """The one block of a language in the section of this title."""
+    """The only block in this language in the section with this title."""
     [text] = [text for *place, text in blocks_of(DOCUMENT) if place == [title, language]]
     return text
 
@@ -30,6 +34,34 @@ BOOK = block("The account book", "toml")
 LOG = block("The lines of the protocol and of the log")
 NUMBERED = block("Numbered lines")
 COMMANDS = block("Many logs")
+GRAMMAR = block("The grammar of the lines", "abnf")
+
+# The rules of RFC 5234, appendix B.1, that the grammar cites.
+CORE = {"SP": "%x20", "LF": "%x0A", "DIGIT": "%x30-39"}
+# A part of a rule: how often the next one comes, bytes, a text with its case, a text without, a bracket or a bar, another rule.
+PART = re.compile(r'\s*(?:(\d*)\*(\d*)|%x(..)(?:-(..))?|%s"([^"]*)"|"([^"]*)"|([()\[\]/])|([a-z][\w-]*))\s*', re.I)
+
+# The first lines of logs, which may also stand again in a log: they are then out of order, and a line all the same.
+FIRST_LINES = [b"SCRAMLOG 1", b"SCRAMLOG 2"]
+
+# Lines that a rule has, with each word of the grammar once; none of them is one in the other case. And lines that a rule does not have.
+GOOD = {
+    "event": [b"open a", b"open " + 256 * b"!", b"line 1 0 ", b"line 10 59 C\r \xff", b"gone 9223372036854775806 253402300799"],
+    "from-server": [b"MECHS A-_9 B\n", b"CONT :\n", b"OK :%00%FF%20%25%7F~!\n", b"NO :e\n", b"PASS 59 0\n", b"FAIL 5\n", b"LOCKED 5\n",
+                    b"NOCODE 0\n", b"HALT\n", b"BUSY\n"],
+    "from-client": [b"AUTH A\n", b"AUTH A :%0A\n", b"RESP :\n", b"ABORT\n", b"CODE 1%2\n", b"SYNC 1 " + 16 * b"2" + b"\n"],
+    "log-line": [b"S BUSY", b"C ABORT", b"C BAD", b"C GONE", b"E"],
+}
+BAD = {
+    "event": [b"open", b"open ", b"open a,b", b"open " + 257 * b"!", b"line 1 0", b"line 0 0 ", b"line 01 0 ", b"line 1 00 ",
+              b"line 1 0 \n", b"line 1 +5 ", b"gone 1", b"gone 1 5 ", b"gone  1 5"],
+    "from-server": [b"MECHS\n", b"MECHS \n", b"MECHS A  B\n", b"MECHS " + 21 * b"A" + b"\n", b"CONT\n", b"CONT \n", b"OK :%41\n",
+                    b"OK :%0a\n", b"OK :%7f\n", b"OK :%\n", b"OK :%2\n", b"NO : \n", b"NO :\x7f\n", b"NO :\r\n", b"NO :",
+                    b"PASS 5\n", b"PASS 05 1\n", b"PASS 5 -1\n", b"FAIL 5 1\n", b"NOCODE\n", b"HALT \n", b"ABORT\n"],
+    "from-client": [b"AUTH\n", b"AUTH \n", b"AUTH A:\n", b"AUTH A  :\n", b"RESP\n", b"CODE \n", b"CODE 1 2\n",
+                    b"CODE " + 17 * b"1" + b"\n", b"SYNC 1\n", b"SYNC 1 2 3\n", b"HALT\n", b"BAD\n", b"\n"],
+    "log-line": [b"", b"S", b"S ", b"E ", b" E", b"C BAD ", b"C bad", b"C gone", b"C HALT", b"S ABORT", b"S BAD", b"SCRAMLOG 1"],
+}
 
 
 def with_files(folder, **logs):
@@ -42,13 +74,13 @@ def with_files(folder, **logs):
 
 
 def ran(folder, commands, environment):
-    """The status, the lines and the faults of commands that run in a folder."""
-    done = subprocess.run(["sh", "-c", commands], cwd=folder, env=environment, capture_output=True, text=True, timeout=60)
+    """The status, the output lines and the faults of commands run in a folder."""
+    done = subprocess.run(["sh", "-c", commands], cwd=folder, env=environment, capture_output=True, text=True, timeout=LIMIT)
     return done.returncode, sorted(done.stdout.splitlines()), done.stderr
 
 
 def the_book(folder):
-    """The book is one as a command saves it: a save leaves its text."""
+    """The book has the form in which a command saves it: a save leaves its text unchanged."""
     held = suite.BookFolder(folder, BOOK)
     held.prints([PROGRAM, "unlock", "--book", held.book, "--name", "user"], "", 0, "unlocked user\n")
     equal(held.book.read_text(), BOOK, "the saved book")
@@ -63,7 +95,7 @@ def the_logs(folder):
 
 
 def many_logs(folder):
-    """Each log has its answer, and the status is 123 where one is at fault; a log that is compressed is read from a pipe."""
+    """Each log has its answer, and the status is 123 if one is at fault. A compressed log is read from a pipe."""
     lines = COMMANDS.splitlines(keepends=True)
     [at] = [at for at, line in enumerate(lines) if line.startswith("parallel ")]
     each, zipped = "".join(lines[:at]), "".join(lines[at + 1:])
@@ -76,9 +108,72 @@ def many_logs(folder):
     equal(ran(folder, zipped, environment), (0, [LOGIN], ""), zipped)
 
 
+@functools.cache
+def rules():
+    """The elements of each rule of the grammar by its name, without comments, and of the rules of CORE."""
+    return CORE | dict(re.findall(r"^([a-z-]+) *=((?:.*\n)(?: +.*\n)*)", re.sub(r" *;.*", "", GRAMMAR), re.M))
+
+
+@functools.cache
+def pattern(name):
+    """A regular expression for a rule. No rule may cite itself."""
+    found, times, groups = "", "", []
+    parts = list(PART.finditer(rules()[name]))
+    equal("".join(part[0] for part in parts), rules()[name], name)
+    for part in parts:
+        least, most, first, last, cased, uncased, mark, cited = part.groups()
+        if least is not None:
+            times = f"{{{least or 0},{most}}}"
+        elif mark in ("(", "["):
+            groups.append(times if mark == "(" else "?")
+            found, times = f"{found}(?:", ""
+        elif mark:
+            found += "|" if mark == "/" else f"){groups.pop()}"
+        else:
+            if first:
+                one = f"[\\x{first}-\\x{last or first}]"
+            elif cited:
+                one = pattern(cited)
+            else:
+                one = re.escape(cased) if cased else f"(?i:{re.escape(uncased)})"
+            found, times = f"{found}(?:{one}){times}", ""
+    return found
+
+
+def has(name, text):
+    """Whether a text is one of a rule."""
+    return re.fullmatch(pattern(name).encode(), text) is not None
+
+
+def no_line(log):
+    """The number of the first line of a log that is in no form, or has a number that is too great; else infinity."""
+    lines = log.split(b"\n")[:-1]
+    rule = "numbered-line" if lines[:1] == FIRST_LINES[1:] else "log-line"
+    for at, line in enumerate(lines, 1):
+        is_small = all(int(number) < (1 << 63) - 1 for number in re.findall(rb"\d+", line.partition(b":")[0]))
+        if line not in FIRST_LINES and not (at > 1 and is_small and has(rule, line)):
+            return at
+    return math.inf
+
+
+def the_grammar(folder):
+    """The grammar has the logs of this page, and of each log of audit_cases.py the lines that an audit takes for lines."""
+    equal([has("log", LOG.encode()), has("numbered-log", NUMBERED.encode())], [True, True], "the logs of this page")
+    equal([text for rule, texts in GOOD.items() for text in texts if not has(rule, text)], [], "lines that the grammar lacks")
+    faulty = {rule: texts + [text.swapcase() for text in GOOD[rule]] for rule, texts in BAD.items()}
+    equal([text for rule, texts in faulty.items() for text in texts if has(rule, text)], [], "lines that the grammar has")
+    for _, log, answer, shows in audit_cases.cases():
+        at_fault = re.match(r"line (\d+): (.*)", answer)
+        number = int(at_fault[1]) if at_fault else 0
+        if at_fault and at_fault[2] == "not a line":
+            equal(no_line(log), number, shows)
+        else:
+            holds(no_line(log) > (number or log.count(b"\n")), shows)
+
+
 def every_block(folder):
     """No block of the document is left out."""
-    equal([text for *_, text in blocks_of(DOCUMENT)], [BOOK, LOG, NUMBERED, COMMANDS])
+    equal([text for *_, text in blocks_of(DOCUMENT)], [BOOK, LOG, NUMBERED, GRAMMAR, COMMANDS])
 
 
-suite.run_all([the_book, the_logs, many_logs, every_block])
+suite.run_all([the_book, the_logs, many_logs, the_grammar, every_block])

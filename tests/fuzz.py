@@ -1,16 +1,16 @@
 #!/usr/bin/env python3
-"""Gives the built program random input: words of `code` and `keys`; and books, logs and events of a hall, a few edits from right ones.
+"""Gives the built program random input: words of `code` and `keys`; and books, logs and events of a hall, a few edits from good ones.
 
 Usage: fuzz.py PROGRAM [SEED [COUNT]]
 
-Every run has to end within 2 seconds of the processor's time, by no signal, with a stated status and a stated fault. Where a
-command accepts its input, Python says what follows: the code (RFC 4226, RFC 6238) and the keys (RFC 5802); the text of the book, by
-tomllib, which a second save leaves as it is; of a log, that its lines before the one at fault begin a clean log, and that what is
-upgraded has the same answer; of the events of a hall, that the log which it prints is clean. An input for which something else is seen,
-or that the program accepts and Python does not, is kept, as a file fuzz-KIND-SEED-NUMBER in the folder in which the script is started,
-and ends it. So that none of this is asked of refusals alone, some inputs of each kind have to be accepted.
+Every run has to end within 2 seconds of processor time, not by a signal, with a documented status and a documented fault. If a
+command accepts its input, Python checks what follows: the code (RFC 4226, RFC 6238) and the keys (RFC 5802); the text of the book, with
+tomllib, and that a second save leaves it as it is; that a log's lines before the one at fault begin a clean log, and that an upgraded
+log has the same answer; and that the log of a hall's events is clean. An input with any other result, or that the program accepts and
+Python does not, is kept as a file fuzz-KIND-SEED-NUMBER in the folder in which the script was started, and ends the script. Some inputs
+of each kind have to be accepted, so that not only refusals are tested.
 
-COUNT, 300 by default, is how many inputs of each kind are tried; each is made from SEED, 1 by default, and its own number.
+COUNT, by default 300, is how many inputs of each kind are tried. Each is made from SEED, by default 1, and its own number.
 """
 import collections
 import pathlib
@@ -23,10 +23,10 @@ import tomllib
 
 from checks import equal, fail, holds
 from expected import AUDITS, AUTH, BOOK_FAULTS, MECHS, RESP, code, keys_of, numbered
-from suite import PROGRAM, processor_time
+from suite import LIMIT, PROGRAM, processor_time
 
 BOOKS = sorted(BOOK_FAULTS.glob("*.toml"))
-# What a run may take of the processor, whatever else the machine does.
+# The most processor time of a run, whatever else the machine does.
 SECONDS = 2
 
 # What an audit or an upgrade says of a log.
@@ -52,14 +52,14 @@ BITS = [
 
 
 def run(words, data=b""):
-    """Status and output of a run, whose faults have to be stated ones."""
+    """The status and the output of a run, whose faults have to be documented ones."""
     before = processor_time()
     try:
-        done = subprocess.run([PROGRAM, *words], input=data, capture_output=True, timeout=60)
+        done = subprocess.run([PROGRAM, *words], input=data, capture_output=True, timeout=LIMIT)
     except subprocess.TimeoutExpired:
         fail([words], ["it does not end"])
     holds(processor_time() - before <= SECONDS, words, "too long")
-    # A log's line at fault is an answer, and goes to standard output; `upgrade` has none, and tells it as a fault.
+    # `audit` answers with a log's line at fault on standard output; `upgrade` has no answer, and reports the line as a fault.
     told, other = (done.stdout, done.stderr) if words[0] == "audit" else (done.stderr, done.stdout)
     is_of_log = words[0] in ("audit", "upgrade") and done.returncode in (1, 3) and re.fullmatch(OF_A_LOG, told)
     if is_of_log:
@@ -70,7 +70,7 @@ def run(words, data=b""):
 
 
 def altered(chosen, text, others):
-    """The text after one to three edits: a part of it goes, comes twice, or is replaced."""
+    """The text after one to three edits: a part of it is removed, doubled or replaced."""
     for _ in range(chosen.randint(1, 3)):
         start = chosen.randrange(len(text) + 1)
         end = min(len(text), start + chosen.choice([0, 1, 1, 2, 5, 40]))
@@ -96,7 +96,7 @@ def altered(chosen, text, others):
 
 
 def a_book(folder, chosen):
-    """A book: what is read is what tomllib reads, and a save changes what its command says, and nothing when made again."""
+    """A book: the program reads what tomllib reads, a save changes only what its command says, and a second save changes nothing."""
     texts = [book.read_bytes() for book in BOOKS]
     text = altered(chosen, chosen.choice(texts), texts)
     yield text
@@ -120,7 +120,7 @@ def a_book(folder, chosen):
 
 
 def plain(book):
-    """A book with what may be missing, and its bytes in lower case."""
+    """A book with values for what may be missing, and with its bytes in lower case."""
     accounts = {}
     for name, account in book.get("accounts", {}).items():
         tables = {key: lowered(table) if isinstance(table, dict) else table for key, table in account.items()}
@@ -136,7 +136,7 @@ def lowered(table):
 
 
 def logs():
-    """Logs of the audits' table, each as it stands and numbered."""
+    """The recorded logs, each as it is, and those of version 1 also with numbers."""
     for path in sorted(AUDITS.glob("*.log")):
         text = path.read_bytes()
         yield text
@@ -145,7 +145,7 @@ def logs():
 
 
 def a_log(folder, chosen):
-    """A log: what comes before the line at fault begins a clean log, and an upgrade keeps the answer."""
+    """A log: the lines before the one at fault begin a clean log, and an upgrade keeps the answer."""
     texts = [*logs()]
     text = altered(chosen, chosen.choice(texts), texts)
     yield text
@@ -178,7 +178,7 @@ def lines_of(text):
 
 
 def words_of_code(_, chosen):
-    """The words of `code`: where it prints a code, it is the one by Python's hmac."""
+    """The words of `code`: if it prints a code, Python's hmac gives the same one."""
     odd = [it.decode() for it in NUMBERS]
     some = {
         "--secret": chosen.choice(["31" * 20, "00" * 10, "3132333435363738393031323334353637383930", "AB" * 64, "zz", "", "AB" * 65]),
@@ -207,7 +207,7 @@ def words_of_code(_, chosen):
 
 
 def words_of_keys(_, chosen):
-    """The words and the password of `keys`: the keys are those by Python's hashlib."""
+    """The words and the password of `keys`: the keys are those from Python's hashlib."""
     salt = bytes(chosen.randrange(256) for _ in range(chosen.choice([0, 1, 12, 16, 64, 65])))
     name, function = chosen.choice([("SCRAM-SHA-1", "sha1"), ("SCRAM-SHA-256", "sha256")])
     count = chosen.choice(["1", "2", "4096", "4096", "0", "01", "4294967296"])
@@ -228,7 +228,7 @@ def words_of_keys(_, chosen):
 
 
 def some_events(chosen):
-    """Input lines of `hall`: sessions begin, log in as RFC 5802's example does, send codes and go away, in any order, with edits."""
+    """Input lines of `hall`: sessions begin, log in as in RFC 5802's example, send codes and go away, in any order, with edits."""
     mechs, auth, resp = [line[2:].encode() for line in (MECHS, AUTH, RESP)]
     odd = [b"ABORT", b"AUTH SCRAM-SHA-1", b"AUTH PLAIN", b"CODE 755224", mechs, auth, resp]
     codes, said, begun = [b"CODE 755224", b"CODE 287082", b"CODE 000000", b"SYNC 755224 287082"], {}, 0
@@ -247,7 +247,7 @@ def some_events(chosen):
 
 
 def a_hall(folder, chosen):
-    """Events of a hall: the log that it prints begins a clean one, and is one where the sessions that are open then end."""
+    """Events of a hall: the log that it prints begins a clean one, and is clean once the open sessions have ended."""
     opening = (AUDITS / "hotp.toml").read_bytes()
     events = [*some_events(chosen)]
     yield b"\n".join(events)
@@ -265,7 +265,7 @@ def a_hall(folder, chosen):
     holds(answer in [(0, answer[1]), (1, b"line %d: cut\n" % (len(lines) + 1))], answer)
     begun = [line.split()[0] for line in lines if b" S MECHS " in line]
     ended = {line.split()[0] for line in lines if line.endswith(b" E")}
-    # Each event has one line of its own: a client's, or the first of a session.
+    # Each event has one line of its own in the log: a client's, or the first of a session.
     taken = sum(re.match(rb"\d+ (C |S MECHS|S BUSY)", line) is not None for line in lines)
     holds((status, taken) == (0, len(events)) or status == 1 and taken < len(events), status, taken)
     status, more, answer = heard(events[:taken] + [b"gone %s 9" % number for number in begun if number not in ended])
@@ -277,7 +277,7 @@ def a_hall(folder, chosen):
 
 
 KINDS = [a_book, a_log, words_of_code, words_of_keys, a_hall]
-# What inputs of a kind have to lead to, one in so many at least: about half as often as seed 1 does.
+# The results that inputs of a kind must have, and at least one in how many: about half as often as with seed 1.
 ONE_IN = {
     "a book that is read": 30,
     "an upgraded log": 25,
@@ -292,7 +292,7 @@ ONE_IN = {
 
 
 def tried(kind, seed, number):
-    """What was seen of an input. One of which something unexpected is seen, or that Python can't judge, is kept, and ends the script."""
+    """The results of an input. An input with an unexpected result, or that Python can't judge, is kept, and ends the script."""
     chosen = random.Random(f"{kind.__name__} {seed} {number}")
     with tempfile.TemporaryDirectory() as folder:
         steps = kind(pathlib.Path(folder), chosen)

@@ -1,11 +1,11 @@
 #!/usr/bin/env python3
-"""What the built program prints for many sessions over one book, and what it leaves there: the logs that are wanted are worked
-out by clients.py, and each log is audited by the program itself, under the book that the hall began with.
+"""What the built program prints for many sessions over one book, and how it leaves the book. clients.py computes the logs that are
+due, and the program itself audits each log by the book that the hall began with.
 
-Usage: hall.py PROGRAM
+Usage: hall.py PROGRAM [TEST ..]
 
-Published logins and codes; 64 sessions and those that come then; three sessions dealt in all 1680 orders of their turns, each
-session's lines the same as where it stands alone; and 64 logins with codes, in a thousand random orders.
+The tests: published logins and codes; 64 sessions and those that come after them; three sessions in all 1680 orders of their turns, each
+with the same lines as when it runs by itself; and 64 logins with codes, in a thousand random orders.
 """
 import itertools
 import os
@@ -22,12 +22,12 @@ from halls import HOTP_BOOK, OWN, Hall, clean, handed, login, next_lines
 from suite import LIMIT
 
 SHUFFLES = 1000
-# A folder of files in memory, where a system has one.
+# A folder whose files are in memory, on a system that has one.
 MEMORY = "/dev/shm"
 
 
 def two_sessions(folder):
-    """RFC 5802's login with a code, and in the middle of it a client who asks for another mechanism."""
+    """RFC 5802's login with a code, and in the middle of it a client that asks for another mechanism."""
     here = Hall(folder)
     events = [
         f"open {OWN}",
@@ -52,7 +52,7 @@ def two_sessions(folder):
 
 
 def sixty_four(folder):
-    """64 sessions are open at a time; who comes then is turned away, and each number is given once."""
+    """While 64 sessions are open, a client that comes is turned away. Each number is given once."""
     here = Hall(folder)
     text = "open zz\n" * 64
     log = clients.FIRST_LINE + "".join(f"{number} {MECHS}\n" for number in range(1, 65))
@@ -81,7 +81,7 @@ def bounds(folder):
         here.audited(log, clean(1, 1))
 
 
-# Texts that are no protocol line, or that are not due where a session begins.
+# Texts that are no protocol line, or that are not due at the beginning of a session.
 BAD_LINES = [
     *[b"", b" ", b"ABORT ", b"abort", b"\xff\x00", b"AUTH", b"AUTH PLAIN :%2c", b"AUTH PLAIN :\r", b"CODE 1 2", b"open zz"],
     *[b"CODE 755224", b"RESP :", b"SYNC 755224 287082", b"MECHS PLAIN", b"BUSY"],
@@ -90,7 +90,7 @@ BAD_LINES = [
 
 
 def lines_that_are_none(folder):
-    """What is no protocol line is recorded as such, and so is a line that is not due; it ends the client's session alone."""
+    """A text that is no protocol line, or is not due, is recorded as bad, and ends only the session of its client."""
     here = Hall(folder)
     for line in BAD_LINES:
         log = f"{clients.FIRST_LINE}1 {MECHS}\n2 {MECHS}\n1 C BAD\n1 S NO :\n1 E\n2 C ABORT\n2 S NO :\n2 E\n"
@@ -103,7 +103,7 @@ def lines_that_are_none(folder):
 
 
 def codes_of_one_account(folder):
-    """The codes of all sessions are attempts at one token, in the order in which they come (RFC 4226, appendix D)."""
+    """The codes of all sessions are attempts at one token, in the order in which they arrive (RFC 4226, appendix D)."""
     here = Hall(folder)
     codes = [("755224", "PASS 5 0"), ("755224", "FAIL 5"), ("359152", "PASS 5 2"), ("287082", "FAIL 5"), ("359152", "FAIL 5")]
     codes += [("000000", "FAIL 5"), ("969429", "LOCKED 5")]
@@ -115,7 +115,7 @@ def codes_of_one_account(folder):
 
 
 def told_at_once(folder):
-    """Each line stands in the log while the input is still open, and a code is spent before its reply is printed."""
+    """Each line is in the log while the input is still open, and a code is spent before its reply is printed."""
     here = Hall(folder)
     running = here.start()
     equal(next_lines(running, 1), clients.FIRST_LINE)
@@ -127,8 +127,8 @@ def told_at_once(folder):
 
 
 def three_visits():
-    """One is let in and sends its token's code, one has a wrong proof, one is let in and sends two codes in a row. After `open`
-    each has three turns, and those who are let in then go away."""
+    """One client is let in and sends its token's code, one has a wrong proof, one is let in and sends two codes in a row. After `open`
+    each has three turns, and those that are let in then go away."""
     anne, bob, carl = Account("anne", "SCRAM-SHA-256"), Account('bob, =7% of \\ "', "SCRAM-SHA-1"), Account("carl", "SCRAM-SHA-256")
     return [anne, bob, carl], [
         logged_in(anne, "nonce-of-anne", "own-1") + [said(f"CODE {anne.code(2)}", "S PASS 5 2"), gone()],
@@ -138,7 +138,7 @@ def three_visits():
 
 
 def all_orders(folder):
-    """Whatever the other two do in between, each session has the lines that it has where it stands alone, and the log is clean."""
+    """Whatever the other two do in between, each session has the lines that it has when it runs by itself, and the log is clean."""
     accounts, visits = three_visits()
     here, text, alone = Hall(folder, book(accounts)), book(accounts), []
     for visit in visits:
@@ -155,10 +155,10 @@ def all_orders(folder):
 
 
 def shuffled(_):
-    """64 logins of 64 accounts, each with a code, in random orders: each line of a session is that of its own login, and the log
+    """64 logins to 64 accounts, each with a code, in random orders: each line of a session belongs to its own login, and the log
     is clean."""
     accounts = [Account(f"user {number}", list(clients.HASHES)[number % 2]) for number in range(64)]
-    # a book is saved 64 times in each order, and a file in memory is saved at once
+    # a book is saved 64 times in each order, and saving a file in memory takes no time
     with tempfile.TemporaryDirectory(dir=MEMORY if os.path.isdir(MEMORY) else None) as folder:
         here, text = Hall(folder, book(accounts)), book(accounts)
         for _ in range(SHUFFLES):
@@ -170,7 +170,7 @@ def shuffled(_):
 
 
 def shuffle_of(accounts):
-    """A login of each account, with a code that passes or fails, and an order of their turns, all at random."""
+    """A login to each account, with a code that passes or fails, and an order of their turns, all at random."""
     visits = []
     for account in accounts:
         counter = random.randrange(5)

@@ -1,7 +1,7 @@
 #!/usr/bin/env python3
-"""How halls of the built program end early: what is printed until then, the fault, the status, and what is saved.
+"""How halls of the built program end early: what they have printed by then, the fault, the status, and what is saved.
 
-Usage: hall_faults.py PROGRAM
+Usage: hall_faults.py PROGRAM [TEST ..]
 """
 import os
 import resource
@@ -15,7 +15,7 @@ from clients import Account, book, dealt, gone, logged_in, opened, said
 from halls import HOTP_BOOK, Hall, clean, handed, login, next_lines
 from suite import LIMIT, MOST_BYTES, sleeps, until
 
-# Input lines that say no event, where sessions 2 and 3 are open, session 1 has ended and no other has begun.
+# Input lines that state no event when sessions 2 and 3 are open, session 1 has ended and no other has begun.
 NO_EVENTS = [
     *[b"", b" ", b"close 2 5", b"Open zz", b"OPEN zz", b" open zz", b"\topen zz", b"opened zz", b"lines 2 5 ABORT", b"go 2 5"],
     *[b"open", b"open ", b"open  zz", b"open z z", b"open zz ", b"open z,z", b"open zz\r", b"open z\x7f", b"open \xc3\xa9"],
@@ -30,14 +30,14 @@ NO_MOMENTS = [b"05", b"00", b"+5", b"-5", b"5.0", b"5s", b"now", b"0x5", b"25340
 
 
 def let_in():
-    """A session that is let in and sends a code, and two that begin."""
+    """The input and the log of a session that is let in and sends a code, and of two that begin."""
     visits = [login() + [said("CODE 755224", "S PASS 5 0"), gone()], [opened("aa")], [opened("bb")]]
     return dealt([0, 0, 0, 0, 0, 1, 2], visits)
 
 
 def bad_events(folder):
-    """A line that says no event ends the hall there: the log so far is printed, the book is saved as the log has it, and nothing
-    that comes later is heard."""
+    """A line that states no event ends the hall there: the log so far is printed, the book is saved as the log says, and no
+    later line is heard."""
     here = Hall(folder)
     text, log = let_in()
     lines = [*NO_EVENTS]
@@ -53,17 +53,17 @@ def bad_events(folder):
 
 
 def full_device(running, _):
-    """Lets a run write no byte to a file any more. Pipes are no files."""
+    """Keeps a run from writing another byte to a file. Pipes are not files."""
     resource.prlimit(running.pid, resource.RLIMIT_FSIZE, (0, 0))
 
 
 def taken_name(_, path):
-    """Another file stands where the book's next text is written."""
+    """Makes a folder at the path where the book's next text is written."""
     os.mkdir(path)
 
 
 def failed_saves(folder):
-    """Where the book can't be saved the hall halts: the last line tells the client whose code it was, and nobody else is told."""
+    """If the book can't be saved, the hall halts: its last line is sent to the client whose code it was, and nothing to anyone else."""
     anne, bob = Account("anne", "SCRAM-SHA-256"), Account("bob", "SCRAM-SHA-1")
     here = Hall(folder, book([anne, bob]))
     visits = [logged_in(anne, "abc", "def"), logged_in(bob, "uvw", "xyz"), [opened("zz")]]
@@ -74,7 +74,8 @@ def failed_saves(folder):
         equal(next_lines(running, 1) + handed(running, text, log.count("\n") - 1), log)
         kept = here.book.read_bytes()
         block(running, f"{here.book}.new")
-        output, faults = running.communicate(f"line 2 5 CODE {bob.code(0)}\nline 1 5 CODE {anne.code(0)}\ngone 3 5\nno event\n")
+        lines = f"line 2 5 CODE {bob.code(0)}\nline 1 5 CODE {anne.code(0)}\ngone 3 5\nno event\n"
+        output, faults = running.communicate(lines, timeout=LIMIT)
         equal((running.returncode, output), (3, f"2 C CODE {bob.code(0)}\n2 S HALT\n"))
         equal(faults, f"scramotp: cannot write {here.book}\n")
         equal(here.book.read_bytes(), kept)
@@ -84,7 +85,7 @@ def failed_saves(folder):
 
 
 def first_saves(folder):
-    """The book is saved before the first line; where that fails nothing is printed, and no input is judged."""
+    """The book is saved before the first line. If that fails, nothing is printed, and no input is judged."""
     here = Hall(folder)
     os.mkdir(f"{here.book}.new")
     for text in ["", "no event\n", let_in()[0]]:
@@ -92,7 +93,7 @@ def first_saves(folder):
 
 
 def books_that_are_none(folder):
-    """Before any input is judged the book is read."""
+    """The book is read before any input is judged."""
     here = Hall(folder)
     for text in ["", "no event\n", let_in()[0]]:
         here.put("format = 2\n")
@@ -105,7 +106,7 @@ def books_that_are_none(folder):
 
 
 def held_books(folder):
-    """A hall holds its book until its input ends: another run that needs it waits, and finds the code spent."""
+    """A hall holds its book until its input ends. Another run that needs the book waits, and finds the code spent."""
     here = Hall(folder)
     text, log = let_in()
     running = here.start()
@@ -124,7 +125,7 @@ def held_books(folder):
 
 
 def outputs_that_fail(folder):
-    """Where a line can't be printed the hall ends: no code is judged that the log does not have."""
+    """If a line can't be printed, the hall ends: no code is judged that the log does not have."""
     here = Hall(folder)
     text, log = let_in()
     running = here.start()
@@ -138,7 +139,7 @@ def outputs_that_fail(folder):
 
 
 def long_inputs(folder):
-    """More than 16777216 bytes of input are a fault; the log stands as far as it had come."""
+    """More than 16777216 bytes of input are a fault. The log up to there has been printed."""
     here = Hall(folder)
     text, log = let_in()
     text += "line 2 5 "

@@ -1,8 +1,8 @@
 #!/usr/bin/env python3
 """Halls over one book that are killed at any moment, while many sessions send codes of one account: no counter passes twice in
-all their logs, the book can always be read, and each log that was written is the front of a clean one.
+all their logs, the book can always be read, and each log is the beginning of a clean one.
 
-Usage: hall_kill.py PROGRAM
+Usage: hall_kill.py PROGRAM [TEST ..]
 """
 import os
 import random
@@ -15,25 +15,25 @@ from halls import Hall
 from kills import kill_at_any_moment, start
 
 RUNS = 2000
-# Sessions that log in before the first code, and the different codes that are then sent.
+# How many sessions log in before the first code, and how many different codes are then sent.
 OPEN = 64
 SENT = 12
 
 
 def visits(account):
-    """64 logins to one account."""
+    """The turns of 64 logins to one account."""
     return [logged_in(account, f"client-{number}", f"own-{number}") for number in range(OPEN)]
 
 
 def codes_from(account, at):
-    """Input lines in which sessions send codes around a counter, each code twice, by two sessions."""
+    """Input lines by which sessions send codes around a counter, each code from two sessions."""
     senders = random.sample(range(1, OPEN + 1), 2 * SENT)
     sent = [account.code(max(at - 1, 0) + step // 2) for step in range(2 * SENT)]
     return "".join(f"line {sender} 5 CODE {text}\n" for sender, text in zip(senders, sent))
 
 
 def killed_at_any_moment(folder):
-    """Halls that are killed; the next one goes on from the book that they leave."""
+    """Halls are killed at any moment, and each next one goes on from the book that they leave."""
     account = Account("user", "SCRAM-SHA-1")
     here = Hall(folder, book([account]))
     events = clients.dealt([which for _ in range(3) for which in range(OPEN)], visits(account))[0]

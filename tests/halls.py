@@ -1,4 +1,4 @@
-"""What the scripts on `hall` share: a folder with a book and halls over it, and RFC 5802's login in one."""
+"""What the scripts on `hall` share: a folder with a book, halls over it, and RFC 5802's login in a hall."""
 import os
 import select
 import subprocess
@@ -27,7 +27,7 @@ class Hall(suite.BookFolder):
         super().prints(self.words, text, status, log, fault)
 
     def refuses(self, text, status, fault):
-        """As `prints` where nothing is printed; and no file is written."""
+        """As `prints`, for a hall that prints nothing; it has to write no file either."""
         seen = self.seen()
         self.prints(text, status, "", fault)
         equal(self.seen(), seen, f"the book and its folder after {text[:200]!r}")
@@ -36,7 +36,7 @@ class Hall(suite.BookFolder):
         return suite.token(self.book, name)
 
     def start(self, **more):
-        """A hall that waits for input."""
+        """Starts a hall, which waits for input."""
         pipe = subprocess.PIPE
         return subprocess.Popen(self.words, stdin=pipe, stdout=pipe, stderr=pipe, text=True, bufsize=1, **more)
 
@@ -46,7 +46,7 @@ def clean(sessions, accepted=0, codes=0):
 
 
 def next_lines(running, count):
-    """The next lines that a run prints while its input is open, or fewer where it ends."""
+    """The next `count` lines that a run prints while its input is open, or fewer if it ends."""
     text, deadline = "", time.monotonic() + 20
     while text.count("\n") < count and time.monotonic() < deadline:
         if select.select([running.stdout], [], [], 1)[0]:
@@ -58,12 +58,12 @@ def next_lines(running, count):
 
 
 def handed(running, text, count):
-    """Hands a run more input, and returns the lines that it prints then."""
+    """Sends a run more input, and returns the next `count` lines that it prints."""
     running.stdin.write(text)
     running.stdin.flush()
     return next_lines(running, count)
 
 
 def login():
-    """RFC 5802's login, in three turns."""
+    """The three turns of RFC 5802's login."""
     return [opened(OWN), said(AUTH[2:], CONT), said(RESP[2:], OK)]

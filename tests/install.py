@@ -1,11 +1,11 @@
 #!/usr/bin/env python3
-"""Installs the built program by `make install`, below folders of its own, and runs it by `make run`.
+"""Installs the built program with `make install`, below temporary folders, and runs it with `make run`.
 
-Usage: install.py PROGRAM
+Usage: install.py PROGRAM [TEST ..]
 
-Wherever DESTDIR and PREFIX lead, also where a name has a space, the program and the tools of tools/ come there, and no other file. A
+The program and the tools in tools/ are put where DESTDIR and PREFIX say, even if a name has a space, and no other file is. A
 program that is not built, or is older than its sources, is refused. `make run` prints the keys of RFC 5802's example, which are those
-by Python's hashlib. Needs `make`.
+from Python's hashlib. Needs `make`.
 """
 import os
 import pathlib
@@ -15,11 +15,11 @@ import subprocess
 
 import suite
 from checks import equal, holds
-from suite import KEYS_OF_PENCIL, PROGRAM
+from suite import KEYS_OF_PENCIL, LIMIT, PROGRAM
 
 TOP = pathlib.Path(__file__).resolve().parent.parent
 REFUSED = "The program is not built, or is older than its sources: run make build first."
-# What make takes from the environment: where to install, and what a make above it, such as that of `make test`, was told.
+# What make takes from the environment: where to install, and the settings of a make that called it, such as that of `make test`.
 OF_MAKE = {"DESTDIR", "PREFIX", "MAKEFLAGS", "MFLAGS", "MAKELEVEL"}
 ENVIRONMENT = {name: value for name, value in os.environ.items() if name not in OF_MAKE}
 
@@ -27,7 +27,7 @@ ENVIRONMENT = {name: value for name, value in os.environ.items() if name not in 
 def made(target, program, **folders):
     """Makes a target with this program and these variables."""
     words = ["make", target, *(f"{name}={value}" for name, value in {"PROGRAM": program, **folders}.items())]
-    return subprocess.run(words, cwd=TOP, env=ENVIRONMENT, stdin=subprocess.DEVNULL, capture_output=True, text=True, timeout=60)
+    return subprocess.run(words, cwd=TOP, env=ENVIRONMENT, stdin=subprocess.DEVNULL, capture_output=True, text=True, timeout=LIMIT)
 
 
 def files_of(folder):
@@ -36,7 +36,8 @@ def files_of(folder):
 
 
 def installed(folder):
-    """The program and the tools are there with their bytes, for all to run and for their owner to write, and no other file is."""
+    """The program and the tools are there, with the right bytes, and no other file is. All users may run them, and only their owner may
+    write them."""
     program = shutil.copy(PROGRAM, folder)
     tools = {path.name: path.read_bytes() for path in (TOP / "tools").iterdir()}
     for name, folders, place in [
@@ -68,7 +69,7 @@ def refused(folder):
 
 
 def shown(folder):
-    """`make run` prints the keys of the example by the program, where that is built and newer than its sources."""
+    """`make run` has the program print the keys of the example, if it is built and newer than its sources."""
     done = made("run", shutil.copy(PROGRAM, folder))
     equal((done.returncode, done.stdout, done.stderr), (0, KEYS_OF_PENCIL, ""))
 

@@ -1,5 +1,5 @@
-"""What the scripts that kill runs share: runs over one book that are killed at any moment, and what has to be so of what they printed
-and of the book that they leave."""
+"""What the scripts that kill runs share: runs over one book that are killed at any moment, and what has to be true of their output and
+of the book that they leave."""
 import math
 import random
 import re
@@ -9,14 +9,14 @@ import tempfile
 import time
 
 from checks import equal, holds
-from suite import begins_clean, token
+from suite import LIMIT, begins_clean, token
 
-# So many runs are not killed: the quickest of them shows how long a run takes.
+# How many runs are not killed: the quickest of them shows how long a run takes.
 WHOLE = 3
 
 
 def start(words, text, output=subprocess.PIPE):
-    """A run that is given all of its input."""
+    """Starts a run, and gives it all of its input."""
     run = subprocess.Popen(words, stdin=subprocess.PIPE, stdout=output, stderr=subprocess.PIPE, text=True)
     run.stdin.write(text)
     run.stdin.close()
@@ -25,7 +25,7 @@ def start(words, text, output=subprocess.PIPE):
 
 
 def used(printed):
-    """The counters that the replies in an output or a log use, both of a pair. A line that was cut tells none."""
+    """The counters that the replies in an output or a log use, both for a pair. A line that was cut counts for none."""
     lines = printed.split("\n")[:-1]
     for sent, reply in zip(["", *lines], lines):
         if passed := re.fullmatch(r"(?:\d+ )?(?:S )?PASS \d+ (\d+)", reply):
@@ -36,16 +36,16 @@ def used(printed):
 
 
 def check_front(before, printed):
-    """A log that may be cut is at fault in no line that it has, whether or not its last line is whole."""
+    """No line of a log is at fault, neither with its last line, which may be cut, nor without it."""
     for front in {printed, printed[:printed.rfind("\n") + 1]}:
         holds(begins_clean(before, front), front)
 
 
 def kill_at_any_moment(here, started, count, statuses, is_log=True):
-    """Makes so many runs, one after another, over the book of a folder, and kills each at a random moment, but for the first WHOLE.
+    """Makes `count` runs, one after another, over the book in a folder, and kills each but the first WHOLE at a random moment.
     `started` is given the next counter of `user` and an open file; it starts a run that is sent codes around that counter and prints to
-    that file. A run that is not killed ends with one of these statuses, and lets a code pass. No run tells a fault, and what it prints,
-    if that is a log, is the front of a clean one. The book can be read after each run, the counters that were told to have passed are
+    that file. A run that is not killed ends with one of these statuses, and lets a code pass. No run reports a fault, and its output, if
+    that is a log, is the beginning of a clean one. The book can be read after each run, the counters that were reported as passed are
     spent in it, and none passes twice."""
     passed, killed, passed_in_killed, duration = set(), 0, 0, math.inf
     for number in range(count):
@@ -57,7 +57,7 @@ def kill_at_any_moment(here, started, count, statuses, is_log=True):
             if not is_whole:
                 time.sleep(random.uniform(0, duration))
                 run.kill()
-            _, faults = run.communicate(timeout=60)
+            _, faults = run.communicate(timeout=LIMIT)
             if is_whole:
                 duration = min(duration, time.monotonic() - began)
             output.seek(0)

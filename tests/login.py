@@ -1,8 +1,8 @@
 #!/usr/bin/env python3
-"""What the built program prints for logins over a socket, with which status it ends, and what it leaves: each log is audited
-by the program itself, under the book that the login began with.
+"""What the built program prints for logins over a socket, with which status it ends, and what it leaves. The program itself audits
+each log by the book that the login began with.
 
-Usage: login.py PROGRAM
+Usage: login.py PROGRAM [TEST ..]
 """
 import base64
 import os
@@ -20,14 +20,14 @@ from expected import ACCEPTED, AUDITS, GONE, decoy_salt
 from halls import clean, handed, next_lines
 from suite import LIMIT, MOST_BYTES, NONCES, PROGRAM, hotp, ran
 
-# RFC 5802's and RFC 7677's own logins
+# The logins of RFC 5802's and RFC 7677's examples
 SHA1 = ["--mechanism", "SCRAM-SHA-1", *NONCES]
 SHA256 = ["--client-nonce", "rOprNGfwEbeRWgbNEkqO", "--server-nonce", "%hvYDpWUa2RaTCAfuxFIlj)hNlF$k0"]
 KEYS = (AUDITS / "keys.toml").read_text()
 
 
 class Login(suite.BookFolder):
-    """A folder with a book and a place for the socket, and logins there."""
+    """A folder with a book and a path for the socket, and logins there."""
 
     def __init__(self, folder, text=KEYS):
         super().__init__(folder, text)
@@ -40,18 +40,18 @@ class Login(suite.BookFolder):
         return subprocess.run(words, input=text.encode(), capture_output=True, timeout=LIMIT)
 
     def log_of(self, words, text, status):
-        """Runs a login, compares its status and that no fault is told, and returns its log."""
+        """Runs a login, compares its status, checks that it reports no fault, and returns its log."""
         done = self.run(words, text)
         equal((done.returncode, done.stderr), (status, b""), done)
         return done.stdout.decode()
 
     def prints(self, words, text, status, log, fault=""):
-        """Runs a login, compares its status, log and fault, and looks that the socket's file is gone."""
+        """Runs a login, compares its status, log and fault, and checks that the socket's file is gone."""
         super().prints(words, text, status, log, fault)
         holds(not os.path.lexists(self.socket), "the socket is left", words)
 
     def refuses(self, words, text, status, fault):
-        """As `prints` where nothing is printed; and the book is not written."""
+        """As `prints`, for a login that prints nothing; it has to leave the book unwritten."""
         seen = self.seen()
         self.prints(words, text, status, "", fault)
         equal(self.seen(), seen, f"the book and its folder after {words}")
@@ -66,7 +66,7 @@ def with_codes(look_ahead=3, limit=3, sync_ahead=None):
 
 
 def waiting(words, text):
-    """A run that waits for more input than this."""
+    """Starts a run that is sent this text, and waits for more input."""
     running = subprocess.Popen(words, stdin=subprocess.PIPE, stdout=subprocess.PIPE, stderr=subprocess.PIPE, text=True)
     running.stdin.write(text)
     running.stdin.flush()
@@ -74,7 +74,7 @@ def waiting(words, text):
 
 
 def published_logins(folder):
-    """RFC 5802's login and RFC 7677's, each exactly as it is recorded."""
+    """The logins of RFC 5802 and RFC 7677, each with exactly the recorded log."""
     here = Login(folder)
     here.prints(here.words(*SHA1), "pencil", 0, ACCEPTED + GONE)
     equal(tomllib.loads(here.book.read_text()), tomllib.loads(KEYS))
@@ -85,7 +85,7 @@ def published_logins(folder):
 
 
 def refused_logins(folder):
-    """Another password, and a user without keys for the mechanism: no code is sent, and no fault is told."""
+    """Another password, and a user without keys for the mechanism: no code is sent, and no fault is reported."""
     here = Login(folder, with_codes())
     log = here.log_of(here.words(*SHA1), "pencils\n755224\n", 1)
     holds(log.endswith("\nS NO :e=invalid-proof\nE\n"), log)
@@ -99,7 +99,7 @@ def refused_logins(folder):
 
 
 def decoys(folder):
-    """A name without an account has one salt, of 16 bytes (HMAC-SHA-256 of the decoy key), and no proof is right."""
+    """A name without an account always has the same salt of 16 bytes (HMAC-SHA-256 with the decoy key), and no proof is right."""
     here = Login(folder)
     salt = decoy_salt("nobody")
     for password in ["pencil", "other"]:
@@ -132,7 +132,7 @@ def names_to_act_as(folder):
 
 
 def client_faults(folder):
-    """The client ends a login whose count is outside its limits, or whose service has other keys; no code is sent."""
+    """The client ends a login whose count is outside its limits, or whose server has other keys; no code is sent."""
     here = Login(folder)
     for count in [4095, 1000001]:
         here.put(with_codes().replace("count = 4096\nstored", f"count = {count}\nstored"))
@@ -150,7 +150,7 @@ def client_faults(folder):
 
 
 def codes(folder):
-    """Codes of RFC 4226, appendix D, with their replies; status 0 only where each passed."""
+    """Codes of RFC 4226, appendix D, with their replies; the status is 0 only if each passed."""
     here = Login(folder)
     far = "SYNC 399871 520489"
     for book, lines, status, told, passed in [
@@ -170,7 +170,7 @@ def codes(folder):
 
 
 def lines_that_are_no_code(folder):
-    """A line that can't be sent as a code ends the session, and what comes after it is not sent."""
+    """A line that can't be sent as a code ends the session, and the lines after it are not sent."""
     here = Login(folder, with_codes(sync_ahead=8))
     words = here.words(*SHA1, "--moment", "5")
     long_lines = ["1" * size for size in [17, 6195, 6196, 6201, 6202, 500_000]]
@@ -189,7 +189,7 @@ def lines_that_are_no_code(folder):
 
 
 def replies_at_once(folder):
-    """Each line stands in the log while the input is still open, and the socket's file is there until it ends."""
+    """Each line is in the log while the input is still open, and the socket's file is there until the input ends."""
     here = Login(folder, with_codes())
     running = waiting(here.words(*SHA1, "--moment", "5"), "pencil\n")
     equal(next_lines(running, 6), ACCEPTED)
@@ -203,7 +203,7 @@ def replies_at_once(folder):
 
 
 def another_at_the_path(folder):
-    """A file that takes the socket's name while the login runs stays there."""
+    """A file that takes the socket's path while the login runs stays there."""
     here = Login(folder, with_codes())
     running = waiting(here.words(*SHA1), "pencil\n")
     equal(next_lines(running, 6), ACCEPTED)
@@ -215,7 +215,7 @@ def another_at_the_path(folder):
 
 
 def failed_saves(folder):
-    """A save that fails halts the desk: the log says so, the book is as before, and its clean front is clean."""
+    """A save that fails halts the desk: the log says so and is clean, and the book is as before."""
     here = Login(folder, with_codes(sync_ahead=8))
     for line, sent in [("755224", "C CODE 755224\n"), ("000000", "C CODE 000000\n"), ("SYNC 755224 287082", "C SYNC 755224 287082\n")]:
         here.put(with_codes(sync_ahead=8))
@@ -236,7 +236,7 @@ def failed_saves(folder):
 
 
 def random_nonces(folder):
-    """The client's nonce and then the service's are each the base64 text of the next 18 bytes of the random file."""
+    """The client's nonce and then the server's part are each the base64 text of the next 18 bytes of the random file."""
     here, file = Login(folder), pathlib.Path(folder, "random")
     for name, password in [("one", "pencil"), ("two users", "a,b=c"), ("~" * 255, " " * 1024)]:
         here.book.unlink()
@@ -262,7 +262,7 @@ def random_nonces(folder):
 
 
 def moments(folder):
-    """A code's moment is that of the machine's clock, unless one is given."""
+    """A code's moment is the time of the machine's clock, unless one is given."""
     here = Login(folder, with_codes())
     began = int(time.time())
     done = here.run(here.words(*SHA1), "pencil\n755224\n")
@@ -275,7 +275,7 @@ def moments(folder):
 
 
 def order_of_faults(folder):
-    """First the options in their order, then the password, the book, the random file and the socket."""
+    """Faults are reported in this order: the options in theirs, the password, the book, the random file, and the socket."""
     here = Login(folder)
     taken = here.folder / "taken"
     taken.write_text("")
@@ -310,7 +310,7 @@ def order_of_faults(folder):
 
 
 def short_random_files(folder):
-    """Each nonce that is not given takes 18 bytes; a file that ends before them is a fault before anything is printed."""
+    """Each nonce that is not given takes 18 bytes. If the file ends before them, the run reports a fault, and prints nothing else."""
     here, file = Login(folder), pathlib.Path(folder, "random")
     for size, more in [(0, []), (17, []), (35, []), (17, ["--client-nonce", "a"]), (17, ["--server-nonce", "a"])]:
         file.write_bytes(b"a" * size)
@@ -319,7 +319,7 @@ def short_random_files(folder):
 
 
 def sockets_in_the_way(folder):
-    """A socket fault leaves what is at the path as it is, and the book too; a path may have 107 bytes."""
+    """A socket fault leaves the book, and what is at the path, as they are. A path may have 107 bytes."""
     here = Login(folder)
     with socket.socket(socket.AF_UNIX) as other:
         other.bind(str(here.folder / "used"))
@@ -343,7 +343,7 @@ def sockets_in_the_way(folder):
 
 
 def long_inputs(folder):
-    """More than 16777216 bytes of input are a fault; the log stands as far as it had come."""
+    """More than 16777216 bytes of input are a fault. The log up to there has been printed."""
     here = Login(folder, with_codes(limit=100))
     words = here.words(*SHA1, "--moment", "5")
     here.refuses(words, b"a" * (MOST_BYTES + 1), 3, "cannot read input")

@@ -1,8 +1,8 @@
 #!/usr/bin/env python3
 """Logins over one book that are killed at any moment, or run at the same time: no counter passes twice in all their logs, the
-book can always be read, and each log that was written is the front of a clean one.
+book can always be read, and each log is the beginning of a clean one.
 
-Usage: login_kill.py PROGRAM
+Usage: login_kill.py PROGRAM [TEST ..]
 """
 import os
 import pathlib
@@ -21,24 +21,24 @@ RUNS = 2000
 
 
 def words_of(book, path):
-    """A login over a socket at this path."""
+    """The words of a login over a socket at this path."""
     return [PROGRAM, "login", "--book", book, "--name", "user", "--mechanism", "SCRAM-SHA-1", "--socket", path]
 
 
 def start_login(book, path, lines, output=subprocess.PIPE):
-    """A login that sends these lines."""
+    """Starts a login that sends these lines."""
     return start(words_of(book, path), "\n".join(["pencil", *lines, ""]), output)
 
 
 def lines_from(at):
-    """Codes around a counter, and pairs of codes further on."""
+    """Lines with codes around a counter, and with pairs of codes further on."""
     singles = [code(counter) for counter in range(max(at - 1, 0), at + 6)]
     pairs = [f"SYNC {code(counter)} {code(counter + 1)}" for counter in (at + 5, at + 10, at + 14)]
     return [*singles, *pairs, code(at + 16), code(at + 17)]
 
 
 def killed_at_any_moment(folder):
-    """Logins that are killed; the next one goes on from the book that they leave."""
+    """Logins are killed at any moment, and each next one goes on from the book that they leave."""
     here = BookFolder(folder, BOOK)
     path = here.folder / "socket"
 
@@ -57,7 +57,7 @@ def killed_at_any_moment(folder):
 
 
 def left_sockets(folder):
-    """A run that is killed may leave its socket; the next run has a fault until the file is removed."""
+    """A run that is killed may leave its socket. The next run reports a fault until the file is removed."""
     book, path = pathlib.Path(folder, "book"), f"{folder}/socket"
     book.write_text(BOOK)
     run = subprocess.Popen(words_of(book, path), stdin=subprocess.PIPE, stdout=subprocess.PIPE, stderr=subprocess.PIPE, text=True)
@@ -76,7 +76,7 @@ def left_sockets(folder):
 
 
 def twenty_at_once(folder):
-    """A code passes once, whichever run comes first; the others fail, each in a log that has its own login."""
+    """A code passes once, whichever run comes first. It fails in the others, each in a log with its own login."""
     book = pathlib.Path(folder, "book")
     for _ in range(5):
         book.write_text(BOOK)

@@ -1,12 +1,12 @@
 #!/usr/bin/env python3
-"""What the machine does to each command of the built program, and what has to be true afterwards: one table.
+"""What the machine can do to each command of the built program, and what has to be true afterwards, as one table.
 
-Usage: machine.py PROGRAM
+Usage: machine.py PROGRAM [TEST ..]
 
 A full device, streams that are closed, a pipe that nobody reads, a folder in which nothing can be written, a device without room for the
 book, a clock that is set back, a random file that ends, and too few descriptors; signals at any moment; and twenty runs at once. Each
-run ends with the status and the fault of the table, has printed what it says, and leaves that book and no other file. As root, runs as
-the user nobody where permissions matter. Needs `cc`.
+run ends with the status and the fault in the table, has printed what it says, and leaves that book and no other file. When root runs
+the script, the program runs as the user nobody in tests of permissions. Needs `cc`.
 """
 import collections
 import concurrent.futures
@@ -20,6 +20,7 @@ import shutil
 import signal
 import subprocess
 import time
+from collections.abc import Callable
 from typing import NamedTuple
 
 import shims
@@ -30,11 +31,11 @@ from command_table import (
     run,
 )
 from expected import numbered
-from suite import AS_NOBODY, NOBODY, NONCES, PROGRAM, ROOT, totp
+from suite import AS_NOBODY, LIMIT, NOBODY, NONCES, PROGRAM, ROOT, totp
 
 
 class Due(NamedTuple):
-    """What is due after a run: its status, what it printed (all that is due, or this), its fault, how many saves it made."""
+    """What is due after a run: its status, its output (None for the whole output), its fault, and how many saves it made."""
 
     status: int
     printed: str | None
@@ -48,56 +49,33 @@ UNSAVED, NO_RANDOM = "cannot write {folder}/book", "cannot read {folder}/random"
 
 
 def printless(saves):
-    """After a run whose output is lost; so many saves came before it."""
+    """What is due after a run whose output is lost, and which made so many saves before."""
     return Due(3, "", UNPRINTED, saves)
 
 
 def unread(saves=0, printed=""):
-    """After a run whose input can't be read; so many saves, and this output, came before that."""
+    """What is due after a run whose input can't be read, and which made so many saves, and printed this, before."""
     return Due(3, printed, UNREAD, saves)
 
 
 UNKEPT = Due(3, "", UNSAVED, 0)
 
-# For each disturbance, what is due of each command; `new` is `enrol` where there is no book. A command that is not named has nothing
-# to do with it, and ends well. Codes are saved before they are told; `login` and `hall` save the book before their first line.
+# What is due from each command that is affected; `new` is `enrol` for a book that does not exist yet. Codes are saved before their replies
+# are printed; `login` and `hall` save the book before their first line.
 LOST_OUTPUT = {"keys": printless(0), "code": printless(0), "enrol": printless(1), "new": printless(1), "verify": printless(1)}
 LOST_OUTPUT |= {"unlock": printless(1), "login": printless(1), "hall": printless(1), "audit": printless(0), "upgrade": printless(0)}
 LOST_INPUT = {"keys": unread(), "enrol": unread(), "new": unread(), "verify": unread(), "login": unread()}
 LOST_INPUT |= {"hall": unread(1, "SCRAMLOG 2\n")}
 LOST_SAVE = {name: UNKEPT for name in ["enrol", "new", "verify", "unlock", "login", "hall"]}
-TABLE = {
-    "a full device as output": LOST_OUTPUT,
-    "a pipe that nobody reads as output": LOST_OUTPUT,
-    "a folder as input": LOST_INPUT,
-    "descriptor 0 closed": LOST_INPUT,
-    "descriptor 1 closed": LOST_OUTPUT,
-    "descriptor 2 closed": {},
-    # The log's first line is lost before the first event is read.
-    "descriptors 0 and 1 closed": LOST_OUTPUT | LOST_INPUT | {"hall": printless(1)},
-    "descriptors 0 and 2 closed": LOST_INPUT,
-    "descriptors 1 and 2 closed": LOST_OUTPUT,
-    "descriptors 0, 1 and 2 closed": LOST_OUTPUT | LOST_INPUT | {"hall": printless(1)},
-    "a folder in which nothing can be written": LOST_SAVE | {"login": Due(3, "", "socket fault", 0)},
-    "a device without room for the book": LOST_SAVE,
-    "a clock before 1970": {},
-    "a clock after the year 9999": {},
-    "a random file that ends": {"enrol": Due(3, "", NO_RANDOM, 0), "new": Due(3, "", NO_RANDOM, 0), "login": Due(3, "", NO_RANDOM, 0)},
-}
-
-
-def closed_by(what):
-    """The descriptors that a disturbance closes."""
-    return [int(number) for number in re.findall(r"\d", what)] if what.endswith(" closed") else []
 
 
 def named():
-    """All commands by the names of the table."""
+    """All commands, by their names in the table."""
     return {**{command.name: command for command in commands()}, "new": new_book()}
 
 
 class Machine:
-    """A folder in which a command is disturbed, and which anyone may enter."""
+    """A folder that anyone may enter, in which commands are disturbed."""
 
     def __init__(self, folder):
         os.chmod(folder, 0o755)
@@ -107,21 +85,6 @@ class Machine:
         self.program = shutil.copy(PROGRAM, folder)
         self.clock = pathlib.Path(folder, "clock")
         self.with_clock = {**os.environ, "LD_PRELOAD": shims.built("turn_clock", folder), "CLOCK": str(self.clock)}
-
-    def disturbed(self, what, command):
-        """A run of a command with this disturbance: its status, output and faults."""
-        if closed := closed_by(what):
-            return run(command, self.folder, preexec_fn=lambda: [os.close(number) for number in closed])
-        return {
-            "a full device as output": self.full_output,
-            "a pipe that nobody reads as output": self.unread_pipe,
-            "a folder as input": self.folder_as_input,
-            "a folder in which nothing can be written": self.sealed,
-            "a device without room for the book": self.no_room,
-            "a clock before 1970": lambda command: self.turned(command, -1),
-            "a clock after the year 9999": lambda command: self.turned(command, 253402300800),
-            "a random file that ends": self.short_random,
-        }[what](command)
 
     def full_output(self, command):
         with open("/dev/full", "wb") as full:
@@ -140,7 +103,7 @@ class Machine:
         return answer
 
     def sealed(self, command):
-        """Nobody may write the folder: neither its owner, as whom the command runs, nor others."""
+        """Runs a command in a folder that nobody may write, not even its owner, as whom the command runs."""
         for path in [self.folder, *(os.path.join(self.folder, name) for name in os.listdir(self.folder))]:
             if ROOT:
                 os.chown(path, NOBODY.pw_uid, NOBODY.pw_gid)
@@ -152,12 +115,12 @@ class Machine:
         return answer
 
     def no_room(self, command):
-        """No byte can be written to a file. Pipes are no files."""
+        """Runs a command that can write no byte to a file. Pipes are not files."""
         limit = functools.partial(resource.setrlimit, resource.RLIMIT_FSIZE, (0, 0))
         return run(command, self.folder, preexec_fn=limit, restore_signals=False)
 
     def set_clock(self, second):
-        """The clock stands at this second from now on. Whoever reads it meanwhile finds this second or the one before."""
+        """Stops the clock at this second. A run that reads the clock meanwhile finds this second or the earlier one."""
         next_clock = self.clock.with_name("next_clock")
         next_clock.write_text(str(second))
         next_clock.replace(self.clock)
@@ -167,7 +130,7 @@ class Machine:
         return run(command, self.folder, env=self.with_clock)
 
     def short_random(self, command):
-        """The file has a byte less than the command needs: 18 for each nonce, 16 for each salt and 32 for the key for decoys."""
+        """Runs a command with one random byte less than it needs: 18 for each nonce, 16 for each salt and 32 for the decoy key."""
         words = [word for word in command.words if word not in NONCES]
         if command.name == "login":
             words += ["--random", "{random}"]
@@ -176,31 +139,72 @@ class Machine:
         return run(command._replace(words=words), self.folder)
 
 
+class Disturbance(NamedTuple):
+    """A way to disturb a command: its name, the function of a machine and a command that runs it so and returns its status, output and
+    faults, and whether the test then can't see the output, or the faults."""
+
+    name: str
+    run: Callable
+    loses_output: bool = False
+    loses_faults: bool = False
+
+
+def closed(*numbers):
+    """The disturbance of a command for which these of the three streams are closed."""
+    def closed_run(machine, command):
+        return run(command, machine.folder, preexec_fn=lambda: [os.close(number) for number in numbers])
+
+    return Disturbance(f"closed: {numbers}", closed_run, 1 in numbers, 2 in numbers)
+
+
+def clock_at(second):
+    """The disturbance of a command at whose clock it is always this second."""
+    return Disturbance(f"the clock at {second}", lambda machine, command: machine.turned(command, second))
+
+
+# Each disturbance, and what is due in it. A command that is not named is not affected, and ends well.
+TABLE = [
+    (Disturbance("a full device as output", Machine.full_output, loses_output=True), LOST_OUTPUT),
+    (Disturbance("a pipe that nobody reads as output", Machine.unread_pipe, loses_output=True), LOST_OUTPUT),
+    (Disturbance("a folder as input", Machine.folder_as_input), LOST_INPUT),
+    (closed(0), LOST_INPUT),
+    (closed(1), LOST_OUTPUT),
+    (closed(2), {}),
+    # The log's first line is lost before the first event is read.
+    (closed(0, 1), LOST_OUTPUT | LOST_INPUT | {"hall": printless(1)}),
+    (closed(0, 2), LOST_INPUT),
+    (closed(1, 2), LOST_OUTPUT),
+    (closed(0, 1, 2), LOST_OUTPUT | LOST_INPUT | {"hall": printless(1)}),
+    (Disturbance("a folder in which nothing can be written", Machine.sealed), LOST_SAVE | {"login": Due(3, "", "socket fault", 0)}),
+    (Disturbance("a device without room for the book", Machine.no_room), LOST_SAVE),
+    # Before 1970, and after the year 9999
+    (clock_at(-1), {}),
+    (clock_at(253402300800), {}),
+    (Disturbance("a random file that ends", Machine.short_random), dict.fromkeys(["enrol", "new", "login"], Due(3, "", NO_RANDOM, 0))),
+]
+
+
 def table(folder):
-    """Each disturbance of each command."""
+    """Each command ends in each disturbance as the table says."""
     here, cells = Machine(folder), 0
-    for what, row in TABLE.items():
+    for disturbance, row in TABLE:
         for name, command in named().items():
             due = row.get(name, WELL)
             prepare(here.folder, command)
-            answer = here.disturbed(what, command)
-            cell = (what, name)
+            answer = disturbance.run(here, command)
+            cell = (disturbance.name, name)
             printed = command.printed if due.printed is None else due.printed
-            fault = f"scramotp: {due.fault.format(folder=here.folder)}\n" if due.fault and 2 not in closed_by(what) else ""
-            equal(answer, (due.status, printed if is_seen(what) else "", fault), cell)
+            fault = f"scramotp: {due.fault.format(folder=here.folder)}\n" if due.fault else ""
+            seen = (due.status, "" if disturbance.loses_output else printed, "" if disturbance.loses_faults else fault)
+            equal(answer, seen, cell)
             equal((book_of(here.folder), left(here.folder)), (command.books[due.saves], set()), (*cell, "the book, and what else is left"))
             holds(due.saves != 0 or is_kept(here.folder, command, ""), cell)
             cells += 1
     print(f"machine.py: {cells} cells of {len(TABLE)} disturbances of {len(named())} commands")
 
 
-def is_seen(what):
-    """Whether what is printed can be seen."""
-    return "output" not in what and 1 not in closed_by(what)
-
-
 def socket_elsewhere(folder):
-    """A login whose socket can be made, and whose book can't be saved, prints nothing, and leaves no socket."""
+    """A login whose socket can be made but whose book can't be saved prints nothing, and leaves no socket."""
     here, open_folder = Machine(folder), os.path.join(folder, "open")
     os.mkdir(open_folder)
     os.chmod(open_folder, 0o777)
@@ -214,7 +218,7 @@ def socket_elsewhere(folder):
 
 
 def few_descriptors(folder):
-    """With so few descriptors that a command can't open its files it says so, and the book is whole."""
+    """With too few descriptors to open its files, a command says so, and the book is whole."""
     here, refused = Machine(folder), 0
     for name, command in named().items():
         for most in range(4, 16):
@@ -233,13 +237,13 @@ def few_descriptors(folder):
     print(f"machine.py: {refused} runs with too few descriptors")
 
 
-# How often each command gets each signal.
+# The signals that each command gets, and how often it gets each of them.
 SIGNALS = [signal.SIGTERM, signal.SIGINT, signal.SIGHUP, signal.SIGKILL]
 TIMES = 30
 
 
 def interrupted(here, command, number, wait):
-    """A run that gets a signal after so many seconds, unless it ends before: its status, output and faults."""
+    """Sends a run a signal after so many seconds, unless it ends before. Returns its status, output and faults."""
     run = subprocess.Popen(command.in_folder(here.folder), stdin=subprocess.PIPE, stdout=subprocess.PIPE, stderr=subprocess.PIPE)
     try:
         run.stdin.write(command.text.encode())
@@ -249,13 +253,13 @@ def interrupted(here, command, number, wait):
     run.stdin = None
     time.sleep(wait)
     run.send_signal(number)
-    output, faults = run.communicate(timeout=60)
+    output, faults = run.communicate(timeout=LIMIT)
     return run.returncode, output.decode(), faults.decode()
 
 
 def signals(folder):
-    """A signal at any moment ends a command: what is printed begins what is due, the book is whole and has what was told, and the next
-    command finds nothing in its way but a socket."""
+    """A signal at any moment ends a command: its output is the beginning of what is due, the book is whole and has what was reported, and
+    the next command finds nothing in its way but a socket."""
     here, ended, enrol = Machine(folder), collections.Counter(), command_of("enrol")
     for name, command in named().items():
         prepare(here.folder, command)
@@ -283,7 +287,7 @@ def signals(folder):
 
 
 def together(here, started):
-    """Starts these commands at once, each with its input and a socket of its own, and returns what each answers."""
+    """Starts these commands at the same time, each with its input and a socket of its own, and returns the answer of each."""
     def answer(number, command):
         own = [word.replace("{socket}", f"{here.folder}/socket{number}") for word in command.words]
         return run(command._replace(words=own), here.folder)
@@ -293,8 +297,8 @@ def together(here, started):
 
 
 def twenty_at_once(folder):
-    """Twenty runs of each command over one book: an account is added once, a code passes once, whoever sends it, and each of the
-    others is answered as if it came later. What reads a book or a log alone is answered as if it were alone."""
+    """Twenty runs of each command over one book: an account is added once, a code passes once, whoever sends it, and all other runs
+    are answered as if they came later. A command that only reads a book or a log is answered as if it ran by itself."""
     here = Machine(folder)
     one_code = {**{command.name: command for command in commands(1)}, "new": new_book()}
     late = {"enrol": (1, "", "scramotp: name is taken\n"), "verify": (1, "FAIL 5\n", "")}
@@ -329,7 +333,7 @@ def all_at_once(folder):
                 holds(what[1:] in [(0, command.printed, ""), (1, "", "scramotp: name is taken\n")], what)
             elif command.name in ("verify", "login", "hall"):
                 passed += re.findall(r"PASS 5 (\d+)", printed)
-                equal(re.sub(r"PASS 5 \d+", "FAIL 5", command.printed), re.sub(r"PASS 5 \d+", "FAIL 5", printed), what)
+                equal(re.sub(r"PASS 5 \d+", "FAIL 5", printed), re.sub(r"PASS 5 \d+", "FAIL 5", command.printed), what)
                 equal(fault, "", what)
             else:
                 equal(what[1:], (0, command.printed, ""), what)
@@ -339,13 +343,13 @@ def all_at_once(folder):
     print("machine.py: 10 times 20 runs at once of all commands")
 
 
-# RFC 6238, appendix B: the codes of SHA-1 at three moments, of steps 1, 37037036 and 37037037, and a token that takes them.
+# RFC 6238, appendix B: the SHA-1 codes at three moments, of the steps 1, 37037036 and 37037037, and a token that accepts them.
 EARLY, BEFORE, AFTER = (59, 1, "94287082"), (1111111109, 37037036, "07081804"), (1111111111, 37037037, "14050471")
 TOTP = totp(limit=100)
 
 
 class Clocks(Machine):
-    """Logins, with the machine's clock, and a hall and `verify`, with the moments that they are given, over a book with a TOTP token."""
+    """Logins with the machine's clock, and a hall and `verify` with the moments that they are given, over a book with a TOTP token."""
 
     def __init__(self, folder):
         super().__init__(folder)
@@ -358,7 +362,7 @@ class Clocks(Machine):
         self.book.write_text(BOOK[:BOOK.index("\n[accounts.user.token]")] + TOTP)
 
     def login(self, *turns):
-        """The replies to codes, each of which is sent while the clock stands at this second; the log is clean."""
+        """The replies to codes in a login; each turn is a second at which the clock is stopped, and a code. The log has to be clean."""
         login, before = self.named["login"], self.book.read_text()
         words, pipe = login.in_folder(self.folder)[:-2], subprocess.PIPE
         self.set_clock(turns[0][0])
@@ -376,8 +380,8 @@ class Clocks(Machine):
 
 
 def clocks_that_go_back(folder):
-    """No code passes again, nor one of an earlier step, where the clock was set back: neither in the same run nor in the next. Where the
-    clock can't say a moment, it is 0."""
+    """When the clock is set back, no code passes again, and none of an earlier step, neither in the same run nor in the next. If the
+    clock gives no valid moment, the moment is 0."""
     here = Clocks(folder)
     (then, first, code), (now, second, next_code), (_, _, old_code) = BEFORE, AFTER, EARLY
     equal(here.login((now, next_code), (then, code), (then, next_code)), [f"PASS {now} {second}", f"FAIL {then}", f"FAIL {then}"])
@@ -393,7 +397,7 @@ def clocks_that_go_back(folder):
 
 
 def moments_that_fall(folder):
-    """The same where the moments are given: to `verify`, and to a hall, whose log is clean."""
+    """The same with moments that are given to `verify` and to a hall, whose log is clean."""
     here = Clocks(folder)
     (then, first, code), (now, second, next_code), (_, _, old_code) = BEFORE, AFTER, EARLY
     verify = here.named["verify"]
@@ -423,7 +427,7 @@ TESTS = [
     moments_that_fall,
 ]
 
-# Under nohup, or in the background of a shell, some signals are ignored, also by what is started here.
+# Under nohup, or in the background of a shell, some signals are ignored, also by the processes started here.
 for number in SIGNALS:
     if number != signal.SIGKILL:
         signal.signal(number, signal.SIG_DFL)

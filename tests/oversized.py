@@ -1,10 +1,10 @@
 #!/usr/bin/env python3
-"""Messages, lines, inputs and logs at their limits and one byte longer, and input that never ends, by the built program.
+"""Gives the built program messages, lines, inputs and logs at their limits and one byte longer, and input that never ends.
 
-Usage: oversized.py PROGRAM
+Usage: oversized.py PROGRAM [TEST ..]
 
-What is due at a limit is worked out by clients.py and expected.py from RFC 5802 and RFC 4226. Endless input is made as it is asked for, and
-the most memory that a run has had is compared early and late.
+clients.py and expected.py compute what is due at a limit from RFC 5802 and RFC 4226. Endless input is made while the run reads it, and
+the run's peak memory early and late is compared.
 """
 import array
 import fcntl
@@ -24,24 +24,24 @@ from clients import Account, Exchange, base, dealt, escaped, gone, logged_in, op
 from command_table import BOOK, command_of, commands, login_log, prepare
 from expected import AUDITS, SESSION_LEFT
 from halls import Hall, clean
-from suite import MOST_BYTES, PROGRAM, ran, sleeps
+from suite import LIMIT, MOST_BYTES, PROGRAM, ran, sleeps
 
-# A hall's log of RFC 5802's login, and the events that lead to it.
+# A hall's log of RFC 5802's login, without its end, and the events that lead to it.
 HALL = command_of("hall", 0)
 LOGGED = "".join(HALL.printed.splitlines(True)[:-2])
 EVENTS = HALL.text.removesuffix("gone 1 5\n")
-# How much more memory a run may have had late than early, in KiB.
+# How much a run's peak memory may grow from early to late, in KiB.
 MORE = 256
 NO_AND_END = ["S NO :", "E"]
 
 
 def decoy(name):
-    """The challenge's salt and count for a name that has no account (this project's form, as docs/PROMISES.md has it)."""
+    """The challenge's salt and count for a name without an account (this project's own form, given in docs/PROMISES.md)."""
     return f"s={base(expected.decoy_salt(name))},i={clients.COUNT}"
 
 
 def first_messages(account):
-    """Texts of client-first messages at a limit and past it: what is asked, and the name and nonce of those that are good."""
+    """Client-first messages at a limit and past it, each with its name and nonce, or None if it is bad."""
     user, long_name = f"n={account.name}", "v" * 255
     for letters in ["x", " ", "\u00e9"]:
         rest = "n,,n=user,r=x,x=" + letters * (2032 // len(letters.encode()))
@@ -58,7 +58,7 @@ def first_messages(account):
 
 
 def lengths_of_first_messages(folder):
-    """A client-first message has at most 2048 bytes, a nonce 256, a name and a name to act as 255, however they are spelled."""
+    """A client-first message has at most 2048 bytes, a nonce 256, and a name and a name to act as 255, without their escapes."""
     account = Account("user", "SCRAM-SHA-1")
     here, tried = Hall(folder, clients.book([account])), 0
     for text, good in first_messages(account):
@@ -104,7 +104,7 @@ def lengths_of_lines(folder):
 
 
 def final_message(account, more, given=None):
-    """A login in which the client's last message has this extension, and its messages; its proof is right unless one is given."""
+    """The messages of a login in which the client's last message has this extension. Its proof is right unless one is given."""
     it = account.exchange("abc", "def")
     unproved = f"c=biws,r=abcdef{more}"
     signed = f"{it.first[3:]},{it.challenge},{unproved}".encode()
@@ -114,7 +114,7 @@ def final_message(account, more, given=None):
 
 
 def lengths_of_last_messages(folder):
-    """A client-final message has at most 2048 bytes, and a proof 64, which is a wrong one unless it has the hash's length."""
+    """A client-final message has at most 2048 bytes, and a proof 64; a proof is wrong unless it has the hash's length."""
     account = Account("user", "SCRAM-SHA-1")
     here = Hall(folder, clients.book([account]))
     room = 2048 - len(final_message(account, ",x=").final)
@@ -159,7 +159,7 @@ def lengths_of_words(folder):
 
 
 def lengths_of_files(folder):
-    """A book of 16777216 bytes is read, and one of one more byte is not. So is the line of a password: of that length it is read, and is
+    """A book of 16777216 bytes is read, and one of one more byte is not. So is a password's line: with 16777216 bytes it is read, and is
     a bad password."""
     tried = 0
     for command in commands():
@@ -180,7 +180,7 @@ def lengths_of_files(folder):
 
 
 class Fed:
-    """A run that is fed as it reads, what it has printed so far, and the most memory that it has had."""
+    """A run that is fed as fast as it reads; its output so far, and its peak memory, can be seen."""
 
     def __init__(self, words):
         self.output = tempfile.TemporaryFile()
@@ -197,7 +197,7 @@ class Fed:
         return True
 
     def most_memory(self):
-        """The most memory that the run has had in KiB, once it has read all that it was fed and waits for more."""
+        """The run's peak memory in KiB, once it has read all that it was fed and waits for more."""
         left = array.array("i", [1])
         until = time.monotonic() + 60
         while left[0] > 0 or not sleeps(self.run.pid):
@@ -208,31 +208,31 @@ class Fed:
         return int(status.split("VmHWM:")[1].split()[0])
 
     def end(self):
-        """Ends the input. Returns the status, what was printed and the fault."""
+        """Ends the input. Returns the status, the output and the faults."""
         try:
             self.run.stdin.close()
         except BrokenPipeError:
             pass
         faults = self.run.stderr.read().decode()
         self.run.stderr.close()
-        status = self.run.wait(60)
+        status = self.run.wait(LIMIT)
         self.output.seek(0)
         with self.output:
             return status, self.output.read().decode(), faults
 
 
-# So many sessions of three lines that a log with its first line has a million lines.
+# With so many sessions of three lines and its first line, a log has a million lines.
 SESSIONS = 333333
 
 
 def sessions(version):
-    """The sessions of a log of a million lines, but for its first line, in parts."""
+    """A log of a million lines without its first line, session by session."""
     for number in range(1, SESSIONS + 1):
         yield SESSION_LEFT if version == 1 else b"".join(b"%d %s" % (number, line) for line in SESSION_LEFT.splitlines(True))
 
 
 def long_logs(folder):
-    """A million lines are clean, and a byte more is too much; an audit needs no more memory for them than for ten."""
+    """A million lines are clean, and one more byte is too many; an audit needs no more memory for them than for ten lines."""
     words = [PROGRAM, "audit", "--book", AUDITS / "keys.toml", "--log", "/dev/stdin"]
     for version in [1, 2]:
         for more, answer in [(b"", (0, f"clean sessions={SESSIONS} accepted=0 codes=0\n", "")), (b"S", (1, "too many lines\n", ""))]:
@@ -272,7 +272,7 @@ def endless_logs(folder):
 
 
 def endless_passwords(folder):
-    """A password that never ends is a fault of the input, and nothing is written."""
+    """A password that never ends is an input fault, and nothing is written."""
     count = 0
     for command in commands():
         if command.text.startswith("pencil"):
@@ -289,7 +289,7 @@ def endless_passwords(folder):
 
 def endless_codes(folder):
     """Codes that never end are judged up to the last line within 16777216 bytes of input, and a run needs no more memory for them than
-    for the first. The token is locked by the first three; the rest are answered so."""
+    for the first. The first three lock the token, and the replies to the others say so."""
     pair = f"SYNC {'0' * 16} {'1' * 16}"
     rows = {
         "verify": (b"", f"{'0' * 15}\n", "", "FAIL 5\n", "LOCKED 5\n"),

@@ -1,13 +1,13 @@
 #!/usr/bin/env python3
-"""Runs each block of docs/OPERATING.md as it stands there, but for `useradd`, paths and the user, and looks at what it leaves and prints.
+"""Runs each block of docs/OPERATING.md as it stands, except `useradd`, paths and the user, and checks what it leaves and prints.
 
-Usage: recipes.py PROGRAM [OPERATING]
+Usage: recipes.py PROGRAM [TEST ..]
 
-Blocks are taken by their section and their language. Each is run by bash in a folder of its own that has an account book and a link to
-tools/, with the program on the PATH, and then all but the first in one folder in their order; of a unit of systemd the command and the
-credentials are used. So each of the tools is tried, but for `serve-hall`, whose block serve_hall.py runs. Codes, keys and verifiers are
-those of RFC 4226 and RFC 7677, of keys.csv (made by Dovecot), or of Python's hashlib. A block that no test runs is a fault. Takes the 30
-seconds for which an edit waits for a book.
+Blocks are found by their section and their language. bash runs each in a folder of its own, which has an account book and a link to
+tools/, with the program on the PATH, and then all but the first in one folder, in their order. Of a systemd unit, the command and the
+credentials are used. So each of the tools is tried, except `serve-hall`: serve_hall.py runs its block, and no test runs its unit. Codes,
+keys and verifiers are those of RFC 4226 and RFC 7677, from keys.csv (made by Dovecot), or from Python's hashlib. Any other block that no
+test runs is a fault. Takes the 30 seconds for which an edit waits for a book. DOCUMENT=PATH in the environment names another page.
 """
 import base64
 import csv
@@ -18,7 +18,6 @@ import os
 import re
 import shlex
 import signal
-import sys
 import time
 from concurrent.futures import ThreadPoolExecutor
 from pathlib import Path
@@ -28,21 +27,23 @@ import suite
 from book_cases import cases
 from checks import equal, holds
 from expected import AUDITS, VECTORS, keys_of
-from suite import BOOK_OF_USER, CODES, LIMIT, NOBODY, ROOT, code, hotp, is_locked, is_root, program_on_path, read_book, seen, totp, until
+from suite import (
+    BOOK_OF_USER, CODES, LIMIT, NOBODY, ROOT, code, document, hotp, is_locked, is_root, program_on_path, read_book, seen, totp, until,
+)
 from tool_runs import TOOLS, book_of, does, ran, start, with_tools
 
-DOCUMENT = Path(sys.argv[2]) if len(sys.argv) > 2 else Path(__file__).resolve().parent.parent / "docs" / "OPERATING.md"
-# Where the document finds the tools, and the folder that it makes.
+DOCUMENT = document("docs/OPERATING.md")
+# The folder of the tools in the document, and the folder that it makes.
 INSTALLED = "/usr/local/share/scramotp"
 PLACE = "/var/lib/scramotp"
 NAME = "user@example.org"
 FOB = "fob@example.org"
 RENAMED = "button@example.org"
 
-# Prints nothing where the block before it has let go of the password.
+# Prints nothing if the block before it has forgotten the password.
 FORGOTTEN = 'printf %s "$password"\n'
 
-# Runs a block, and prints each variable that it leaves in the shell, and the umask where that is another one.
+# Runs a block, and prints each variable that it leaves in the shell, and the umask if that has changed.
 LEAVES_NOTHING = """umask 022
 before= status=; before=$(compgen -v)
 {}status=$?
@@ -50,27 +51,22 @@ compgen -v | grep -vxF "$before"; [ "$(umask)" = 0022 ] || umask
 exit $status
 """
 
-# The section of `serve-hall`, whose block goes on until an interrupt.
+# The sections on `serve-hall`: its block runs until an interrupt, and its unit is not run.
 SERVED = "Serve many logins with `hall`"
-
-# The blocks that a test has used.
-used = set()
-
+UNIT_OF_HALL = "A unit for `serve-hall`"
 
 def all_blocks():
-    """Each block of the document but that of `serve-hall`: its section's title, its language and its text."""
-    return [block for block in suite.blocks_of(DOCUMENT) if block[0] != SERVED]
+    """Each block of the document except the two of `serve-hall`: its section's title, its language and its text."""
+    return [block for block in suite.blocks_of(DOCUMENT) if block[0] not in (SERVED, UNIT_OF_HALL)]
 
 
 def blocks(title, language="sh"):
-    """The blocks of a language in the section of this title."""
-    found = [block for block in all_blocks() if block[:2] == (title, language)]
-    used.update(found)
-    return [block for _, _, block in found]
+    """The blocks in this language in the section with this title."""
+    return [block[2] for block in all_blocks() if block[:2] == (title, language)]
 
 
 def enrolled(folder):
-    """A folder with the tools, and a book with two accounts that have passwords."""
+    """Makes in a folder a link to the tools, and a book with two accounts that have passwords."""
     with_tools(folder, "").unlink()
     for name in [NAME, "other"]:
         enrol = f"scramotp enrol --book book.toml --name {name}"
@@ -83,7 +79,7 @@ def with_fob(folder):
 
 
 def code_at(secret, moment):
-    """The TOTP code of a moment (RFC 6238): six digits, SHA-1, steps of 30 seconds from 0."""
+    """The TOTP code for a moment (RFC 6238): six digits, SHA-1, steps of 30 seconds from 0."""
     return expected.code(secret, moment // 30)
 
 
@@ -92,7 +88,7 @@ def verify(name, *codes, moment=5):
 
 
 def an_editor_and_a_command(folder):
-    """An edit by an editor with an option, and one by a command. The file keeps owner and group, and nobody else can read it."""
+    """An edit by an editor with an option, and one by a command. The file keeps its owner, group and mode."""
     book = with_tools(folder, BOOK_OF_USER)
     os.chown(book, -1, 2345 if ROOT else [os.getegid(), *os.getgroups()][-1])
     before = book.stat()
@@ -113,26 +109,26 @@ def an_edit_that_fails(folder):
     book = with_tools(folder, BOOK_OF_USER)
     real = os.path.realpath(book)
     status, output, faults = ran(folder, "tools/edit-book book.toml sed s/format/former/")
-    found = re.fullmatch(rf"scramotp: bad book: 61\nedit-book: {real} is as it was; look into (.*)\n", faults)
+    found = re.fullmatch(rf"scramotp: bad book: 61\nedit-book: {real} is unchanged; look into (.*)\n", faults)
     equal((status, output), (1, ""), faults)
     holds(found, faults)
     equal(Path(found[1]).read_text(), BOOK_OF_USER.replace("format", "former"))
     os.remove(found[1])
     found = ran(folder, "tools/edit-book book.toml false")
-    equal(found, (1, "", f"edit-book: {real} is as it was, since false failed\n"))
+    equal(found, (1, "", f"edit-book: {real} is unchanged, because false failed\n"))
     found = ran(folder, "tools/edit-book book.toml", EDITOR="false")
-    equal(found, (1, "", f"edit-book: {real} is as it was, since the editor failed\n"))
+    equal(found, (1, "", f"edit-book: {real} is unchanged, because the editor failed\n"))
     equal(book.read_text(), BOOK_OF_USER)
     equal(set(os.listdir(folder)), {"bin", "book.toml", "tools"})
 
 
 def an_edit_of_anothers_book(folder):
-    """A book of another user is refused, and stays as it was. As root also one in such a user's folder."""
+    """Another user's book is refused, and stays as it was. So does root's book in another user's folder, which only root can try."""
     book = with_tools(folder, BOOK_OF_USER)
     if ROOT:
-        os.chown(book, 65534, 65534)
+        os.chown(book, NOBODY.pw_uid, NOBODY.pw_gid)
     else:
-        # A file of root's, by a link
+        # A file of root's, through a link
         book.unlink()
         book.symlink_to("/etc/passwd")
     before = seen(book)
@@ -143,7 +139,7 @@ def an_edit_of_anothers_book(folder):
         equal(seen(book), before, edit)
     if is_root():
         os.chown(book, 0, 0)
-        os.chown(folder, 65534, 65534)
+        os.chown(folder, NOBODY.pw_uid, NOBODY.pw_gid)
         before = seen(book)
         found = ran(folder, "tools/edit-book book.toml sed s/4096/4097/")
         equal(found, (1, "", f"edit-book: {os.path.realpath(book)} is in a folder of another user\n"))
@@ -152,19 +148,19 @@ def an_edit_of_anothers_book(folder):
 
 
 def an_edit_that_is_stopped(folder):
-    """An edit whose processes are told to end leaves the book as it was, and no file beside it."""
+    """An edit whose processes are terminated leaves the book as it was, and no file next to it."""
     book = with_tools(folder, BOOK_OF_USER)
-    edit = start(folder, "exec setsid tools/edit-book book.toml sh -c 'sed s/4096/4097/; exec sleep 60'")
+    edit = start(folder, "exec setsid tools/edit-book book.toml sh -c 'sed s/4096/4097/; exec sleep 600'")
     until(lambda: any(path.read_text() for path in Path(folder).glob("book.toml.*")))
     os.killpg(edit.pid, signal.SIGTERM)
-    edit.communicate(timeout=30)
+    edit.communicate(timeout=LIMIT)
     equal(edit.returncode, 1)
     equal(book.read_text(), BOOK_OF_USER)
     equal(list(Path(folder).glob("book.toml.*")), [])
 
 
 def an_edit_waits(folder):
-    """An edit that waits for a run works on the file that the run has put in the book's place."""
+    """An edit that waits for a run then edits the file that the run has put in the book's place."""
     book = with_tools(folder, BOOK_OF_USER + hotp(look_ahead=3, limit=3))
     run = start(folder, "exec scramotp verify --book book.toml --name user --moment 5")
     until(lambda: is_locked(book))
@@ -179,7 +175,7 @@ def an_edit_waits(folder):
 
 
 def a_run_waits(folder):
-    """A run that waits for an edit works on the file that the edit has put in the book's place."""
+    """A run that waits for an edit then uses the file that the edit has put in the book's place."""
     book = with_tools(folder, BOOK_OF_USER + hotp(look_ahead=3, limit=3))
     slow = start(folder, "tools/edit-book book.toml sh -c 'sed s/4096/4097/; sleep 1'")
     until(lambda: is_locked(book))
@@ -191,7 +187,7 @@ def a_run_waits(folder):
 
 
 def many_at_once(folder):
-    """Of edits and runs at the same time none loses what another has changed."""
+    """Edits and runs at the same time lose no change that another has made."""
     with_tools(folder, BOOK_OF_USER + hotp(look_ahead=9, limit=99))
     edits = [f"tools/edit-book book.toml sh -c 'cat; echo \"[accounts.a{number}]\"'" for number in range(8)]
     enrols = [f"scramotp enrol --book book.toml --name b{number} --count 1" for number in range(8)]
@@ -204,7 +200,7 @@ def many_at_once(folder):
 
 
 def an_edit_gives_up(folder):
-    """An edit waits for 30 seconds, and then leaves the book alone."""
+    """An edit waits for 30 seconds, and then leaves the book as it was."""
     book = with_tools(folder, BOOK_OF_USER)
     with open(book, "rb") as file:
         fcntl.flock(file, fcntl.LOCK_EX)
@@ -214,7 +210,7 @@ def an_edit_gives_up(folder):
 
 
 def a_token(folder):
-    """The token that is set takes the codes of the secret that is printed, and is taken out again. An account that has one gets no
+    """The token that is set accepts the codes of the secret that is printed, and is removed again. An account that has a token gets no
     other, and a name without an account gets none."""
     enrolled(folder)
     set_token, drop_token, _ = blocks("Give a user one-time codes")
@@ -243,8 +239,8 @@ def a_token(folder):
 
 
 def a_hotp_token(folder):
-    """The fob that the document adds has RFC 4226's secret: it takes that RFC's codes, and skips as many as it says. A name that has an
-    account gets none, but by the word that the document says."""
+    """The fob that the document adds has RFC 4226's secret: that RFC's codes pass, with up to `look_ahead` skipped. A name that has an
+    account gets the token only with the change that the document names."""
     enrolled(folder)
     *_, add_fob = blocks("Give a user one-time codes")
     does(folder, add_fob)
@@ -266,7 +262,7 @@ def a_hotp_token(folder):
 
 
 def a_fob_that_ran_ahead(folder):
-    """Two codes in a row pass where the first alone is too far ahead, and the token goes on after them."""
+    """Two codes in a row pass although the first by itself is too far ahead, and the token goes on after them."""
     enrolled(folder)
     does(folder, blocks("Give a user one-time codes")[-1])
     equal(ran(folder, verify(FOB, code(8)))[:2], (1, "FAIL 5\n"))
@@ -279,7 +275,7 @@ def a_fob_that_ran_ahead(folder):
 
 
 def an_account(folder):
-    """A name gets its account, in a new book too, and may act as another; a name that is there keeps what it has."""
+    """A name gets its account, even in a new book, and may act as another. A name that has an account keeps it unchanged."""
     [add] = blocks("Add an account")
     with_tools(folder, "").unlink()
     does(folder, add, "pencil\n", f"enrolled {NAME}\n")
@@ -304,7 +300,7 @@ def an_account(folder):
 
 
 def a_password(folder):
-    """New keys take the place of the old ones, by the new password; all else stays."""
+    """New keys, from the new password, replace the old ones; everything else stays."""
     enrolled(folder)
     with_fob(folder)
     before = book_of(folder)
@@ -325,7 +321,7 @@ def a_password(folder):
 
 
 def a_password_of_one_mechanism(folder):
-    """An account that has keys for one mechanism alone gets new ones for both."""
+    """An account that has keys for only one mechanism gets new ones for both."""
     for kept, lost in [("sha1", "sha256"), ("sha256", "sha1")]:
         enrolled(folder)
         does(folder, f"tools/edit-book book.toml tools/drop-tables '[accounts.\"{NAME}\".{lost}]'")
@@ -341,8 +337,8 @@ def a_password_of_one_mechanism(folder):
 
 
 def a_first_password(folder):
-    """An account with a token alone gets keys for both mechanisms, and keeps its token. A name without an account gets none, and an account
-    that has keys keeps them."""
+    """An account with only a token gets keys for both mechanisms, and keeps its token. A name without an account gets none, and an
+    account that has keys keeps them."""
     enrolled(folder)
     does(folder, blocks("Give a user one-time codes")[-1])
     does(folder, verify(FOB, CODES[0]), printed="PASS 5 0\n")
@@ -365,12 +361,12 @@ def a_first_password(folder):
     before = book_of(folder)
     _, output, faults = ran(folder, first, "a third\n")
     equal(output, f"enrolled {FOB}\n")
-    holds(re.fullmatch(r"scramotp: bad book: 60\nedit-book: .* is as it was; look into .*\n", faults), faults)
+    holds(re.fullmatch(r"scramotp: bad book: 60\nedit-book: .* is unchanged; look into .*\n", faults), faults)
     equal(book_of(folder), before)
 
 
 def a_password_that_is_refused(folder):
-    """Where `enrol` refuses the password, or a later step fails, the book is as it was."""
+    """If `enrol` refuses the password, or a later step fails, the book is as it was."""
     enrolled(folder)
     before = Path(folder, "book.toml").read_bytes()
     change, _ = blocks("Change a password")
@@ -386,7 +382,7 @@ def a_password_that_is_refused(folder):
 
 
 def a_removed_account(folder):
-    """The account goes with all its tables, with a token or without, and no other does."""
+    """The account is removed with all its tables, with or without a token, and no other account is."""
     enrolled(folder)
     [remove] = blocks("Remove an account")
     with_fob(folder)
@@ -408,8 +404,8 @@ def a_removed_account(folder):
 
 
 def a_renamed_account(folder):
-    """A name becomes another, with its keys and its token, and no other account changes, also none whose name goes on from there. A name
-    that is taken leaves the book as it is, and one without an account too."""
+    """An account gets another name, and keeps its keys and its token. No other account changes, not even one whose name begins with the
+    old name. If the new name is taken, or no account has the old one, the book stays as it is."""
     enrolled(folder)
     does(folder, blocks("Give a user one-time codes")[-1])
     Path(folder, "longer.toml").write_text(f'\n[accounts."{FOB}.uk"]\n')
@@ -433,12 +429,13 @@ def a_renamed_account(folder):
     does(folder, f"scramotp enrol --book book.toml --name {NAME}", "pencil\n", f"enrolled {NAME}\n")
     before = book_of(folder)
     status, _, faults = ran(folder, taken.replace(RENAMED, "other@example.org"))
-    holds(status == 1 and "is as it was" in faults, status, faults)
+    holds(status == 1 and "is unchanged" in faults, status, faults)
     equal(book_of(folder), before, "the new name is taken")
 
 
 def what_accounts_have(folder):
-    """The keys of each account are told, and where its token stands: one that has passed codes, and one that is locked."""
+    """The recipe prints which keys each account has, and the state of its token, also of one that has passed codes and one that is
+    locked."""
     enrolled(folder)
     [tell] = blocks("See what accounts have")
     tokens = hotp(look_ahead=0, limit=2, name="counts") + totp(limit=3).replace("accounts.user", "accounts.timed") + "\n[accounts.bare]\n"
@@ -458,7 +455,7 @@ def what_accounts_have(folder):
 
 
 def decoys(folder):
-    """Accounts that are as decoys are not told, others are."""
+    """The recipe names the accounts that differ from decoys, and no others."""
     enrolled(folder)
     [tell] = blocks("Hide which names have accounts")
     does(folder, tell)
@@ -479,7 +476,7 @@ def texts(mechanism, count, salt, stored, server):
 
 
 def keys_of_dovecot(folder):
-    """Keys that Dovecot made come into a book as they are."""
+    """Keys that Dovecot made are put into a book unchanged."""
     with open(VECTORS / "keys.csv", newline="", encoding="ascii") as table:
         rows = [row for row in csv.DictReader(table) if "doveadm" in row["source"]][::6]
     into, _ = blocks("Keys from PostgreSQL and Dovecot")
@@ -497,7 +494,8 @@ def keys_of_dovecot(folder):
 
 
 def a_verifier_there_and_back(folder):
-    """The verifier of RFC 7677's user comes in as PostgreSQL's, and goes out as both. The account logs in as that user does."""
+    """The verifier of RFC 7677's user is read in PostgreSQL's form, and written in both forms. The recorded login of that user is clean by
+    the book."""
     with_tools(folder, BOOK_OF_USER.replace("user", "other"))
     salt = base64.b64decode("W22ZaJ0SNY7soEsUEjb6gQ==").hex()
     both = texts("SCRAM-SHA-256", 4096, salt, *keys_of("sha256", b"pencil", bytes.fromhex(salt), 4096))
@@ -517,7 +515,7 @@ def a_verifier_there_and_back(folder):
 
 
 def a_code_in_a_script(folder):
-    """Only a code that passes lets in. A blank line is not asked for, and counts nowhere."""
+    """Only a code that passes lets a user in. A blank line is not judged, and does not count as a failure."""
     tokens = [hotp(look_ahead=0, limit=2, name=name) for name in ["user", "-x"]]
     with_tools(folder, BOOK_OF_USER + "".join(tokens) + "\n[accounts.bare]\n")
 
@@ -545,7 +543,7 @@ def a_code_in_a_script(folder):
 
 
 def a_code_of_a_service(folder):
-    """The words by which a service of another user runs `check-code` are those that the line for sudo allows. Here a stand-in for sudo runs
+    """The words by which another user's service runs `check-code` are those that the line for sudo allows. Here a stand-in for sudo runs
     them as the same user."""
     book = with_tools(folder, BOOK_OF_USER + hotp(look_ahead=0, limit=9))
     page = DOCUMENT.read_text(encoding="utf-8").replace(INSTALLED, str(TOOLS)).replace(f"{PLACE}/book.toml", str(book))
@@ -561,21 +559,21 @@ def a_code_of_a_service(folder):
 
 
 def keys_at_fault(folder):
-    """Something is told of each book that is refused with 62, and nothing of a book that is read."""
+    """Something is printed for each book that is refused with 62, and nothing for a book that is read."""
     [script] = blocks("`bad book: 62`")
     with_tools(folder, BOOK_OF_USER.replace("4096", '"4096"').replace("format = 1", "format = 1\nx = 1"))
     for header, number in [("user@example.org", 60), ("example.org", 62), ('"user@example.org"', None)]:
         Path(folder, "named.toml").write_text(BOOK_OF_USER + f"\n[accounts.{header}]\n")
         fault = f"scramotp: bad book: {number}\n" if number else "scramotp: no token\n"
         equal(ran(folder, "scramotp unlock --book named.toml --name user"), (1, "", fault), header)
-    wrong = {"the document: 'x' is unknown", "the document: 'decoy_count' is of another type"}
+    wrong = {"the document: 'x' is unknown", "the document: 'decoy_count' has the wrong type"}
     status, output, faults = ran(folder, script)
     equal((status, set(output.splitlines()), faults), (0, wrong, ""), output)
     for number, text in enumerate([b"x = \n", b"x = '\xff'\n"]):
         Path(folder, f"none{number}.toml").write_bytes(text)
         status, output, faults = ran(folder, f"tools/find-key none{number}.toml")
         equal((status, output), (1, ""), faults)
-        holds(re.fullmatch(r"find-key: no TOML: [^\n]*\n", faults), faults)
+        holds(re.fullmatch(r"find-key: not TOML: [^\n]*\n", faults), faults)
     faulty = [case for case in cases() if case.answer == "62" or not case.answer.isdigit()]
     for number, case in enumerate(faulty):
         Path(folder, str(number)).write_bytes(case.book)
@@ -598,7 +596,7 @@ def a_backup(folder):
     does(folder, "tools/edit-book book.toml sed s/4096/4097/")
     does(folder, put_back)
     equal(book.read_text(), BOOK_OF_USER)
-    # A copy that is made later, where the clock was put back an hour
+    # A copy that is made later, after the local clock went back
     newer = BOOK_OF_USER.replace("4096", "4098")
     book.write_text(newer)
     until(lambda: time.time() > found.stat().st_mtime + 1)
@@ -609,7 +607,8 @@ def a_backup(folder):
 
 
 def a_shell(folder):
-    """As root, and with nobody for the user that is made: the folder is the user's alone, and the shell is the user's, in the folder."""
+    """Only as root, and with nobody instead of the user that is made: the folder belongs to the user and is closed to others, and the
+    shell runs as the user in the folder."""
     shell, _ = blocks("Set up")
     make_user, block = shell.split("\n", 1)
     equal(make_user, "useradd --system --user-group scramotp")
@@ -625,7 +624,7 @@ def a_shell(folder):
 
 
 def every_tool(folder):
-    """The table of tools has each of them, with its usage, and the link leads to them."""
+    """The table of tools lists each of them, with its usage, and the link leads to them."""
     _, link = blocks("Set up")
     does(folder, link.replace(INSTALLED, str(TOOLS)))
     told = re.findall(r"^\| `(\S+) (.*?)` \|", DOCUMENT.read_text(encoding="utf-8").partition("## Folder and rights")[0], re.M)
@@ -635,7 +634,7 @@ def every_tool(folder):
 
 
 def all_in_order(folder):
-    """The shell blocks but for the first, one after another in one folder: each succeeds, prints what it should, and leaves the shell
+    """The shell blocks, except the first, one after another in one folder: each succeeds, prints what it should, and leaves the shell
     as it was."""
     salt = bytes(range(16))
     both = texts("SCRAM-SHA-256", 4096, salt.hex(), *keys_of("sha256", b"pencil", salt, 4096))
@@ -680,8 +679,11 @@ def units(folder):
 
 
 def every_block(folder):
-    """No block of the document is left out, but that of `serve-hall`."""
-    equal(set(all_blocks()), used, set(all_blocks()) ^ used)
+    """No block of the document is left out, except the shell block and the unit of `serve-hall`."""
+    left_out = [block[:2] for block in suite.blocks_of(DOCUMENT) if block not in all_blocks()]
+    equal(left_out, [(SERVED, "sh"), (UNIT_OF_HALL, "ini")])
+    calls = re.findall(r'\bblocks\("([^"]+)"(?:, "(\w+)")?\)', Path(__file__).read_text(encoding="utf-8"))
+    equal({block[:2] for block in all_blocks()}, {(title, language or "sh") for title, language in calls})
 
 
 TESTS = [

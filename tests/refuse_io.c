@@ -116,6 +116,8 @@ ssize_t recv(int fd, void *bytes, size_t size, int flags) { return recv_made(fd,
 ssize_t send(int fd, const void *bytes, size_t size, int flags) { return send_made(fd, bytes, size, flags); }
 
 CALL(int, fsync, -1, (int fd), (fd))
+CALL(int, fdatasync, -1, (int fd), (fd))
+CALL(int, ftruncate, -1, (int fd, off_t size), (fd, size))
 CALL(int, flock, -1, (int fd, int how), (fd, how))
 CALL(int, fchmod, -1, (int fd, mode_t mode), (fd, mode))
 CALL(int, fchown, -1, (int fd, uid_t owner, gid_t group), (fd, owner, group))

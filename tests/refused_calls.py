@@ -1,11 +1,11 @@
 #!/usr/bin/env python3
-"""Calls of the libraries whose requests for memory are refused, one after another until a run meets none: each refused call answers
-99, nothing is lost by it, and the same call again goes on. What makes the calls is the crate bench: `Desk::begin`, `greet` and `client`
-one by one, then `serve_turn`, then `serve`, whose client is gone where memory ran out; `Hall::begin`, `greet` and `client`; the writers
-of messages, names and lines, `escape` and `Payload::bytes`; and `Book::read`, `Book::write` and `enrol`. Needs `cc`, and the crate bench
-as `rt ci` or `make bench` has built it.
+"""Refuses each request for memory of library calls in turn, one in each run. The call whose request is refused returns 99, nothing is
+lost, and the same call made again succeeds. The crate bench makes the calls: `Desk::begin`, `greet` and `client` one by one, then
+`serve_turn`, then `serve`, whose client is gone if memory ran out; `Hall::begin`, `greet` and `client`; the functions that write
+messages, names and lines, `escape` and `Payload::bytes`; and `Book::read`, `Book::write` and `enrol`. Needs `cc`, and the crate bench
+as built by `rt ci` or `make bench`.
 
-Usage: refused_calls.py PROGRAM
+Usage: refused_calls.py PROGRAM [TEST ..]
 """
 import pathlib
 import re
@@ -21,9 +21,9 @@ BENCH = pathlib.Path(__file__).parent.parent / "crates" / "bench" / "out" / "ben
 BOOK = (AUDITS / "sha256.toml").read_text() + hotp(look_ahead=3, limit=3)
 NO_ACCOUNTS = BOOK_OF_USER.replace("[accounts.user]", "[accounts]")
 CODE = "C CODE 755224\nS PASS 5 0\n"
-# The recorded login of RFC 7677's example, section 3, with the first code of RFC 4226, appendix D, before its end.
+# The recorded login of RFC 7677's example, section 3, with the first code in RFC 4226, appendix D, before its end.
 LOGGED = (AUDITS / "sha256.log").read_text().replace("C GONE\n", f"{CODE}C GONE\n")
-# That login in a hall, where another client comes after it and goes away last.
+# That login in a hall in which another client comes after it and goes away last.
 IN_HALL = f"SCRAMLOG 2\n1 {MECHS}\n2 {MECHS}\n" + "".join(f"1 {line}" for line in LOGGED.splitlines(True)[2:]) + "2 C GONE\n2 E\n"
 
 # The messages of RFC 5802, section 5, and RFC 7677, section 3; an error (RFC 5802, section 7); a name (section 5.1); and lines.
@@ -47,7 +47,7 @@ TEXTS = [
 
 
 def made(kind, folder, shim, refused):
-    """What bench printed of these calls whose request of this number was refused, or None where it did not come to make them; and how
+    """What bench printed for these calls when the request with this number was refused, or None if it ended before making them; and how
     many requests it made."""
     environment = {"LD_PRELOAD": shim, "REFUSED": str(refused)}
     status, output, faults = ran([BENCH, kind, "1", "given"], cwd=folder, env=environment)
@@ -57,7 +57,7 @@ def made(kind, folder, shim, refused):
 
 
 def each_refused(kind, folder, given):
-    """What is printed of these calls where no request is refused; and for each request, what is printed where that is refused."""
+    """What is printed for these calls when no request is refused; and for each request, what is printed when it is refused."""
     holds(BENCH.exists(), f"{BENCH} is not built: rt ci builds it, and so does make bench")
     shim = shims.built("refuse_memory", folder)
     (pathlib.Path(folder) / "given").write_text(given)
@@ -67,8 +67,8 @@ def each_refused(kind, folder, given):
 
 
 def count_told(folder, kind, logged, check):
-    """How many refused requests are told by a service that logs this. Each is told once at most, and then this holds of its log. More than
-    half of the requests are those of the calls."""
+    """How many refused requests are reported by a service that, without refusals, logs `logged`. Each is reported at most once, and
+    `check` is then true for the log. More than half of all requests are those of the calls."""
     whole, answers = each_refused(kind, folder, BOOK)
     equal(whole, f"{logged}out of memory 0\n", kind)
     told = 0
@@ -83,7 +83,7 @@ def count_told(folder, kind, logged, check):
 
 
 def is_clean(folder, log):
-    """Whether the log is clean, and begins as the whole one does."""
+    """Whether the log is clean, and the whole log begins with it, apart from its end."""
     (pathlib.Path(folder) / "log").write_text(log)
     status, output, _ = ran([PROGRAM, "audit", "--book", "given", "--log", "log"], cwd=folder)
     is_front = LOGGED.startswith(log.removesuffix("C GONE\nE\n"))
@@ -91,27 +91,31 @@ def is_clean(folder, log):
 
 
 def calls_are_made_again(folder):
+    """If a call of a desk is refused memory, the same call again leads to the log that was due."""
     told = count_told(folder, "calls", LOGGED, LOGGED.__eq__)
     print(f"refused_calls.py: {told} requests of the calls of a desk are refused")
 
 
 def turns_are_taken_again(folder):
+    """If a turn of a desk is refused memory, the same line again leads to the log that was due."""
     told = count_told(folder, "turns", LOGGED, LOGGED.__eq__)
     print(f"refused_calls.py: {told} requests of turns of a desk are refused")
 
 
 def a_service_can_be_ended(folder):
+    """If a service is refused memory, it ends with a clean log: some first lines of the one that was due, and then its end."""
     told = count_told(folder, "service", LOGGED, lambda log: is_clean(folder, log))
     print(f"refused_calls.py: {told} requests of a whole service are refused")
 
 
 def calls_of_a_hall_are_made_again(folder):
+    """If a call of a hall is refused memory, the same call again leads to the log that was due."""
     told = count_told(folder, "hall", IN_HALL, IN_HALL.__eq__)
     print(f"refused_calls.py: {told} requests of the calls of a hall are refused")
 
 
 def texts_are_written_again(folder):
-    """Each text is written, whichever request is refused; and each is refused one."""
+    """Each text is written, whichever request is refused, and for each text a request is refused."""
     whole, answers = each_refused("texts", folder, "".join(f"{kind} {text}\n" for kind, text, *_ in TEXTS))
     want = [f"{row[0]} {row[-1]}" for row in TEXTS]
     equal(whole.splitlines(), [f"0 {it}" for it in want], whole)
@@ -127,8 +131,8 @@ def texts_are_written_again(folder):
 
 
 def changed_again(folder, book):
-    """How many requests of reading this book, of writing it and of adding an account to it are refused. Whichever is, the book is
-    read, and written before and after."""
+    """How many requests are refused in reading this book, in writing it and in adding an account to it. Whichever is refused, the book
+    is read, and written before and after."""
     whole, answers = each_refused("changes", folder, book)
     texts, told = whole.rsplit("out of memory ", 1)
     before, after = texts.split("---\n")
@@ -148,7 +152,7 @@ def changed_again(folder, book):
 
 
 def books_are_changed_again(folder):
-    """A book with a token, and one without accounts: the first account of a book takes memory, and the second has room."""
+    """A book with a token, and one without accounts: the first account of a book needs memory, and the second has room already."""
     reading, writing, adding = map(sum, zip(*[changed_again(folder, book) for book in (BOOK, NO_ACCOUNTS)]))
     for what, count in [("reading a book", reading), ("writing it", writing), ("enrol", adding)]:
         holds(count > 0, f"no request of {what} is refused")

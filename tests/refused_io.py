@@ -1,11 +1,12 @@
 #!/usr/bin/env python3
-"""Calls of the system that go wrong, one after another until a run meets none, in each command of the built program.
+"""Makes each system call of each command of the built program go wrong in turn, one in each run.
 
-Usage: refused_io.py PROGRAM
+Usage: refused_io.py PROGRAM [TEST ..]
 
-A call that fails, whether or not it was made, leaves the book whole, with each change that was told and at most one more. What was
-printed begins what is due, or is the log of a desk that halted; the fault is told, and the status is 3, unless nothing was lost by it.
-A read or a write that is interrupted, or moves one byte of several, changes nothing. Needs `cc`.
+A call that fails, whether or not it was made, leaves the book whole, with each change that was reported and at most one more. The output
+is the beginning of what is due, or the log of a desk that halted. The fault is reported with status 3, unless nothing was lost. A read
+or a write that is interrupted, or moves only one of several bytes, changes nothing. What the program takes from the C library can all go
+wrong here or in refused_memory.py, or is listed as harmless. Needs `cc` and `nm`.
 """
 import os
 import pathlib
@@ -15,17 +16,31 @@ import shims
 import suite
 from checks import equal, holds
 from command_table import book_of, commands, is_done, is_front, is_kept, left, new_book, prepare, printed_begins_clean, run
+from suite import PROGRAM
 
-# The calls that move bytes, and the others that are refused.
+# The calls that move bytes, and the other calls that are refused.
 MOVES = "read,write,recv,send"
-FILES = "open,openat,fsync,flock,fchmod,fchown,lseek,rename,link,unlink,realpath,statx"
+FILES = "open,openat,fsync,fdatasync,ftruncate,flock,fchmod,fchown,lseek,rename,link,unlink,realpath,statx"
 SOCKETS = "socket,bind,listen,connect,accept4,shutdown"
 OTHERS = f"{FILES},{SOCKETS},ioctl,clock_gettime"
+# What else the program may take from the C library. None of it can fail in a way that a command would have to report.
+HARMLESS = {
+    # The beginning and the end of a program
+    "_ITM_deregisterTMCloneTable", "_ITM_registerTMCloneTable", "__cxa_finalize", "__gmon_start__", "__libc_start_main", "abort", "exit",
+    # What can't fail: with bytes in memory, with variables, with what the process is
+    "memcpy", "memmove", "memset", "memcmp", "bcmp", "strlen", "free", "__errno_location", "environ", "getenv", "geteuid",
+    # What the processor can do
+    "__x86_get_cpuid_feature_leaf",
+    # That a broken pipe sends no signal, which fails only for a number that is no signal
+    "signal", "__sysv_signal",
+    # A file is closed after its last sync. A stream that can't be asked is no terminal. A wait can only end early.
+    "close", "isatty", "nanosleep",
+}
 FAULT = r"scramotp: (?:cannot (?:read|write) [ -~]+|socket fault)\n"
 
 
 class Turns:
-    """A folder in which runs meet calls that go wrong."""
+    """A folder for runs in which calls go wrong."""
 
     def __init__(self, folder):
         self.folder = os.path.join(folder, "files")
@@ -34,16 +49,18 @@ class Turns:
         self.counted = pathlib.Path(folder, "counted")
 
     def turn(self, command, number, calls, how):
-        """What a run answers whose call of this number goes wrong, and the name of that call; None where there are not so many."""
+        """Makes a run whose call with this number goes wrong. Returns its answer, and the name of that call, or None if there were not so
+        many calls."""
         prepare(self.folder, command)
         more = {"LD_PRELOAD": self.shim, "CALLS": calls, "REFUSED": str(number), "HOW": how, "COUNTED": str(self.counted)}
         answer = run(command, self.folder, env={**os.environ, **more})
         count, name = self.counted.read_text().split()
-        equal(name == "none", int(count) < number, command.name, number, count, name)
+        holds((name == "none") == (int(count) < number), command.name, "call", number, "of", count, "went wrong:", name)
         return answer, None if name == "none" else name
 
     def turns(self, command, calls, how):
-        """Each call's answer and name, until a run meets no call that goes wrong: that one does all its work."""
+        """Makes each call go wrong in turn, and yields its name and the run's answer. Ends with a run in which none goes wrong, which has
+        to do all its work."""
         number, name = 1, ""
         while name is not None:
             answer, name = self.turn(command, number, calls, how)
@@ -66,18 +83,29 @@ def all_harmless(folder, how):
     print(f"refused_io.py: {count} reads and writes {how}")
 
 
+def every_call_is_known(folder):
+    """The program takes nothing from the C library that neither this script nor refused_memory.py lets fail, except what is harmless."""
+    shims_of_tests = [shims.built(name, folder) for name in ("refuse_io", "refuse_memory")]
+    refused = set().union(*map(shims.wrapped, shims_of_tests))
+    taken = shims.imported(PROGRAM)
+    holds({"malloc", "read", "rename"} <= taken, "nm does not list what the program takes", taken)
+    equal(taken - refused - HARMLESS, set(), "what no test lets fail")
+    named = {*f"{MOVES},{OTHERS}".split(","), "__write", "malloc", "realloc"}
+    equal(refused, named, "what the C files let fail, and what the tests name")
+
+
 def reads_and_writes_that_are_interrupted(folder):
     """A read or a write that is interrupted is made again."""
     all_harmless(folder, "interrupted")
 
 
 def reads_and_writes_that_move_one_byte(folder):
-    """What a short read or write left is read or written then."""
+    """What a short read or write leaves is read or written next."""
     all_harmless(folder, "short")
 
 
 def is_told(command, answer):
-    """Whether a run that did not do all its work says so, after what it could print."""
+    """Whether a run that did not do all its work reports that, after what it could print."""
     status, printed, fault = answer
     if {"audit": (printed, fault), "upgrade": (fault, printed)}.get(command.name) == ("read fault\n", ""):
         return status == 3
@@ -85,14 +113,14 @@ def is_told(command, answer):
 
 
 def may_be_left(how, name):
-    """What a run may leave where this call failed: what it was refused to remove, or was made by a call that was said to have failed."""
+    """What a run may leave if this call failed: what it could not remove, or what was made by a call that was then reported as failed."""
     if how == "refused":
         return {"book.new", "socket"} if name == "unlink" else set()
     return {"open": {"book.new"}, "openat": {"book.new"}}.get(name, set())
 
 
 def all_told(folder, how, calls):
-    """Whichever of these calls fails, what is lost by it is told, and the book is whole and has what was told before."""
+    """Whichever of these calls fails, a loss is reported, and the book is whole and has what was reported before."""
     here, count, told = Turns(folder), 0, 0
     for command in [*commands(), new_book()]:
         for what, answer in here.turns(command, calls, how):
@@ -106,16 +134,17 @@ def all_told(folder, how, calls):
 
 
 def calls_that_are_refused(folder):
-    """Each call fails, and is not made."""
+    """Each call fails without being made."""
     all_told(folder, "refused", f"{MOVES},{OTHERS}")
 
 
 def calls_that_are_late(folder):
-    """Each call but a read or a write, which do nothing where they fail, is made, and is then said to have failed."""
+    """Each call is made, and then reported as failed, except reads and writes, which do nothing if they fail."""
     all_told(folder, "late", OTHERS)
 
 
 TESTS = [
+    every_call_is_known,
     reads_and_writes_that_are_interrupted,
     reads_and_writes_that_move_one_byte,
     calls_that_are_refused,

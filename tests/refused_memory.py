@@ -1,9 +1,9 @@
 #!/usr/bin/env python3
-"""Commands whose requests for memory are refused, one after another until a run meets none. `audit` and `upgrade`, of logs of both
-versions: where a request that they need is refused they end with status 3, and an audit of version 2 needs one more than one of
-version 1. And every command: where it can't end well it says so, and the book is whole and has what was told before. Needs `cc`.
+"""Refuses each request for memory of each command in turn, one in each run. `audit` and `upgrade`, with logs of both versions, end with
+status 3 if a request that they need is refused; an audit of version 2 needs one more than an audit of version 1. Every command says so if
+it can't end well, and the book is whole and has what was reported before. Needs `cc`.
 
-Usage: refused_memory.py PROGRAM
+Usage: refused_memory.py PROGRAM [TEST ..]
 """
 import os
 import pathlib
@@ -18,7 +18,7 @@ from suite import PROGRAM, ran
 
 
 def run_refused(folder, words, shim, refused):
-    """What a command printed that was refused this request, and how many requests it made."""
+    """The status, output and faults of a command for which this request was refused, and how many requests it made."""
     environment = {"LD_PRELOAD": shim, "REFUSED": str(refused)}
     status, output, said = ran([PROGRAM, *words], cwd=folder, env=environment)
     faults, requests = said.rsplit("requests ", 1)
@@ -26,7 +26,8 @@ def run_refused(folder, words, shim, refused):
 
 
 def each_is_told(folder, words, printed):
-    """A command prints this, and nothing but its fault where a request is refused that it needs. Returns how many it needs."""
+    """A command prints this, and only its fault if a request that it needs is refused. It needs more than half of its requests. Returns how
+    many it needs."""
     shim = shims.built("refuse_memory", folder)
     *whole, requests = run_refused(folder, words, shim, 0)
     equal(whole, [0, printed, ""], words)
@@ -41,18 +42,18 @@ def each_is_told(folder, words, printed):
 
 
 def audits_are_refused(folder):
-    logs = ["SCRAMLOG 1\n", "SCRAMLOG 2\n"]
-    needed = []
-    for text in logs:
+    """Audits of a log of each version without sessions, and of one with two sessions, end well or with the fault. An audit of version 2
+    needs one request more than one of version 1, however many sessions its log has."""
+    words, needed = ["audit", "--book", AUDITS / "hotp.toml", "--log"], []
+    for text in ["SCRAMLOG 1\n", "SCRAMLOG 2\n"]:
         pathlib.Path(folder, "log").write_text(text)
-        words = ["audit", "--book", AUDITS / "hotp.toml", "--log", "log"]
-        needed.append(each_is_told(folder, words, "clean sessions=0 accepted=0 codes=0\n"))
+        needed.append(each_is_told(folder, [*words, "log"], "clean sessions=0 accepted=0 codes=0\n"))
     equal(needed[1], needed[0] + 1, needed)
-    words = ["audit", "--book", AUDITS / "hotp.toml", "--log", AUDITS / "interleaved.log"]
-    equal(each_is_told(folder, words, "clean sessions=2 accepted=1 codes=1\n"), needed[1], needed)
+    equal(each_is_told(folder, [*words, AUDITS / "interleaved.log"], "clean sessions=2 accepted=1 codes=1\n"), needed[1], needed)
 
 
 def upgrades_are_refused(folder):
+    """An upgrade prints the whole new log, or only the fault."""
     pathlib.Path(folder, "log").write_text("SCRAMLOG 1\nS BUSY\nE\nE\n")
     each_is_told(folder, ["upgrade", "--log", "log"], "SCRAMLOG 2\n1 S BUSY\n1 E\n2 E\n")
 
@@ -61,7 +62,7 @@ FAULT = r"scramotp: (?:no memory|cannot (?:read|write) [ -~]+|socket fault)\n"
 
 
 def refused(command, folder, shim, number):
-    """What a command answers whose request of this number is refused, and how many it made."""
+    """The answer of a command for which the request with this number is refused, and how many requests it made."""
     prepare(folder, command)
     status, printed, faults = run(command, folder, env={**os.environ, "LD_PRELOAD": shim, "REFUSED": str(number)})
     faults, requests = faults.rsplit("requests ", 1)
@@ -69,7 +70,7 @@ def refused(command, folder, shim, number):
 
 
 def commands_are_refused(folder):
-    """Whichever request of a command is refused, it ends well, or with a fault after what it could print; and what was told is saved."""
+    """Whichever request of a command is refused, it ends well, or with a fault after what it could print; what it reported is saved."""
     here, shim, told, count = os.path.join(folder, "files"), shims.built("refuse_memory", folder), 0, 0
     os.mkdir(here)
     for command in [*commands(), new_book()]:

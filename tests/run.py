@@ -1,10 +1,10 @@
 #!/usr/bin/env python3
-"""Runs every test of the built program, several at once, and tells of each how long it took.
+"""Runs every script of tests of the built program, several at once, and says how long each took.
 
-Usage: run.py PROGRAM [TEST ..]
+Usage: run.py PROGRAM [SCRIPT ..]
 
-A test is a script beside this one that takes the program's path. It has no input, and is stopped after half an hour. Its output is shown
-once it has ended, or was stopped, and what it started and left running ends with it. The status is 1 where one of them failed.
+A script is one in this folder that takes the program's path. It has no input, and is stopped after half an hour. Its output is shown
+once it has ended or was stopped, and processes that it left running are ended. The status is 1 if a script failed.
 """
 import asyncio
 import contextlib
@@ -17,9 +17,9 @@ import time
 from pathlib import Path
 
 FOLDER = Path(__file__).resolve().parent
-# The seconds after which a test is stopped.
+# After how many seconds a test is stopped.
 LIMIT = 1800
-# Those that wait for a lock begin first: they take long, and leave the processors to others.
+# The tests that wait for a lock come first: they take long, and need little processor time.
 TESTS = [
     "books.py",
     "recipes.py",
@@ -52,7 +52,7 @@ TESTS = [
 
 
 async def ended(run):
-    """Waits for a test, whose process leads a group of its own, and ends all of that group. Returns the test's status, or None where it
+    """Waits for a test, whose process leads a group of its own, and ends all of that group. Returns the test's status, or None if it
     was stopped."""
     try:
         async with asyncio.timeout(LIMIT):
@@ -66,7 +66,7 @@ async def ended(run):
 
 
 async def ran(test, program, slots):
-    """Runs one test where a slot is free, shows what it printed, and returns whether it passed."""
+    """Runs one test when a slot is free, shows its output, and returns whether it passed."""
     async with slots:
         began = time.monotonic()
         with tempfile.TemporaryFile() as output:
@@ -83,7 +83,7 @@ async def ran(test, program, slots):
 
 
 async def all_passed(program, tests):
-    """Runs these tests, as many at once as there are processors for, and returns of each whether it passed."""
+    """Runs these tests, as many at once as there are processors, and returns for each whether it passed."""
     slots = asyncio.Semaphore(len(os.sched_getaffinity(0)))
     async with asyncio.TaskGroup() as group:
         tasks = [group.create_task(ran(test, program, slots)) for test in tests]
@@ -92,15 +92,15 @@ async def all_passed(program, tests):
 
 def main():
     if len(sys.argv) < 2:
-        sys.exit(f"usage: {os.path.basename(sys.argv[0])} PROGRAM [TEST ..]")
-    program, *tests = sys.argv[1:]
+        sys.exit(f"usage: {os.path.basename(sys.argv[0])} PROGRAM [SCRIPT ..]")
+    program, tests = sys.argv[1], sys.argv[2:] or TESTS
     # TERM ends the tests as Ctrl-C does.
     signal.signal(signal.SIGTERM, signal.default_int_handler)
     try:
-        passed = asyncio.run(all_passed(os.path.abspath(program), tests or TESTS))
+        passed = asyncio.run(all_passed(os.path.abspath(program), tests))
     except KeyboardInterrupt:
         return 130
-    print(f"{sum(passed)} tests passed, {len(passed) - sum(passed)} failed")
+    print(f"{sum(passed)} scripts passed" + "".join(f"; {it} FAILED" for it, is_well in zip(tests, passed) if not is_well))
     return 0 if all(passed) else 1
 
 

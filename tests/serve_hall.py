@@ -1,10 +1,10 @@
 #!/usr/bin/env python3
 """Connects clients to `tools/serve-hall`, which lets them into a hall, and audits the log that it leaves.
 
-Usage: serve_hall.py PROGRAM
+Usage: serve_hall.py PROGRAM [TEST ..]
 
-The tool is started as the block of docs/OPERATING.md starts it. What the clients send and have to be told is worked out by Python's hashlib
-and hmac.
+The tool is started as in the block of docs/OPERATING.md. What the clients send and have to receive is computed with Python's hashlib and
+hmac.
 """
 import os
 import re
@@ -22,12 +22,12 @@ from tool_runs import TOOLS, book_of, does, ran, start, with_tools
 
 OPERATING = TOOLS.parent / "docs" / "OPERATING.md"
 [SERVE] = [block for title, _, block in blocks_of(OPERATING) if title == "Serve many logins with `hall`"]
-# Its commands without the parentheses, and the tool in the place of the shell, so that signals reach it.
+# Its commands without the parentheses, and with the tool replacing the shell, so that signals reach it.
 START = SERVE.removeprefix("(\n").removesuffix(")\n").replace("tools/", "exec tools/")
 
 
 def line_of(client):
-    """The next line that a client is told, without its LF; nothing where it is told no more."""
+    """The next line that a client receives, without its LF; an empty text at the end of what it is sent."""
     text = b""
     while not text.endswith(b"\n"):
         byte = client.recv(1)
@@ -38,7 +38,7 @@ def line_of(client):
 
 
 def connected(folder):
-    """A client of the program that serves in this folder, once that listens."""
+    """A client connected to the program that serves in this folder; waits until that listens."""
     client = socket.socket(socket.AF_UNIX)
     client.settimeout(20)
 
@@ -54,19 +54,19 @@ def connected(folder):
 
 
 def greeted(folder):
-    """Such a client, which was greeted."""
+    """A client that is connected and was greeted."""
     client = connected(folder)
     equal(line_of(client), MECHS[2:], "the greeting")
     return client
 
 
 def begins_login(client, account):
-    """The client sends the first message of a login of this account."""
+    """The client sends the first message of a login to this account."""
     client.sendall(f"AUTH {account.mechanism} :{account.exchange('fyko', '').first}\n".encode())
 
 
 def logs_in(client, account):
-    """The rest of such a login."""
+    """The client receives the challenge of that login, answers it, and is let in."""
     challenge = line_of(client).removeprefix("CONT :")
     own = re.match(r"r=fyko([^,]{24}),", challenge)[1]
     it = account.exchange("fyko", own)
@@ -76,34 +76,34 @@ def logs_in(client, account):
 
 
 def answers(client, line, answer):
-    """The client sends a line, and its answer is of this form."""
+    """The client sends a line, and receives an answer of this form."""
     client.sendall(f"{line}\n".encode())
     told = line_of(client)
     holds(re.fullmatch(answer, told), line, told)
 
 
 def serving_hall(folder, book, tool="tools/serve-hall"):
-    """The tool over a book with this text."""
+    """Starts the tool over a book with this text."""
     with_tools(folder, book)
     return start(folder, START.replace("tools/serve-hall", tool))
 
 
 def stops(serving):
-    """Stops the program until it is told to continue."""
+    """Suspends the program until SIGCONT."""
     serving.send_signal(signal.SIGSTOP)
     os.waitid(os.P_PID, serving.pid, os.WSTOPPED)
 
 
 def serves_until(serving, number, folder, answer):
-    """The program ends well at this signal. Its log is clean for the book that it began with: the audit's answer."""
+    """The program ends well at this signal. The audit of its log, by the book that it began with, has this answer."""
     serving.send_signal(number)
-    equal((serving.wait(timeout=20), serving.stdout.read(), serving.stderr.read()), (0, "", ""), "the end")
+    equal((serving.wait(timeout=LIMIT), serving.stdout.read(), serving.stderr.read()), (0, "", ""), "the end")
     does(folder, "scramotp audit --book hall.log.toml --log hall.log", printed=f"{answer}\n")
 
 
 def a_hall_of_your_own(folder):
     """Five clients: one logs in and sends a code, one sends a line that is too long, one asks for another mechanism, one goes away, and
-    one is gone before it is greeted."""
+    one has gone before it is greeted."""
     account = clients.Account("user", "SCRAM-SHA-256")
     serving = serving_hall(folder, clients.book([account]))
     good, long, other, away = [greeted(folder) for _ in range(4)]
@@ -125,7 +125,7 @@ def a_hall_of_your_own(folder):
 
 
 def a_full_hall(folder):
-    """Where 64 clients are there the next is turned away, until one leaves. A client without a token can send codes all the same."""
+    """When 64 clients are there, the next is turned away, until one leaves. A client without a token can still send codes."""
     account = clients.Account("bare", "SCRAM-SHA-256")
     book, token, _ = clients.book([account]).partition('\n[accounts."bare".token]\n')
     holds(token, "the token that is left out")
@@ -144,7 +144,7 @@ def a_full_hall(folder):
 
 
 def a_hall_that_halts(folder):
-    """Where a code can't be saved its client is told HALT, unless it is gone, and the program ends. Its log is clean all the same."""
+    """If a code can't be saved, its client is sent HALT, unless it has gone, and the program ends. Its log is still clean."""
     account = clients.Account("user", "SCRAM-SHA-256")
     for is_gone in [False, True]:
         place = Path(folder, str(is_gone))
@@ -163,13 +163,13 @@ def a_hall_that_halts(folder):
             equal([line_of(client), line_of(client)], ["HALT", ""], "the code's client")
         equal(line_of(other), "", "another client")
         faults = ["scramotp: cannot write book.toml", "serve-hall: the book can't be saved"]
-        equal((serving.wait(timeout=20), sorted(serving.stderr.read().splitlines())), (1, faults), is_gone)
+        equal((serving.wait(timeout=LIMIT), sorted(serving.stderr.read().splitlines())), (1, faults), is_gone)
         holds(not Path(place, "hall.sock").exists(), "the socket is left")
         does(place, "scramotp audit --book hall.log.toml --log hall.log", printed="clean sessions=2 accepted=1 codes=0\n")
 
 
 def a_slow_client(folder):
-    """A client that sends byte after byte and no whole line is cut off; here after three seconds, by a copy of the tool."""
+    """A client that sends byte after byte but no whole line is cut off; here after three seconds, by a copy of the tool."""
     text = (TOOLS / "serve-hall").read_text(encoding="utf-8")
     equal(text.count("\nPATIENCE = 60\n"), 1, "the seconds that it waits")
     quick = Path(folder, "quick")
@@ -195,10 +195,10 @@ def a_slow_client(folder):
 
 
 def begins_no_hall(folder, name):
-    """The tool says that this file is there already, and leaves all that is there as it was."""
+    """The tool says that this file is there already, and leaves everything as it was."""
     book = Path(folder, "book.toml")
     before = seen(book), {*os.listdir(folder), "bin"}
-    equal(ran(folder, SERVE), (1, "", f"serve-hall: {name} is there already\n"), name)
+    equal(ran(folder, SERVE), (1, "", f"serve-hall: {name} already exists\n"), name)
     equal((seen(book), set(os.listdir(folder))), before, name)
 
 
@@ -212,7 +212,7 @@ def a_log_that_is_there(folder):
 
 
 def a_socket_that_is_left(folder):
-    """A run that is killed leaves its socket. Another can serve there once that is removed."""
+    """A run that is killed leaves its socket. Another run can serve there once the socket is removed."""
     serving = serving_hall(folder, BOOK_OF_USER)
     greeted(folder)
     serving.kill()
@@ -227,9 +227,9 @@ def a_socket_that_is_left(folder):
 
 
 def a_hall_that_does_not_begin(folder):
-    """Where the hall does not begin, no log and no socket is left, so the next start is not refused for them."""
+    """If the hall does not begin, no log and no socket are left to prevent the next start."""
     with_tools(folder, "no book\n")
-    equal(ran(folder, SERVE), (1, "", "scramotp: bad book: 60\nserve-hall: the hall did not begin\n"), "a bad book")
+    equal(ran(folder, SERVE), (1, "", "scramotp: bad book: 60\nserve-hall: the hall did not start\n"), "a bad book")
     equal([name for name in os.listdir(folder) if name.startswith("hall")], [], "what is left")
 
 

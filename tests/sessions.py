@@ -1,11 +1,11 @@
 #!/usr/bin/env python3
-"""Audits logs of many sessions by the built program: logs of version 2, in which each line has its session's number.
+"""Audits logs of many sessions with the built program: logs of version 2, in which each line has its session's number.
 
-Usage: sessions.py PROGRAM
+Usage: sessions.py PROGRAM [TEST ..]
 
-Three sessions in all 1680 orders of their turns: each log is clean, and where one session's outcome is turned, that line is at fault,
-with the same outcome due in every order. 64 logins with codes, in random orders: replies follow the order of the whole log. 64 open
-sessions and a 65th that is turned away; numbers that are none, or not due; and the longest lines.
+Three sessions in all 1680 orders of their turns: each log is clean, and if one session's outcome is turned around, that line is at
+fault, with the same outcome due in every order. 64 logins with codes, in random orders: replies follow the order of the whole log. 64
+open sessions and a 65th that is turned away; numbers that are bad, or not due; and the longest lines.
 """
 import pathlib
 import random
@@ -25,7 +25,7 @@ INVALID_PROOF = "S NO :e=invalid-proof"
 LET_IN = [[MECHS], [AUTH, CONT], [RESP, OK, AWAY, END]]
 REFUSED = [[MECHS], [AUTH, CONT], [WRONG_PROOF, INVALID_PROOF, END]]
 LEAVES = [[MECHS], ["C AUTH SCRAM-SHA-1", "S CONT :"], ["C ABORT", "S NO :", END]]
-# Of each, its outcome and what an audit says where the other stands in its place.
+# For each session: its outcome, the opposite one, and what an audit says if that replaces it.
 OUTCOMES = [
     (OK, INVALID_PROOF, f"outcome, due {OK[2:]}"),
     (INVALID_PROOF, OK, f"outcome, due {INVALID_PROOF[2:]}"),
@@ -34,7 +34,7 @@ OUTCOMES = [
 
 
 def answers(what, folder, lines, answer, book=BOOK):
-    """Compares the answer to a log of these lines."""
+    """Compares the audit's answer to a log with these lines."""
     log = pathlib.Path(folder, "log")
     log.write_text("".join(f"{line}\n" for line in lines))
     audit_says(book, log, answer, what)
@@ -46,7 +46,7 @@ def numbers_of(order):
 
 
 def log_of(order, sessions):
-    """The log of these sessions, whose turns come in this order, and of each line whose it is."""
+    """The log of these sessions with their turns in this order, and for each line the session to which it belongs."""
     turns, numbers = [iter(session) for session in sessions], numbers_of(order)
     lines, owners = [FIRST_LINE], [None]
     for which in order:
@@ -57,7 +57,7 @@ def log_of(order, sessions):
 
 
 def all_orders(folder):
-    """Every order of three turns of three sessions, each outcome turned in a third of the orders."""
+    """Every order of three turns of three sessions. Each of the three outcomes is turned around in a third of the orders."""
     orders = orders_of_turns()
     for index, order in enumerate(orders):
         lines, owners = log_of(order, [LET_IN, REFUSED, LEAVES])
@@ -71,8 +71,8 @@ def all_orders(folder):
 
 
 def shuffled():
-    """64 logins in a random order, each of which sends the code of a counter near the next one. The reply is the one due to
-    the replies before it in the whole log: a code passes where its counter is none that passed before, nor before such a one."""
+    """64 logins in a random order, each of which sends the code of a counter near the next one. The reply is the one due after
+    the replies before it in the whole log: a code passes if its counter is after all that have passed."""
     turns = [[MECHS], [AUTH, CONT], [RESP, OK], ["code"], ["reply"], [AWAY, END]]
     order = [which for which in range(64) for _ in turns]
     random.shuffle(order)
@@ -93,7 +93,7 @@ def shuffled():
 
 
 def shuffles(folder):
-    """The token's history is that of the whole log, whichever session sends a code."""
+    """The token's history is that of the whole log, whichever sessions send the codes."""
     book = pathlib.Path(folder, "book")
     book.write_text(BOOK.read_text().replace("limit = 3\n", "limit = 100\n"))
     for number in range(40):
@@ -106,7 +106,7 @@ def shuffles(folder):
 
 
 def sixty_four(folder):
-    """64 sessions are open, and one more is turned away; where it is offered mechanisms, its line is at fault."""
+    """64 sessions are open, and one more is turned away. If it is offered mechanisms instead, that line is at fault."""
     opened = [FIRST_LINE] + [f"{number} {MECHS}" for number in range(1, 65)]
     ended = [f"{number} {line}" for number in range(1, 65) for line in (AWAY, END)]
     away = ["65 S BUSY", "65 E"]
@@ -140,7 +140,7 @@ def other_numbers(folder):
 
 
 def long_lines(folder):
-    """A line may have 6202 bytes, and 6222 after the first line of version 2, 6202 of them after its number."""
+    """A line may have 6202 bytes; after the first line of version 2 it may have 6222, of which 6202 follow its number."""
     cases = [
         ("6202 bytes of a first line", "S" * 6202, "line 1: cut"),
         ("6203 bytes of a first line", "S" * 6203, "line 1: not a line"),
@@ -150,8 +150,8 @@ def long_lines(folder):
         ("6202 bytes and LF, version 1", "SCRAMLOG 1\n" + "S" * 6202 + "\n", "line 2: not a line"),
         ("6203 bytes and LF, version 1", "SCRAMLOG 1\n" + "S" * 6203 + "\n", "line 2: not a line"),
     ]
-    # After the first line of version 2: how many bytes, and what is said of them where they have no LF; where they have one and
-    # no number, the number 1, and the greatest number. What follows the number is a line that is not due.
+    # After the first line of version 2: how many bytes, and the answers for them without an LF; and with an LF and no number, the
+    # number 1, or the greatest number. What follows the number is a line that is not due.
     for size, *said in [
         (6202, "cut", "not a line", "order", "order"),
         (6203, "cut", "not a line", "order", "order"),

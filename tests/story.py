@@ -1,41 +1,38 @@
 #!/usr/bin/env python3
-"""Runs the quick start of README.md as it stands there, and compares each line that it prints and each status.
+"""Runs the quick start of README.md as it stands, and compares each line that it prints and each status.
 
-Usage: story.py PROGRAM [README]
+Usage: story.py PROGRAM [TEST ..]
 
-The story is what the shell blocks of the section "Quick start" have. In them a line with `#>` is one that the command above it
-prints, or `#> status N` where that command does not end with status 0. The story runs in a fresh folder, with the program
+The story is made of the shell blocks in the section "Quick start". In them a line with `#>` is one that the command above it
+prints, or `#> status N` if that command does not end with status 0. The story runs in an empty folder, with the program
 on the PATH and a password on standard input. A block of the kind `console` shows some of its commands, after `$ `, and what they
-print: each has to be in the story, with the same output.
+print: each has to be in the story, with the same output. DOCUMENT=PATH in the environment names another page than README.md.
 """
 import os
 import re
 import subprocess
-import sys
-from pathlib import Path
 
 import suite
 from checks import equal, holds
-from suite import LIMIT, program_on_path
+from suite import LIMIT, document, program_on_path
 
-TOP = Path(__file__).resolve().parent.parent
 TITLE = "Quick start"
 SHOWN = "#>"
 PASSWORD = "pencil\n"
 
-# What a story has to have, so that a test of half of it can't pass: each of these stands in a command.
+# Parts of commands that a story has to have, so that a test of half of it can't pass.
 NEEDED = ["mkdir -m 0700 ", "read -rsp ", "enrol ", "<<'END'", "base32", "verify ", "unlock ", "login ", "audit "]
 
 
 def blocks(text, title):
-    """The shell blocks of the section of this title."""
+    """The shell blocks in the section with this title."""
     section = re.search(rf"^## {re.escape(title)}\n(.*?)(?=^## |\Z)", text, re.M | re.S)
     return re.findall(r"^```sh\n(.*?)^```$", section.group(1), re.M | re.S) if section else []
 
 
 def steps(block):
-    """Each command of a block, with the lines that it is to print and its status. One command ends before the first
-    line that is shown, or where bash finds it whole."""
+    """Each command of a block, with the lines that it has to print and its status. A command ends before the first
+    output line that is shown, or at the line at which bash finds it complete."""
     found, command, printed, status = [], "", [], 0
     for line in block.splitlines():
         if line.startswith(SHOWN):
@@ -53,7 +50,7 @@ def steps(block):
 
 
 def excerpts(text):
-    """Each command that a console block of the document shows, without its comment, and the lines that it prints."""
+    """Each command that a console block of the document shows, without its comment, and its output lines."""
     found = []
     for block in re.findall(r"^```console\n(.*?)^```$", text, re.M | re.S):
         for line in block.splitlines():
@@ -69,17 +66,17 @@ def without_comment(command):
 
 
 def is_whole(command):
-    """Whether bash can run this as it is: no quote and no document is left open."""
+    """Whether bash can run this as it is, with no quote or here-document left open."""
     read = subprocess.run(["bash", "-n"], input=command, capture_output=True, text=True, timeout=LIMIT)
     return read.returncode == 0 and not read.stderr
 
 
 def ran(folder, story):
-    """What each command of a story printed, and its status. All run in one bash, and none prints a fault."""
+    """Runs all commands of a story in one bash. Returns the output and the status of each; none may print a fault."""
     mark = f"{os.urandom(16).hex()} "
     script = "".join(f"{command}printf '{mark}%d\\n' $?\n" for command, _, _ in story)
     done = subprocess.run(
-        ["bash", "-c", script], cwd=folder, env=program_on_path(folder), input=PASSWORD, capture_output=True, text=True, timeout=120,
+        ["bash", "-c", script], cwd=folder, env=program_on_path(folder), input=PASSWORD, capture_output=True, text=True, timeout=LIMIT,
     )
     equal(done.stderr, "", "the faults of the story")
     parts = re.split(rf"{mark}(\d+)\n", done.stdout)
@@ -88,7 +85,7 @@ def ran(folder, story):
 
 def quick_start(folder):
     """Each command of the story prints what the document shows, and ends with that status."""
-    text = Path(sys.argv[2] if len(sys.argv) > 2 else TOP / "README.md").read_text(encoding="utf-8")
+    text = document("README.md").read_text(encoding="utf-8")
     story = [step for block in blocks(text, TITLE) for step in steps(block)]
     equal([word for word in NEEDED if not any(word in command for command, _, _ in story)], [], "what the story lacks")
     shown = [(without_comment(command), printed) for command, printed, _ in story]

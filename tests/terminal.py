@@ -1,10 +1,10 @@
 #!/usr/bin/env python3
-"""What the built program says at a terminal before it waits for input, and that it says nothing elsewhere.
+"""The prompts that the built program shows at a terminal before it waits for input, and that it shows none elsewhere.
 
-Usage: terminal.py PROGRAM
+Usage: terminal.py PROGRAM [TEST ..]
 
-Standard input and standard error are both a terminal, or one of them is, and standard output is a pipe. Codes are those of
-RFC 4226, appendix D, the login is that of RFC 5802, section 5, and the keys are those of that example, by Python's hashlib.
+Standard input and standard error are both a terminal, or one of them is, and standard output is a pipe. The codes are those of
+RFC 4226, appendix D, the login is that of RFC 5802, section 5, and its keys were computed with Python's hashlib.
 """
 import os
 import select
@@ -15,18 +15,18 @@ from pathlib import Path
 import suite
 from checks import equal
 from expected import ACCEPTED, AUDITS, GONE, MECHS
-from suite import BOOK_OF_USER, KEYS_OF_PENCIL, NONCES, PROGRAM, SALT, hotp
+from suite import BOOK_OF_USER, KEYS_OF_PENCIL, LIMIT, NONCES, PROGRAM, SALT, hotp
 
 PASSWORD = "Type the password and press Enter; it is shown as you type.\r\n"
-BOTH = "Type the password and press Enter, then one code a line; all is shown as you type. Ctrl-D ends.\r\n"
-CODES = "Type one code a line; it is shown as you type. Ctrl-D ends.\r\n"
-EVENTS = "Type one event a line: open, line or gone; Ctrl-D ends.\r\n"
+BOTH = "Type the password, press Enter, then one code per line; all is shown as you type. End with Ctrl-D.\r\n"
+CODES = "Type one code per line; it is shown as you type. End with Ctrl-D.\r\n"
+EVENTS = "Type one event per line: open, line or gone. End with Ctrl-D.\r\n"
 KEYS = ["keys", "--mechanism", "SCRAM-SHA-1", "--salt", SALT, "--count", "4096"]
 # The log of RFC 5802's login and a code.
 LOGIN_AND_CODE = ACCEPTED + "C CODE 755224\nS PASS 5 0\n" + GONE
 # The log of a client that comes and goes away.
 OPENED_AND_GONE = f"SCRAMLOG 2\n1 {MECHS}\n1 C GONE\n1 E\n"
-# What ends the input that is typed at a terminal.
+# The character that ends input typed at a terminal: Ctrl-D.
 END = "\x04"
 
 
@@ -39,7 +39,7 @@ def login(folder):
 
 
 def commands(folder):
-    """For each command that waits for input: its words, what is typed, what it prints, and what it says at a terminal."""
+    """For each command that waits for input: its words, what is typed, what it prints, and its prompt."""
     return [
         (KEYS, "pencil\n", KEYS_OF_PENCIL, PASSWORD),
         (on(folder, "enrol"), "pencil\n", "enrolled user\n", PASSWORD),
@@ -50,7 +50,7 @@ def commands(folder):
 
 
 def prepare(folder, words):
-    """A folder with no book for `enrol`, and for others one with a token that has no spent code."""
+    """Leaves no book in a folder for `enrol`, and for other commands makes one whose token has no spent code."""
     book = Path(folder, "book")
     if words[0] == "enrol":
         book.unlink(missing_ok=True)
@@ -60,7 +60,7 @@ def prepare(folder, words):
 
 
 class Terminal:
-    """A terminal: `end` is the side of the program, and `shown` what has been shown so far."""
+    """A terminal: `end` is the program's side, and `shown` what has been shown so far."""
 
     def __enter__(self):
         self.side, self.end = os.openpty()
@@ -75,14 +75,14 @@ class Terminal:
         os.write(self.side, text.encode())
 
     def see(self, seconds):
-        """Takes what is shown in this time, up to an exclamation mark."""
+        """Reads what is shown in this time, up to an exclamation mark."""
         until = time.monotonic() + seconds
         while not self.shown.endswith("!") and (left := until - time.monotonic()) > 0:
             if select.select([self.side], [], [], left)[0]:
                 self.shown += os.read(self.side, 4096).decode()
 
     def all_shown(self):
-        """All that has been shown, once nothing more can be."""
+        """All that has been shown, once the program can show nothing more."""
         os.write(self.end, b"!")
         self.see(20)
         return self.shown.removesuffix("!")
@@ -93,7 +93,7 @@ def start(words, stdin, stderr):
 
 
 def both_are_terminals(folder):
-    """The line is there before anything is typed, and then what is typed is shown."""
+    """The prompt is shown before anything is typed, and then what is typed is shown."""
     for words, typed, printed, said in commands(folder):
         prepare(folder, words)
         with Terminal() as terminal:
@@ -103,33 +103,33 @@ def both_are_terminals(folder):
                 terminal.see(0.05)
             equal(terminal.shown, said, words)
             terminal.type(typed + END)
-            got = (run.communicate(timeout=20)[0], run.returncode, terminal.all_shown())
+            got = (run.communicate(timeout=LIMIT)[0], run.returncode, terminal.all_shown())
             equal(got, (printed, 0, said + typed.replace("\n", "\r\n")), words)
 
 
 def input_is_a_terminal(folder):
-    """Nothing is said where standard error is none; what is typed is shown all the same."""
+    """No prompt is shown if standard error is no terminal; what is typed is still shown."""
     for words, typed, printed, _ in commands(folder):
         prepare(folder, words)
         with Terminal() as terminal:
             run = start(words, terminal.end, subprocess.PIPE)
             terminal.type(typed + END)
-            got = (*run.communicate(timeout=20), run.returncode, terminal.all_shown())
+            got = (*run.communicate(timeout=LIMIT), run.returncode, terminal.all_shown())
             equal(got, (printed, "", 0, typed.replace("\n", "\r\n")), words)
 
 
 def faults_are_a_terminal(folder):
-    """Nothing is said where standard input is none."""
+    """No prompt is shown if standard input is no terminal."""
     for words, typed, printed, _ in commands(folder):
         prepare(folder, words)
         with Terminal() as terminal:
             run = start(words, subprocess.PIPE, terminal.end)
-            got = (run.communicate(typed, timeout=20)[0], run.returncode, terminal.all_shown())
+            got = (run.communicate(typed, timeout=LIMIT)[0], run.returncode, terminal.all_shown())
             equal(got, (printed, 0, ""), words)
 
 
 def nothing_to_wait_for(folder):
-    """Faults of words and books come without the line, and so does what reads no input."""
+    """Faults of words and books are reported without a prompt, and a command that reads no input shows none."""
     book = Path(folder, "book")
     log = Path(folder, "log")
     log.write_text("SCRAMLOG 1\n")
@@ -144,7 +144,7 @@ def nothing_to_wait_for(folder):
         book.write_text(BOOK_OF_USER)
         with Terminal() as terminal:
             run = start(words, terminal.end, terminal.end)
-            got = (run.communicate(timeout=20)[0], run.returncode, terminal.all_shown())
+            got = (run.communicate(timeout=LIMIT)[0], run.returncode, terminal.all_shown())
             equal(got, (printed, status, said), words)
 
 

@@ -1,10 +1,10 @@
-"""What the scripts that run the tools share: the folder tools/, and blocks of shell in a folder that has a link to it and an account book,
-with the program on the PATH."""
+"""What the scripts that run the tools share: the folder tools/, and runs of shell blocks, with the program on the PATH, in a folder that
+has a link to it and an account book."""
 import subprocess
 from pathlib import Path
 
 from checks import equal
-from suite import program_on_path, read_book
+from suite import LIMIT, program_on_path, read_book
 
 TOOLS = Path(__file__).resolve().parent.parent / "tools"
 
@@ -15,19 +15,19 @@ def start(folder, block, **more):
 
 
 def ran(folder, block, text="", **more):
-    """The status, the output and the faults of a block, run by bash."""
+    """Runs a block with bash, and returns its status, output and faults."""
     run = start(folder, block, **more)
-    output, faults = run.communicate(text, timeout=60)
+    output, faults = run.communicate(text, timeout=LIMIT)
     return run.returncode, output, faults
 
 
 def does(folder, block, text="", printed="", **more):
-    """Runs a block that is to succeed and to print this."""
+    """Runs a block that has to succeed and to print this."""
     equal(ran(folder, block, text, **more), (0, printed, ""), block)
 
 
 def with_tools(folder, text):
-    """A folder with a link to the tools, and a book with this text."""
+    """Makes in a folder a link to the tools, and a book with this text. Returns the book's path."""
     link, book = Path(folder, "tools"), Path(folder, "book.toml")
     if not link.is_symlink():
         link.symlink_to(TOOLS)

@@ -1,11 +1,11 @@
 #!/usr/bin/env python3
-"""Upgrades logs of version 1 by the built program, and audits the logs of version 2 that it prints.
+"""Upgrades logs of version 1 with the built program, and audits the logs of version 2 that it prints.
 
-Usage: upgrades.py PROGRAM
+Usage: upgrades.py PROGRAM [TEST ..]
 
-Each log of data/audits/cases.csv: one that is of version 1 and whose lines are all in form is upgraded, and has the audit's
-answer of before, line by line; each other one is refused, in no line before the first at fault. Then a log's text line by
-line, faults and what is printed of them, limits, logs that are pipes, and a log of 990000 lines in at most 2 seconds of processor
+Each log of data/audits/cases.csv: a log of version 1 whose lines all have a line's form is upgraded, and the audit's answer
+stays the same; each other log is refused, at no line before the first at fault. Then the text of a log line by
+line, faults and what is printed for them, limits, logs that are pipes, and a log of 990000 lines in at most 2 seconds of processor
 time.
 """
 import pathlib
@@ -16,25 +16,26 @@ import suite
 from audit_cases import cases
 from checks import equal, holds
 from expected import AUDITS, SESSION_LEFT, numbered
-from suite import PROGRAM, processor_time, ran
+from suite import LIMIT, PROGRAM, processor_time, ran
 
 LOGIN = (AUDITS / "sha1.log").read_bytes()
 
 
 def run(words, log):
-    """Status, output and faults of a command whose log this is."""
-    done = subprocess.run([PROGRAM, *words, "--log", "/dev/stdin"], input=log, capture_output=True, timeout=60)
+    """The status, output and faults of a command with this log."""
+    done = subprocess.run([PROGRAM, *words, "--log", "/dev/stdin"], input=log, capture_output=True, timeout=LIMIT)
     return done.returncode, done.stdout, done.stderr
 
 
 def can_be_upgraded(log, answer):
-    """Whether a log of the table is of version 1, ends with a whole line, and has no line that is in no form. No log of the table has
-    such a line after its first line at fault, so the audit's answer in the table tells it."""
+    """Whether a log of the table is of version 1, ends with a whole line, and has only lines with a line's form. No log of the table has
+    another line after its first line at fault, so the audit's answer in the table decides."""
     return log.startswith(b"SCRAMLOG 1\n") and log.endswith(b"\n") and not answer.endswith(": not a line")
 
 
 def same_answers(folder):
-    """The audit's answer to each log of the table, before and after. A first line in the middle has no number in either."""
+    """The audit's answer to each log of the table is the same after an upgrade. Logs with a first line in the middle are not compared:
+    an upgrade numbers that line."""
     upgraded = 0
     for book, log, answer, _ in cases():
         status, text, fault = run(["upgrade"], log)
@@ -56,7 +57,7 @@ def same_answers(folder):
 
 
 def faults(folder):
-    """What can't be upgraded: nothing is printed but the line at fault."""
+    """For a log that can't be upgraded, only the line at fault is printed."""
     for what, log, status, fault in [
         ("without the last LF", LOGIN[:-1], 1, "line 8: cut"),
         ("the empty log", b"", 1, "line 1: cut"),

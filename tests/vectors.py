@@ -1,10 +1,10 @@
 #!/usr/bin/env python3
 """Compares what the built program prints with what other software printed.
 
-Usage: vectors.py PROGRAM
+Usage: vectors.py PROGRAM [TEST ..]
 
-In data/vectors, keys.csv has the keys of passwords as GNU SASL and Dovecot made them, and codes.csv
-one-time codes as oathtool made them; the last column of a row says which.
+In data/vectors, keys.csv has the keys of passwords, made by GNU SASL and Dovecot, and codes.csv has
+one-time codes, made by oathtool. The last column of a row names the program.
 """
 import csv
 
@@ -15,13 +15,13 @@ from suite import PROGRAM, prints
 
 
 def keys(row):
-    """The words and input of a row of keys.csv, and what is to be printed."""
+    """The words and the input for a row of keys.csv, and what has to be printed."""
     words = ["keys", "--mechanism", row["mechanism"], "--salt", row["salt_hex"], "--count", row["count"]]
     return words, row["password"] + "\n", f"stored={row['stored_hex']}\nserver={row['server_hex']}\n"
 
 
 def codes(row):
-    """The words of a row of codes.csv, HOTP where it has a counter, else TOTP, and what is to be printed."""
+    """The words for a row of codes.csv, HOTP if it has a counter, else TOTP; no input; and what has to be printed."""
     words = ["code", "--secret", row["secret_hex"], "--digits", row["digits"]]
     if row["counter"]:
         words += ["--counter", row["counter"]]
@@ -31,7 +31,7 @@ def codes(row):
 
 
 def each_row(name, case):
-    """Compares what is printed for each row of a table, which has one at least."""
+    """Compares what is printed for each row of a table, which has at least one."""
     with open(VECTORS / name, newline="", encoding="utf-8") as table:
         rows = list(csv.DictReader(table))
     holds(rows, f"{name} has no rows")
@@ -42,10 +42,12 @@ def each_row(name, case):
 
 
 def table_of_keys(folder):
+    """The keys of a password, salt and count are those that GNU SASL and Dovecot made."""
     each_row("keys.csv", keys)
 
 
 def table_of_codes(folder):
+    """The codes of a secret are those that oathtool made."""
     each_row("codes.csv", codes)
 
 
