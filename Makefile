@@ -22,15 +22,16 @@ BUILT_FOR := $(shell cat crates/scramotp/out/built_for 2>/dev/null || echo x86-6
 .PHONY: help run build libraries install test fuzz bench clean kit this_kit needed FORCE
 
 help:
-	@echo 'make run      prints the keys of the example in RFC 5802, also before anything is built'
-	@echo 'make build    proves the program and leaves it at $(PROGRAM);'
-	@echo '              CPU=x86-64-v3 builds it for newer processors'
-	@echo 'make install  copies the built program to $$(DESTDIR)$$(PREFIX)/bin,'
-	@echo '              and its tools to $$(DESTDIR)$$(PREFIX)/share/scramotp'
-	@echo 'make test     the gate: proves all, sees that wrong bodies are refused, builds the program and runs all tests'
-	@echo 'make fuzz     gives the built program random input, for some minutes'
-	@echo 'make bench    compares speeds with OpenSSL, with Python, and with oathtool'
-	@echo 'make clean    removes what was built'
+	@echo 'make run        prints the keys of the example in RFC 5802, also before anything is built'
+	@echo 'make build      proves the program and leaves it at $(PROGRAM);'
+	@echo '                CPU=x86-64-v3 builds it for newer processors'
+	@echo 'make libraries  proves the libraries, for a server of your own'
+	@echo 'make install    copies the built program to $$(DESTDIR)$$(PREFIX)/bin,'
+	@echo '                and its tools to $$(DESTDIR)$$(PREFIX)/share/scramotp'
+	@echo 'make test       the gate: proves all, sees that wrong bodies are refused, builds the program and runs all tests'
+	@echo 'make fuzz       gives the built program random input, for some minutes'
+	@echo 'make bench      compares speeds with OpenSSL, with Python, and with oathtool'
+	@echo 'make clean      removes what was built'
 
 # A program that is not built runs from its sources, which proves nothing.
 run:
@@ -117,7 +118,7 @@ this_kit: kit
 # What else the tests need; they would miss it only after the proofs.
 needed:
 	@missing=; \
-	for it in cc bash xxd flock; do command -v $$it >/dev/null || missing="$$missing, $$it on your PATH"; done; \
+	for it in cc nm bash xxd flock; do command -v $$it >/dev/null || missing="$$missing, $$it on your PATH"; done; \
 	python3 -c 'import sys; sys.exit(sys.version_info < (3, 11))' 2>/dev/null || missing="$$missing, python3 (3.11 or newer) on your PATH"; \
 	id -u nobody >/dev/null 2>&1 || missing="$$missing, a user nobody"; \
 	test -z "$$missing" || { echo "The tests need, and this machine lacks: $${missing#, }" >&2; exit 1; }

@@ -1,12 +1,12 @@
 #!/usr/bin/env python3
-"""Times audits of long logs, by the processor time of the program's run, and measures its memory.
+"""Times audits of long logs, as processor time of the program's run, and measures its memory.
 
 Usage: audit.py PROGRAM
 
-Each log is made here, each message and each code by Python's hmac: logins by SCRAM-SHA-1 and SCRAM-SHA-256 by turns, each
-with nonces of its own, one after another, and as logs of version 2, one after another and 64 at once; and sessions of many
-accounts in each of which many codes pass. Each audit has to answer with the log's own counts. Best of several turns, with the
-start of the program and the reading of the book.
+The script makes each log, with messages and codes from Python's hmac: logins by SCRAM-SHA-1 and SCRAM-SHA-256 in turn, each
+with its own nonces, one after another, and as logs of version 2, one after another and 64 at once; and sessions of many
+accounts, in each of which many codes pass. Each audit has to answer with the log's own counts. The times are the best of several
+turns, and include the start of the program and the reading of the book.
 """
 import base64
 import hashlib
@@ -22,13 +22,13 @@ from expected import code, login_keys, proved
 LOGINS = 142_000
 FEW = 1_000
 ACCOUNTS = 1_000
-CODES = 200  # of each account
+CODES = 200  # for each account
 TURNS = 5
 SALT = b"0123456789ab"
 SECRET = b"12345678901234567890"
 HASHES = {"sha1": "SCRAM-SHA-1", "sha256": "SCRAM-SHA-256"}
 COUNT = 4096
-# ClientKey and ServerKey of the password.
+# ClientKey and ServerKey of the password (RFC 5802, section 3).
 KEYS = {table: login_keys(table, b"pencil", SALT, COUNT) for table in HASHES}
 
 
@@ -37,7 +37,7 @@ def text_of(data):
 
 
 def book(names, token):
-    """A book in which each name has both mechanisms' keys, and a token where one is wanted."""
+    """A book in which each name has keys for both mechanisms, and a token if `token`."""
     parts = [f'format = 1\ndecoy_key = "{bytes(range(32)).hex()}"\ndecoy_count = {COUNT}\n']
     for name in names:
         for table, (client, server) in KEYS.items():
@@ -76,8 +76,8 @@ def of_logins(count):
 
 
 def at_once(count, open_sessions):
-    """A log of version 2 of the same logins, so many of which are open at a time: a line of each in turn, and the next login
-    begins where one ends."""
+    """A log of version 2 with the same logins, of which `open_sessions` are open at a time: a line of each in turn, and the next login
+    begins when one ends."""
     waiting = enumerate(logins(count), 1)
     seats = [None] * open_sessions
     lines = ["SCRAMLOG 2\n"]
@@ -102,7 +102,7 @@ def of_codes(names):
 
 
 def peak(words, log, want):
-    """The most memory in KiB of a run that reads the log from a pipe, taken once it has read nearly all."""
+    """The peak memory in KiB of a run that reads the log from a pipe, looked up when it has read nearly all of it."""
     child = subprocess.Popen(words, stdin=subprocess.PIPE, stdout=subprocess.PIPE)
     child.stdin.write(log.encode())
     child.stdin.flush()
@@ -114,13 +114,13 @@ def peak(words, log, want):
 
 
 def audit(program, folder, text, log):
-    """The words of an audit by the book of this text."""
+    """Writes a book with this text, and returns the words of an audit by it."""
     (folder / "book").write_text(text)
     return [program, "audit", "--book", str(folder / "book"), "--log", str(log)]
 
 
 def best(program, folder, text, log, want):
-    """The best of several turns."""
+    """The least processor time, in seconds, of several audits of this log."""
     (folder / "log").write_text(log)
     words = audit(program, folder, text, folder / "log")
     return min(processor(words, exactly(want)) for _ in range(TURNS))

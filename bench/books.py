@@ -1,12 +1,12 @@
 #!/usr/bin/env python3
-"""Times a book of 1000 accounts: its reading alone, and runs of the program, beside Python's tomllib on the same text.
+"""Times a book of 1000 accounts: reading it, and runs of the program, compared with Python's tomllib on the same text.
 
 Usage: books.py PROGRAM BENCH
 
 BENCH is the built crate bench. Each account has keys for both mechanisms, and one has a token. `Book::read`
-and `tomllib.loads` each make a book, or a dict, of the text in memory and drop it, without the time of a
-start. `verify` with no input starts, takes hold of the book, reads it and ends; with one code it also judges
-the code, writes the book and puts it in the place of the old one, synced. Wall time, best of several turns.
+and `tomllib.loads` each make a book, or a dict, from the text in memory and drop it; the start of a process is not
+counted. `verify` with no input starts, holds the book, reads it and ends; with one code it also judges
+the code, writes the book and replaces the old one with it, synced. Wall time, best of several turns.
 """
 import hashlib
 import os
@@ -19,7 +19,7 @@ from timed import exactly, wall
 
 ACCOUNTS = 1000
 TURNS = 20
-READINGS = 5  # a turn
+READINGS = 5  # in each turn
 SECRET = b"12345678901234567890"
 CODE = "755224"  # RFC 4226, appendix D: counter 0
 
@@ -65,7 +65,7 @@ def by_tomllib(content):
 
 
 def times(program, bench, content):
-    """The best seconds of a run of bench that reads the file alone and of one that reads the book too, of verify
+    """The least seconds of a run of bench that only reads the file, of one that also reads the book, of verify
     with no code and with one, and of tomllib."""
     turns = []
     with tempfile.TemporaryDirectory() as folder:

@@ -1,12 +1,12 @@
 #!/usr/bin/env python3
-"""Times logins in a hall, 64 at a time, beside those at a desk, one after another, by processor time; and measures the memory of a
-hall whose sessions come and go.
+"""Compares the processor time of logins in a hall, 64 at a time, with that of logins at a desk, one after another; and measures the
+memory of a hall whose sessions come and go.
 
 Usage: hall.py PROGRAM BENCH
 
-BENCH is the built crate bench. It makes the same calls of both over memory, for the login of RFC 7677's example: best of several
-turns, without the time of a start. Memory is measured over memory, by logins, and by `hall`, where 63 sessions stay open while
-others begin and end.
+BENCH is the built crate bench. It makes the same calls of both in memory, for the login of RFC 7677's example; the times are the best of
+several turns, without the start. Memory is measured in bench, with logins, and in `hall`, where 63 sessions stay open while others
+begin and end.
 """
 import os
 import pathlib
@@ -22,36 +22,36 @@ from timed import check, processor
 LOGINS = 200_000
 FEW, MANY = 6_400, 1_000_000
 TURNS = 5
-# What an input of 16777216 bytes can hold.
+# How many sessions fit into an input of 16777216 bytes.
 SESSIONS = 700_000
 STAYING = 63
-LINES = 7  # that a log has of each login
+LINES = 7  # of each login in a log
 
 
 def logged(count):
-    """How many bytes a log has of so many logins. Each line of the login has its session's number, and a space."""
+    """How many bytes a log has for `count` logins. Each line of a login has its session's number and a space."""
     return count * LOGGED + sum(LINES * (len(str(number)) + 1) for number in range(1, count + 1))
 
 
 def serves(count, size):
-    """Whether a run of bench says that it has served so many logins, of which the log has so many bytes."""
+    """Returns a check that a run of bench says that it has served `count` logins, with `size` bytes of log."""
     return lambda printed: printed.startswith(f"served {count} logged {size} sent ")
 
 
 def seconds(bench, kind, count, size, path):
-    """The processor time of a run that serves so many logins, of which a log has so many bytes."""
+    """The processor time of a run that serves `count` logins, with `size` bytes of log."""
     return processor([bench, kind, str(count), path], serves(count, size))
 
 
 def rate(bench, kind, size, path):
-    """Logins a second."""
+    """The logins per second."""
     none = min(seconds(bench, kind, 0, 0, path) for _ in range(TURNS))
     all_of_them = min(seconds(bench, kind, LOGINS, size, path) for _ in range(TURNS))
     return LOGINS / (all_of_them - none)
 
 
 def peak(words, is_due, given=None):
-    """The most memory in KiB of a run, looked up until it ends."""
+    """The peak memory in KiB of a run, looked up until it ends."""
     most = 0
     with tempfile.TemporaryFile("w+") as output:
         child = subprocess.Popen(words, stdin=given, stdout=output)
@@ -65,14 +65,14 @@ def peak(words, is_due, given=None):
 
 
 def come_and_go(path, count):
-    """Input of `hall`: 63 sessions begin and stay, and so many others begin and end, one after another."""
+    """Writes input for `hall`: 63 sessions begin and stay, and `count` others begin and end, one after another."""
     with open(path, "w") as file:
         file.write("open z\n" * STAYING)
         file.writelines(f"open z\ngone {number} 0\n" for number in range(STAYING + 1, STAYING + 1 + count))
 
 
 def of_program(program, path, given, count):
-    """The most memory of `hall` whose sessions come and go."""
+    """The peak memory in KiB of a `hall` whose sessions come and go."""
     come_and_go(given, count)
     with open(given, "rb") as events:
         return peak([program, "hall", "--book", path], lambda printed: printed.count(" S MECHS ") == STAYING + count, events)

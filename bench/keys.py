@@ -1,10 +1,10 @@
 #!/usr/bin/env python3
-"""Times the keys of a password beside OpenSSL's PBKDF2, which is the same work.
+"""Times the keys of a password, compared with OpenSSL's PBKDF2, which does the same work.
 
 Usage: keys.py PROGRAM
 
 Runs both in turn, several times, and prints for each mechanism the best time of each, in seconds, and
-their ratio. Start-up is in both: of a process here, and of python3 with hashlib there.
+their ratio. Both times include a start: that of the program, and that of python3 with hashlib.
 """
 import sys
 

@@ -1,13 +1,13 @@
 #!/usr/bin/env python3
-"""Times the readers of the four messages beside matches by Python's re and base64, and codes beside oathtool; and the
+"""Times the reading of the four messages, compared with Python's re and base64; one-time codes, compared with oathtool; and the
 search for two codes in a row.
 
-The readers check more than Python does here: that a text is UTF-8 and has no NUL, and the limits of messages, salts and proofs.
+The library checks more than Python does here: that a text is UTF-8 and has no NUL, and the limits of messages, salts and proofs.
 
 Usage: messages.py BENCH
 
-BENCH is the built crate bench. Each line has the best of several turns, without the time of a start.
-oathtool (Debian's package) is left out where it is not installed.
+BENCH is the built crate bench. Each line has the best of several turns, without the start.
+oathtool (a Debian package) is left out if it is not installed.
 """
 import base64
 import re
@@ -23,7 +23,7 @@ COUNT = 300_000
 PYTHON_COUNT = 30_000
 CODES = 99_999
 SECRET = "12345678901234567890"
-# Searches for two codes in a row, and the codes that each makes for 1000 counters.
+# How many searches for two codes in a row are made, and how many codes each makes for 1000 counters.
 SEARCHES = 200
 CODES_OF_SEARCH = 1001
 TURNS = 5
@@ -57,12 +57,12 @@ def by_python(kind, text):
 
 
 def best(words, printed):
-    """The best seconds of several turns of a run that prints this line."""
+    """The least seconds, in several turns, of a run that prints this line."""
     return min(wall(words, exactly(f"{printed}\n")) for _ in range(TURNS))
 
 
 def of_oathtool(words):
-    """The best seconds of oathtool, whose codes are not looked at."""
+    """The least seconds of oathtool, whose codes are not checked."""
     return min(wall(words, anything, output=subprocess.DEVNULL) for _ in range(TURNS))
 
 

@@ -1,12 +1,12 @@
 #!/usr/bin/env python3
-"""Times a service: logins and codes over memory, and codes whose book is a file.
+"""Times a service: logins and codes with the book in memory, and codes with the book in a file.
 
 Usage: serve.py PROGRAM BENCH
 
-BENCH is the built crate bench. Over memory, one core serves the login of RFC 7677's example again and again, and then one login
-with the codes of RFC 4226's secret, each of which saves the book; over a file, `login` sends such codes. The book has one account,
-and then a thousand. Beside the file stand its fsyncs alone: a text of the book's length, written, synced and renamed, and its folder
-synced. Best of several turns, without the time of a start.
+BENCH is the built crate bench. In memory, one core serves the login of RFC 7677's example again and again, and then one login
+with the codes of RFC 4226's secret, each of which saves the book; with a file, `login` sends such codes. The book has one account,
+and then a thousand. The time with a file is printed next to that of the saves by themselves: a text of the book's length, written,
+synced and renamed, and its folder synced. Best of several turns, without the start.
 """
 import os
 import pathlib
@@ -23,13 +23,13 @@ CODES = 5_000  # one session has 10000 turns
 SAVED = 100
 TURNS = 5
 SECRET = b"12345678901234567890"
-# A recorded session is all lines of its log but the first.
+# A recorded session is all of its log except the first line.
 LOGGED = len((AUDITS / "sha256.log").read_bytes()) - len("SCRAMLOG 1\n")
 NONCES = ["--client-nonce", "rOprNGfwEbeRWgbNEkqO", "--server-nonce", "%hvYDpWUa2RaTCAfuxFIlj)hNlF$k0"]
 
 
 def book(accounts):
-    """RFC 7677's user with RFC 4226's token, and others up to so many accounts."""
+    """A book of so many accounts: RFC 7677's user with RFC 4226's token, and others."""
     others = "".join(
         f"\n[accounts.user{i:04}]\nact_as = []\n{mechanism(f'user{i:04}', 'sha1', 20)}{mechanism(f'user{i:04}', 'sha256', 32)}"
         for i in range(1, accounts)
@@ -47,22 +47,22 @@ secret = "{SECRET.hex()}"
 
 
 def best(words, is_due):
-    """The best seconds of several turns; each has to print what `is_due` is true of."""
+    """The least seconds of several turns. The output of each has to satisfy `is_due`."""
     return min(wall(words, is_due) for _ in range(TURNS))
 
 
 def over_memory(bench, path):
-    """Logins a second, and codes a second."""
+    """The logins per second, and the codes per second."""
     start = best([bench, "logins", "0", path], exactly("served 0 logged 0 sent 0\n"))
     logins = best([bench, "logins", str(LOGINS), path], lambda it: it.startswith(f"served {LOGINS} logged {LOGINS * LOGGED} sent "))
-    # of each code `C CODE` with six digits and `S PASS 5` with a counter are logged
+    # for each code, the log has `C CODE` with six digits, and `S PASS 5` with a counter
     logged = LOGGED + sum(len(f"C CODE 000000\nS PASS 5 {counter}\n") for counter in range(CODES))
     codes = best([bench, "codes", str(CODES), path], lambda it: it.startswith(f"served true logged {logged} sent "))
     return LOGINS / (logins - start), CODES / (codes - start)
 
 
 def over_file(program, folder, text, codes):
-    """The best seconds of a login with these codes, over a book that is a file."""
+    """The least seconds of a login with these codes, over a book in a file."""
     words = [program, "login", "--book", f"{folder}/book", "--name", "user", "--socket", f"{folder}/socket", "--moment", "5", *NONCES]
     given = "".join(f"{it}\n" for it in ["pencil", *codes])
     turns = []
@@ -73,7 +73,7 @@ def over_file(program, folder, text, codes):
 
 
 def synced(folder, size):
-    """The seconds of one replacement of a file of this size: written, synced, renamed, and its folder synced."""
+    """The seconds that it takes to replace a file of this size: written, synced, renamed, and its folder synced."""
     data, place = b"x" * size, os.open(folder, os.O_RDONLY)
     begun = time.perf_counter()
     for _ in range(SAVED):
@@ -101,7 +101,7 @@ def main():
             each, sync = (all_codes - none) / SAVED, synced(folder, len(text))
         rates = f"{logins:,.0f} logins a second, {in_memory:,.0f} codes a second"
         print(f"book of {accounts} accounts, {len(text)} bytes: over memory {rates};")
-        print(f"over a file {each * 1000:.2f} ms a code, of which such a file written and synced alone {sync * 1000:.2f} ms")
+        print(f"over a file {each * 1000:.2f} ms a code; to write and sync such a file takes {sync * 1000:.2f} ms of that")
 
 
 if __name__ == "__main__":

@@ -1,21 +1,21 @@
-"""What the scripts of this folder share: how long a run takes. One that fails, or does not print what it should, ends the script."""
+"""What the scripts in this folder share: timing a run. A run that fails, or does not print what it should, ends the script."""
 import os
 import pathlib
 import subprocess
 import sys
 import time
 
-# What the scripts compare with is in expected.py of the tests.
+# The values with which the scripts compare are in expected.py of the tests.
 sys.path.append(str(pathlib.Path(__file__).resolve().parent.parent / "tests"))
 
 
 def exactly(want):
-    """Whether a run has printed this and nothing else."""
+    """Returns a check that a run has printed exactly this."""
     return lambda printed: printed == want
 
 
 def anything(printed):
-    """Whatever a run has printed."""
+    """Accepts any output of a run."""
     return True
 
 
@@ -25,7 +25,7 @@ def check(words, status, printed, faults, is_due):
 
 
 def wall(words, is_due, given="", output=subprocess.PIPE):
-    """The seconds by the clock that a run with this input takes."""
+    """The seconds of wall time that a run with this input takes."""
     begun = time.perf_counter()
     done = subprocess.run(words, input=given, stdout=output, stderr=subprocess.PIPE, text=True)
     taken = time.perf_counter() - begun

@@ -1,12 +1,11 @@
 #!/usr/bin/env python3
-"""Times verdicts on the login of RFC 7677's example beside their MACs alone by Python's hmac.
+"""Times verdicts on the login of RFC 7677's example, compared with only their MACs by Python's hmac.
 
 Usage: verdicts.py BENCH
 
 BENCH is the built crate bench. A verdict reads the three messages of a log, opens the login and judges
-it: two HMACs and a hash, over keys that are given. The other software makes two HMACs and a hash over the
-same texts, and then four and a hash, and reads no message. Best of several turns, without the time of a
-start.
+it: two HMACs and a hash, with keys that are given. Python makes two HMACs and a hash over texts of the same length,
+and then four and a hash, and reads no message. Best of several turns, without the start.
 """
 import hashlib
 import hmac
