@@ -41,8 +41,8 @@ abbrev pub with_act_as : List (List ℕ) → AccountFields → AccountFields
 with_act_as names account = record account { act_as = names }
 
 -- the accounts of a book, as a map from names
-abbrev pub accounts_of : BookFields → FinMap name_cmp AccountFields
-accounts_of book = from_entries book.accounts
+abbrev pub account_map : BookFields → FinMap name_cmp AccountFields
+account_map book = from_entries book.accounts
 
 -- the map in which the account of this name, if there is one, is changed
 abbrev pub map_changed : FinMap name_cmp AccountFields → List ℕ → (AccountFields → AccountFields)
@@ -53,17 +53,17 @@ map_changed accounts name change =
 -- the book is this one, and its accounts, as a map, are these
 pub record Becomes (expected : BookFields) (mapped : FinMap name_cmp AccountFields) (new : BookFields) : Type 0 where
   pub book : new ≡ expected
-  pub accounts : accounts_of new ≡ mapped
+  pub accounts : account_map new ≡ mapped
 
 -- the account of this name, if there is one, is changed, and nothing else
 abbrev pub IsChanged : BookFields → List ℕ → (AccountFields → AccountFields) → BookFields → Type 0
-IsChanged old name change = Becomes (with_changed old name change) (map_changed (accounts_of old) name change)
+IsChanged old name change = Becomes (with_changed old name change) (map_changed (account_map old) name change)
 
 -- this account is added at a name that is free, and nothing else changes
 pub record IsAdded (old : BookFields) (name : List ℕ) (account : AccountFields) (new : BookFields) : Type 0 where
   pub free : account_at old name ≡ None
-  pub added : Becomes (with_account old name account) (map.insert (accounts_of old) name account) new
+  pub added : Becomes (with_account old name account) (map.insert (account_map old) name account) new
 
 -- the account of this name, if there is one, is removed, and nothing else changes
 abbrev pub IsRemoved : BookFields → List ℕ → BookFields → Type 0
-IsRemoved old name = Becomes (without_account old name) (map.remove (accounts_of old) name)
+IsRemoved old name = Becomes (without_account old name) (map.remove (account_map old) name)

@@ -16,7 +16,7 @@ TokensAreApart = (old : BookFields) (name : List ℕ) (token next : TokenFields)
     → (other : List ℕ) → token_at (with_changed old name (with_token next)) other
     ≡ cond (bytes_eq name other) (Some next) (token_at old other)
 
--- what a server keeps of each name stays as it was, since a token is no part of it
+-- what a server keeps of each name stays as it was, since a token is not a part of it
 abbrev pub EntriesStay : Type 0
 EntriesStay = (old : BookFields) (name : List ℕ) (token next : TokenFields) → token_at old name ≡ Some token
     → (m : Mechanism) (other : List ℕ) → entry_in (with_changed old name (with_token next)) m other ≡ entry_in old m other

@@ -19,7 +19,7 @@ abbrev pub with_token : TokenFields → AccountFields → AccountFields
 with_token token account = record account { token = Some token }
 
 -- what an attempt on the token of this name's account does: `next` is the token after it, and nothing else in the book changes
-pub record IsAttempt (old : BookFields) (name : List ℕ) (token : TokenFields) (moment : ℕ) (sent : CodeTexts) (reply : Reply)
+pub record IsAttemptWithToken (old : BookFields) (name : List ℕ) (token : TokenFields) (moment : ℕ) (sent : CodeTexts) (reply : Reply)
     (new : BookFields) : Type 0 where
   pub next : TokenFields
   pub judged : IsTokenAttempt token moment sent reply next
@@ -31,7 +31,7 @@ abbrev pub IsBookAttempt : BookFields → List ℕ → ℕ → CodeTexts → Opt
 IsBookAttempt old name moment sent answer new =
     MatchOption (token_at old name)
     ((answer ≡ None) × (new ≡ old))
-    (λ token. (reply : Reply) × (answer ≡ Some reply) × IsAttempt old name token moment sent reply new)
+    (λ token. (reply : Reply) × (answer ≡ Some reply) × IsAttemptWithToken old name token moment sent reply new)
 
 -- the failures of the token of this name's account are set to 0, and nothing else changes; if there is no such account or it has no
 -- token, nothing changes

@@ -3,7 +3,7 @@ ghost use Rattle.std.specs.Prelude.{◌≡◌, ◌≤◌, [], length, is_some, o
 ghost use Rattle.std.specs.FinMap as map;
 ghost use Rattle.book_format.specs.Account.{IsAccount, most_names};
 ghost use Rattle.book_format.specs.Book.{IsBook};
-ghost use Rattle.account_book.specs.Accounts.{account_at, accounts_of, with_act_as, IsChanged, IsRemoved};
+ghost use Rattle.account_book.specs.Accounts.{account_at, account_map, with_act_as, IsChanged, IsRemoved};
 
 mod enrol;
 mod text;
@@ -50,7 +50,7 @@ impl Book {
     }
 
     /// Each book is in its ranges: a law, for proofs that know only a book's value.
-    pub(crate) fn is_in_range(&self)
+    pub(crate) fn law_of_ranges(&self)
         ensures { IsBook self.now }
     {
         // Reading a field brings the type's invariant into the proof.
@@ -61,7 +61,7 @@ impl Book {
     #[tactic(auto, using(crate::proofs::lemmas::Maps::account_is_in_map))]
     pub fn account(&self, name: &PlainName) -> Option<&Account>
         ensures value { option_copied result ≡ account_at self.now name.now }
-        ensures mapped { option_copied result ≡ map.get (accounts_of self.now) name.now }
+        ensures mapped { option_copied result ≡ map.get (account_map self.now) name.now }
         ensures range { IfSome result (λ account. IsAccount account.now) }
     {
         self.contents.accounts.get(name)

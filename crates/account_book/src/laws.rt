@@ -13,7 +13,7 @@ use std::alloc::{AllocError, Global};
 pub fn books_are_in_range(book: &Book)
     ensures { IsBook book.now }
 {
-    book.is_in_range();
+    book.law_of_ranges();
 }
 
 /// The text that a book writes is read as that book. Returns the book that was read. Errors: `AllocError`, only if memory runs out

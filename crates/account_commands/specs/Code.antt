@@ -1,5 +1,5 @@
 -- The code that the words of the command `code` ask for.
-use Rattle.std.specs.Prelude.{◌≡◌, ◌⊎◌, ℕ, ◌≤◌, ◌<◌, List, [], ◌∷◌, ◌++◌, Option, Ok}
+use Rattle.std.specs.Prelude.{◌≡◌, ◌⊎◌, ℕ, ◌≤◌, ◌<◌, List, [], ◌∷◌, ◌++◌, length, Option, Ok}
 use Rattle.std.specs.Str.{byte}
 use Rattle.std.specs.Fmt.{decimal}
 use Rattle.std.specs.Io.KnownBytes.{Appends}
@@ -8,6 +8,7 @@ use Rattle.hex.specs.Hex.{decode_of}
 use Rattle.clap.specs.declared.parser.matches.ArgMatches.{ArgMatches}
 use Rattle.otp_core.specs.Code.{steps_from}
 use Rattle.otp_core.specs.Hash.{hash_name, hotp_text_by}
+use Rattle.otp_core.specs.Ranges.{longest_step, most_counter, IsDigitCount, IsMoment, IsSecretLength}
 use Rattle.otp_core.specs.declared.hash.OtpHash.TheVariants.{Sha1}
 use Rattle.command_line.specs.declared.fault.Fault.{Fault}
 use Rattle.command_line.specs.declared.fault.Fault.TheVariants.{NoCounterOrMoment, BeforeFirstStep, CannotWriteOutput, NoMemory}
@@ -29,6 +30,11 @@ abbrev pub IsTooEarly : MovingFactor → Type 0
 IsTooEarly (Counter counter) = ⊥
 IsTooEarly (Time t) = t.moment < t.t0
 
+-- the moving factor has its numbers in the ranges of the options that give them
+abbrev pub IsFactorInRange : MovingFactor → Type 0
+IsFactorInRange (Counter counter) = counter ≤ most_counter
+IsFactorInRange (Time t) = IsMoment t.moment × IsMoment t.t0 × (1 ≤ t.step) × (t.step ≤ longest_step)
+
 -- what the words ask a code for: a counter, or else a moment, with the hash function and the steps that they give
 abbrev pub IsFactorAsked : ArgMatches → MovingFactor → Type 0
 IsFactorAsked words (Counter counter) = value_of words option.Counter ≡ Some (decimal counter)
@@ -41,10 +47,13 @@ IsFactorAsked words (Time t) =
 pub record IsCodeAsked (words : ArgMatches) (code : List ℕ) : Type 0 where
   pub secret : List ℕ
   pub is_secret : decode_of (given_value words option.Secret) ≡ Ok secret
+  pub secret_range : IsSecretLength (length secret)
   pub digits : ℕ
   pub are_digits : given_value words option.Digits ≡ decimal digits
+  pub digits_range : IsDigitCount digits
   pub factor : MovingFactor
   pub is_factor : IsFactorAsked words factor
+  pub factor_range : IsFactorInRange factor
   pub is_code : IsCodeFor factor digits secret code
 
 -- the code that the words ask for is printed

@@ -3,7 +3,8 @@ use Rattle.std.specs.Prelude.{ℕ, ◌≡◌, ◌⊎◌, List, [], ◌∷◌, �
 use Rattle.std.specs.Fmt.{decimal}
 use Rattle.std.specs.Io.KnownBytes.{Appends, Consumes}
 use Rattle.std.specs.Str.{byte}
-use Rattle.scram_text.specs.Class.{IsPassword}
+use Rattle.scram_text.specs.Class.{IsPassword, IsPlainName}
+use Rattle.scram_text.specs.Parts.{IsCount}
 use Rattle.book_format.specs.Book.{BookFields}
 use Rattle.account_book.specs.Accounts.{account_at}
 use Rattle.account_book.specs.SavedBooks.{HasStoredText}
@@ -59,9 +60,11 @@ pub record EnrolsAsked {File : Type 0} (bytes_of written_to : File → Option (L
   -- the account has the name and the iteration count that the words give, and the first line of the input as password
   pub account : NewAccount
   pub is_name : account.name ≡ given_value words option.Name
+  pub name_range : IsPlainName account.name
   pub is_first_line : IsFirstLine input account.password
   pub is_password : IsPassword account.password
   pub is_count : given_value words option.Count ≡ decimal account.count
+  pub count_range : IsCount account.count
   -- a file gives the random bytes: the key of a new book, and then the salts
   pub file : File
   pub middle : Option (List ℕ)
@@ -77,7 +80,7 @@ pub record EnrolsAsked {File : Type 0} (bytes_of written_to : File → Option (L
   -- the name is printed
   pub printed : Appends old new (codes "enrolled " ++ (account.name ++ byte "\n" ∷ []))
 
--- the words and the input describe no account: an option refuses its value, or the first line is no password or can't be read
+-- the words and the input describe no account: an option refuses its value, or the first line is not a password or can't be read
 abbrev pub DescribesNoAccount : ArgMatches → (input : Option (List ℕ)) → Fault → Type 0
 DescribesNoAccount words input fault =
     HasBadValue (option.Name ∷ option.Count ∷ []) words fault ⊎ (HasBadPassword input fault ⊎ IsInputUnreadOrNoMemory fault)

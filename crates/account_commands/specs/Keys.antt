@@ -7,7 +7,8 @@ use Rattle.hex.specs.Hex.{encode_lower, decode_of}
 use Rattle.clap.specs.declared.parser.matches.ArgMatches.{ArgMatches}
 use Rattle.mac_core.specs.declared.mechanism.Mechanism.{Mechanism}
 use Rattle.mac_core.specs.Mechanism.{name_of, password_stored_key_by, password_server_key_by}
-use Rattle.scram_text.specs.Class.{IsPassword}
+use Rattle.scram_text.specs.Class.{IsPassword, IsSalt}
+use Rattle.scram_text.specs.Parts.{IsCount}
 use Rattle.command_line.specs.declared.fault.Fault.{Fault}
 use Rattle.command_line.specs.declared.fault.Fault.TheVariants.{CannotWriteOutput}
 use Rattle.command_line.specs.declared.option_name.OptionName.TheVariants as option
@@ -28,14 +29,16 @@ pub record PrintsKeysAsked (words : ArgMatches) (input old new : Option (List �
   pub is_mechanism : given_value words option.Mechanism ≡ name_of mechanism
   pub salt : List ℕ
   pub is_salt : decode_of (given_value words option.Salt) ≡ Ok salt
+  pub salt_range : IsSalt salt
   pub count : ℕ
   pub is_count : given_value words option.Count ≡ decimal count
+  pub count_range : IsCount count
   pub password : List ℕ
   pub is_first_line : IsFirstLine input password
   pub is_password : IsPassword password
   pub printed : Appends old new (printed_keys mechanism password salt count)
 
--- the fault that ends `keys`: an option refuses its value, the first line of the input is no password or can't be read, the output can't
+-- the fault that ends `keys`: an option refuses its value, the first line of the input is not a password or can't be read, the output can't
 -- be written, or memory ran out
 abbrev pub CannotPrintKeys : ArgMatches → (input : Option (List ℕ)) → Fault → Type 0
 CannotPrintKeys words input fault =

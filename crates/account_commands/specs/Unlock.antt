@@ -2,6 +2,7 @@
 use Rattle.std.specs.Prelude.{ℕ, ◌≡◌, ◌⊎◌, List, [], ◌∷◌, ◌++◌, codes, Option}
 use Rattle.std.specs.Str.{byte}
 use Rattle.std.specs.Io.KnownBytes.{Appends}
+use Rattle.scram_text.specs.Class.{IsPlainName}
 use Rattle.book_format.specs.Book.{BookFields}
 use Rattle.account_book.specs.Accounts.{account_at}
 use Rattle.account_book.specs.SavedBooks.{HasStoredText}
@@ -19,6 +20,7 @@ use Rattle.command_words.specs.Values.{given_value}
 -- to a file; and the name is printed
 pub record UnlocksAsked {File : Type 0} (bytes_of written_to : File → Option (List ℕ)) (words : ArgMatches) (old new : Option (List ℕ))
     : Type 0 where
+  pub name_range : IsPlainName (given_value words option.Name)
   pub text : List ℕ
   pub first : BookFields
   pub is_first : IsReadBook bytes_of text first

@@ -1,6 +1,7 @@
 //! The command `code`: prints the one-time code for a counter or a moment.
 ghost use Rattle.std.specs.Prelude.{◌≡◌, IfErr, IfOk, OnOk};
-ghost use Rattle.account_commands.specs.Code.{IsCodeFor, IsTooEarly, IsFactorAsked, PrintsCodeAsked, CannotPrintCode, LacksFactor};
+ghost use Rattle.account_commands.specs.Code.{IsCodeFor, IsTooEarly, IsFactorAsked, IsFactorInRange, PrintsCodeAsked};
+ghost use Rattle.account_commands.specs.Code.{CannotPrintCode, LacksFactor};
 ghost use Rattle.command_io.specs.Printed.{PrintsNothing};
 
 use crate::moving_factor::{MovingFactor, TotpInput};
@@ -29,10 +30,11 @@ pub fn code<O: Write>(alloc: Global, matches: &ArgMatches<'_>, output: &mut O) -
 // Checks the options that say which code is meant, in their order. Faults: BadValue and NoCounterOrMoment.
 fn read_options(matches: &ArgMatches<'_>) -> Result<MovingFactor, Fault>
     ensures asked { IfOk result (IsFactorAsked matches.now) }
+    ensures range { IfOk result IsFactorInRange }
     ensures why { IfErr result (LacksFactor matches.now) }
 {
     let counter = match optional(matches, OptionName::Counter) {
-        Some(text) => Some(value::within(OptionName::Counter, text, 0, MOST_COUNTER)?),
+        Some(text) => Some(value::number_within(OptionName::Counter, text, 0, MOST_COUNTER)?),
         None => None,
     };
     let moment = match optional(matches, OptionName::Moment) {
@@ -41,7 +43,7 @@ fn read_options(matches: &ArgMatches<'_>) -> Result<MovingFactor, Fault>
     };
     let hash = value::hash(given(matches, OptionName::Hash))?;
     let t0 = value::moment(OptionName::T0, given(matches, OptionName::T0))?;
-    let step = value::within(
+    let step = value::number_within(
         OptionName::Step,
         given(matches, OptionName::Step),
         1,

@@ -1,7 +1,8 @@
 //! The command `enrol`: adds an account with a password to a book.
 ghost use Rattle.std.specs.Prelude.{◌≡◌, ◌⊎◌, IfOk, IfErr, IfSome, OnOk, string_bytes};
 ghost use Rattle.std.specs.Fmt.{decimal};
-ghost use Rattle.scram_text.specs.Class.{IsPassword};
+ghost use Rattle.scram_text.specs.Class.{IsPassword, IsPlainName};
+ghost use Rattle.scram_text.specs.Parts.{IsCount};
 ghost use Rattle.account_commands.specs.Enrol.{EnrolsAsked, IsReadOrNew, SavesAccount, TakesSalts};
 ghost use Rattle.account_commands.specs.Enrol.{CannotBeChanged, CannotEnrol, DescribesNoAccount, IsNameTakenIn};
 ghost use Rattle.command_io.specs.File.{IsFileUnreadOrNoMemory};
@@ -101,8 +102,8 @@ fn read_account<I: TerminalInput, E: TerminalOutput>(
     input: &mut I,
     faults: &mut E,
 ) -> Result<NewAccount, Fault>
-    ensures name { IfOk result (λ account. account.name ≡ given_value matches.now OptionName.Name) }
-    ensures count { IfOk result (λ account. given_value matches.now OptionName.Count ≡ decimal account.count) }
+    ensures name { IfOk result (λ account. (account.name ≡ given_value matches.now OptionName.Name) × IsPlainName account.name) }
+    ensures count { IfOk result (λ account. (given_value matches.now OptionName.Count ≡ decimal account.count) × IsCount account.count) }
     ensures password { IfOk result (λ account. IsFirstLine (I.remaining input.old) account.password × IsPassword account.password) }
     ensures err { IfErr result (DescribesNoAccount matches.now (I.remaining input.old)) }
 {

@@ -54,7 +54,7 @@ fn print_keys<I: BufRead, O: Write>(
     ensures ok { OnOk result ((password : List ℕ) × IsFirstLine (I.remaining input.old) password × IsPassword password
         × Appends (O.contents output.old) (O.contents output.new) (printed_keys mechanism password salt.now count)) }
 
-    // A stream failed, memory ran out, or the first line is no password.
+    // A stream failed, memory ran out, or the first line is not a password.
     ensures err { IfErr result (λ fault. (fault ≡ Fault.CannotReadInput) ⊎ ((fault ≡ Fault.CannotWriteOutput)
         ⊎ ((fault ≡ Fault.NoMemory) ⊎ HasBadPassword (I.remaining input.old) fault))) }
     ensures unprinted { IfErr result (λ fault. PrintsNothing fault (O.contents output.old) (O.contents output.new)) }
@@ -64,7 +64,7 @@ fn print_keys<I: BufRead, O: Write>(
     print(text.as_bytes(), output)
 }
 
-// The two lines to print for a password. Faults: BadPassword if the line is no password, and NoMemory.
+// The two lines to print for a password. Faults: BadPassword if the line is not a password, and NoMemory.
 fn keys_text(
     alloc: Global,
     mechanism: Mechanism,

@@ -1,6 +1,6 @@
 //! Logins by calls of a desk, one after another, and by calls of a hall, 64 at a time. What the calls write is only counted.
-use crate::memory::Memory;
-use crate::service::{LOGIN, SERVER_NONCE, book_at, refusal};
+use crate::memory::MemoryStore;
+use crate::service::{LOGIN, SERVER_NONCE, read_book, refusal};
 use account_book::Book;
 use arrayvec::ArrayVec;
 use otp_core::Moment;
@@ -50,7 +50,7 @@ fn print_served(rt: &impl Print, served: u32, written: &Written) -> io::Result<(
 // Lets a desk hear what its client does. None if no session is open, or the call fails.
 fn desk_hears(
     alloc: Global,
-    desk: &mut Desk<Memory>,
+    desk: &mut Desk<MemoryStore>,
     event: Event<'_>,
     written: &mut Written,
 ) -> Option<Phase> {
@@ -64,7 +64,7 @@ fn desk_hears(
 }
 
 // Lets a client log in at a desk and leave. None if a session is open before or after it, or a call fails.
-fn log_in_alone(alloc: Global, desk: &mut Desk<Memory>, written: &mut Written) -> Option<()> {
+fn log_in_alone(alloc: Global, desk: &mut Desk<MemoryStore>, written: &mut Written) -> Option<()> {
     let server_nonce = NoncePart::new(SERVER_NONCE)?;
     let Written { wire, log, .. } = written;
     if desk.phase() != Phase::Closed {
@@ -90,8 +90,8 @@ where
     let (mut written, mut first_line) = (Written::new(alloc), Vec::new(alloc));
     let Ok(mut desk) = Desk::begin(
         alloc,
-        book_at(rt, path)?,
-        Memory::new(alloc),
+        read_book(rt, path)?,
+        MemoryStore::new(alloc),
         &mut first_line,
     ) else {
         return Err(refusal());
@@ -106,7 +106,7 @@ where
 }
 
 // Lets 64 clients come into a hall. Returns the numbers of their sessions, or None if a call fails.
-fn all_come(hall: &mut Hall<Memory>, written: &mut Written) -> Option<ArrayVec<u64, 64>> {
+fn all_come(hall: &mut Hall<MemoryStore>, written: &mut Written) -> Option<ArrayVec<u64, 64>> {
     let mut numbers = ArrayVec::new();
     for _ in 0..OPEN {
         let Written { wire, log, .. } = written;
@@ -121,7 +121,7 @@ fn all_come(hall: &mut Hall<Memory>, written: &mut Written) -> Option<ArrayVec<u
 // a session is not open or a call fails.
 fn all_do(
     alloc: Global,
-    hall: &mut Hall<Memory>,
+    hall: &mut Hall<MemoryStore>,
     numbers: &[u64],
     event: Event<'_>,
     written: &mut Written,
@@ -144,7 +144,11 @@ fn all_do(
 }
 
 // Lets 64 clients log in and leave, one line of each in turn. Returns how many sessions ended, or None if a call fails.
-fn log_in_together(alloc: Global, hall: &mut Hall<Memory>, written: &mut Written) -> Option<u32> {
+fn log_in_together(
+    alloc: Global,
+    hall: &mut Hall<MemoryStore>,
+    written: &mut Written,
+) -> Option<u32> {
     let numbers = all_come(hall, written)?;
     let numbers = numbers.as_slice();
     for line in LOGIN.lines() {
@@ -163,8 +167,8 @@ where
     let (mut written, mut first_line) = (Written::new(alloc), Vec::new(alloc));
     let Ok(mut hall) = Hall::begin(
         alloc,
-        book_at(rt, path)?,
-        Memory::new(alloc),
+        read_book(rt, path)?,
+        MemoryStore::new(alloc),
         &mut first_line,
     ) else {
         return Err(refusal());

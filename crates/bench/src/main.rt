@@ -12,9 +12,10 @@
 //! | alone COUNT FILE | lets COUNT clients log in by calls of a desk | as `logins` |
 //! | together COUNT FILE | lets COUNT clients log in by calls of a hall, 64 at a time | as `logins` |
 //!
-//! The others run while a test refuses memory, and also print how often it ran out. `calls`, `turns`, `service` and `hall`, with
-//! COUNT FILE, serve a login with COUNT codes and print the log. `texts 1 FILE` writes the texts of FILE, `changes 1 FILE` changes
-//! the book of FILE, and both print what was written.
+//! The others are not timed. They are the module `refused`, one half of a test: the script `tests/refused_calls.py` runs them while
+//! it refuses memory. They also print how often memory ran out. `calls`, `turns`, `service` and `hall`, with COUNT FILE, serve a
+//! login with COUNT codes and print the log. `texts 1 FILE` writes the texts of FILE, `changes 1 FILE` changes the book of FILE, and
+//! both print what was written.
 #![tactic(auto)]
 
 mod book;

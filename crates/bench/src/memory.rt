@@ -11,17 +11,17 @@ use std::alloc::Global;
 
 /// A store that keeps the text in memory.
 #[derive(Drop)]
-pub(crate) struct Memory {
+pub(crate) struct MemoryStore {
     text: String,
     failed: bool,
     saves: u64,
     ghost room: { failed ≡ false → saves + 1 < 2 ^ 64 },
 }
 
-impl Memory {
+impl MemoryStore {
     /// A store that holds an empty text.
-    pub(crate) fn new(alloc: Global) -> Memory {
-        Memory {
+    pub(crate) fn new(alloc: Global) -> MemoryStore {
+        MemoryStore {
             text: String::new(alloc),
             failed: false,
             saves: 0,
@@ -29,7 +29,7 @@ impl Memory {
     }
 }
 
-impl BookStore for Memory {
+impl BookStore for MemoryStore {
     ghost use Rattle.account_book.specs.Store.{StoreFacts};
 
     ghost facts = { λ s. record {
@@ -55,18 +55,18 @@ impl BookStore for Memory {
 
 /// A clock that stands still.
 #[derive(Drop)]
-pub(crate) struct Still {
+pub(crate) struct StillClock {
     at: Moment,
 }
 
-impl Still {
+impl StillClock {
     /// A clock that always returns the moment `at`.
-    pub(crate) fn new(at: Moment) -> Still {
-        Still { at }
+    pub(crate) fn new(at: Moment) -> StillClock {
+        StillClock { at }
     }
 }
 
-impl Clock for Still {
+impl Clock for StillClock {
     ghost last = { λ c. c.at };
 
     fn now(&mut self) -> Moment {
@@ -76,19 +76,19 @@ impl Clock for Still {
 
 /// A sink that counts bytes and keeps none.
 #[derive(Drop)]
-pub(crate) struct Counted {
+pub(crate) struct CountingSink {
     /// How many bytes it was given; the count stops at the greatest `u64`.
     pub bytes: u64,
 }
 
-impl Counted {
+impl CountingSink {
     /// A sink that has been given nothing yet.
-    pub(crate) fn new() -> Counted {
-        Counted { bytes: 0 }
+    pub(crate) fn new() -> CountingSink {
+        CountingSink { bytes: 0 }
     }
 }
 
-impl Sink for Counted {
+impl Sink for CountingSink {
     ghost facts = { λ s. record { given = None; failed = false } };
 
     fn put(&mut self, bytes: &[u8]) -> Result<(), SinkFault> {
@@ -99,15 +99,15 @@ impl Sink for Counted {
 
 /// A sink that keeps up to 8192 bytes, and asks for no memory.
 #[derive(Drop)]
-pub(crate) struct Kept {
+pub(crate) struct KeepingSink {
     bytes: ArrayVec<u8, 8192>,
     failed: bool,
 }
 
-impl Kept {
+impl KeepingSink {
     /// A sink that has been given nothing yet.
-    pub(crate) fn new() -> Kept {
-        Kept {
+    pub(crate) fn new() -> KeepingSink {
+        KeepingSink {
             bytes: ArrayVec::new(),
             failed: false,
         }
@@ -119,7 +119,7 @@ impl Kept {
     }
 }
 
-impl Sink for Kept {
+impl Sink for KeepingSink {
     ghost facts = { λ s. record { given = None; failed = s.failed } };
 
     fn put(&mut self, bytes: &[u8]) -> Result<(), SinkFault> {

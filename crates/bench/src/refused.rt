@@ -1,11 +1,12 @@
-//! Serves a client while one request for memory, whichever it is, is refused. The call of a desk or a hall then returns 99, nothing
-//! is lost, and the same call made again succeeds.
+//! One half of the test `tests/refused_calls.py`, and no measurement: what the script runs while it refuses one request for memory,
+//! whichever it is. Here a client is served. The call of a desk then returns 99, nothing is lost, and the same call made again
+//! succeeds. The modules below do the same for a hall, for books and for texts.
 mod books;
 mod hall;
 mod texts;
 
-use crate::memory::{Kept, Memory, Still};
-use crate::service::{SERVER_NONCE, book_at, login_and_codes};
+use crate::memory::{KeepingSink, MemoryStore, StillClock};
+use crate::service::{SERVER_NONCE, login_and_codes, read_book};
 use account_book::Book;
 pub(crate) use books::print_book;
 pub(crate) use hall::print_hall;
@@ -23,8 +24,8 @@ fn begun<A: Allocator>(
     alloc: Global,
     book: Book,
     log: &mut Vec<u8, A>,
-) -> Option<(Desk<Memory>, u32)> {
-    match Desk::begin(alloc, book, Memory::new(alloc), log) {
+) -> Option<(Desk<MemoryStore>, u32)> {
+    match Desk::begin(alloc, book, MemoryStore::new(alloc), log) {
         Ok(desk) => Some((desk, 0)),
         Err((book, store, DeskFault::NoMemory)) => {
             Some((Desk::begin(alloc, book, store, log).ok()?, 1))
@@ -34,7 +35,7 @@ fn begun<A: Allocator>(
 }
 
 // Lets the desk greet a client. Returns how often the call ran out of memory first, 0 or 1; None if the desk does not greet.
-fn greeted(desk: &mut Desk<Memory>, wire: &mut Vec<u8>, log: &mut Vec<u8>) -> Option<u32> {
+fn greeted(desk: &mut Desk<MemoryStore>, wire: &mut Vec<u8>, log: &mut Vec<u8>) -> Option<u32> {
     for refused in [0, 1] {
         let server_nonce = NoncePart::new(SERVER_NONCE)?;
         if desk.phase() != Phase::Closed {
@@ -52,7 +53,7 @@ fn greeted(desk: &mut Desk<Memory>, wire: &mut Vec<u8>, log: &mut Vec<u8>) -> Op
 // Lets the desk hear what its client does, and returns a count as `greeted` does.
 fn heard(
     alloc: Global,
-    desk: &mut Desk<Memory>,
+    desk: &mut Desk<MemoryStore>,
     event: Event<'_>,
     wire: &mut Vec<u8>,
     log: &mut Vec<u8>,
@@ -74,7 +75,7 @@ fn heard(
 // Lets the desk hear these lines, and then that their client has gone away. Returns how often memory ran out, or None.
 fn all_heard(
     alloc: Global,
-    desk: &mut Desk<Memory>,
+    desk: &mut Desk<MemoryStore>,
     lines: &str,
     wire: &mut Vec<u8>,
     log: &mut Vec<u8>,
@@ -112,7 +113,7 @@ where
     R: Print + Files + AllocGlobal,
 {
     let alloc = rt.alloc();
-    let (book, text) = (book_at(rt, path)?, login_and_codes(alloc, count)?);
+    let (book, text) = (read_book(rt, path)?, login_and_codes(alloc, count)?);
     let mut log = Vec::new(alloc);
     let refused = called(alloc, book, text.as_str(), &mut log);
     print_end(rt, log.as_slice(), refused)
@@ -121,12 +122,12 @@ where
 // Takes a turn with a client that sends this line, and returns a count as `greeted` does.
 fn turned(
     alloc: Global,
-    desk: &mut Desk<Memory>,
+    desk: &mut Desk<MemoryStore>,
     line: &[u8],
-    wire: &mut Kept,
-    log: &mut Kept,
+    wire: &mut KeepingSink,
+    log: &mut KeepingSink,
 ) -> Option<u32> {
-    let mut clock = Still::new(Moment::new(5)?);
+    let mut clock = StillClock::new(Moment::new(5)?);
     for refused in [0, 1] {
         if desk.phase() == Phase::Closed {
             return None;
@@ -144,10 +145,10 @@ fn turned(
 // Takes turns with a client that sends these lines and goes away. Returns how often memory ran out, or None.
 fn all_turned(
     alloc: Global,
-    desk: &mut Desk<Memory>,
+    desk: &mut Desk<MemoryStore>,
     lines: &str,
-    wire: &mut Kept,
-    log: &mut Kept,
+    wire: &mut KeepingSink,
+    log: &mut KeepingSink,
 ) -> Option<u32> {
     let mut refused = 0u32;
     for line in lines.split_inclusive('\n') {
@@ -157,12 +158,12 @@ fn all_turned(
 }
 
 // As `called`, with `serve_turn` after the greeting.
-fn called_by_turns(alloc: Global, book: Book, lines: &str, log: &mut Kept) -> Option<u32> {
+fn called_by_turns(alloc: Global, book: Book, lines: &str, log: &mut KeepingSink) -> Option<u32> {
     let (mut sent, mut logged) = (Vec::new(alloc), Vec::new(alloc));
     let (mut desk, before) = begun(alloc, book, &mut logged)?;
     let greeting = greeted(&mut desk, &mut sent, &mut logged)?;
     log.put(logged.as_slice()).ok()?;
-    let rest = all_turned(alloc, &mut desk, lines, &mut Kept::new(), log)?;
+    let rest = all_turned(alloc, &mut desk, lines, &mut KeepingSink::new(), log)?;
     Some(before.saturating_add(greeting).saturating_add(rest))
 }
 
@@ -172,8 +173,8 @@ where
     R: Print + Files + AllocGlobal,
 {
     let alloc = rt.alloc();
-    let (book, text) = (book_at(rt, path)?, login_and_codes(alloc, count)?);
-    let mut log = Kept::new();
+    let (book, text) = (read_book(rt, path)?, login_and_codes(alloc, count)?);
+    let mut log = KeepingSink::new();
     let refused = called_by_turns(alloc, book, text.as_str(), &mut log);
     print_end(rt, log.bytes(), refused)
 }
@@ -182,13 +183,13 @@ where
 // ran out, or None.
 fn served(
     alloc: Global,
-    desk: &mut Desk<Memory>,
+    desk: &mut Desk<MemoryStore>,
     text: &str,
-    wire: &mut Kept,
-    log: &mut Kept,
+    wire: &mut KeepingSink,
+    log: &mut KeepingSink,
 ) -> Option<u32> {
     let mut client = OverRead::new(text.as_bytes());
-    let mut clock = Still::new(Moment::new(5)?);
+    let mut clock = StillClock::new(Moment::new(5)?);
     if desk.phase() != Phase::Closed {
         return None;
     }
@@ -209,11 +210,11 @@ fn served(
 }
 
 // As `called`, with `serve`.
-fn called_at_once(alloc: Global, book: Book, text: &str, log: &mut Kept) -> Option<u32> {
+fn called_at_once(alloc: Global, book: Book, text: &str, log: &mut KeepingSink) -> Option<u32> {
     let mut first_line = Vec::new(alloc);
     let (mut desk, before) = begun(alloc, book, &mut first_line)?;
     log.put(first_line.as_slice()).ok()?;
-    let rest = served(alloc, &mut desk, text, &mut Kept::new(), log)?;
+    let rest = served(alloc, &mut desk, text, &mut KeepingSink::new(), log)?;
     Some(before.saturating_add(rest))
 }
 
@@ -223,8 +224,8 @@ where
     R: Print + Files + AllocGlobal,
 {
     let alloc = rt.alloc();
-    let (book, text) = (book_at(rt, path)?, login_and_codes(alloc, count)?);
-    let mut log = Kept::new();
+    let (book, text) = (read_book(rt, path)?, login_and_codes(alloc, count)?);
+    let mut log = KeepingSink::new();
     let refused = called_at_once(alloc, book, text.as_str(), &mut log);
     print_end(rt, log.bytes(), refused)
 }

@@ -1,5 +1,5 @@
 //! Serves clients in memory: logins of RFC 7677's example, section 3, and codes after one of them.
-use crate::memory::{Counted, Memory, Still};
+use crate::memory::{CountingSink, MemoryStore, StillClock};
 use account_book::Book;
 use mac_core::{HSha1, PreparedKey};
 use otp_core::{Digits, Moment, Secret, hotp_with};
@@ -25,7 +25,7 @@ pub(crate) fn refusal() -> io::Error {
 }
 
 /// The book in the file at `path`.
-pub(crate) fn book_at<R: Files + AllocGlobal>(rt: &R, path: &str) -> io::Result<Book> {
+pub(crate) fn read_book<R: Files + AllocGlobal>(rt: &R, path: &str) -> io::Result<Book> {
     let bytes = fs::read(rt, path)?;
     match Book::read(rt.alloc(), bytes.as_slice()) {
         Ok(book) => Ok(book),
@@ -53,24 +53,24 @@ pub(crate) fn login_and_codes(alloc: Global, count: u32) -> io::Result<String> {
 // A desk over a book, and how many bytes it has logged and sent.
 #[derive(Drop)]
 struct Service {
-    desk: Desk<Memory>,
-    wire: Counted,
-    log: Counted,
-    clock: Still,
+    desk: Desk<MemoryStore>,
+    wire: CountingSink,
+    log: CountingSink,
+    clock: StillClock,
 }
 
 // A service over the book in the file at `path`.
-fn begun<R: Files + AllocGlobal>(rt: &R, path: &str) -> io::Result<Service> {
-    let (book, now) = (book_at(rt, path)?, Moment::new(5).ok_or(refusal())?);
-    let mut first_line = Vec::new(rt.alloc());
-    let Ok(desk) = Desk::begin(rt.alloc(), book, Memory::new(rt.alloc()), &mut first_line) else {
+fn begin_service<R: Files + AllocGlobal>(rt: &R, path: &str) -> io::Result<Service> {
+    let (book, now) = (read_book(rt, path)?, Moment::new(5).ok_or(refusal())?);
+    let (store, mut first_line) = (MemoryStore::new(rt.alloc()), Vec::new(rt.alloc()));
+    let Ok(desk) = Desk::begin(rt.alloc(), book, store, &mut first_line) else {
         return Err(refusal());
     };
     Ok(Service {
         desk,
-        wire: Counted::new(),
-        log: Counted::new(),
-        clock: Still::new(now),
+        wire: CountingSink::new(),
+        log: CountingSink::new(),
+        clock: StillClock::new(now),
     })
 }
 
@@ -99,7 +99,7 @@ pub(crate) fn print_logins<R>(rt: &R, path: &str, count: u32) -> io::Result<()>
 where
     R: Print + Files + AllocGlobal,
 {
-    let mut service = begun(rt, path)?;
+    let mut service = begin_service(rt, path)?;
     let mut served = 0u32;
     for _ in 0..count {
         if is_served(rt.alloc(), &mut service, LOGIN) {
@@ -116,7 +116,7 @@ pub(crate) fn print_codes_served<R>(rt: &R, path: &str, count: u32) -> io::Resul
 where
     R: Print + Files + AllocGlobal,
 {
-    let mut service = begun(rt, path)?;
+    let mut service = begin_service(rt, path)?;
     let text = login_and_codes(rt.alloc(), count)?;
     let served = is_served(rt.alloc(), &mut service, text.as_str());
     let (logged, sent) = (service.log.bytes, service.wire.bytes);

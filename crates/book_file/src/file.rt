@@ -21,7 +21,8 @@ pub const MOST_BOOK: usize = 16_777_216;
 /// The permission bits of the owner in a file's mode.
 const OWNER_BITS: u32 = 0o700;
 
-/// A book's file, or the place for one that is still to be made. No other run works on the book while this value lives.
+/// A book's file, or the place for one that is still to be made. No other run holds the book while this value lives; a
+/// run that takes no lock can still read it.
 pub struct BookFile<'a, R: Files> {
     rt: &'a R,
     paths: BookPaths,

@@ -78,7 +78,7 @@ fn mode(rt: &HostRuntime, path: &str) -> Result<u32, Fail> {
     Ok(fs::metadata(rt, path)?.permissions().mode() & 0o7777)
 }
 
-// Only its owner can read or write a new book. A rewritten book keeps only the owner's bits of its mode.
+/// Only its owner can read or write a new book. A rewritten book keeps only the owner's bits of its mode.
 #[test]
 fn modes(rt: HostRuntime) -> Result<(), Fail> {
     let folder = folder::make(&rt, "new")?;
@@ -101,7 +101,7 @@ fn modes(rt: HostRuntime) -> Result<(), Fail> {
     Ok(fs::remove_dir_all(&rt, folder.as_str())?)
 }
 
-// A link to a book leads to the same book, and a link at the path of the next text is not followed.
+/// A link to a book leads to the same book, and a link at the path of the next text is not followed.
 #[test]
 fn links(rt: HostRuntime) -> Result<(), Fail> {
     let folder = folder::make(&rt, "links")?;
@@ -128,6 +128,7 @@ fn links(rt: HostRuntime) -> Result<(), Fail> {
     Ok(fs::remove_dir_all(&rt, folder.as_str())?)
 }
 
+/// No book can be at a path that is empty, ends with a slash or names a folder, or whose folder is not there. Nothing is made.
 #[test]
 fn paths_that_name_no_file(rt: HostRuntime) -> Result<(), Fail> {
     let folder = folder::make(&rt, "paths")?;
@@ -141,7 +142,7 @@ fn paths_that_name_no_file(rt: HostRuntime) -> Result<(), Fail> {
     Ok(fs::remove_dir_all(&rt, folder.as_str())?)
 }
 
-// A book that is not there is Missing, and a folder at its path is Unreadable.
+/// A book that is not there is Missing, and a folder at its path is Unreadable.
 #[test]
 fn no_book(rt: HostRuntime) -> Result<(), Fail> {
     let folder = folder::make(&rt, "no-book")?;
@@ -154,7 +155,7 @@ fn no_book(rt: HostRuntime) -> Result<(), Fail> {
     Ok(fs::remove_dir_all(&rt, folder.as_str())?)
 }
 
-// While one run holds the place of a new book, another waits for 30 seconds, here by a simulated clock.
+/// While one run holds the place of a new book, another waits for 30 seconds, here by a simulated clock.
 #[test]
 fn the_place_of_a_new_book_is_held(rt: HostRuntime) -> Result<(), Fail> {
     let folder = folder::make(&rt, "new-lock")?;
@@ -172,7 +173,7 @@ fn the_place_of_a_new_book_is_held(rt: HostRuntime) -> Result<(), Fail> {
     Ok(fs::remove_dir_all(&rt, folder.as_str())?)
 }
 
-// While one run holds a book, no other can, even after a save. Once it releases the book, another can.
+/// While one run holds a book, no other can, even after a save. Once it releases the book, another can.
 #[test]
 fn a_book_is_held(rt: HostRuntime) -> Result<(), Fail> {
     let folder = folder::make(&rt, "lock")?;
@@ -194,6 +195,7 @@ fn a_book_is_held(rt: HostRuntime) -> Result<(), Fail> {
     Ok(fs::remove_dir_all(&rt, folder.as_str())?)
 }
 
+/// If the place of a new book is released with no save, the folder is left empty.
 #[test]
 fn a_run_that_saves_nothing_leaves_nothing(rt: HostRuntime) -> Result<(), Fail> {
     let folder = folder::make(&rt, "nothing")?;
@@ -203,7 +205,7 @@ fn a_run_that_saves_nothing_leaves_nothing(rt: HostRuntime) -> Result<(), Fail> 
     Ok(fs::remove_dir_all(&rt, folder.as_str())?)
 }
 
-// The file that a killed run left is removed when the book is held.
+/// The file that a killed run left is removed when the book is held.
 #[test]
 fn the_next_text_of_a_killed_run(rt: HostRuntime) -> Result<(), Fail> {
     let folder = folder::make(&rt, "killed")?;
@@ -220,7 +222,7 @@ fn the_next_text_of_a_killed_run(rt: HostRuntime) -> Result<(), Fail> {
     Ok(fs::remove_dir_all(&rt, folder.as_str())?)
 }
 
-// No save is made if the book was moved away, even if a link in its place leads to it.
+/// No save is made if the book was moved away, even if a link in its place leads to it.
 #[test]
 fn a_book_that_was_moved(rt: HostRuntime) -> Result<(), Fail> {
     let folder = folder::make(&rt, "moved")?;
@@ -237,7 +239,7 @@ fn a_book_that_was_moved(rt: HostRuntime) -> Result<(), Fail> {
     Ok(fs::remove_dir_all(&rt, folder.as_str())?)
 }
 
-// No save is made if another file has the book's name.
+/// No save is made if another file has the book's name.
 #[test]
 fn a_book_that_was_replaced(rt: HostRuntime) -> Result<(), Fail> {
     let folder = folder::make(&rt, "replaced")?;
@@ -252,7 +254,7 @@ fn a_book_that_was_replaced(rt: HostRuntime) -> Result<(), Fail> {
     Ok(fs::remove_dir_all(&rt, folder.as_str())?)
 }
 
-// No save is made if the book has changed since it was held.
+/// No save is made if the book has changed since it was held.
 #[test]
 fn a_book_that_was_changed(rt: HostRuntime) -> Result<(), Fail> {
     let folder = folder::make(&rt, "changed")?;
@@ -265,7 +267,7 @@ fn a_book_that_was_changed(rt: HostRuntime) -> Result<(), Fail> {
     Ok(fs::remove_dir_all(&rt, folder.as_str())?)
 }
 
-// No save is made if there was no book and now there is one.
+/// No save is made if there was no book and now there is one.
 #[test]
 fn a_book_that_others_made(rt: HostRuntime) -> Result<(), Fail> {
     let folder = folder::make(&rt, "others")?;
@@ -279,7 +281,7 @@ fn a_book_that_others_made(rt: HostRuntime) -> Result<(), Fail> {
     Ok(fs::remove_dir_all(&rt, folder.as_str())?)
 }
 
-// Two names of one file are the same file, and a copy is another.
+/// Two names of one file are the same file, and a copy is another.
 #[test]
 fn one_file_of_two_names(rt: HostRuntime) -> Result<(), Fail> {
     let folder = folder::make(&rt, "names")?;
@@ -295,6 +297,7 @@ fn one_file_of_two_names(rt: HostRuntime) -> Result<(), Fail> {
     Ok(fs::remove_dir_all(&rt, folder.as_str())?)
 }
 
+/// A book of 16777216 bytes, the limit of docs/FORMATS.md, is read. One of a byte more is refused.
 #[test]
 fn the_longest_book(rt: HostRuntime) -> Result<(), Fail> {
     let folder = folder::make(&rt, "longest")?;
@@ -313,8 +316,8 @@ fn the_longest_book(rt: HostRuntime) -> Result<(), Fail> {
     Ok(fs::remove_dir_all(&rt, folder.as_str())?)
 }
 
-// The book is locked before it is read, and the file of the next text before it gets the book's name. A new text is on
-// its device before it gets the book's name, and the name is on its device before the save ends.
+/// The book is locked before it is read, and the file of the next text before it gets the book's name. A new text is on
+/// its device before it gets the book's name, and the name is on its device before the save ends.
 #[test]
 fn the_order_of_calls(rt: HostRuntime) -> Result<(), Fail> {
     let folder = folder::make(&rt, "order")?;
@@ -336,7 +339,7 @@ fn the_order_of_calls(rt: HostRuntime) -> Result<(), Fail> {
     Ok(fs::remove_dir_all(&rt, folder.as_str())?)
 }
 
-// Whichever file system call fails, the book has its old text or the new one, and a store that has failed stays failed.
+/// Whichever file system call fails, the book has its old text or the new one, and a store that has failed stays failed.
 #[test]
 fn each_call_fails_in_turn(rt: HostRuntime) -> Result<(), Fail> {
     let folder = folder::make(&rt, "turns")?;
@@ -381,7 +384,7 @@ fn each_call_fails_in_turn(rt: HostRuntime) -> Result<(), Fail> {
     Ok(fs::remove_dir_all(&rt, folder.as_str())?)
 }
 
-// Whichever file system call fails in a save, the save returns its error.
+/// Whichever file system call fails in a save, the save returns its error.
 #[test]
 fn each_failed_call_is_told(rt: HostRuntime) -> Result<(), Fail> {
     let folder = folder::make(&rt, "told")?;
@@ -408,7 +411,7 @@ fn each_failed_call_is_told(rt: HostRuntime) -> Result<(), Fail> {
     Ok(fs::remove_dir_all(&rt, folder.as_str())?)
 }
 
-// If another run keeps the file of the next text locked, or a folder has its name, the save returns an error.
+/// If another run keeps the file of the next text locked, or a folder has its name, the save returns an error.
 #[test]
 fn no_next_file(rt: HostRuntime) -> Result<(), Fail> {
     let folder = folder::make(&rt, "no-next")?;
@@ -437,7 +440,7 @@ fn no_next_file(rt: HostRuntime) -> Result<(), Fail> {
     Ok(fs::remove_dir_all(&rt, folder.as_str())?)
 }
 
-// Whichever file system call fails while a book is made, there is no book, or it has the new text.
+/// Whichever file system call fails while a book is made, there is no book, or it has the new text.
 #[test]
 fn each_call_for_a_new_book_fails_in_turn(rt: HostRuntime) -> Result<(), Fail> {
     let folder = folder::make(&rt, "new-turns")?;

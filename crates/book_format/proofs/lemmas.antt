@@ -1,14 +1,21 @@
 -- Lemmas that the proofs of this crate cite.
+pub mod AccountTables
 pub mod BookTexts
 pub mod Demands
 pub mod Depths
+pub mod Documents
+pub mod FaultPlaces
 pub mod HexTexts
 pub mod InOrder
 pub mod Laws
 pub mod Lists
+pub mod NameLists
+pub mod PassedTests
 pub mod Put
+pub mod ReadRanges
+pub mod RowKinds
 pub mod Rows
 pub mod Steps
-pub mod Tables
+pub mod TokenTables
 pub mod ValueTypes
 pub mod WritesItself

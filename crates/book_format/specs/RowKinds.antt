@@ -3,7 +3,7 @@ use Rattle.std.specs.Prelude.{ℕ, ◌≡◌, ◌⊎◌, List, codes, pos, Optio
 use Prim.Native.String.{String}
 use Rattle.toml.specs.Data.{Data, integer, table, Members, get_member, as_table}
 use Rattle.book_format.specs.Demands.{if_there, required}
-use Rattle.book_format.specs.Rows.{ValueType, Row, Table, IsTableIn, table_demands, written}
+use Rattle.book_format.specs.Rows.{ValueType, Row, Table, IsTableIn, table_demands, written_table}
 use Rattle.book_format.specs.reading.Rows.{read_or, read_at, read_some, table_in}
 use Rattle.book_format.specs.declared.fault.BookWhy.TheVariants.{Key}
 
@@ -16,7 +16,7 @@ abbrev pub HasSome : {V : Type 0} → List ℕ → ValueType V → Members → O
 HasSome key values ms None = get_member key ms ≡ None
 HasSome key values ms (Some v) = HasAt key values ms v
 
--- the whole number at a key, which bounds the value at another key, or 0 if there is none
+-- the natural number at a key, which bounds the value at another key; 0 if anything else is there, or nothing
 abbrev pub bound_at : List ℕ → Members → ℕ
 bound_at key ms = bound_of (get_member key ms)
   where
@@ -31,12 +31,12 @@ row name values field = record {
   key = codes name;
   Has = HasAt (codes name) values;
   demands = λ ms. required Key values.demands (get_member (codes name) ms);
-  read = read_at (codes name) values;
+  from_table = read_at (codes name) values;
   write = λ v. Some (values.write v);
   field = field;
 }
 
--- a row whose key must be there, of a type with a bound: the whole number at another key. How a value is written does not depend on
+-- a row whose key must be there, of a type with a bound: the natural number at another key. How a value is written does not depend on
 -- the bound, so 0 is used for it there.
 abbrev pub row_up_to : {T V : Type 0} → String → (ℕ → ValueType V) → String → (T → V) → Row T
 row_up_to name values bound field = record {
@@ -44,7 +44,7 @@ row_up_to name values bound field = record {
   key = codes name;
   Has = λ ms. HasAt (codes name) (values (bound_at (codes bound) ms)) ms;
   demands = λ ms. required Key (values (bound_at (codes bound) ms)).demands (get_member (codes name) ms);
-  read = λ ms. read_at (codes name) (values (bound_at (codes bound) ms)) ms;
+  from_table = λ ms. read_at (codes name) (values (bound_at (codes bound) ms)) ms;
   write = λ v. Some ((values 0).write v);
   field = field;
 }
@@ -56,28 +56,28 @@ row_or_default other name values field = record {
   key = codes name;
   Has = λ ms v. ((get_member (codes name) ms ≡ None) × (v ≡ other)) ⊎ HasAt (codes name) values ms v;
   demands = λ ms. if_there values.demands (get_member (codes name) ms);
-  read = λ ms. read_or (Ok other) values.read (get_member (codes name) ms);
+  from_table = λ ms. read_or (Ok other) values.from_tree (get_member (codes name) ms);
   write = λ v. Some (values.write v);
   field = field;
 }
 
 -- a row whose key may be missing, which means that there is no value
-abbrev pub optional : {T V : Type 0} → String → ValueType V → (T → Option V) → Row T
-optional name values field = record {
+abbrev pub optional_row : {T V : Type 0} → String → ValueType V → (T → Option V) → Row T
+optional_row name values field = record {
   V = Option _;
   key = codes name;
   Has = HasSome (codes name) values;
   demands = λ ms. if_there values.demands (get_member (codes name) ms);
-  read = read_some (codes name) values;
+  from_table = read_some (codes name) values;
   write = option_map values.write;
   field = field;
 }
 
--- tables as a type of values. The marks are not among the demands: either there are none, or they are judged before.
-abbrev pub in_table : {T : Type 0} → Table T → ValueType T
-in_table t = record {
+-- the values that are tables of this form. The marks are not among the demands: either there are none, or they are judged before.
+abbrev pub table_type : {T : Type 0} → Table T → ValueType T
+table_type t = record {
   Is = IsTableIn t;
   demands = λ d. required Key (table_demands t) (as_table d);
-  read = table_in t;
-  write = λ x. table (written t x);
+  from_tree = table_in t;
+  write = λ x. table (written_table t x);
 }

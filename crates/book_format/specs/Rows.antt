@@ -14,8 +14,8 @@ pub record ValueType (V : Type 0) : Type 1 where
   pub Is : Data → V → Type 0
   -- the demands that a TOML value has to meet to be that of some value
   pub demands : Data → List (Demand BookWhy)
-  -- for private functions only: the value that a TOML value stands for, or its fault
-  pub read : Data → Result V BookWhy
+  -- for private functions only: the value that is read from a TOML value, or the fault
+  pub from_tree : Data → Result V BookWhy
   -- the TOML value that a value is written as
   pub write : V → Data
 
@@ -31,8 +31,8 @@ pub record Row (T : Type 0) : Type 1 where
   pub Has : Members → V → Type 0
   -- the demands on the table at the key
   pub demands : Members → List (Demand BookWhy)
-  -- for private functions only: the value that a table has at the key, or its fault
-  pub read : Members → Result V BookWhy
+  -- for private functions only: the value that is read from a table at the key, or the fault
+  pub from_table : Members → Result V BookWhy
   -- what is written at the key for a value, if anything
   pub write : V → Option Data
   -- the field of the record that the row is for
@@ -50,7 +50,7 @@ pub record Table (T : Type 0) : Type 1 where
   -- the other keys
   pub rows : List (Row T)
   -- the record that the values of the rows make
-  pub make : Maker rows T
+  pub from_values : Maker rows T
 
 -- the keys of rows
 abbrev pub row_keys : {T : Type 0} → List (Row T) → List (List ℕ)
@@ -96,9 +96,9 @@ row_entries [] x = []
 row_entries (r ∷ rows) x = (r.key, r.write (r.field x)) ∷ row_entries rows x
 
 -- what is written at each key of a table
-abbrev pub entries : {T : Type 0} → Table T → T → List (List ℕ × Option Data)
-entries t x = map (λ mark. (mark.0, Some mark.1)) t.marks ++ row_entries t.rows x
+abbrev pub table_entries : {T : Type 0} → Table T → T → List (List ℕ × Option Data)
+table_entries t x = map (λ mark. (mark.0, Some mark.1)) t.marks ++ row_entries t.rows x
 
 -- the table that a record is written as, with its keys in byte order
-unfoldable pub written : {T : Type 0} → Table T → T → Members
-written t x = put_all (entries t x) no_members
+unfoldable pub written_table : {T : Type 0} → Table T → T → Members
+written_table t x = put_all (table_entries t x) no_members

@@ -2,33 +2,33 @@
 use Rattle.std.specs.Prelude.{ℕ, ◌+◌, ◌||◌, List, [], ◌∷◌, codes, if◌then◌else◌, option_and_then}
 use Rattle.std.specs.Str.{bytes_eq}
 use Rattle.toml.specs.Data.{Data, string, table, Members, get_member, as_str, as_table}
-use Rattle.otp_core.specs.Ranges.{least_secret, most_secret, least_digits, most_digits, last_moment, most_counter, most_look_ahead}
-use Rattle.otp_core.specs.Ranges.{most_sync_ahead, longest_step, most_steps_aside, most_drift, most_limit}
+use Rattle.otp_core.specs.Ranges.{least_secret, most_secret, least_digits, most_digits, last_moment, most_counter, most_look_ahead, most_sync_ahead}
+use Rattle.otp_core.specs.Ranges.{longest_step, most_steps_aside, most_drift, most_limit}
 use Rattle.otp_core.specs.declared.token.kinds.TokenFields.{TokenFields}
 use Rattle.otp_core.specs.declared.token.kinds.TokenFields.TheVariants.{Hotp, Totp}
 use Rattle.otp_core.specs.declared.token.kinds.HotpFields.{HotpFields}
 use Rattle.otp_core.specs.declared.token.kinds.TotpFields.{TotpFields}
 use Rattle.book_format.specs.Demands.{Demand, must, required}
-use Rattle.book_format.specs.ValueTypes.{number, signed, bytes, hash}
-use Rattle.book_format.specs.Rows.{Table, IsTableIn, table_demands, written}
-use Rattle.book_format.specs.RowKinds.{row, row_up_to, row_or_default, optional}
+use Rattle.book_format.specs.ValueTypes.{number_type, signed_type, bytes_type, hash_type}
+use Rattle.book_format.specs.Rows.{Table, IsTableIn, table_demands, written_table}
+use Rattle.book_format.specs.RowKinds.{row, row_up_to, row_or_default, optional_row}
 use Rattle.book_format.specs.declared.fault.BookWhy.{BookWhy}
 use Rattle.book_format.specs.declared.fault.BookWhy.TheVariants.{Key, Token}
 
 -- a HOTP token
-abbrev pub hotp : Table HotpFields
-hotp = record {
+abbrev pub hotp_table : Table HotpFields
+hotp_table = record {
   marks = (codes "kind", string (codes "hotp")) ∷ [];
   rows =
-      row "secret" (bytes Token least_secret most_secret) (λ t. t.secret)
-      ∷ row "digits" (number Token least_digits most_digits) (λ t. t.digits)
-      ∷ row "next" (number Token 0 (most_counter + 1)) (λ t. t.next)
-      ∷ row "look_ahead" (number Token 0 most_look_ahead) (λ t. t.look_ahead)
-      ∷ row_or_default 0 "sync_ahead" (number Token 0 most_sync_ahead) (λ t. t.sync_ahead)
-      ∷ row "limit" (number Token 1 most_limit) (λ t. t.limit)
-      ∷ row_up_to "failures" (number Token 0) "limit" (λ t. t.failures)
+      row "secret" (bytes_type Token least_secret most_secret) (λ t. t.secret)
+      ∷ row "digits" (number_type Token least_digits most_digits) (λ t. t.digits)
+      ∷ row "next" (number_type Token 0 (most_counter + 1)) (λ t. t.next)
+      ∷ row "look_ahead" (number_type Token 0 most_look_ahead) (λ t. t.look_ahead)
+      ∷ row_or_default 0 "sync_ahead" (number_type Token 0 most_sync_ahead) (λ t. t.sync_ahead)
+      ∷ row "limit" (number_type Token 1 most_limit) (λ t. t.limit)
+      ∷ row_up_to "failures" (number_type Token 0) "limit" (λ t. t.failures)
       ∷ [];
-  make = λ secret digits next look_ahead sync_ahead limit failures. record {
+  from_values = λ secret digits next look_ahead sync_ahead limit failures. record {
     secret = secret;
     digits = digits;
     next = next;
@@ -40,24 +40,24 @@ hotp = record {
 }
 
 -- a TOTP token
-abbrev pub totp : Table TotpFields
-totp = record {
+abbrev pub totp_table : Table TotpFields
+totp_table = record {
   marks = (codes "kind", string (codes "totp")) ∷ [];
   rows =
-      row "hash" hash (λ t. t.hash)
-      ∷ row "secret" (bytes Token least_secret most_secret) (λ t. t.secret)
-      ∷ row "digits" (number Token least_digits most_digits) (λ t. t.digits)
-      ∷ row "t0" (number Token 0 last_moment) (λ t. t.t0)
-      ∷ row "step" (number Token 1 longest_step) (λ t. t.step)
-      ∷ row "back" (number Token 0 most_steps_aside) (λ t. t.back)
-      ∷ row "ahead" (number Token 0 most_steps_aside) (λ t. t.ahead)
-      ∷ row "max_drift" (number Token 0 most_drift) (λ t. t.max_drift)
-      ∷ optional "last" (number Token 0 most_counter) (λ t. t.last)
-      ∷ row_up_to "drift" (signed Token) "max_drift" (λ t. t.drift)
-      ∷ row "limit" (number Token 1 most_limit) (λ t. t.limit)
-      ∷ row_up_to "failures" (number Token 0) "limit" (λ t. t.failures)
+      row "hash" hash_type (λ t. t.hash)
+      ∷ row "secret" (bytes_type Token least_secret most_secret) (λ t. t.secret)
+      ∷ row "digits" (number_type Token least_digits most_digits) (λ t. t.digits)
+      ∷ row "t0" (number_type Token 0 last_moment) (λ t. t.t0)
+      ∷ row "step" (number_type Token 1 longest_step) (λ t. t.step)
+      ∷ row "back" (number_type Token 0 most_steps_aside) (λ t. t.back)
+      ∷ row "ahead" (number_type Token 0 most_steps_aside) (λ t. t.ahead)
+      ∷ row "max_drift" (number_type Token 0 most_drift) (λ t. t.max_drift)
+      ∷ optional_row "last" (number_type Token 0 most_counter) (λ t. t.last)
+      ∷ row_up_to "drift" (signed_type Token) "max_drift" (λ t. t.drift)
+      ∷ row "limit" (number_type Token 1 most_limit) (λ t. t.limit)
+      ∷ row_up_to "failures" (number_type Token 0) "limit" (λ t. t.failures)
       ∷ [];
-  make = λ hash secret digits t0 step back ahead max_drift last drift limit failures. record {
+  from_values = λ hash secret digits t0 step back ahead max_drift last drift limit failures. record {
     hash = hash;
     secret = secret;
     digits = digits;
@@ -75,14 +75,14 @@ totp = record {
 
 -- the table of a token of either kind
 abbrev pub IsToken : Data → TokenFields → Type 0
-IsToken d (Hotp t) = IsTableIn hotp d t
-IsToken d (Totp t) = IsTableIn totp d t
+IsToken d (Hotp t) = IsTableIn hotp_table d t
+IsToken d (Totp t) = IsTableIn totp_table d t
 
 -- the demands on a token's table whose kind has this name: the name is that of a kind, and then those of this kind
 abbrev pub kind_demands : (name : List ℕ) → Members → List (Demand BookWhy)
 kind_demands name ms =
     must (bytes_eq name (codes "hotp") || bytes_eq name (codes "totp")) Token
-    ∷ (if bytes_eq name (codes "hotp") then table_demands hotp ms else table_demands totp ms)
+    ∷ (if bytes_eq name (codes "hotp") then table_demands hotp_table ms else table_demands totp_table ms)
 
 -- the demands on a value that is to be a token: it is a table, its `kind` is there and a text, and then those of its kind
 unfoldable pub token_demands : Data → List (Demand BookWhy)
@@ -91,5 +91,5 @@ token_demands d =
 
 -- the table that a token is written as
 abbrev pub token_tree : TokenFields → Data
-token_tree (Hotp t) = table (written hotp t)
-token_tree (Totp t) = table (written totp t)
+token_tree (Hotp t) = table (written_table hotp_table t)
+token_tree (Totp t) = table (written_table totp_table t)

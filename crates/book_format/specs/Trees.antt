@@ -7,7 +7,7 @@ use Rattle.scram_text.specs.Class.{IsPlainName}
 use Rattle.book_format.specs.Account.{AccountFields}
 use Rattle.book_format.specs.Book.{BookFields}
 use Rattle.book_format.specs.Rows.{IsTable, IsTableIn}
-use Rattle.book_format.specs.Tables.{account, document}
+use Rattle.book_format.specs.Tables.{account_table, document_table}
 
 -- the table of the accounts, each at its name
 abbrev pub AreAccountTrees : Members → List (List ℕ × AccountFields) → Type 0
@@ -15,7 +15,7 @@ AreAccountTrees no_members [] = Unit {0}
 AreAccountTrees no_members (entry ∷ entries) = ⊥
 AreAccountTrees (member name d ms) [] = ⊥
 AreAccountTrees (member name d ms) (entry ∷ entries) =
-    (name ≡ entry.0) × IsPlainName entry.0 × IsTableIn account d entry.1 × AreAccountTrees ms entries
+    (name ≡ entry.0) × IsPlainName entry.0 × IsTableIn account_table d entry.1 × AreAccountTrees ms entries
 
 -- the accounts of a table, none if it is missing
 abbrev pub AreAccountsOf : Option Members → List (List ℕ × AccountFields) → Type 0
@@ -25,7 +25,7 @@ AreAccountsOf (Some named) accounts = AreAccountTrees named accounts
 -- the document of a book
 pub record IsBookTree (ms : Members) (book : BookFields) : Type 0 where
   pub named : Option Members
-  pub top : IsTable document ms (record { decoy_key = book.decoy_key; decoy_count = book.decoy_count; accounts = named })
+  pub top : IsTable document_table ms (record { decoy_key = book.decoy_key; decoy_count = book.decoy_count; accounts = named })
   pub accounts : AreAccountsOf named book.accounts
 
 -- the text is that of the book: it is UTF-8 and a TOML document, and the document's tree is that of the book

@@ -1,7 +1,6 @@
 -- The types of values of the format, each with its range: whole numbers, bytes, hash functions, names, tables. The fault of a
 -- value of another TOML type comes before that of a value out of its range.
-use Rattle.std.specs.Prelude.{ℕ, ◌≡◌, ◌≤◌, ◌&&◌, nat_le, ℤ, pos, negsuc, nat_abs, Bool, false, List, [], ◌∷◌, length, is_some}
-use Rattle.std.specs.Prelude.{Result, Ok, Err}
+use Rattle.std.specs.Prelude.{ℕ, ◌≡◌, ◌≤◌, ◌&&◌, nat_le, ℤ, pos, negsuc, nat_abs, Bool, false, List, [], ◌∷◌, length, is_some, Result, Ok, Err}
 use Rattle.hex.specs.Hex.{decode_of, encode_lower}
 use Rattle.toml.specs.Data.{Data, string, integer, table, Members, as_array, as_integer, as_str, as_table}
 use Rattle.otp_core.specs.Hash.{hash_name, hash_named}
@@ -26,11 +25,11 @@ is_within least most (pos n) = nat_le least n && nat_le n most
 is_within least most (negsuc n) = false
 
 -- whole numbers from `least` to `most`; `why` is the fault of any other
-abbrev pub number : (why : BookWhy) → (least most : ℕ) → ValueType ℕ
-number why least most = record {
+abbrev pub number_type : (why : BookWhy) → (least most : ℕ) → ValueType ℕ
+number_type why least most = record {
   Is = IsNumber least most;
   demands = λ d. required Key (λ z. must (is_within least most z) why ∷ []) (as_integer d);
-  read = number_in why least most;
+  from_tree = number_in why least most;
   write = λ n. integer (pos n);
 }
 
@@ -40,11 +39,11 @@ pub record IsSigned (most : ℕ) (d : Data) (z : ℤ) : Type 0 where
   pub at_most : nat_abs z ≤ most
 
 -- whole numbers at most `most` above or below 0; `why` is the fault of any other
-abbrev pub signed : (why : BookWhy) → (most : ℕ) → ValueType ℤ
-signed why most = record {
+abbrev pub signed_type : (why : BookWhy) → (most : ℕ) → ValueType ℤ
+signed_type why most = record {
   Is = IsSigned most;
   demands = λ d. required Key (λ z. must (nat_le (nat_abs z) most) why ∷ []) (as_integer d);
-  read = signed_in why most;
+  from_tree = signed_in why most;
   write = integer;
 }
 
@@ -61,39 +60,39 @@ abbrev pub are_decoded : {E : Type 0} → (least most : ℕ) → Result (List �
 are_decoded least most (Ok bytes) = nat_le least (length bytes) && nat_le (length bytes) most
 are_decoded least most (Err e) = false
 
--- `least` to `most` bytes, in lower-case hexadecimal; `why` is the fault of any other text
-abbrev pub bytes : (why : BookWhy) → (least most : ℕ) → ValueType (List ℕ)
-bytes why least most = record {
+-- `least` to `most` bytes, as hexadecimal text: read in either case, and written in lower case. `why` is the fault of any other text.
+abbrev pub bytes_type : (why : BookWhy) → (least most : ℕ) → ValueType (List ℕ)
+bytes_type why least most = record {
   Is = IsHexText least most;
   demands = λ d. required Key (λ text. must (are_decoded least most (decode_of text)) why ∷ []) (as_str d);
-  read = bytes_in why least most;
+  from_tree = bytes_in why least most;
   write = λ bs. string (encode_lower bs);
 }
 
--- hash functions, by their names
-abbrev pub hash : ValueType OtpHash
-hash = record {
+-- hash functions, as texts: their names
+abbrev pub hash_type : ValueType OtpHash
+hash_type = record {
   Is = λ d h. d ≡ string (hash_name h);
   demands = λ d. required Key (λ name. must (is_some (hash_named name)) Token ∷ []) (as_str d);
-  read = hash_in;
+  from_tree = hash_in;
   write = λ h. string (hash_name h);
 }
 
--- lists of names that an account may act as: texts, at most 16 of them, each a plain name
-abbrev pub name_list : ValueType (List (List ℕ))
-name_list = record {
+-- lists of names that an account may act as: arrays of at most 16 texts, each a plain name
+abbrev pub name_list_type : ValueType (List (List ℕ))
+name_list_type = record {
   Is = IsNameList;
   demands = λ d. required Key
       (λ list. must (are_texts list) Key ∷ must (nat_le (item_count list) most_names && are_names list) Name ∷ []) (as_array d);
-  read = name_list_in;
+  from_tree = name_list_in;
   write = names_tree;
 }
 
 -- tables with any keys
-abbrev pub any_table : ValueType Members
-any_table = record {
+abbrev pub any_table_type : ValueType Members
+any_table_type = record {
   Is = λ d ms. d ≡ table ms;
   demands = λ d. must (is_some (as_table d)) Key ∷ [];
-  read = table_of;
+  from_tree = table_of;
   write = table;
 }

@@ -3,14 +3,16 @@ use Rattle.std.specs.Prelude.{ℕ, List, [], ◌∷◌, Some}
 use Rattle.toml.specs.Data.{Members, no_members, member, table}
 use Rattle.book_format.specs.Account.{AccountFields}
 use Rattle.book_format.specs.Book.{BookFields}
-use Rattle.book_format.specs.Rows.{written}
-use Rattle.book_format.specs.Tables.{account, document}
+use Rattle.book_format.specs.Rows.{written_table}
+use Rattle.book_format.specs.Tables.{account_table, document_table}
 
 -- the table that accounts are written as, each at its name
 unfoldable pub accounts_tree : List (List ℕ × AccountFields) → Members
 accounts_tree [] = no_members
-accounts_tree (entry ∷ entries) = member entry.0 (table (written account entry.1)) (accounts_tree entries)
+accounts_tree (entry ∷ entries) = member entry.0 (table (written_table account_table entry.1)) (accounts_tree entries)
 
 -- the document that a book is written as
 unfoldable pub book_tree : BookFields → Members
-book_tree b = written document (record { decoy_key = b.decoy_key; decoy_count = b.decoy_count; accounts = Some (accounts_tree b.accounts) })
+book_tree b =
+    written_table document_table
+    (record { decoy_key = b.decoy_key; decoy_count = b.decoy_count; accounts = Some (accounts_tree b.accounts) })

@@ -1,4 +1,5 @@
--- How a book's text is read, step by step. For private functions only: no public contract cites these files.
+-- How a book's text is read, step by step, from a TOML tree to the fields of a book. For private functions only: no public contract cites
+-- these files.
 pub mod Steps
 pub mod Values
 pub mod Rows

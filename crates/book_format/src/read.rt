@@ -7,7 +7,7 @@ ghost use Rattle.book_format.specs.Trees.{IsBookText};
 ghost use Rattle.book_format.specs.reading.Steps.{IsReadAs, IsReadOrFault, seen};
 ghost use Rattle.book_format.specs.reading.Books.{at_top, tree_in, top_of, accounts_of_table, book_in};
 ghost use Rattle.book_format.specs.FirstFault.{is_one, IsFirstFault};
-ghost use Rattle.book_format.specs.ValueTypes.{any_table};
+ghost use Rattle.book_format.specs.ValueTypes.{any_table_type};
 ghost use Rattle.book_format.specs.reading.Rows.{read_some};
 ghost use Rattle.book_format.specs.declared.fault.BookFault.{BookFault};
 ghost use Rattle.book_format.specs.declared.fault.BookWhy.TheVariants.{NoMemory};
@@ -147,7 +147,7 @@ fn decoy_key_of(bytes: &Tag) -> [u8; 32]
 
 // The table at a key, or None if the key is missing. Errors: `Key` if the value is not a table.
 fn table_if_any<'a>(table: &'a Table, key: &str) -> Result<Option<&'a Table>, BookWhy>
-    ensures { seen (λ t. option_map (λ m. table_view m.now) t) result ≡ read_some key.now any_table (table_view table.now) }
+    ensures { seen (λ t. option_map (λ m. table_view m.now) t) result ≡ read_some key.now any_table_type (table_view table.now) }
 {
     match at(table, key) {
         Some(value) => Ok(Some(table_of(value)?)),

@@ -41,7 +41,7 @@ impl Contents {
 }
 
 // The table of a whole book.
-#[tactic(auto, unfolding(crate::specs::Written::book_tree, crate::specs::Rows::written))]
+#[tactic(auto, unfolding(crate::specs::Written::book_tree, crate::specs::Rows::written_table))]
 fn book_table(alloc: Global, book: &Contents) -> Result<Table, AllocError>
     ensures tree { IfOk result (λ t. table_view t ≡ book_tree book.now) }
     ensures stands { OnOk result (IsBookTree (book_tree book.now) book.now) }

@@ -100,7 +100,7 @@ fn check_fault(
     assert_eq!(rt; fault_of(rt.alloc(), text), want, "{at}");
 }
 
-// As `check_fault`, for the text of a book with the first `old` replaced by `new`.
+// As `check_fault`, of the text of a book with the first `old` replaced by `new`.
 fn check_edit(
     rt: &(impl Abort + AllocGlobal),
     parts: [&str; 2],
@@ -109,6 +109,7 @@ fn check_edit(
     want: Option<(u16, Option<usize>)>,
 ) -> Result<(), Fail> {
     let text = edited(rt.alloc(), parts, old, new)?;
-    check_fault(rt, text.as_bytes(), want, new);
+    let found = fault_of(rt.alloc(), text.as_bytes());
+    assert_eq!(rt; found, want, "{new:?} instead of {old:?}");
     Ok(())
 }

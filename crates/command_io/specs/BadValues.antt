@@ -46,6 +46,6 @@ abbrev pub GivesBadValue : OptionName → ArgMatches → Fault → Type 0
 GivesBadValue name words fault =
     (fault ≡ BadValue name) × ((text : List ℕ) × (value_of words name ≡ Some text) × Refuses name text)
 
--- the first line of the input is no password
+-- the first line of the input is not a password
 abbrev pub HasBadPassword : (input : Option (List ℕ)) → Fault → Type 0
 HasBadPassword input fault = (fault ≡ BadPassword) × ((line : List ℕ) × IsFirstLine input line × (IsPassword line → ⊥))

@@ -1,6 +1,5 @@
 -- What becomes of a held book and of its store.
-use Rattle.std.specs.Prelude.{ℕ, ◌≡◌, ◌≤◌, ◌<◌, ◌⊎◌, true, false, List, length, string_bytes}
-use Rattle.std.specs.Prelude.{Option, is_some, None, Some, MatchOption}
+use Rattle.std.specs.Prelude.{ℕ, ◌≡◌, ◌≤◌, ◌<◌, ◌⊎◌, true, false, List, length, string_bytes, Option, is_some, None, Some, MatchOption}
 use Rattle.otp_core.specs.Attempt.{CodeTexts}
 use Rattle.otp_core.specs.declared.token.reply.Reply.{Reply}
 use Rattle.book_format.specs.Account.{AccountFields}
@@ -17,8 +16,7 @@ use Rattle.book_file.specs.Text.{IsRead}
 use Rattle.book_file.specs.declared.file.TheConstants.{MOST_BOOK}
 use Rattle.command_line.specs.Fault.{fault_of_book}
 use Rattle.command_line.specs.declared.fault.Fault.{Fault}
-use Rattle.command_line.specs.declared.fault.Fault.TheVariants.{NoSuchAccount, NoToken, CannotRead, CannotWrite}
-use Rattle.command_line.specs.declared.fault.Fault.TheVariants.{NoMemory}
+use Rattle.command_line.specs.declared.fault.Fault.TheVariants.{NoSuchAccount, NoToken, CannotRead, CannotWrite, NoMemory}
 use Rattle.command_io.specs.declared.held_book.HeldBook.{HeldBook}
 use Rattle.command_io.specs.declared.new_account.NewAccount.{NewAccount}
 use Rattle.command_io.specs.declared.new_account.Salts.{Salts}
@@ -52,7 +50,7 @@ IsChangeUnsaved old Changes new = (new ≡ old) ⊎ (Changes old.book new.book �
 abbrev pub CannotBeSaved : (text : List ℕ) → StoreFacts → Type 0
 CannotBeSaved text store = (MOST_BOOK < length text) ⊎ (store.failed ≡ true)
 
--- a text was read from a file and is no book: the fault is that of its first fault
+-- a text was read from a file and is not a book: the fault is that of its first fault
 abbrev pub IsFaultOfText : {File : Type 0} → (bytes_of : File → Option (List ℕ)) → Fault → Type 0
 IsFaultOfText bytes_of fault =
     (text : List ℕ) × (found : BookFault) × IsRead bytes_of text × IsFirstFault text found × (fault ≡ fault_of_book found)
@@ -64,7 +62,7 @@ CannotHoldOrNoMemory path (CannotRead file) = string_bytes file ≡ path
 CannotHoldOrNoMemory path (CannotWrite file) = Unit {0}
 CannotHoldOrNoMemory path fault = fault ≡ NoMemory
 
--- the fault of a book that can't be held or read: it can't be held, the bytes that were read from a file are no book, or memory ran out
+-- the fault of a book that can't be held or read: it can't be held, the bytes that were read from a file are not a book, or memory ran out
 abbrev pub CannotOpenBook : {File : Type 0} → (bytes_of : File → Option (List ℕ)) → (path : List ℕ) → Fault → Type 0
 CannotOpenBook bytes_of path fault = CannotHoldOrNoMemory path fault ⊎ IsFaultOfText bytes_of fault
 

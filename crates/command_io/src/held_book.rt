@@ -76,7 +76,7 @@ impl<'a, S: BookStore> HeldBook<'a, S> {
     /// Judges one code, or two in a row, at `moment` by the account's token, and saves the book unless the token is locked. Faults:
     /// NoSuchAccount, NoToken, CannotWrite and NoMemory. After the last two, the book in memory may contain an attempt that was not
     /// saved. It is left so, since the run then ends; `Keeper` of `sasl_desk` undoes the attempt.
-    pub fn attempt(
+    pub fn judge(
         &mut self,
         alloc: Global,
         name: &PlainName,

@@ -20,7 +20,7 @@ fn next_byte<I: Read>(input: &mut I) -> Result<Option<u8>, Fault>
     ensures err { IfErr result IsInputUnreadOrNoMemory }
 {
     let mut byte = [0];
-    // Bounded only because every function has to return: in practice a branch below ends the loop.
+    // The bound is there only because every function has to return; in practice the body ends the loop.
     for _ in 0..u64::MAX {
         match input.read(&mut byte) {
             Ok(0) => return Ok(None),
@@ -66,7 +66,7 @@ pub fn first_line<I: BufRead>(alloc: Global, input: &mut I) -> Result<Vec<u8>, F
     Ok(line)
 }
 
-/// The lines of an input, read up to 16777216 bytes in all.
+/// The lines of an input, of at most 16777216 bytes in all. To find out that there are more, one more byte is read.
 #[derive(Drop)]
 pub struct Lines<'a, I> {
     input: &'a mut I,

@@ -29,7 +29,7 @@ pub struct ReadBook {
 
 /// Holds the book at `path`, reads it and releases it; returns None if there is no file. Faults: CannotRead if the file can't be
 /// read or other runs hold it for 30 seconds; CannotWrite if a save could not keep the file's owner, or if what is at the path of
-/// the next text can't be opened or removed; BadBook if the text is no book; and NoMemory.
+/// the next text can't be opened or removed; BadBook if the text is not a book; and NoMemory.
 #[tactic(auto, using(crate::proofs::lemmas::HeldFaults::bad_text_prevents_opening))]
 pub fn read_and_release<R, E>(rt: &R, path: &str, faults: &mut E) -> Result<Option<ReadBook>, Fault>
 where
@@ -156,7 +156,7 @@ where
     }
 }
 
-/// Reads the book of `file` from its text, `text`. Faults: BadBook if the text is no book, and NoMemory.
+/// Reads the book of `file` from its text, `text`. Faults: BadBook if the text is not a book, and NoMemory.
 pub fn read_held<'a, 'r, R>(
     alloc: Global,
     file: BookFile<'r, R>,

@@ -6,9 +6,9 @@ use Rattle.book_format.specs.declared.fault.BookFault.{BookFault}
 use Rattle.book_format.specs.declared.fault.BookWhy.{BookWhy}
 use Rattle.book_format.specs.declared.fault.BookWhy.TheVariants as why
 use Rattle.command_line.specs.declared.fault.Fault.{Fault}
-use Rattle.command_line.specs.declared.fault.Fault.TheVariants.{BadValue, BadPassword, NoCounterOrMoment, BeforeFirstStep, NameTaken}
-use Rattle.command_line.specs.declared.fault.Fault.TheVariants.{NoSuchAccount, NoToken, BadBook, CannotRead, CannotWrite, BadEvent, Socket}
-use Rattle.command_line.specs.declared.fault.Fault.TheVariants.{CannotReadInput, CannotWriteOutput, NoMemory}
+use Rattle.command_line.specs.declared.fault.Fault.TheVariants.{BadValue, BadPassword, NoCounterOrMoment, BeforeFirstStep, NameTaken, NoSuchAccount}
+use Rattle.command_line.specs.declared.fault.Fault.TheVariants.{NoToken, BadBook, CannotRead, CannotWrite, BadEvent, Socket, CannotReadInput}
+use Rattle.command_line.specs.declared.fault.Fault.TheVariants.{CannotWriteOutput, NoMemory}
 
 -- the exit status: 1 for a refusal, 2 if a value or the password is malformed or an option is missing, 3 for files, sockets,
 -- streams and memory

@@ -1,9 +1,8 @@
 -- The names of the options whose values the program judges, or takes as paths.
 use Rattle.std.specs.Prelude.{ℕ, List, codes}
 use Rattle.command_line.specs.declared.option_name.OptionName.{OptionName}
-use Rattle.command_line.specs.declared.option_name.OptionName.TheVariants.{Book, Log, Name, As, Socket, Random, ClientNonce, ServerNonce}
-use Rattle.command_line.specs.declared.option_name.OptionName.TheVariants.{Mechanism, Salt, Count, Secret, Digits, Counter, Moment, Hash, T0}
-use Rattle.command_line.specs.declared.option_name.OptionName.TheVariants.{Step}
+use Rattle.command_line.specs.declared.option_name.OptionName.TheVariants.{Book, Log, Name, As, Socket, Random, ClientNonce, ServerNonce, Mechanism}
+use Rattle.command_line.specs.declared.option_name.OptionName.TheVariants.{Salt, Count, Secret, Digits, Counter, Moment, Hash, T0, Step}
 
 -- an option's name, as on the command line without its hyphens and in the fault about its value
 abbrev pub option_name : OptionName → List ℕ

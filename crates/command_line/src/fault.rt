@@ -18,7 +18,7 @@ pub enum Fault {
     #[error("bad value for --{0}")]
     BadValue(OptionName),
 
-    /// The first input line is not a password: 1 to 1024 bytes of 20 to 7E hex.
+    /// The first input line is not a password: 1 to 1024 bytes from 0x20 to 0x7E.
     #[error("bad password")]
     BadPassword,
 

@@ -4,7 +4,7 @@
 //! ```rust
 //! use command_line::{Fault, OptionName, value};
 //!
-//! assert!(rt; value::within(OptionName::Step, "30", 1, 3600).is_ok_and(|step| step == 30));
+//! assert!(rt; value::number_within(OptionName::Step, "30", 1, 3600).is_ok_and(|step| step == 30));
 //! let fault: Fault = value::name("").err().ok_or("a name of no byte")?;
 //! assert_eq!(rt; fault.status(), 2);
 //! ```

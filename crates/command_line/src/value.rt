@@ -17,7 +17,7 @@ use std::alloc::Global;
 
 /// The number from `least` to `most` that `text` spells in decimal: `0`, or a digit 1 to 9 and any digits. Errors: BadValue with
 /// the option for any other text.
-pub fn within(option: OptionName, text: &str, least: u64, most: u64) -> Result<u64, Fault>
+pub fn number_within(option: OptionName, text: &str, least: u64, most: u64) -> Result<u64, Fault>
     ensures ok { IfOk result (λ n. (text.now ≡ decimal n) × (least ≤ n) × (n ≤ most)) }
     ensures err { IfErr result (λ fault. (fault ≡ Fault.BadValue option)
         × ((n : ℕ) → least ≤ n → n ≤ most → text.now ≢ decimal n)) }
@@ -34,18 +34,18 @@ pub fn count(text: &str) -> Result<u32, Fault>
     ensures err { IfErr result (λ fault. (fault ≡ Fault.BadValue OptionName.Count)
         × ((n : ℕ) → IsCount n → text.now ≢ decimal n)) }
 {
-    let n = within(OptionName::Count, text, 1, u64::from(MOST_COUNT))?;
+    let n = number_within(OptionName::Count, text, 1, u64::from(MOST_COUNT))?;
     Ok(n as u32)
 }
 
 /// The number of digits of a code that `text` spells, 6 to 8. Errors: BadValue for any other text.
 pub fn digits(text: &str) -> Result<Digits, Fault>
-    ensures ok { IfOk result (λ digits. text.now ≡ decimal digits) }
+    ensures ok { IfOk result (λ digits. (text.now ≡ decimal digits) × IsDigitCount digits) }
     ensures err { IfErr result (λ fault. (fault ≡ Fault.BadValue OptionName.Digits)
         × ((n : ℕ) → IsDigitCount n → text.now ≢ decimal n)) }
 {
     let (least, most) = (u64::from(LEAST_DIGITS), u64::from(MOST_DIGITS));
-    let n = within(OptionName::Digits, text, least, most)?;
+    let n = number_within(OptionName::Digits, text, least, most)?;
     let Ok(digits) = Digits::new(n as u8) else {
         unreachable!()
     };
@@ -54,48 +54,48 @@ pub fn digits(text: &str) -> Result<Digits, Fault>
 
 /// The moment that `text` spells in seconds since 1970, at most 253402300799. Errors: BadValue with the option for any other text.
 pub fn moment(option: OptionName, text: &str) -> Result<Moment, Fault>
-    ensures ok { IfOk result (λ moment. text.now ≡ decimal moment) }
+    ensures ok { IfOk result (λ moment. (text.now ≡ decimal moment) × IsMoment moment) }
     ensures err { IfErr result (λ fault. (fault ≡ Fault.BadValue option)
         × ((n : ℕ) → IsMoment n → text.now ≢ decimal n)) }
 {
-    let seconds = within(option, text, 0, LAST_MOMENT)?;
+    let seconds = number_within(option, text, 0, LAST_MOMENT)?;
     let Some(moment) = Moment::new(seconds) else {
         unreachable!()
     };
     Ok(moment)
 }
 
-/// The account name that is this text, 1 to 255 bytes of 20 to 7E hex. Errors: BadValue for any other text.
+/// The account name that is this text, 1 to 255 bytes from 0x20 to 0x7E. Errors: BadValue for any other text.
 pub fn name(text: &str) -> Result<PlainName, Fault>
-    ensures ok { IfOk result (λ name. name ≡ text.now) }
+    ensures ok { IfOk result (λ name. (name ≡ text.now) × IsPlainName text.now) }
     ensures err { IfErr result (λ fault. (fault ≡ Fault.BadValue OptionName.Name)
         × (IsPlainName text.now → ⊥)) }
 {
     plain_name(OptionName::Name, text)
 }
 
-/// The name to act as that is this text, 1 to 255 bytes of 20 to 7E hex. Errors: BadValue for any other text.
+/// The name to act as that is this text, 1 to 255 bytes from 0x20 to 0x7E. Errors: BadValue for any other text.
 pub fn authzid(text: &str) -> Result<PlainName, Fault>
-    ensures ok { IfOk result (λ name. name ≡ text.now) }
+    ensures ok { IfOk result (λ name. (name ≡ text.now) × IsPlainName text.now) }
     ensures err { IfErr result (λ fault. (fault ≡ Fault.BadValue OptionName.As)
         × (IsPlainName text.now → ⊥)) }
 {
     plain_name(OptionName::As, text)
 }
 
-// The name that is this text, 1 to 255 bytes of 20 to 7E hex. Errors: BadValue with the option for any other text.
+// The name that is this text, 1 to 255 bytes from 0x20 to 0x7E. Errors: BadValue with the option for any other text.
 fn plain_name(option: OptionName, text: &str) -> Result<PlainName, Fault>
-    ensures ok { IfOk result (λ name. name ≡ text.now) }
+    ensures ok { IfOk result (λ name. (name ≡ text.now) × IsPlainName text.now) }
     ensures err { IfErr result (λ fault. (fault ≡ Fault.BadValue option)
         × (IsPlainName text.now → ⊥)) }
 {
     PlainName::new(text.as_bytes()).ok_or(Fault::BadValue(option))
 }
 
-/// One end's part of the nonce, which is this text: 1 to 256 bytes of 21 to 7E hex, without a comma. Errors: BadValue with the
+/// One end's part of the nonce, which is this text: 1 to 256 bytes from 0x21 to 0x7E, without a comma. Errors: BadValue with the
 /// option for any other text.
 pub fn nonce(option: OptionName, text: &str) -> Result<NoncePart, Fault>
-    ensures ok { IfOk result (λ nonce. nonce ≡ text.now) }
+    ensures ok { IfOk result (λ nonce. (nonce ≡ text.now) × IsNoncePart text.now) }
     ensures err { IfErr result (λ fault. (fault ≡ Fault.BadValue option)
         × (IsNoncePart text.now → ⊥)) }
 {
@@ -137,7 +137,7 @@ fn bytes(alloc: Global, option: OptionName, text: &str) -> Result<Vec<u8>, Fault
 /// The salt that `text` spells in hexadecimal, in either case, 1 to 64 bytes. Errors: BadValue for any other text; NoMemory if
 /// memory runs out.
 pub fn salt(alloc: Global, text: &str) -> Result<Salt, Fault>
-    ensures ok { IfOk result (λ salt. decode_of text.now ≡ Ok salt) }
+    ensures ok { IfOk result (λ salt. (decode_of text.now ≡ Ok salt) × IsSalt salt) }
     ensures err { IfErr result (λ fault. (fault ≡ Fault.NoMemory) ⊎ ((fault ≡ Fault.BadValue OptionName.Salt)
         × ((salt : List ℕ) → decode_of text.now ≡ Ok salt → IsSalt salt → ⊥))) }
 {
@@ -148,7 +148,7 @@ pub fn salt(alloc: Global, text: &str) -> Result<Salt, Fault>
 /// The secret that `text` spells in hexadecimal, in either case, 10 to 64 bytes. Errors: BadValue for any other text; NoMemory if
 /// memory runs out.
 pub fn secret(alloc: Global, text: &str) -> Result<Secret, Fault>
-    ensures ok { IfOk result (λ secret. decode_of text.now ≡ Ok secret) }
+    ensures ok { IfOk result (λ secret. (decode_of text.now ≡ Ok secret) × IsSecretLength (length secret)) }
     ensures err { IfErr result (λ fault. (fault ≡ Fault.NoMemory) ⊎ ((fault ≡ Fault.BadValue OptionName.Secret)
         × ((secret : List ℕ) → decode_of text.now ≡ Ok secret → IsSecretLength (length secret) → ⊥))) }
 {

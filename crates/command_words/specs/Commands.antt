@@ -9,9 +9,8 @@ use Rattle.clap.specs.declared.builder.command.Command.{Command}
 use Rattle.clap.specs.declared.builder.command.Command.TheViews.{out-Command as fields_of}
 use Rattle.command_line.specs.Options.{option_name}
 use Rattle.command_line.specs.declared.option_name.OptionName.{OptionName}
-use Rattle.command_line.specs.declared.option_name.OptionName.TheVariants.{Book, Log, Name, As, Socket, Random, ClientNonce, ServerNonce}
-use Rattle.command_line.specs.declared.option_name.OptionName.TheVariants.{Mechanism, Salt, Count, Secret, Digits, Counter, Moment, Hash}
-use Rattle.command_line.specs.declared.option_name.OptionName.TheVariants.{T0, Step}
+use Rattle.command_line.specs.declared.option_name.OptionName.TheVariants.{Book, Log, Name, As, Socket, Random, ClientNonce, ServerNonce, Mechanism}
+use Rattle.command_line.specs.declared.option_name.OptionName.TheVariants.{Salt, Count, Secret, Digits, Counter, Moment, Hash, T0, Step}
 
 -- the commands
 pub data CommandName : Type 0 where
@@ -42,8 +41,8 @@ abbrev pub one_value : OptionName → Rule
 one_value name = record (new_rule (option_name name)) { long = Some (option_name name); value_names = 1; action = Some Set }
 
 -- an option that must be given
-abbrev pub required : OptionName → Rule
-required name = record (one_value name) { required = true }
+abbrev pub required_value : OptionName → Rule
+required_value name = record (one_value name) { required = true }
 
 -- an option that has a default
 abbrev pub with_default : OptionName → (default : List ℕ) → Rule
@@ -55,44 +54,44 @@ command name options = record (new_shape name) { rules = options }
 
 -- the options of `keys`
 abbrev pub keys_options : List Rule
-keys_options = required Mechanism ∷ required Salt ∷ required Count ∷ []
+keys_options = required_value Mechanism ∷ required_value Salt ∷ required_value Count ∷ []
 
 -- the options of `enrol`
 abbrev pub enrol_options : List Rule
-enrol_options = required Book ∷ required Name ∷ with_default Count (codes "4096")
+enrol_options = required_value Book ∷ required_value Name ∷ with_default Count (codes "4096")
     ∷ with_default Random (codes "/dev/urandom") ∷ []
 
 -- the options of `code`
 abbrev pub code_options : List Rule
-code_options = required Secret ∷ with_default Digits (codes "6") ∷ one_value Counter
+code_options = required_value Secret ∷ with_default Digits (codes "6") ∷ one_value Counter
     ∷ one_value Moment ∷ with_default Hash (codes "sha1") ∷ with_default T0 (codes "0")
     ∷ with_default Step (codes "30") ∷ []
 
 -- the options of `verify`
 abbrev pub verify_options : List Rule
-verify_options = required Book ∷ required Name ∷ required Moment ∷ []
+verify_options = required_value Book ∷ required_value Name ∷ required_value Moment ∷ []
 
 -- the options of `unlock`
 abbrev pub unlock_options : List Rule
-unlock_options = required Book ∷ required Name ∷ []
+unlock_options = required_value Book ∷ required_value Name ∷ []
 
 -- the options of `login`
 abbrev pub login_options : List Rule
-login_options = required Book ∷ required Name ∷ one_value Mechanism ∷ one_value As
-    ∷ required Socket ∷ with_default Random (codes "/dev/urandom") ∷ one_value ClientNonce
+login_options = required_value Book ∷ required_value Name ∷ one_value Mechanism ∷ one_value As
+    ∷ required_value Socket ∷ with_default Random (codes "/dev/urandom") ∷ one_value ClientNonce
     ∷ one_value ServerNonce ∷ one_value Moment ∷ []
 
 -- the options of `hall`
 abbrev pub hall_options : List Rule
-hall_options = required Book ∷ []
+hall_options = required_value Book ∷ []
 
 -- the options of `audit`
 abbrev pub audit_options : List Rule
-audit_options = required Book ∷ required Log ∷ []
+audit_options = required_value Book ∷ required_value Log ∷ []
 
 -- the options of `upgrade`
 abbrev pub upgrade_options : List Rule
-upgrade_options = required Log ∷ []
+upgrade_options = required_value Log ∷ []
 
 -- the program: one of its commands must be named, and none of them is `help`
 abbrev pub program : App

@@ -10,7 +10,7 @@ use Rattle.command_line.specs.declared.option_name.OptionName.{OptionName}
 abbrev pub value_of : ArgMatches → OptionName → Option (List ℕ)
 value_of words option = first_value (found_of words) (option_name option)
 
--- the value of an option that is required or has a default; the empty text if the words give none, which is no name, number, hash
+-- the value of an option that is required or has a default; the empty text if the words give none, which is not a name, number, hash
 -- function, mechanism, salt or secret
 abbrev pub given_value : ArgMatches → OptionName → List ℕ
 given_value words option = unwrap_or (value_of words option) []

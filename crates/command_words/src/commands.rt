@@ -1,9 +1,9 @@
 //! The program's commands, their options and their help.
 ghost use Rattle.std.specs.Prelude.{◌≡◌, false, codes, IfOk};
 ghost use Rattle.clap.specs.Words.{app_of, rule_of};
-ghost use Rattle.command_words.specs.Commands.{one_value, required, with_default, program, HasOptions, keys_options, enrol_options};
-ghost use Rattle.command_words.specs.Commands.{code_options, verify_options, unlock_options, login_options, hall_options, audit_options};
-ghost use Rattle.command_words.specs.Commands.{upgrade_options};
+ghost use Rattle.command_words.specs.Commands.{one_value, required_value, with_default, program, HasOptions, keys_options};
+ghost use Rattle.command_words.specs.Commands.{enrol_options, code_options, verify_options, unlock_options, login_options, hall_options};
+ghost use Rattle.command_words.specs.Commands.{audit_options, upgrade_options};
 
 mod notes;
 
@@ -30,7 +30,7 @@ fn one_value<'a>(alloc: Global, name: OptionName, value: &'a str, help: &'a str)
 
 // A required option.
 fn required<'a>(alloc: Global, name: OptionName, value: &'a str, help: &'a str) -> Arg<'a>
-    ensures rule { rule_of result ≡ required name }
+    ensures rule { rule_of result ≡ required_value name }
     ensures local { result.global ≡ false }
 {
     one_value(alloc, name, value, help).required(true)
@@ -52,7 +52,7 @@ fn with_default<'a>(
 
 // `--book`, which is required.
 fn book<'a>(alloc: Global) -> Arg<'a>
-    ensures rule { rule_of result ≡ required OptionName.Book }
+    ensures rule { rule_of result ≡ required_value OptionName.Book }
     ensures local { result.global ≡ false }
 {
     required(alloc, OptionName::Book, "FILE", "The account book")
@@ -60,7 +60,7 @@ fn book<'a>(alloc: Global) -> Arg<'a>
 
 // `--name`, which is required.
 fn name<'a>(alloc: Global) -> Arg<'a>
-    ensures rule { rule_of result ≡ required OptionName.Name }
+    ensures rule { rule_of result ≡ required_value OptionName.Name }
     ensures local { result.global ≡ false }
 {
     required(

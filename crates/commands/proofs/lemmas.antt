@@ -8,9 +8,9 @@ pub mod HallLogs
 pub mod HeardLines
 pub mod LoginGoesOn
 pub mod Logins
+pub mod LogSays
 pub mod Nonces
 pub mod OneEvent
 pub mod Printed
 pub mod Runs
 pub mod Spellings
-pub mod Told

@@ -8,11 +8,11 @@ use Rattle.mac_core.specs.declared.mechanism.Mechanism.{Mechanism}
 use Rattle.mac_core.specs.declared.mechanism.Mechanism.TheVariants.{ScramSha256}
 use Rattle.scram_text.specs.Messages.{ServerFirstParts}
 use Rattle.scram_ends.specs.Stages.{Started, Answered, answered_login}
-use Rattle.scram_ends.specs.Client.{AreUsual, IsStarted, IsAnswerable, IsExpecting}
+use Rattle.scram_ends.specs.Client.{AreUsual, StandsForStarted, IsAnswerable, StandsForAnswered}
 use Rattle.scram_ends.specs.Honest.{IsHonest, honest_signature}
 use Rattle.scram_ends.specs.Login.{IsAuthentic}
 use Rattle.log_grammar.specs.Lines.{IsLine, ClientLine, auth_with, resp, client_text, from_server, mechs, cont, accepts}
-use Rattle.commands.specs.Talked.{Talked, IsTold}
+use Rattle.commands.specs.Talked.{Talked, Receives}
 use Rattle.commands.specs.declared.login.client_end.ClientEnd.{ClientEnd}
 use Rattle.commands.specs.declared.login.client_end.User.{User}
 use Rattle.commands.specs.declared.login.client_end.Next.{Next}
@@ -32,13 +32,13 @@ said_line line = client_text line ++ byte "\n" ∷ []
 
 -- the client has sent the first message of this login, and waits for the challenge
 abbrev pub WaitsForChallenge : Stage → Started → Type 0
-WaitsForChallenge (Begun client) l = IsStarted client l
-WaitsForChallenge stage l = ⊥
+WaitsForChallenge (Begun client) login = StandsForStarted client login
+WaitsForChallenge stage login = ⊥
 
 -- the client has sent its proof in this login, and waits for the server's signature
 abbrev pub WaitsForSignature : Stage → Answered → Type 0
-WaitsForSignature (Proved client) l = IsExpecting client l
-WaitsForSignature stage l = ⊥
+WaitsForSignature (Proved client) login = StandsForAnswered client login
+WaitsForSignature stage login = ⊥
 
 -- the mechanism that is used: the one that the user asks for, whether or not the server offers it; else the best of those whose
 -- names it offers (RFC 5802, section 4; RFC 7677 prefers SCRAM-SHA-256)
@@ -68,34 +68,34 @@ pub record AnswersChallenge (login : Started) (password server_first said : List
 
 -- what a client may say when it receives a line. When it receives the mechanisms, it begins a login with the one that is chosen.
 -- When it receives the challenge of a login that it has begun, it answers that. It says nothing else.
-abbrev pub MaySay : ClientEnd → Stage → (told said : List ℕ) → Stage → Type 0
-MaySay client Silent told said new =
-    (names : List ℕ) × IsLine told (from_server (mechs names)) × BeginsLogin client.user client.nonce names said new
-MaySay client (Begun one) told said new =
-    (server_first : List ℕ) × IsLine told (from_server (cont server_first))
-    × ((login : Started) → IsStarted one login → AnswersChallenge login client.password server_first said new)
-MaySay client (Proved two) told said new = ⊥
-MaySay client Over told said new = ⊥
+abbrev pub MaySay : ClientEnd → Stage → (received said : List ℕ) → Stage → Type 0
+MaySay client Silent received said new =
+    (names : List ℕ) × IsLine received (from_server (mechs names)) × BeginsLogin client.user client.nonce names said new
+MaySay client (Begun one) received said new =
+    (server_first : List ℕ) × IsLine received (from_server (cont server_first))
+    × ((login : Started) → StandsForStarted one login → AnswersChallenge login client.password server_first said new)
+MaySay client (Proved two) received said new = ⊥
+MaySay client Over received said new = ⊥
 
 -- the client has sent its proof, and the line accepts it with the signature that the client expects: the server has the
 -- account's keys (RFC 5802, section 5)
 abbrev pub ShowsKeys : Stage → (line : List ℕ) → Type 0
 ShowsKeys (Proved client) line = (message : List ℕ) × IsLine line (from_server (accepts message))
-    × ((l : Answered) (x : IsExpecting client l) → IsAuthentic message x.signature)
+    × ((login : Answered) (expecting : StandsForAnswered client login) → IsAuthentic message expecting.signature)
 ShowsKeys stage line = ⊥
 
 -- if the client waits for the challenge or for the signature, it stands for some login
 abbrev pub HasItsLogin : Stage → Type 0
 HasItsLogin Silent = Unit {0}
-HasItsLogin (Begun client) = (login : Started) × IsStarted client login
-HasItsLogin (Proved client) = (login : Answered) × IsExpecting client login
+HasItsLogin (Begun client) = (login : Started) × StandsForStarted client login
+HasItsLogin (Proved client) = (login : Answered) × StandsForAnswered client login
 HasItsLogin Over = Unit {0}
 
 -- a client must leave at a line: if it has its login, there is nothing that it may say, and the line does not show that the server
 -- has the account's keys
-abbrev pub HasToLeave : ClientEnd → (told : List ℕ) → Type 0
-HasToLeave client told = HasItsLogin client.stage
-    → ((said : List ℕ) (new : Stage) → MaySay client client.stage told said new → ⊥) × (ShowsKeys client.stage told → ⊥)
+abbrev pub HasToLeave : ClientEnd → (received : List ℕ) → Type 0
+HasToLeave client received = HasItsLogin client.stage
+    → ((said : List ℕ) (new : Stage) → MaySay client client.stage received said new → ⊥) × (ShowsKeys client.stage received → ⊥)
 
 -- the login is one of this user, with this nonce and this password
 pub record IsOfUser (user : User) (nonce password : List ℕ) (login : Answered) : Type 0 where
@@ -114,7 +114,7 @@ pub record IsLoggedIn (user : User) (nonce password : List ℕ) (old new : Talke
   pub before : List ℕ
   pub line : List ℕ
   pub message : List ℕ
-  pub told : IsTold old new (before ++ (line ++ byte "\n" ∷ []))
+  pub received : Receives old new (before ++ (line ++ byte "\n" ∷ []))
   pub is_acceptance : IsLine line (from_server (accepts message))
   -- this line has the signature that the keys of the password make over the login's messages
   pub authentic : IsAuthentic message (honest_signature login honest)

@@ -19,7 +19,7 @@ use Rattle.commands.specs.PrintedLog.{IsLogFault}
 
 -- a moment is the one that was given, if one was
 abbrev pub IsGiven : (given : Option ℕ) → (moment : ℕ) → Type 0
-IsGiven given moment = IfSome given (λ m. moment ≡ m)
+IsGiven given moment = IfSome given (λ given_moment. moment ≡ given_moment)
 
 -- if a desk is asked to begin a session, this is the server's part of the nonce; if it hears its client, `IsNow` is true of the moment
 abbrev pub IsRequestWith : (server_nonce : List ℕ) → (IsNow : ℕ → Type 0) → Request → Type 0
@@ -35,7 +35,7 @@ module _ {S : Type 0} (facts : S → StoreFacts) (IsStored : List ℕ → Type 0
       : Type 0 where
     pub calls : List Call
     pub stands : IsDeskAfter facts IsStored start calls desk
-    pub requests : AllByRecursion (λ c. IsRequestWith server_nonce IsNow c.request) calls
+    pub requests : AllByRecursion (λ call. IsRequestWith server_nonce IsNow call.request) calls
     pub logged : Appends before log.given (log_bytes (run_lines calls))
 
   -- if the log was that of the desk, with this part of the nonce, it still is
@@ -63,7 +63,7 @@ pub record IsRunLog (accounts : Accounts) (server_nonce : List ℕ) (IsNow : ℕ
   pub calls : List Call
   pub place : Place
   pub is_run : IsRun accounts calls place
-  pub requests : AllByRecursion (λ c. IsRequestWith server_nonce IsNow c.request) calls
+  pub requests : AllByRecursion (λ call. IsRequestWith server_nonce IsNow call.request) calls
   pub is_log : log ≡ log_bytes (run_lines calls)
 
 -- what was there before is followed by a log of this kind, for example a clean one, judged by the accounts of a book. It is the log

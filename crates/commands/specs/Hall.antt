@@ -23,7 +23,7 @@ use Rattle.sasl_log.specs.Sink.{SinkFacts}
 use Rattle.sasl_desk.specs.Events.{ClientEvent, sends, goes_away}
 use Rattle.log_grammar.specs.Books.{accounts_in}
 use Rattle.log_grammar.specs.Places.{between}
-use Rattle.log_grammar.specs.Versions.{IsFront}
+use Rattle.log_grammar.specs.Versions.{IsLogFront}
 use Rattle.sasl_desk.specs.Halls.{HallFields, hall_shown, hall_lines, hall_bytes, phase_in, IsSessionRun, IsHallAfter}
 use Rattle.sasl_desk.specs.Runs.{greets, hears, Call}
 use Rattle.sasl_desk.specs.Saved.{AreLinesSaved}
@@ -137,7 +137,7 @@ pub record PrintsHallLog (IsStored : List ℕ → Type 0) (book : BookFields) (i
   pub calls : List (Numbered Call)
   pub heard : AreCallsFor (reverse says.events) calls
   -- what it logged is a front, and is printed
-  pub is_front : IsFront (accounts_in book) (hall_bytes calls)
+  pub is_front : IsLogFront (accounts_in book) (hall_bytes calls)
   pub printed : Appends old new (hall_bytes calls)
   -- the store has saved the text of the book to which the replies in the log lead
   pub saved : AreLinesSaved IsStored book (hall_lines calls)

@@ -1,15 +1,18 @@
 -- What the command `login` prints, and when the user is let in and each code passes.
-use Rattle.std.specs.Prelude.{ℕ, ◌≡◌, Bool, true, List, [], option_map}
+use Rattle.std.specs.Prelude.{ℕ, ◌≡◌, Bool, true, List, [], option_map, IfSome}
 use Rattle.std.specs.Fmt.{decimal}
 use Rattle.std.specs.Io.KnownBytes.{Appends}
 use Rattle.std.specs.declared.option.Option.{Option}
 use Rattle.mac_core.specs.Mechanism.{name_of}
+use Rattle.otp_core.specs.Ranges.{IsMoment}
+use Rattle.scram_text.specs.Class.{IsPassword, IsPlainName}
 use Rattle.book_format.specs.Book.{BookFields}
 use Rattle.book_file.specs.Text.{IsWritten}
 use Rattle.clap.specs.declared.parser.matches.ArgMatches.{ArgMatches}
 use Rattle.command_line.specs.declared.option_name.OptionName.TheVariants as option
 use Rattle.log_grammar.specs.Demands.{Accounts}
 use Rattle.log_grammar.specs.Lines.{LogLine, log_bytes}
+use Rattle.log_grammar.specs.Versions.{IsClean, IsLogFront}
 use Rattle.commands.specs.ClientEnd.{IsLoggedIn}
 use Rattle.command_io.specs.HeldBook.{IsReadBook}
 use Rattle.command_io.specs.Input.{TakesLine, LinesInTurn}
@@ -45,39 +48,49 @@ pub record PrintsPasses (user : User) (nonce password : List ℕ) (input old new
 -- the user whom the words describe: the name, and, if they give them, the name to act as and the mechanism
 pub record IsUserAsked (words : ArgMatches) (user : User) : Type 0 where
   pub is_name : user.name ≡ given_value words option.Name
+  pub name_range : IsPlainName user.name
   pub is_authzid : user.authzid ≡ value_of words option.As
+  pub authzid_range : IfSome user.authzid IsPlainName
   pub is_mechanism : option_map name_of user.mechanism ≡ value_of words option.Mechanism
 
--- `PrintsPasses` is true of what the words and the input ask for
-pub record PrintsPassesAsked {File : Type 0} (bytes_of : File → Option (List ℕ)) (words : ArgMatches) (input old new : Option (List ℕ))
-    : Type 0 where
+-- `PrintsPasses` is true of what the words and the input ask for, with this nonce of the client
+pub record PrintsPassesAsked (words : ArgMatches) (nonce : List ℕ) (input old new : Option (List ℕ)) : Type 0 where
   -- the user is the one whom the words describe
   pub user : User
   pub is_user : IsUserAsked words user
-  -- the nonce is the one that the words give, or a fresh one if they give none
-  pub nonce : List ℕ
-  pub server_nonce : List ℕ
-  pub are_nonces : AreNonces bytes_of words nonce server_nonce
   -- the password is the first line of the input
   pub password : List ℕ
   pub has_lf : Bool
   pub rest : Option (List ℕ)
   pub is_first_line : TakesLine input password has_lf rest
+  pub is_password : IsPassword password
   pub passes : PrintsPasses user nonce password rest old new
 
--- a log of this kind, for example a clean one, is printed
-pub record PrintsLogin {File : Type 0} (bytes_of written_to : File → Option (List ℕ)) (words : ArgMatches)
+-- a log of this kind, for example a clean one, is printed, in which this is the server's part of the nonce
+pub record PrintsLogin {File : Type 0} (bytes_of written_to : File → Option (List ℕ)) (words : ArgMatches) (server_nonce : List ℕ)
     (IsOfKind : Accounts → List ℕ → Type 0) (old new : Option (List ℕ)) : Type 0 where
   -- it is judged by a book that was read from a file
   pub text : List ℕ
   pub book : BookFields
   pub is_read : IsReadBook bytes_of text book
-  -- the desk's part of the nonce is the one that the words give, or a fresh one
-  pub nonce : List ℕ
-  pub server_nonce : List ℕ
-  pub are_nonces : AreNonces bytes_of words nonce server_nonce
   -- each moment is the one that the words give, if they give one
   pub moment : Option ℕ
   pub is_moment : option_map decimal moment ≡ value_of words option.Moment
+  pub moment_range : IfSome moment IsMoment
   -- the text of the book to which the replies in the log lead was written to a file
   pub printed : HasSavedLog (IsWritten written_to) (IsGiven moment) IsOfKind book server_nonce old new
+
+-- what a login prints, given the bytes of files and those written to them
+module _ {File : Type 0} (bytes_of written_to : File → Option (List ℕ)) where
+  -- a clean log is printed, with nonces that the words give, or fresh ones. If the answer is yes, it is that of a login that the words
+  -- ask for, with these nonces, which is accepted, and in which each code passes.
+  abbrev pub RunsLogin : ArgMatches → (input old : Option (List ℕ)) → (passed : Bool) → (new : Option (List ℕ)) → Type 0
+  RunsLogin words input old passed new =
+      (nonce : List ℕ) × (server_nonce : List ℕ) × AreNonces bytes_of words nonce server_nonce
+      × PrintsLogin bytes_of written_to words server_nonce IsClean old new × (passed ≡ true → PrintsPassesAsked words nonce input old new)
+
+  -- a front of a log is printed, with nonces that the words give, or fresh ones
+  abbrev pub PrintsLoginFront : ArgMatches → (old new : Option (List ℕ)) → Type 0
+  PrintsLoginFront words old new =
+      (nonce : List ℕ) × (server_nonce : List ℕ) × AreNonces bytes_of words nonce server_nonce
+      × PrintsLogin bytes_of written_to words server_nonce IsLogFront old new

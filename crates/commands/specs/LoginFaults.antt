@@ -48,7 +48,7 @@ HasBadLoginValue words fault =
     ⊎ (GivesBadValue option.ClientNonce words fault
     ⊎ (GivesBadValue option.ServerNonce words fault ⊎ GivesBadValue option.Moment words fault))))
 
--- what a login begins with is not there: an option refuses its value, the first line of the input is no password or can't be read, the
+-- what a login begins with is not there: an option refuses its value, the first line of the input is not a password or can't be read, the
 -- book can't be held or read, the file of random bytes can't be read, or memory ran out
 abbrev pub CannotPrepare : {File : Type 0} → (bytes_of : File → Option (List ℕ)) → ArgMatches → (input : Option (List ℕ)) → Fault → Type 0
 CannotPrepare bytes_of words input fault =

@@ -1,9 +1,10 @@
 -- The nonces of a login: given by the user, or made of random bytes.
-use Rattle.std.specs.Prelude.{ℕ, ◌≡◌, ◌⊎◌, List, [], length}
+use Rattle.std.specs.Prelude.{ℕ, ◌≡◌, ◌⊎◌, List, [], length, IfSome}
 use Rattle.std.specs.Io.KnownBytes.{Consumes}
 use Rattle.std.specs.declared.option.Option.{Option}
 use Rattle.std.specs.declared.option.Option.TheVariants.{None, Some}
 use Rattle.scram_text.specs.Base64Field.{base64}
+use Rattle.scram_text.specs.Class.{IsNoncePart}
 use Rattle.clap.specs.declared.parser.matches.ArgMatches.{ArgMatches}
 use Rattle.command_line.specs.declared.option_name.OptionName.TheVariants as option
 use Rattle.command_words.specs.Values.{value_of}
@@ -31,7 +32,8 @@ AreGivenOrFresh {File} bytes_of given_client given_server client server =
     ((given_client ≡ Some client) × (given_server ≡ Some server))
     ⊎ ((file : File) × (after : File) × TakesNonces (bytes_of file) given_client given_server client server (bytes_of after))
 
--- the nonces are those that the words give, or fresh ones
-abbrev pub AreNonces : {File : Type 0} → (bytes_of : File → Option (List ℕ)) → ArgMatches → (nonce server_nonce : List ℕ) → Type 0
-AreNonces bytes_of words nonce server_nonce =
-    AreGivenOrFresh bytes_of (value_of words option.ClientNonce) (value_of words option.ServerNonce) nonce server_nonce
+-- the nonces are those that the words give, or fresh ones; each that the words give can be a part of a nonce
+pub record AreNonces {File : Type 0} (bytes_of : File → Option (List ℕ)) (words : ArgMatches) (nonce server_nonce : List ℕ) : Type 0 where
+  pub client_range : IfSome (value_of words option.ClientNonce) IsNoncePart
+  pub server_range : IfSome (value_of words option.ServerNonce) IsNoncePart
+  pub are : AreGivenOrFresh bytes_of (value_of words option.ClientNonce) (value_of words option.ServerNonce) nonce server_nonce

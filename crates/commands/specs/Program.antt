@@ -19,12 +19,11 @@ use Rattle.account_commands.specs.Enrol.{CannotEnrol, EnrolsAsked}
 use Rattle.account_commands.specs.Keys.{CannotPrintKeys, PrintsKeysAsked}
 use Rattle.account_commands.specs.Unlock.{CannotUnlock, UnlocksAsked}
 use Rattle.command_io.specs.Printed.{PrintsNothing}
-use Rattle.log_grammar.specs.Versions.{IsClean, IsFront}
 use Rattle.commands.specs.Audit.{CannotAudit, PrintsAudit}
 use Rattle.commands.specs.Upgrade.{CannotUpgrade, PrintsUpgrade}
 use Rattle.commands.specs.Hall.{CannotRunHall, RunsHall, RunsToBadEvent}
 use Rattle.commands.specs.LoginFaults.{CannotLogIn}
-use Rattle.commands.specs.Login.{PrintsLogin, PrintsPassesAsked}
+use Rattle.commands.specs.Login.{PrintsLoginFront, RunsLogin}
 use Rattle.commands.specs.PrintedLog.{StopsAfter}
 use Rattle.commands.specs.Verify.{CannotBeginToVerify, VerifiesAllLines, VerifiesFirstLines}
 
@@ -65,12 +64,6 @@ IsWordsError line error = (error ≡ kind.OutOfMemory) ⊎ IsAmong error (fault_
 
 -- what a run does, given the bytes of files and those written to them
 module _ {File : Type 0} (bytes_of written_to : File → Option (List ℕ)) where
-  -- a clean log of a server is printed. If the answer is yes, it is that of a login that the words ask for, which is accepted, and
-  -- in which each code passes.
-  abbrev pub RunsLogin : ArgMatches → (input old : Option (List ℕ)) → (passed : Bool) → (new : Option (List ℕ)) → Type 0
-  RunsLogin words input old passed new =
-      PrintsLogin bytes_of written_to words IsClean old new × (passed ≡ true → PrintsPassesAsked bytes_of words input old new)
-
   -- what a command has done for its words if it ends with this status: `verify` and `login` with that of their answer, `audit` and
   -- `upgrade` with that of a log, and the others with 0
   abbrev pub HasDone : CommandName → ArgMatches → (status : ℕ) → (input old new : Option (List ℕ)) → Type 0
@@ -80,7 +73,8 @@ module _ {File : Type 0} (bytes_of written_to : File → Option (List ℕ)) wher
   HasDone Verify words status input old new =
       (passed : Bool) × (status ≡ answer_status passed) × VerifiesAllLines bytes_of written_to words input old passed new
   HasDone Unlock words status input old new = (status ≡ 0) × UnlocksAsked bytes_of written_to words old new
-  HasDone Login words status input old new = (passed : Bool) × (status ≡ answer_status passed) × RunsLogin words input old passed new
+  HasDone Login words status input old new = (passed : Bool) × (status ≡ answer_status passed)
+      × RunsLogin bytes_of written_to words input old passed new
   HasDone Hall words status input old new = (status ≡ 0) × RunsHall bytes_of written_to input [] old new
   HasDone Audit words status input old new = PrintsAudit bytes_of status old new
   HasDone Upgrade words status input old new = PrintsUpgrade bytes_of status old new
@@ -90,7 +84,7 @@ module _ {File : Type 0} (bytes_of written_to : File → Option (List ℕ)) wher
   StopsAt Verify words fault input old new =
       (CannotBeginToVerify bytes_of words fault × (new ≡ old)) ⊎ VerifiesFirstLines bytes_of written_to words input old fault new
   StopsAt Login words fault input old new =
-      StopsAfter fault old new (PrintsLogin bytes_of written_to words IsFront old new) × CannotLogIn bytes_of words input fault
+      StopsAfter fault old new (PrintsLoginFront bytes_of written_to words old new) × CannotLogIn bytes_of words input fault
   StopsAt Hall words fault input old new =
       StopsAfter fault old new ((last : List (List ℕ)) × RunsHall bytes_of written_to input last old new)
       × (fault ≡ BadEvent → RunsToBadEvent bytes_of written_to input old new) × CannotRunHall bytes_of words fault

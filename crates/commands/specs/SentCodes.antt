@@ -4,22 +4,22 @@ use Rattle.std.specs.Str.{byte}
 use Rattle.std.specs.Io.KnownBytes.{Appends}
 use Rattle.std.specs.declared.option.Option.TheVariants.{Some}
 use Rattle.otp_core.specs.Attempt.{CodeTexts}
-use Rattle.otp_core.specs.Attempt.CodeTexts.{OneText, TwoTexts}
+use Rattle.otp_core.specs.Attempt.CodeTexts.{one_text, two_texts}
 use Rattle.otp_core.specs.declared.token.reply.Reply.TheVariants.{Pass}
 use Rattle.log_grammar.specs.Bytes.{LacksLf}
 use Rattle.log_grammar.specs.Lines.{IsLine, longest_line, from_server, from_client, replies, sync}
-use Rattle.commands.specs.Talked.{Talked, IsTold}
+use Rattle.commands.specs.Talked.{Talked, Receives}
 
 -- a line says two codes in a row if it is a SYNC line of the protocol, and else one code, the line itself
 abbrev pub SaysCodes : List ℕ → CodeTexts → Type 0
-SaysCodes line (TwoTexts first second) = IsLine line (from_client (sync first second))
-SaysCodes line (OneText text) = (text ≡ line) × ((first second : List ℕ) → IsLine line (from_client (sync first second)) → ⊥)
+SaysCodes line (two_texts first second) = IsLine line (from_client (sync first second))
+SaysCodes line (one_text text) = (text ≡ line) × ((first second : List ℕ) → IsLine line (from_client (sync first second)) → ⊥)
 
 -- what is sent for an input line, by what the line says: the line itself if it is two codes in a row; else `CODE ` and at most the
 -- first 6201 bytes of the line. A line with more is too long either way.
 abbrev pub sent_for : List ℕ → CodeTexts → List ℕ
-sent_for line (TwoTexts first second) = line ++ byte "\n" ∷ []
-sent_for line (OneText text) = codes "CODE " ++ (take (longest_line + 1) line ++ byte "\n" ∷ [])
+sent_for line (two_texts first second) = line ++ byte "\n" ∷ []
+sent_for line (one_text text) = codes "CODE " ++ (take (longest_line + 1) line ++ byte "\n" ∷ [])
 
 -- the server says that a code has passed
 abbrev pub IsPassLine : List ℕ → Type 0
@@ -33,5 +33,5 @@ pub record SendsLine (line : List ℕ) (old : Talked) (passed : Bool) (new : Tal
   pub sent : Appends old.said new.said (sent_for line texts)
   pub reply : List ℕ
   pub is_line : LacksLf reply
-  pub told : IsTold old new (reply ++ byte "\n" ∷ [])
+  pub received : Receives old new (reply ++ byte "\n" ∷ [])
   pub is_pass : IsTrue passed ↔ IsPassLine reply

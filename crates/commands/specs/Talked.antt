@@ -19,7 +19,7 @@ pub record Talked : Type 0 where
   -- what the client has said to the server
   pub said : Option (List ℕ)
   -- what the client has yet to receive
-  pub untold : Option (List ℕ)
+  pub to_receive : Option (List ℕ)
   -- what is in the log
   pub logged : Option (List ℕ)
 
@@ -27,11 +27,11 @@ pub record Talked : Type 0 where
 abbrev pub talked_in : {S R W L C : Type 0} → (R → SourceFacts) → (W → SinkFacts) → (L → SinkFacts) → Talk S R W L C → Talked
 talked_in source sink log talk = record {
   said = (sink talk.ends.client.writer).given;
-  untold = (source talk.ends.client.reader).left;
+  to_receive = (source talk.ends.client.reader).left;
   logged = (log talk.log).given;
 }
 
 -- the client receives these bytes, and they are what the server says in the lines that the log takes meanwhile
-pub record IsTold (old new : Talked) (bytes : List ℕ) : Type 0 where
-  pub given : Consumes old.untold new.untold bytes
+pub record Receives (old new : Talked) (bytes : List ℕ) : Type 0 where
+  pub received : Consumes old.to_receive new.to_receive bytes
   pub logged : LogSays old.logged new.logged bytes

@@ -5,7 +5,9 @@ use Rattle.std.specs.Fmt.{decimal}
 use Rattle.std.specs.Io.KnownBytes.{Appends}
 use Rattle.std.specs.declared.option.Option.{Option}
 use Rattle.std.specs.declared.option.Option.TheVariants.{Some}
+use Rattle.scram_text.specs.Class.{IsPlainName}
 use Rattle.otp_core.specs.Attempt.{CodeTexts}
+use Rattle.otp_core.specs.Ranges.{IsMoment}
 use Rattle.otp_core.specs.declared.token.reply.Reply.{Reply}
 use Rattle.otp_core.specs.declared.token.reply.Reply.TheVariants.{Pass, Fail, Locked}
 use Rattle.book_format.specs.Book.{BookFields}
@@ -19,8 +21,7 @@ use Rattle.command_line.specs.declared.fault.Fault.{Fault}
 use Rattle.command_line.specs.declared.fault.Fault.TheVariants.{CannotWriteOutput, NoMemory}
 use Rattle.command_line.specs.declared.option_name.OptionName.TheVariants as option
 use Rattle.command_io.specs.BadValues.{HasBadValue}
-use Rattle.command_io.specs.HeldBook.{HeldFacts, held_shown, IsReadBook, IsReplySaved, IsReplyUnsaved, CannotOpenBook}
-use Rattle.command_io.specs.HeldBook.{LacksToken}
+use Rattle.command_io.specs.HeldBook.{HeldFacts, held_shown, IsReadBook, IsReplySaved, IsReplyUnsaved, CannotOpenBook, LacksToken}
 use Rattle.command_io.specs.Input.{LinesInTurn, IsInputUnreadOrNoMemory}
 use Rattle.commands.specs.SentCodes.{SaysCodes}
 use Rattle.command_words.specs.Values.{given_value}
@@ -103,10 +104,12 @@ CannotBeginToVerify bytes_of words fault =
     ⊎ ((text : List ℕ) × (book : BookFields) × IsReadBook bytes_of text book
     × LacksToken (account_at book (given_value words option.Name)) fault))
 
--- a run of `verify` begins, at the moment that the words give: its book was read from a file, and this is printed
+-- a run of `verify` begins, with the name and at the moment that the words give: its book was read from a file, and this is printed
 pub record BeginsToVerify {File : Type 0} (bytes_of : File → Option (List ℕ)) (words : ArgMatches) (printed : Option (List ℕ)) (moment : ℕ)
     (run : VerifyRun) : Type 0 where
+  pub name_range : IsPlainName (given_value words option.Name)
   pub is_moment : given_value words option.Moment ≡ decimal moment
+  pub moment_range : IsMoment moment
   pub is_book : IsReadBook bytes_of run.held.store.saved run.held.book
   pub is_printed : run.printed ≡ printed
 

@@ -9,7 +9,7 @@ use std::alloc::Global;
 
 /// The fault of a book that can't be saved to the file at `path`: CannotWrite, or NoMemory if memory runs out for a copy of the
 /// path.
-pub fn save_fault(alloc: Global, path: &str) -> Fault
+pub(crate) fn save_fault(alloc: Global, path: &str) -> Fault
     ensures { IsFileUnwrittenOrNoMemory path.now result }
 {
     match String::from_str(alloc, path) {
@@ -21,7 +21,7 @@ pub fn save_fault(alloc: Global, path: &str) -> Fault
 /// The fault of a command whose desk or hall refuses a call. Halted becomes CannotWrite of the book: a command calls no desk or
 /// hall that has halted, so only `begin` returns Halted, when its save fails. NoNumber becomes CannotWrite too, but never occurs,
 /// since an input has fewer lines than there are session numbers.
-pub fn desk_fault(alloc: Global, path: &str, fault: DeskFault) -> Fault
+pub(crate) fn desk_fault(alloc: Global, path: &str, fault: DeskFault) -> Fault
     requires { fault ≢ DeskFault.Unwritable }
     ensures unwritten { IsFileUnwrittenOrNoMemory path.now result }
     ensures no_memory { fault ≡ DeskFault.NoMemory → result ≡ Fault.NoMemory }
@@ -35,7 +35,7 @@ pub fn desk_fault(alloc: Global, path: &str, fault: DeskFault) -> Fault
 
 /// The fault of a command whose desk can't serve a turn. WriteFault becomes NoMemory: the desk writes to an `OverWrite<Vec<u8>>`,
 /// which fails only if memory runs out.
-pub fn serve_fault(alloc: Global, path: &str, fault: ServeFault) -> Fault
+pub(crate) fn serve_fault(alloc: Global, path: &str, fault: ServeFault) -> Fault
     requires { fault ≢ ServeFault.Unwritable }
     ensures { IsFaultOfServing path.now fault result }
 {

@@ -26,10 +26,14 @@ use std::time::Clock;
 
 /// Holds and reads the book, and gives a hall over it the event in each input line. Prints the hall's log, of version 2: each
 /// event's lines as soon as the hall has heard it. A fault cuts the log short. Returns the output too. At a terminal it asks for
-/// the events once the book is held. Faults: CannotRead or CannotWrite if the book can't be held, BadBook, and CannotWrite if the
-/// book can't be saved, in this order (no clause says so); then, for each line, CannotReadInput, BadEvent, CannotWrite and
-/// CannotWriteOutput; also NoMemory.
-pub fn hall<R, I, O, E>(
+/// the events once the book is held.
+///
+/// Faults, the first that applies (no clause states the order):
+/// - CannotRead or CannotWrite if the book can't be held, BadBook if it can't be read;
+/// - CannotWrite if the book can't be saved;
+/// - then, for each line, CannotReadInput, BadEvent, CannotWrite and CannotWriteOutput;
+/// - NoMemory at any time.
+pub(crate) fn hall<R, I, O, E>(
     rt: &R,
     matches: &ArgMatches<'_>,
     input: &mut I,

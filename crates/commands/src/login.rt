@@ -1,7 +1,9 @@
 //! The command `login`: runs one login and its codes, as server and as client, and prints the server's log.
-ghost use Rattle.std.specs.Prelude.{◌≡◌, ◌⊎◌, true, ℕ, Bool, List, [], Option, Ok, decimal, option_map, IfOk, IfErr, OnOk};
+ghost use Rattle.std.specs.Prelude.{◌≡◌, ◌⊎◌, true, ℕ, Bool, List, [], Option, Ok, decimal, option_map, IfOk, IfErr, IfSome, OnOk};
+ghost use Rattle.otp_core.specs.Ranges.{IsMoment};
+ghost use Rattle.scram_text.specs.Class.{IsPassword};
 ghost use Rattle.book_format.specs.Book.{BookFields};
-ghost use Rattle.log_grammar.specs.Versions.{IsClean, IsFront};
+ghost use Rattle.log_grammar.specs.Versions.{IsClean, IsLogFront};
 ghost use Rattle.sasl_desk.specs.Desks.{desk_phase};
 ghost use Rattle.sasl_desk.specs.declared.session.phase.Phase.TheVariants as Phase;
 ghost use Rattle.commands.specs.declared.login.client_end.Stage.{Stage};
@@ -11,7 +13,7 @@ ghost use Rattle.command_io.specs.Input.{IsInputUnreadOrNoMemory, TakesLine};
 ghost use Rattle.command_words.specs.Values.{given_value, value_of};
 ghost use Rattle.commands.specs.DeskLog.{IsDeskLog, StaysItsLog, StaysItsLogWith, IsLogAfterFault, IsLogAfterFaultWith, HasSavedLog};
 ghost use Rattle.commands.specs.DeskLog.{IsGiven};
-ghost use Rattle.commands.specs.Login.{TalkPasses, PrintsPasses, PrintsPassesAsked, IsUserAsked, PrintsLogin};
+ghost use Rattle.commands.specs.Login.{TalkPasses, PrintsPasses, IsUserAsked, PrintsLoginFront, RunsLogin};
 ghost use Rattle.commands.specs.LoginFaults.{CannotLogIn, CannotPrepare, StopsTalking};
 ghost use Rattle.commands.specs.Nonces.{AreNonces};
 ghost use Rattle.commands.specs.Talked.{LogSays, talked_in};
@@ -71,10 +73,18 @@ struct LoginSetup<'a, S, I> {
 /// Checks the options in their order, reads the password, the book and the random bytes, makes the socket, and lets the client log
 /// in and send a code for each further input line. Prints the server's log, each line before it is sent to the client. A fault cuts
 /// the log short. Returns whether the client was logged in and each code passed, and the output. At a terminal it asks for the
-/// input. Faults: BadValue, CannotReadInput, BadPassword, CannotRead or CannotWrite if the book can't be held, BadBook, CannotRead
-/// of the random file, Socket, and CannotWrite if the book can't be saved, in this order (no clause says so); then, for each line,
-/// CannotReadInput, CannotWrite, CannotWriteOutput and Socket; also NoMemory.
-pub fn login<R, I, O, E>(
+/// input.
+///
+/// Faults, the first that applies (no clause states the order):
+/// - BadValue of an option;
+/// - CannotReadInput or BadPassword for the first line of the input;
+/// - CannotRead or CannotWrite if the book can't be held, BadBook if it can't be read;
+/// - CannotRead of the random file;
+/// - Socket if no pair of sockets can be made;
+/// - CannotWrite if the book can't be saved;
+/// - then, for each line, CannotReadInput, CannotWrite, CannotWriteOutput and Socket;
+/// - NoMemory at any time.
+pub(crate) fn login<R, I, O, E>(
     rt: &R,
     matches: &ArgMatches<'_>,
     input: &mut I,
@@ -87,15 +97,13 @@ where
     I: TerminalInput,
     O: Write + Drop,
     E: TerminalOutput,
-    ensures ok { OnOk result.0 (PrintsLogin R.File.remaining R.File.contents matches.now IsClean (O.contents output)
-        (O.contents result.1)) }
-    // It returns true only if the log has a login of the user whom the words describe, with the nonce that they give (a fresh one
-    // if they give none) and with the password in the input's first line, and after it only passes, one for each further line of
-    // the input. If it returns false, only the log is promised.
-    ensures passes { result.0 ≡ Ok true → PrintsPassesAsked R.File.remaining matches.now (I.remaining input.old) (O.contents output)
-        (O.contents result.1) }
+    // It returns true only if the log has a login of the user whom the words describe, with the nonces that they give (a fresh one
+    // for each that they do not give) and with the password in the input's first line, and after it only passes, one for each
+    // further line of the input. If it returns false, only the log is promised.
+    ensures ok { IfOk result.0 (λ passed. RunsLogin R.File.remaining R.File.contents matches.now (I.remaining input.old)
+        (O.contents output) passed (O.contents result.1)) }
     ensures err { IfErr result.0 (λ fault. StopsAfter fault (O.contents output) (O.contents result.1)
-        (PrintsLogin R.File.remaining R.File.contents matches.now IsFront (O.contents output) (O.contents result.1))) }
+        (PrintsLoginFront R.File.remaining R.File.contents matches.now (O.contents output) (O.contents result.1))) }
     ensures why { IfErr result.0 (CannotLogIn R.File.remaining matches.now (I.remaining input.old)) }
 {
     let login = match prepare(rt, matches, input, faults) {
@@ -123,7 +131,9 @@ where
     E: TerminalOutput,
     ensures user { IfOk result (λ login. IsUserAsked matches.now login.client.user) }
     ensures nonces { IfOk result (λ login. AreNonces R.File.remaining matches.now login.client.nonce login.server_nonce) }
-    ensures moment { IfOk result (λ login. option_map decimal login.moment ≡ value_of matches.now OptionName.Moment) }
+    ensures moment { IfOk result (λ login. (option_map decimal login.moment ≡ value_of matches.now OptionName.Moment)
+        × IfSome login.moment IsMoment) }
+    ensures is_password { IfOk result (λ login. IsPassword login.client.password) }
     ensures password { IfOk result (λ login. (has_lf : Bool)
         × TakesLine (I.remaining input.old) login.client.password has_lf (I.remaining login.lines.input.now)) }
     ensures book { IfOk result (λ login. IsReadBook R.File.remaining (⟦<FileStore<'a, R> as BookStore>⟧.facts login.held.store).saved
@@ -137,7 +147,7 @@ where
     let password = read_password(rt.alloc(), &mut lines)?;
     let held = open_book::open(rt, given(matches, OptionName::Book), faults)?;
     let random = given(matches, OptionName::Random);
-    let nonces = nonces::both(rt, random, options.client_nonce, options.server_nonce)?;
+    let nonces = nonces::login_nonces(rt, random, options.client_nonce, options.server_nonce)?;
     Ok(LoginSetup {
         held,
         client: ClientEnd::new(options.user, password, nonces.client),
@@ -168,7 +178,7 @@ where
     ensures passes { result.0 ≡ Ok true → PrintsPasses login.entry.client.user login.entry.client.nonce login.entry.client.password
         (I.remaining login.entry.lines.input.now) (O.contents output) (O.contents result.1) }
     ensures err { IfErr result.0 (λ fault. StopsAfter fault (O.contents output) (O.contents result.1)
-        (HasSavedLog S.IsStored (IsGiven G.moment) IsFront login.entry.held.book login.entry.server_nonce
+        (HasSavedLog S.IsStored (IsGiven G.moment) IsLogFront login.entry.held.book login.entry.server_nonce
         (O.contents output) (O.contents result.1))) }
     ensures why { IfErr result.0 (StopsTalking login.entry.held.path.now) }
 {
@@ -245,7 +255,7 @@ where
 }
 
 // Lets the client go away if its session is still open; the desk sends nothing for that. Faults: those of a turn.
-#[tactic(auto, using(crate::proofs::lemmas::Told::log_says_nothing))]
+#[tactic(auto, using(crate::proofs::lemmas::LogSays::log_says_nothing))]
 fn hang_up<S, R, W, L, C>(
     alloc: Global,
     talk: &mut Talk<'_, S, R, W, L, C>,
@@ -277,11 +287,12 @@ where
     Ok(())
 }
 
-// Reads the first line, which is the password. Faults: BadPassword if it is no password or there is no line; CannotReadInput; and
+// Reads the first line, which is the password. Faults: BadPassword if it is not a password or there is no line; CannotReadInput; and
 // NoMemory.
 fn read_password<I: BufRead>(alloc: Global, lines: &mut Lines<'_, I>) -> Result<Password, Fault>
     ensures ok { IfOk result (λ password. (has_lf : Bool)
         × TakesLine (I.remaining lines.old.input.now) password has_lf (I.remaining lines.new.input.now)) }
+    ensures is_password { IfOk result IsPassword }
     ensures err { IfErr result (λ fault. IsInputUnreadOrNoMemory fault ⊎ HasBadPassword (I.remaining lines.old.input.now) fault) }
 {
     let Some(line) = lines.next(alloc)? else {

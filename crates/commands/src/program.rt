@@ -112,8 +112,9 @@ fn report_usage<S: AsStr, E: Write>(alloc: Global, words: &[S], faults: &mut E) 
     }
 }
 
-// Runs the command that the matches name, and flushes what it printed. Returns the output and the status, which is 0 unless a code
-// or a login was refused, or a log is not clean or can't be upgraded. Faults: those of the command, and CannotWriteOutput.
+// Runs the command that the matches name, and flushes what it printed. Returns the status and the output. The status is that of the
+// command's answer: 0, or 1 for a refusal or a fault of a log, or 3 if a log can't be read to its end. Faults: those of the command,
+// and CannotWriteOutput.
 fn dispatch<R, I: TerminalInput, O: Write + Drop, E: TerminalOutput>(
     rt: &R,
     matches: &ArgMatches<'_>,

@@ -11,7 +11,7 @@ const QUIET_SECONDS: u64 = 2;
 
 /// Shows at a terminal how many lines and bytes have been read: on one line, after two seconds and then once a second.
 #[derive(Drop)]
-pub struct Progress<'a, R, E> {
+pub(crate) struct Progress<'a, R, E> {
     clock: &'a R,
     faults: &'a mut E,
 
@@ -27,8 +27,8 @@ pub struct Progress<'a, R, E> {
 }
 
 impl<'a, R: Clock, E: TerminalOutput> Progress<'a, R, E> {
-    /// Begins to count. Nothing is ever shown if `faults` is no terminal or the clock can't be read.
-    pub fn begin(clock: &'a R, faults: &'a mut E) -> Progress<'a, R, E>
+    /// Begins to count. Nothing is ever shown if `faults` is not a terminal or the clock can't be read.
+    pub(crate) fn begin(clock: &'a R, faults: &'a mut E) -> Progress<'a, R, E>
         ensures { (result.lines ≡ 0) × (result.bytes ≡ 0) }
     {
         let begun = if faults.is_terminal() {
@@ -65,7 +65,7 @@ impl<'a, R: Clock, E: TerminalOutput> Progress<'a, R, E> {
     }
 
     /// Clears the counts from the terminal, if they were shown.
-    pub fn end(self) {
+    pub(crate) fn end(self) {
         if self.shown_at.is_some() {
             let _ = self.faults.write_all(b"\r\x1b[K");
             let _ = self.faults.flush();
@@ -80,21 +80,24 @@ fn lines_in(bytes: &[u8]) -> u64 {
 
 /// A log's file that reports what is read from it to a `Progress`.
 #[derive(Drop)]
-pub struct Counted<'a, 'b, F, R, E> {
+pub(crate) struct ProgressFile<'a, 'b, F, R, E> {
     file: F,
     progress: &'a mut Progress<'b, R, E>,
 }
 
-impl<'a, 'b, F, R, E> Counted<'a, 'b, F, R, E> {
+impl<'a, 'b, F, R, E> ProgressFile<'a, 'b, F, R, E> {
     /// Wraps `file`, from which nothing has been read yet.
-    pub fn new(file: F, progress: &'a mut Progress<'b, R, E>) -> Counted<'a, 'b, F, R, E>
+    pub(crate) fn new(
+        file: F,
+        progress: &'a mut Progress<'b, R, E>,
+    ) -> ProgressFile<'a, 'b, F, R, E>
         ensures { result.file ≡ file }
     {
-        Counted { file, progress }
+        ProgressFile { file, progress }
     }
 }
 
-impl<F: Read, R: Clock, E: TerminalOutput> Read for Counted<'_, '_, F, R, E> {
+impl<F: Read, R: Clock, E: TerminalOutput> Read for ProgressFile<'_, '_, F, R, E> {
     ghost remaining = { λ counted. F.remaining counted.file };
 
     fn read(&mut self, buf: &mut [u8]) -> io::Result<usize> {

@@ -6,7 +6,7 @@ use otp_core::Sent;
 use sasl_log::{ClientLine, Line, read_line};
 
 /// The codes in a line without its LF: two texts if it is a SYNC line of the protocol; otherwise the line itself, as one text.
-pub fn sent_by(line: &[u8]) -> Sent<'_>
+pub(crate) fn codes_in(line: &[u8]) -> Sent<'_>
     ensures { SaysCodes line.now (texts_of result) }
 {
     match read_line(line) {

@@ -4,7 +4,7 @@ ghost use Rattle.std.specs.Io.KnownBytes.{Appends};
 ghost use Rattle.commands.specs.Verify.{is_passed, printed_reply, run_of, IsLineAnswered, IsUnprinted, CannotBeginToVerify, FailsAtLine};
 ghost use Rattle.commands.specs.Verify.{AnswersAllLines, AnswersFirstLines, VerifiesAllLines, VerifiesFirstLines};
 
-use crate::sent_codes::sent_by;
+use crate::sent_codes::codes_in;
 use account_book::{BookStore, Reply};
 use book_file::BookFileExt;
 use clap::ArgMatches;
@@ -25,10 +25,15 @@ use std::io::{BufRead, Write};
 use std::time::Clock;
 
 /// Checks the options in their order, holds and reads the book, answers each input line, and returns whether every code passed. At
-/// a terminal it asks for the codes once the book is held. Faults: BadValue, CannotRead or CannotWrite if the book can't be held,
-/// BadBook, NoSuchAccount and NoToken, in this order (no clause says so); then, for each line, CannotReadInput, CannotWrite and
-/// CannotWriteOutput; also NoMemory.
-pub fn verify<R, I, O, E>(
+/// a terminal it asks for the codes once the book is held.
+///
+/// Faults, the first that applies (no clause states the order):
+/// - BadValue of an option;
+/// - CannotRead or CannotWrite if the book can't be held, BadBook if it can't be read;
+/// - NoSuchAccount, NoToken;
+/// - then, for each line, CannotReadInput, CannotWrite and CannotWriteOutput;
+/// - NoMemory at any time.
+pub(crate) fn verify<R, I, O, E>(
     rt: &R,
     matches: &ArgMatches<'_>,
     input: &mut I,
@@ -43,7 +48,8 @@ where
     E: TerminalOutput,
     ensures ok { IfOk result (λ all_passed. VerifiesAllLines R.File.remaining R.File.contents matches.now (I.remaining input.old)
         (O.contents output.old) all_passed (O.contents output.new)) }
-    ensures err { IfErr result (λ fault. (CannotBeginToVerify R.File.remaining matches.now fault × (O.contents output.new ≡ O.contents output.old))
+    ensures err { IfErr result (λ fault.
+        (CannotBeginToVerify R.File.remaining matches.now fault × (O.contents output.new ≡ O.contents output.old))
         ⊎ VerifiesFirstLines R.File.remaining R.File.contents matches.now (I.remaining input.old) (O.contents output.old) fault
         (O.contents output.new)) }
 {
@@ -94,7 +100,7 @@ fn answer_line<S: BookStore, O: Write>(
         (run_of S.facts held.old (O.contents output.old)) fault (run_of S.facts held.new (O.contents output.new))) }
     ensures path { held.new.path.now ≡ held.old.path.now }
 {
-    let reply = held.attempt(alloc, name, moment, sent_by(line))?;
+    let reply = held.judge(alloc, name, moment, codes_in(line))?;
     print_reply(alloc, moment, reply, output)?;
     Ok(reply)
 }

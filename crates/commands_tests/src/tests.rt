@@ -131,7 +131,7 @@ fn text_of(bytes: &Vec<u8>) -> Option<&str> {
     str::from_utf8(bytes.as_slice()).ok()
 }
 
-// RFC 5802's example, and the first codes in RFC 4226, appendix D, and RFC 6238, appendix B.
+/// RFC 5802's example, and the first codes in RFC 4226, appendix D, and RFC 6238, appendix B.
 #[test]
 fn without_a_book(rt: HostRuntime) {
     let secret = "3132333435363738393031323334353637383930";
@@ -150,6 +150,7 @@ fn without_a_book(rt: HostRuntime) {
     }
 }
 
+/// A read that fails before or in the password ends the run with status 3. If memory ran out, it is this that is reported.
 #[test]
 fn failing_input(rt: HostRuntime) -> Result<(), Fail> {
     let alloc = rt.alloc();
@@ -179,7 +180,7 @@ fn failing_input(rt: HostRuntime) -> Result<(), Fail> {
     Ok(())
 }
 
-// No read is made after the first line: here it would fail.
+/// No read is made after the first line: here it would fail.
 #[test]
 fn input_after_the_first_line(rt: HostRuntime) -> Result<(), Fail> {
     let alloc = rt.alloc();
@@ -195,6 +196,7 @@ fn input_after_the_first_line(rt: HostRuntime) -> Result<(), Fail> {
     Ok(())
 }
 
+/// PRINTED has 96 bytes. An output that takes none of them, one, the first line, or all but one ends the run with status 3.
 #[test]
 fn failing_output(rt: HostRuntime) {
     for room in [0, 1, 48, 95] {
@@ -207,6 +209,7 @@ fn failing_output(rt: HostRuntime) {
     }
 }
 
+/// An output that takes every byte and then can't be flushed ends the run with status 3, also after help.
 #[test]
 fn output_that_is_not_handed_on(rt: HostRuntime) {
     let help = ["scramotp", "--help"];

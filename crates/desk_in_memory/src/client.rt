@@ -10,20 +10,20 @@ use std::test::Fail;
 
 /// A clock that advances by a second each time it is asked.
 #[derive(Drop)]
-pub struct Ticking {
+pub struct TickingClock {
     /// The moment that it gave last.
     pub at: Moment,
 }
 
-impl Ticking {
+impl TickingClock {
     /// A clock that next gives the second after this one; an error if this one is no moment.
-    pub fn after(seconds: u64) -> Result<Ticking, Fail> {
+    pub fn after(seconds: u64) -> Result<TickingClock, Fail> {
         let at = Moment::new(seconds).ok_or("a moment")?;
-        Ok(Ticking { at })
+        Ok(TickingClock { at })
     }
 }
 
-impl Clock for Ticking {
+impl Clock for TickingClock {
     ghost last = { λ c. c.at };
 
     fn now(&mut self) -> Moment {
@@ -88,7 +88,7 @@ impl Service {
         log_room: Room,
     ) -> Result<Result<Phase, ServeFault>, Fail> {
         let server_nonce = NoncePart::new(b"3rfcNHYJY1ZVvWVs7j").ok_or("a part of a nonce")?;
-        let mut clock = Ticking::after(0)?;
+        let mut clock = TickingClock::after(0)?;
         let Service { desk, wire, log } = self;
         let mut to_client = OverWrite::new(Device {
             taken: wire,
@@ -126,7 +126,7 @@ impl Service {
         &mut self,
         alloc: Global,
         client: &mut C,
-        clock: &mut Ticking,
+        clock: &mut TickingClock,
     ) -> Result<Result<Phase, ServeFault>, Fail> {
         let Service { desk, wire, log } = self;
         if desk.phase() == Phase::Closed {

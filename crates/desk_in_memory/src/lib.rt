@@ -6,7 +6,10 @@ mod login;
 mod memory;
 mod service;
 
-pub use client::{AMPLE, Room, Ticking};
-pub use login::{ACCEPTANCE, ANSWERS, BOOK, CHALLENGE, LOGGED, LOGIN, OPENS, PROVES, login_and};
-pub use memory::{Memory, When};
-pub use service::{Service, book_at, book_text};
+pub use client::{AMPLE, Room, TickingClock};
+pub use login::{
+    ACCEPTANCE, AUTH_LINE, BOOK, CHALLENGE, LOGIN_ANSWERS, LOGIN_LINES, LOGIN_LOG, RESP_LINE,
+    login_and,
+};
+pub use memory::{FailurePoint, MemoryStore};
+pub use service::{Service, book_text, book_text_with};

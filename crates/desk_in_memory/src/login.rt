@@ -19,14 +19,14 @@ stored = \"e9d94660c39d65c38fbad91c358f14da0eef2bd6\"
 ";
 
 /// The line by which its client begins the login.
-pub const OPENS: &str = "AUTH SCRAM-SHA-1 :n,,n=user,r=fyko+d2lbbFgONRv9qkxdawL";
+pub const AUTH_LINE: &str = "AUTH SCRAM-SHA-1 :n,,n=user,r=fyko+d2lbbFgONRv9qkxdawL";
 
 /// The line by which its client proves that it has the password.
-pub const PROVES: &str =
+pub const RESP_LINE: &str =
     "RESP :c=biws,r=fyko+d2lbbFgONRv9qkxdawL3rfcNHYJY1ZVvWVs7j,p=v0X8v3Bz2T0CJGbJQyF0X+HI4Ts=";
 
 /// What its client sends, line by line.
-pub const LOGIN: [&str; 2] = [OPENS, PROVES];
+pub const LOGIN_LINES: [&str; 2] = [AUTH_LINE, RESP_LINE];
 
 /// The challenge that is sent to its client.
 pub const CHALLENGE: &str =
@@ -36,13 +36,13 @@ pub const CHALLENGE: &str =
 pub const ACCEPTANCE: &str = "OK :v=rmF9pqV8S7suAoZWja4dJRkFsKQ=\n";
 
 /// All that is sent to its client.
-pub const ANSWERS: &str = "MECHS SCRAM-SHA-256 SCRAM-SHA-1
+pub const LOGIN_ANSWERS: &str = "MECHS SCRAM-SHA-256 SCRAM-SHA-1
 CONT :r=fyko+d2lbbFgONRv9qkxdawL3rfcNHYJY1ZVvWVs7j,s=QSXCR+Q6sek8bf92,i=4096
 OK :v=rmF9pqV8S7suAoZWja4dJRkFsKQ=
 ";
 
 /// Its log, from the first line on.
-pub const LOGGED: &str = "SCRAMLOG 1
+pub const LOGIN_LOG: &str = "SCRAMLOG 1
 S MECHS SCRAM-SHA-256 SCRAM-SHA-1
 C AUTH SCRAM-SHA-1 :n,,n=user,r=fyko+d2lbbFgONRv9qkxdawL
 S CONT :r=fyko+d2lbbFgONRv9qkxdawL3rfcNHYJY1ZVvWVs7j,s=QSXCR+Q6sek8bf92,i=4096
@@ -52,5 +52,5 @@ S OK :v=rmF9pqV8S7suAoZWja4dJRkFsKQ=
 
 /// What its client sends, and then this; an error if memory runs out.
 pub fn login_and(alloc: Global, rest: &str) -> Result<String, Fail> {
-    Ok(format!(in alloc; "{OPENS}\n{PROVES}\n{rest}")?)
+    Ok(format!(in alloc; "{AUTH_LINE}\n{RESP_LINE}\n{rest}")?)
 }

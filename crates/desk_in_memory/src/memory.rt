@@ -6,7 +6,7 @@ use std::alloc::Global;
 
 /// When a save fails.
 #[derive(Clone, Copy)]
-pub enum When {
+pub enum FailurePoint {
     /// Before the new text is in its place.
     Before,
 
@@ -16,7 +16,7 @@ pub enum When {
 
 /// A store whose device is memory.
 #[derive(Drop)]
-pub struct Memory {
+pub struct MemoryStore {
     /// The text that it holds.
     pub saved: String,
 
@@ -33,31 +33,31 @@ pub struct Memory {
     ghost room: { failed ≡ false → saves + 1 < 2 ^ 64 },
 }
 
-impl Memory {
+impl MemoryStore {
     /// A store that holds an empty text, and of which no save fails.
-    pub fn sound(alloc: Global) -> Memory
+    pub fn sound(alloc: Global) -> MemoryStore
         ensures { result.saves ≡ 0 }
     {
-        Memory::failing_at(alloc, 0, When::Before)
+        MemoryStore::failing_at(alloc, 0, FailurePoint::Before)
     }
 
     /// A store that holds an empty text. The save of the number `failing`, counted from 1, fails, before or after the new text is
     /// in its place; if the number is 0, none does.
-    pub fn failing_at(alloc: Global, failing: u64, when: When) -> Memory
+    pub fn failing_at(alloc: Global, failing: u64, when: FailurePoint) -> MemoryStore
         ensures { result.saves ≡ 0 }
     {
-        Memory {
+        MemoryStore {
             saved: String::new(alloc),
             asked: None,
             failed: false,
             saves: 0,
             failing,
-            is_late: matches!(when, When::After),
+            is_late: matches!(when, FailurePoint::After),
         }
     }
 }
 
-impl BookStore for Memory {
+impl BookStore for MemoryStore {
     ghost facts = { λ s. record {
       saved = string_bytes s.saved;
       asked = unwrap_or (option_map string_bytes s.asked) (string_bytes s.saved);

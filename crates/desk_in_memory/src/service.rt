@@ -1,6 +1,6 @@
 //! A desk over memory, and what it has written.
-use crate::login::{ANSWERS, BOOK, LOGGED};
-use crate::memory::Memory;
+use crate::login::{BOOK, LOGIN_ANSWERS, LOGIN_LOG};
+use crate::memory::MemoryStore;
 use account_book::Book;
 use sasl_desk::{Desk, DeskFault, Event, Moment, Phase};
 use sasl_log::{Clean, OverRead, audit};
@@ -12,7 +12,7 @@ use std::test::Fail;
 #[derive(Drop)]
 pub struct Service {
     /// The desk.
-    pub desk: Desk<Memory>,
+    pub desk: Desk<MemoryStore>,
 
     /// What its clients were sent.
     pub wire: Vec<u8>,
@@ -24,7 +24,7 @@ pub struct Service {
 /// The text of a book whose user has a token with the secret of RFC 4226, appendix D, after this many failures and with this
 /// counter next. Three failures lock it. It looks three counters ahead, and eight for two codes in a row. An error if memory
 /// runs out.
-pub fn book_at(alloc: Global, failures: u64, next: u64) -> Result<String, Fail> {
+pub fn book_text_with(alloc: Global, failures: u64, next: u64) -> Result<String, Fail> {
     Ok(format!(in alloc;
         "{BOOK}
 [accounts.user.token]
@@ -42,7 +42,7 @@ sync_ahead = 8
 
 /// The text of the book that each service begins with: no code of its user's token was tried. An error if memory runs out.
 pub fn book_text(alloc: Global) -> Result<String, Fail> {
-    book_at(alloc, 0, 0)
+    book_text_with(alloc, 0, 0)
 }
 
 // An error that shows both, unless the bytes are this text.
@@ -56,7 +56,7 @@ fn check_text(alloc: Global, what: &str, bytes: &[u8], wanted: &str) -> Result<(
 
 impl Service {
     /// A service over this store; an error if its desk cannot begin.
-    pub fn begin(alloc: Global, store: Memory) -> Result<Service, Fail> {
+    pub fn begin(alloc: Global, store: MemoryStore) -> Result<Service, Fail> {
         let book = Book::read(alloc, book_text(alloc)?.as_bytes())?;
         let mut log = Vec::new(alloc);
         match Desk::begin(alloc, book, store, &mut log) {
@@ -111,7 +111,7 @@ impl Service {
     }
 
     /// An error unless, after the published login, `told` was sent to its client and `logged` was added to the log, and an
-    /// audit finds the log clean, with `codes_passed` codes passed.
+    /// audit finds the log clean, with `codes_passed` PASS lines.
     pub fn check_after_login(
         &self,
         alloc: Global,
@@ -122,7 +122,7 @@ impl Service {
         let sent = self
             .wire
             .as_slice()
-            .strip_prefix(ANSWERS.as_bytes())
+            .strip_prefix(LOGIN_ANSWERS.as_bytes())
             .ok_or("what the client is sent in its login")?;
         check_text(
             alloc,
@@ -133,7 +133,7 @@ impl Service {
         let added = self
             .log
             .as_slice()
-            .strip_prefix(LOGGED.as_bytes())
+            .strip_prefix(LOGIN_LOG.as_bytes())
             .ok_or("the log of the login")?;
         check_text(alloc, "the log after the login", added, logged)?;
         let counts = Clean {

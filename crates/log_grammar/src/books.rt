@@ -5,30 +5,21 @@ ghost use Rattle.book_format.specs.Book.{BookFields, IsBook};
 ghost use Rattle.log_grammar.specs.Bytes.{IsSplit};
 ghost use Rattle.log_grammar.specs.Demands.{AllCanBeChallenged};
 ghost use Rattle.log_grammar.specs.Books.{accounts_in};
-ghost use Rattle.log_grammar.specs.Versions.{IsFront, IsFaultLine, BeginsClean, IsFirstOutsideCleanLogs};
+ghost use Rattle.log_grammar.specs.Versions.{IsLogFront, IsFaultLine, BeginsClean, IsFirstOutsideCleanLogs};
 
-use crate::by_sessions::{fault_lines_begin_no_clean_log, fronts_are_what_begins_clean_logs};
-use crate::laws::fronts_begin_clean;
+use crate::by_sessions::fault_lines_begin_no_clean_log;
+use crate::laws::fronts_are_what_begins_clean_logs;
 
 /// A challenge can be written for each account of a book, and for each decoy.
 pub fn books_can_be_challenged()
     ensures { (book : BookFields) → IsBook book → AllCanBeChallenged (accounts_in book) }
 {}
 
-/// Each front begins a clean log, for every account book: what a log may begin with can be completed to a clean log. Follows from
-/// `fronts_of_books_are_what_begins_clean_logs`, since a front is whole lines.
-pub fn fronts_of_books_begin_clean()
-    ensures { (book : BookFields) → IsBook book → (bytes : List ℕ) → IsFront (accounts_in book) bytes
-        → BeginsClean (accounts_in book) bytes }
-{
-    fronts_begin_clean();
-    books_can_be_challenged();
-}
-
-/// Whole lines are a front if and only if they begin a clean log, for every account book.
+/// Whole lines are a front if and only if they begin a clean log, for every account book: what a log may begin with can be completed
+/// to a clean log.
 pub fn fronts_of_books_are_what_begins_clean_logs()
     ensures { (book : BookFields) → IsBook book → (bytes : List ℕ) (texts : List (List ℕ)) → IsSplit bytes texts []
-        → IsFront (accounts_in book) bytes ↔ BeginsClean (accounts_in book) bytes }
+        → IsLogFront (accounts_in book) bytes ↔ BeginsClean (accounts_in book) bytes }
 {
     fronts_are_what_begins_clean_logs();
     books_can_be_challenged();

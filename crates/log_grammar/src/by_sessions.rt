@@ -1,9 +1,9 @@
 //! What an audit's answer means: a clean log is that of sessions, and the line at fault is the first with which the lines begin no
 //! clean log.
-ghost use Rattle.log_grammar.specs.laws.BySessions.{CleanLogsAreThoseOfSessions, FrontsAreWhatBeginsCleanLogs, FaultLinesBeginNoCleanLog};
+ghost use Rattle.log_grammar.specs.laws.BySessions.{CleanLogsAreThoseOfSessions, FaultLinesBeginNoCleanLog};
 ghost use Rattle.log_grammar.specs.laws.BySessions.{EachCodeIsOfItsLogin, EachReplyDueFollowsItsLogin};
 
-use crate::laws::fronts_begin_clean;
+use crate::laws::fronts_are_what_begins_clean_logs;
 
 /// A log of version 1 is clean if and only if all of these hold:
 ///
@@ -27,18 +27,11 @@ pub fn each_reply_due_follows_its_login()
     ensures { EachReplyDueFollowsItsLogin }
 {}
 
-/// If a challenge can be written for each account and decoy, whole lines are a front if and only if they begin a clean log.
-pub fn fronts_are_what_begins_clean_logs()
-    ensures { FrontsAreWhatBeginsCleanLogs }
-{
-    fronts_begin_clean();
-}
-
 /// If a challenge can be written for each account and decoy, line k is the fault line if and only if k is the least number such
 /// that the first k lines begin no clean log. If all lines begin one but the bytes are not clean, k is the number after that of the
 /// last line.
 pub fn fault_lines_begin_no_clean_log()
     ensures { FaultLinesBeginNoCleanLog }
 {
-    fronts_begin_clean();
+    fronts_are_what_begins_clean_logs();
 }

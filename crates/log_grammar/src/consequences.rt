@@ -3,13 +3,13 @@ ghost use Rattle.std.specs.Prelude.{ℕ, ◌≡◌, ◌⊎◌, ◌↔◌, List, 
 ghost use Rattle.log_grammar.specs.Payload.{IsMessage};
 ghost use Rattle.log_grammar.specs.Lines.{Line, LogLine, client_text, resp, IsLine, IsLogLine, IsNoLogLine};
 ghost use Rattle.log_grammar.specs.Bytes.{ended_by_lf, IsSplit};
-ghost use Rattle.log_grammar.specs.LoggedReply.{LoggedReply};
+ghost use Rattle.log_grammar.specs.LoggedAttempt.{LoggedAttempt};
 ghost use Rattle.log_grammar.specs.Places.{Place};
-ghost use Rattle.log_grammar.specs.Demands.{Accounts, demands, AreReplies};
+ghost use Rattle.log_grammar.specs.Demands.{Accounts, demands, HaveDueReplies};
 ghost use Rattle.log_grammar.specs.laws.Histories.{IsHistory};
 ghost use Rattle.log_grammar.specs.state_machine.Steps.{IsTransition, told_at};
 ghost use Rattle.log_grammar.specs.Begins.{Spells, Begins, AreLines};
-ghost use Rattle.log_grammar.specs.Versions.{IsFront, IsClean, IsFaultLine, IsWhy};
+ghost use Rattle.log_grammar.specs.Versions.{IsLogFront, IsClean, IsFaultLine, IsWhy};
 ghost use Rattle.log_grammar.specs.Why.{Why};
 
 use crate::laws::{
@@ -52,11 +52,11 @@ pub fn lines_bear_one_message()
 /// What a log begins with can continue with a line if and only if the line may stand at its place and, if it is a reply, is the one
 /// due. This is what a reader or a writer of a log has to decide at each line, its ranges aside.
 pub fn logs_go_on_exactly_so()
-    ensures { (accounts : Accounts) (log : List LogLine) (place : Place) (told : List LoggedReply) (line : LogLine) (next : Place)
-        (all : List LoggedReply)
+    ensures { (accounts : Accounts) (log : List LogLine) (place : Place) (told : List LoggedAttempt) (line : LogLine) (next : Place)
+        (all : List LoggedAttempt)
         → Begins (demands accounts) log place told
         → Begins (demands accounts) (log ++ line ∷ []) next all
-        ↔ (IsTransition (demands accounts) place line next × AreReplies (demands accounts) (reverse told) (told_at place line)
+        ↔ (IsTransition (demands accounts) place line next × HaveDueReplies (demands accounts) (reverse told) (told_at place line)
         × (all ≡ told ++ told_at place line)) }
 {
     goes_on_by_a_line();
@@ -67,7 +67,7 @@ pub fn logs_go_on_exactly_so()
 /// The first lines of a clean log are a front.
 pub fn first_lines_of_clean_logs_are_fronts()
     ensures { (accounts : Accounts) (bytes : List ℕ) (texts : List (List ℕ)) (k : ℕ)
-        → IsClean accounts bytes → IsSplit bytes texts [] → IsFront accounts (ended_by_lf (take k texts)) }
+        → IsClean accounts bytes → IsSplit bytes texts [] → IsLogFront accounts (ended_by_lf (take k texts)) }
 {
     clean_logs_are_fronts();
     fronts_begin_with_fronts();
@@ -105,7 +105,7 @@ pub fn each_log_has_one_answer()
 /// In a log that is read from bytes, the replies recorded for each account are a legal history of its token; if it has no token,
 /// none of its codes has a reply.
 pub fn logs_have_legal_histories()
-    ensures { (accounts : Accounts) (bytes : List ℕ) (lines : List LogLine) (rest : List ℕ) (place : Place) (told : List LoggedReply)
+    ensures { (accounts : Accounts) (bytes : List ℕ) (lines : List LogLine) (rest : List ℕ) (place : Place) (told : List LoggedAttempt)
         → AreLines bytes lines rest → Spells (demands accounts) lines place told
         → (account : List ℕ) → IsHistory (accounts.token account) account told }
 {

@@ -11,7 +11,7 @@ ghost use Rattle.log_grammar.specs.Lines.{LogLine, header, said, heard, gone, en
 ghost use Rattle.log_grammar.specs.Lines.{sync};
 ghost use Rattle.log_grammar.specs.Bytes.{LacksLf, ended_by_lf};
 ghost use Rattle.log_grammar.specs.Counts.{counts_of};
-ghost use Rattle.log_grammar.specs.LoggedReply.{LoggedReply};
+ghost use Rattle.log_grammar.specs.LoggedAttempt.{LoggedAttempt};
 ghost use Rattle.log_grammar.specs.Places.{Place, halted};
 ghost use Rattle.log_grammar.specs.Demands.{Accounts, demands};
 ghost use Rattle.log_grammar.specs.Sessions.{Session, session_lines};
@@ -102,11 +102,11 @@ pub fn faulty_logs()
 
 /// A log that ends with a halt is clean, and any line that follows a halt is at fault: nothing is due after it.
 pub fn halt_is_last()
-    ensures clean { (accounts : Accounts) (texts : List (List ℕ)) (log : List LogLine) (told : List LoggedReply)
+    ensures clean { (accounts : Accounts) (texts : List (List ℕ)) (log : List LogLine) (told : List LoggedAttempt)
         → AreWhole texts log → Begins (demands accounts) log halted told → IsClean accounts (ended_by_lf texts) }
-    ensures none { (accounts : Accounts) (log : List LogLine) (told : List LoggedReply) (class : LineClass)
+    ensures none { (accounts : Accounts) (log : List LogLine) (told : List LoggedAttempt) (class : LineClass)
         → Begins (demands accounts) log halted told → IsClassDue log class → ⊥ }
-    ensures more { (accounts : Accounts) (texts : List (List ℕ)) (log : List LogLine) (told : List LoggedReply)
+    ensures more { (accounts : Accounts) (texts : List (List ℕ)) (log : List LogLine) (told : List LoggedAttempt)
         (text : List ℕ) (line : LogLine) → AreWhole (texts ++ text ∷ []) (log ++ line ∷ [])
         → Begins (demands accounts) log halted told
         → IsWhy accounts (ended_by_lf (texts ++ text ∷ [])) (length texts + 1) out_of_order }
@@ -125,15 +125,15 @@ pub fn lines_end_with_lf()
 /// After whole lines that a log of version 1 may begin with, bytes without an LF are a log that is cut if there are at most 6202,
 /// else they are no line; nor is a whole line with more bytes. This also holds for a part of a line after a halt.
 pub fn lines_have_6202_bytes_at_most()
-    ensures part { (accounts : Accounts) (texts : List (List ℕ)) (log : List LogLine) (place : Place) (told : List LoggedReply)
+    ensures part { (accounts : Accounts) (texts : List (List ℕ)) (log : List LogLine) (place : Place) (told : List LoggedAttempt)
         (rest : List ℕ)
         → AreWhole texts log → Begins (demands accounts) log place told → LacksLf rest → 1 ≤ length rest → length rest ≤ 6202
         → IsWhy accounts (ended_by_lf texts ++ rest) (length texts + 1) is_cut }
-    ensures long_part { (accounts : Accounts) (texts : List (List ℕ)) (log : List LogLine) (place : Place) (told : List LoggedReply)
+    ensures long_part { (accounts : Accounts) (texts : List (List ℕ)) (log : List LogLine) (place : Place) (told : List LoggedAttempt)
         (rest : List ℕ)
         → AreWhole texts log → Begins (demands accounts) log place told → LacksLf rest → 6203 ≤ length rest
         → IsWhy accounts (ended_by_lf texts ++ rest) (length texts + 1) no_line }
-    ensures long_line { (accounts : Accounts) (texts : List (List ℕ)) (log : List LogLine) (place : Place) (told : List LoggedReply)
+    ensures long_line { (accounts : Accounts) (texts : List (List ℕ)) (log : List LogLine) (place : Place) (told : List LoggedAttempt)
         (text : List ℕ)
         → AreWhole texts log → Begins (demands accounts) log place told → LacksLf text → 6203 ≤ length text
         → IsWhy accounts (ended_by_lf (texts ++ text ∷ [])) (length texts + 1) no_line }

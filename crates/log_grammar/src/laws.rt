@@ -1,9 +1,10 @@
 //! Laws of lines and logs, for proofs that build on this crate. Each is the contract of a function that does nothing.
 ghost use Rattle.log_grammar.specs.laws.LineLaws.{EscapesOneMessage, EachTextIsAtMostOneLine, EachTextIsAtMostOneLogLine, LineIsDecided};
-ghost use Rattle.log_grammar.specs.laws.LineLaws.{LogLineIsDecided, WrittenLinesAreRead, LinesLackLf, BytesAreSplit, BytesAreSplitOneWay};
+ghost use Rattle.log_grammar.specs.laws.LineLaws.{LogLineIsDecided, LinesLackLf, BytesAreSplit, BytesAreSplitOneWay};
 ghost use Rattle.log_grammar.specs.laws.LogLaws.{GoesOnByALine, GoesOnByNoOther, LogsHaveOneReading, FrontsBeginWithFronts};
 ghost use Rattle.log_grammar.specs.laws.LogLaws.{CleanLogsAreFronts, EachAccountHasItsHistory, MomentsAreInRange, HasOneFaultLine};
-ghost use Rattle.log_grammar.specs.laws.LogLaws.{EachFaultHasOneReason, EachLogIsJudged, ClassesFollowThePlace, FrontsBeginClean};
+ghost use Rattle.log_grammar.specs.laws.LogLaws.{EachFaultHasOneReason, EachLogIsJudged, ClassesFollowThePlace};
+ghost use Rattle.log_grammar.specs.laws.LogLaws.{FrontsAreWhatBeginsCleanLogs};
 
 use otp_core::laws::{only_one_reply_is_due, some_reply_is_due};
 use scram_ends::laws::{at_most_one_verdict_is_due, some_verdict_is_due};
@@ -36,15 +37,6 @@ pub fn line_is_decided()
 pub fn log_line_is_decided()
     ensures { LogLineIsDecided }
 {}
-
-/// A written line is read as the same line: the text of a line in its ranges, if it has at most 6202 bytes, is this line and no
-/// other, and contains no LF.
-pub fn written_lines_are_read()
-    ensures { WrittenLinesAreRead }
-{
-    each_text_is_at_most_one_log_line();
-    lines_lack_lf();
-}
 
 /// The text of a line contains no LF.
 pub fn lines_lack_lf()
@@ -138,10 +130,10 @@ pub fn classes_follow_the_place()
     ensures { ClassesFollowThePlace }
 {}
 
-/// Each front begins a clean log, if a challenge can be written for each account and decoy: whatever a log may begin with can be
-/// completed to a clean log.
-pub fn fronts_begin_clean()
-    ensures { FrontsBeginClean }
+/// If a challenge can be written for each account and decoy, whole lines are a front if and only if they begin a clean log: whatever
+/// a log may begin with can be completed to a clean log.
+pub fn fronts_are_what_begins_clean_logs()
+    ensures { FrontsAreWhatBeginsCleanLogs }
 {
     has_one_client_first();
     client_first_is_decided();

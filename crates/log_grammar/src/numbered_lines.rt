@@ -1,5 +1,5 @@
 //! Laws of the lines of a log of version 2. Each is the contract of a function that does nothing.
-ghost use Rattle.log_grammar.specs.laws.NumberedLineLaws.{IsOneNumberedLineOrNone, UnnumberedLinesAreNone, WrittenNumberedLinesAreRead};
+ghost use Rattle.log_grammar.specs.laws.NumberedLineLaws.{IsOneNumberedLineOrNone, UnnumberedLinesAreNone, NumberedLinesLackLf};
 ghost use Rattle.log_grammar.specs.laws.NumberedLineLaws.{NumbersGoBeforeLines};
 
 /// Each text is one numbered line or none.
@@ -12,10 +12,9 @@ pub fn unnumbered_lines_are_none()
     ensures { UnnumberedLinesAreNone }
 {}
 
-/// A written line is read as the same line: the text of a number in its range and of a line that can be written is read as this
-/// numbered line and no other, contains no LF, and has at most 6222 bytes.
-pub fn written_numbered_lines_are_read()
-    ensures { WrittenNumberedLinesAreRead }
+/// The text of a numbered line contains no LF, and has at most 6222 bytes.
+pub fn numbered_lines_lack_lf()
+    ensures { NumberedLinesLackLf }
 {}
 
 /// A number in its range, a space and a text are a numbered line if and only if the text is a line that may have a number; the

@@ -1,7 +1,7 @@
 //! Laws of whole logs of version 2, as bytes, for every limit of open sessions. Each is the contract of a function that does
 //! nothing.
-ghost use Rattle.log_grammar.specs.laws.NumberedLogLaws.{EachNumberedLogIsJudged, NumberedLogsHaveOneWhy, NumberedFrontsBeginWithFronts};
-ghost use Rattle.log_grammar.specs.laws.NumberedLogLaws.{NumberedFrontsBeginClean};
+ghost use Rattle.log_grammar.specs.laws.NumberedLogLaws.{EachNumberedLogIsJudged, HasOneNumberedFaultLine, EachNumberedFaultHasOneReason};
+ghost use Rattle.log_grammar.specs.laws.NumberedLogLaws.{NumberedFrontsBeginWithFronts, NumberedFrontsBeginClean};
 
 use otp_core::laws::{only_one_reply_is_due, some_reply_is_due};
 use scram_ends::laws::{at_most_one_verdict_is_due, some_verdict_is_due};
@@ -28,9 +28,14 @@ pub fn each_numbered_log_is_judged()
     some_reply_is_due();
 }
 
-/// At most one line of a log is at fault, for at most one reason.
-pub fn numbered_logs_have_one_why()
-    ensures { NumberedLogsHaveOneWhy }
+/// Bytes have at most one fault line.
+pub fn has_one_numbered_fault_line()
+    ensures { HasOneNumberedFaultLine }
+{}
+
+/// There is at most one reason why a line is at fault.
+pub fn each_numbered_fault_has_one_reason()
+    ensures { EachNumberedFaultHasOneReason }
 {
     has_one_client_first();
     spells_one_name();

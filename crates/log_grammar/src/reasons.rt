@@ -3,7 +3,7 @@
 ghost use Rattle.log_grammar.specs.laws.Reasons.{DueRepliesCanBeWritten, WhatIsDueMayStand, EachLineThatIsDueMayStand};
 ghost use Rattle.log_grammar.specs.laws.Reasons.{FaultsHoldWhateverFollows};
 
-use crate::laws::fronts_begin_clean;
+use crate::laws::fronts_are_what_begins_clean_logs;
 
 /// What a reason names as due may stand, in a log of version 1, if a challenge can be written for each account and decoy. If the
 /// reason names the mechanisms, a challenge, an outcome, or a reply whose counter is in its range (`due_replies_can_be_written`
@@ -13,7 +13,7 @@ pub fn what_is_due_may_stand()
     ensures some { WhatIsDueMayStand }
     ensures each { EachLineThatIsDueMayStand }
 {
-    fronts_begin_clean();
+    fronts_are_what_begins_clean_logs();
 }
 
 /// If a whole line is at fault, it is at fault for the same reason in all bytes that begin with the same lines, whatever follows

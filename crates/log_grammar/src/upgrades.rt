@@ -30,7 +30,7 @@ pub fn upgraded_logs_have_the_same_fault()
     logs_have_one_judgement();
 }
 
-/// An upgraded log has as many sessions, accepted logins and passed codes as the old one.
+/// An upgraded log has as many sessions, accepted logins and PASS lines as the old one.
 pub fn upgraded_logs_have_the_same_counts()
     ensures { UpgradedLogsHaveTheSameCounts }
 {}

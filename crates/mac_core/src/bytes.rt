@@ -1,5 +1,5 @@
-//! Copies of bytes in fixed buffers.
-ghost use Rattle.std.specs.Prelude.{◌≡◌, ◌≤◌, length};
+//! Copies of bytes in fixed buffers, and the law that the elements of a slice are bytes.
+ghost use Rattle.std.specs.Prelude.{◌≡◌, ◌≤◌, ◌<◌, ℕ, length, slice_index};
 
 use arrayvec::ArrayVec;
 
@@ -13,3 +13,9 @@ pub fn copy_of<const N: usize>(bytes: &[u8]) -> ArrayVec<u8, N>
     };
     copy
 }
+
+/// A law, which does nothing at run time: the elements of a slice are bytes by their type, so each is less than 256. Only a
+/// caller's proof needs it.
+pub fn law_of_bytes(bytes: &[u8])
+    ensures { (i : ℕ) → slice_index bytes.now i < 256 }
+{}

@@ -19,7 +19,7 @@ pub mod hmac;
 mod keys;
 mod mechanism;
 
-pub use bytes::copy_of;
+pub use bytes::{copy_of, law_of_bytes};
 pub use digest::{HSha1, HSha256, HSha512, HashFn, Tag};
 pub use hmac::PreparedKey;
 pub use keys::{ScramKeys, client_key, hi, scram_keys, server_key, stored_key, xor};

@@ -167,8 +167,29 @@ const COUNTED: [u8; 128] = [
     117, 118, 119, 120, 121, 122, 123, 124, 125, 126, 127,
 ];
 
+// The keys of RFC 5802's user, whose password is `pencil`, computed with Python's hashlib: the salted password, and what follows
+// from it.
+const SALTED: &str = "1d96ee3a529b5a5f9e47c01f229a2cb8a6e15f7d";
+
+const CLIENT: &str = "e234c47bf6c36696dd6d852b99aaa2ba26555728";
+
+const STORED: &str = "e9d94660c39d65c38fbad91c358f14da0eef2bd6";
+
+const SERVER: &str = "0fe09258b3ac852ba502cc62ba903eaacdbf7d31";
+
 fn hex_of(alloc: Global, tag: &Tag) -> Result<String, AllocError> {
     hex::encode(alloc, tag.as_slice())
+}
+
+// Asserts that the tag is the one that `want` spells in hexadecimal; `at` says what it is.
+fn check_tag(
+    rt: &(impl Abort + AllocGlobal),
+    tag: &Tag,
+    want: &str,
+    at: &str,
+) -> Result<(), AllocError> {
+    assert_eq!(rt; hex_of(rt.alloc(), tag)?.as_str(), want, "{at}");
+    Ok(())
 }
 
 // Checks one MAC, computed in each way: at once, with a prepared key, and with its text cut into two
@@ -182,11 +203,9 @@ fn check_mac<H: HashFn>(
     let alloc = rt.alloc();
     let prepared = PreparedKey::<H>::new(key);
     for tag in [mac::<H>(key, text), prepared.mac(text)] {
+        let found = hex_of(alloc, &tag)?;
         assert_eq!(rt; tag.len(), H::LEN, "want {want}");
-        assert!(rt;
-            hex_of(alloc, &tag)?.as_str().starts_with(want),
-            "want {want}"
-        );
+        assert!(rt; found.as_str().starts_with(want), "{found}, want {want}");
     }
     for cut in 0..=text.len() {
         let (front, back) = text.split_at(cut);
@@ -196,17 +215,18 @@ fn check_mac<H: HashFn>(
         running.add(back);
         copied.add(back);
         for tag in [running.done(), copied.done()] {
+            let found = hex_of(alloc, &tag)?;
             assert_eq!(rt; tag.len(), H::LEN, "cut at {cut}, want {want}");
             assert!(rt;
-                hex_of(alloc, &tag)?.as_str().starts_with(want),
-                "cut at {cut}, want {want}"
+                found.as_str().starts_with(want),
+                "cut at {cut}: {found}, want {want}"
             );
         }
     }
     Ok(())
 }
 
-// RFC 2202, section 3, and RFC 6070's first case, whose first round is one MAC.
+/// RFC 2202, section 3, and RFC 6070's first case, whose first round is one MAC.
 #[test]
 fn hmac_sha1(rt: HostRuntime) -> Result<(), Fail> {
     for (key, text, want) in SHA1_MACS {
@@ -215,7 +235,7 @@ fn hmac_sha1(rt: HostRuntime) -> Result<(), Fail> {
     Ok(())
 }
 
-// RFC 4231, sections 4.2 to 4.8.
+/// RFC 4231, sections 4.2 to 4.8.
 #[test]
 fn hmac_sha256(rt: HostRuntime) -> Result<(), Fail> {
     for (key, text, want, _) in SHA2_MACS {
@@ -224,7 +244,7 @@ fn hmac_sha256(rt: HostRuntime) -> Result<(), Fail> {
     Ok(())
 }
 
-// RFC 4231, sections 4.2 to 4.8.
+/// RFC 4231, sections 4.2 to 4.8.
 #[test]
 fn hmac_sha512(rt: HostRuntime) -> Result<(), Fail> {
     for (key, text, _, want) in SHA2_MACS {
@@ -233,7 +253,7 @@ fn hmac_sha512(rt: HostRuntime) -> Result<(), Fail> {
     Ok(())
 }
 
-// NIST's examples of keys as long as a block.
+/// NIST's examples of keys as long as a block.
 #[test]
 fn keys_of_one_block(rt: HostRuntime) -> Result<(), Fail> {
     let text = b"Sample message for keylen=blocklen";
@@ -258,33 +278,33 @@ fn keys_of_one_block(rt: HostRuntime) -> Result<(), Fail> {
     Ok(())
 }
 
-// RFC 6070 without its case of two blocks, and without the longest case, which is tested below.
+/// RFC 6070 without its case of two blocks, and without the longest case, which is tested below.
 #[test]
 fn hi_by_sha1(rt: HostRuntime) -> Result<(), Fail> {
     for (password, salt, count, want) in SHA1_KEYS {
-        let key = hi::<HSha1>(password, salt, count);
+        let found = hex_of(rt.alloc(), &hi::<HSha1>(password, salt, count))?;
         assert!(rt;
-            hex_of(rt.alloc(), &key)?.as_str().starts_with(want),
-            "at {count}"
+            found.as_str().starts_with(want),
+            "{count} rounds: {found}, want {want}"
         );
     }
     Ok(())
 }
 
-// The first block of the outputs of RFC 7914, section 11.
+/// The first block of the outputs of RFC 7914, section 11.
 #[test]
 fn hi_by_sha256(rt: HostRuntime) -> Result<(), Fail> {
     for (password, salt, count, want) in SHA256_KEYS {
-        let key = hi::<HSha256>(password, salt, count);
+        let found = hex_of(rt.alloc(), &hi::<HSha256>(password, salt, count))?;
         assert!(rt;
-            hex_of(rt.alloc(), &key)?.as_str().starts_with(want),
-            "at {count}"
+            found.as_str().starts_with(want),
+            "{count} rounds: {found}, want {want}"
         );
     }
     Ok(())
 }
 
-// The longest case of RFC 6070: it takes some seconds as compiled code, and minutes in an interpreter.
+/// The longest case of RFC 6070: it takes some seconds as compiled code, and minutes in an interpreter.
 #[test]
 fn hi_at_its_longest_case(rt: HostRuntime) -> Result<(), Fail> {
     let tag = hi::<HSha1>(b"password", b"salt", 16777216);
@@ -295,11 +315,10 @@ fn hi_at_its_longest_case(rt: HostRuntime) -> Result<(), Fail> {
     Ok(())
 }
 
-// RFC 5802, section 5: the client's proof and the server's signature. The RFC prints no keys: those from which they follow are
-// computed with Python's hashlib.
+/// RFC 5802, section 5: the client's proof and the server's signature. The RFC prints no keys: those from which they follow are
+/// computed with Python's hashlib.
 #[test]
 fn keys_of_the_example(rt: HostRuntime) -> Result<(), Fail> {
-    let alloc = rt.alloc();
     let salted = hi::<HSha1>(b"pencil", &SALT, 4096);
     let client = client_key::<HSha1>(&salted);
     let stored = stored_key::<HSha1>(&client);
@@ -307,33 +326,38 @@ fn keys_of_the_example(rt: HostRuntime) -> Result<(), Fail> {
     let both = scram_keys::<HSha1>(b"pencil", &SALT, 4096);
     let signature = mac::<HSha1>(stored.as_slice(), AUTH_MESSAGE.as_bytes());
     let values = [
-        (&salted, "1d96ee3a529b5a5f9e47c01f229a2cb8a6e15f7d"),
-        (&client, "e234c47bf6c36696dd6d852b99aaa2ba26555728"),
-        (&stored, "e9d94660c39d65c38fbad91c358f14da0eef2bd6"),
-        (&both.stored, "e9d94660c39d65c38fbad91c358f14da0eef2bd6"),
-        (&server, "0fe09258b3ac852ba502cc62ba903eaacdbf7d31"),
-        (&both.server, "0fe09258b3ac852ba502cc62ba903eaacdbf7d31"),
+        (&salted, SALTED, "SaltedPassword"),
+        (&client, CLIENT, "ClientKey"),
+        (&stored, STORED, "StoredKey"),
+        (&both.stored, STORED, "StoredKey of both"),
+        (&server, SERVER, "ServerKey"),
+        (&both.server, SERVER, "ServerKey of both"),
         (
             &xor(&client, &signature),
             "bf45fcbf7073d93d022466c94321745fe1c8e13b",
+            "ClientProof",
         ),
         (
             &mac::<HSha1>(server.as_slice(), AUTH_MESSAGE.as_bytes()),
             "ae617da6a57c4bbb2e0286568dae1d251905b0a4",
+            "ServerSignature",
         ),
     ];
-    for (tag, want) in values {
-        assert_eq!(rt; hex_of(alloc, tag)?.as_str(), want);
+    for (tag, want, at) in values {
+        check_tag(&rt, tag, want, at)?;
     }
     Ok(())
 }
 
+/// The names of RFC 5802, section 4, and RFC 7677, section 3. Beginnings of names, and names in lower case or with `-PLUS`, are none.
 #[test]
 fn mechanism_names(rt: HostRuntime) {
     for mechanism in [Mechanism::ScramSha1, Mechanism::ScramSha256] {
+        let name = mechanism.name();
         assert_eq!(rt;
-            Mechanism::of_name(mechanism.name().as_bytes()),
-            Some(mechanism)
+            Mechanism::of_name(name.as_bytes()),
+            Some(mechanism),
+            "{name}"
         );
     }
     assert_eq!(rt;
@@ -356,6 +380,8 @@ fn mechanism_names(rt: HostRuntime) {
     }
 }
 
+/// An offer is a list of names with spaces between them. Of two known names the one with the longer hash is chosen, in whatever order
+/// they are.
 #[test]
 fn a_client_takes_the_longer_hash_that_is_offered(rt: HostRuntime) {
     let cases = [
@@ -374,42 +400,35 @@ fn a_client_takes_the_longer_hash_that_is_offered(rt: HostRuntime) {
     }
 }
 
-// The same keys with a mechanism that is chosen at run time, and Hi of the first case of RFC 7914, section 11.
+/// The same keys with a mechanism that is chosen at run time, and Hi of the first case of RFC 7914, section 11.
 #[test]
 fn keys_by_mechanism(rt: HostRuntime) -> Result<(), Fail> {
-    let alloc = rt.alloc();
     let sha1 = Mechanism::ScramSha1;
     let salted = sha1.hi(b"pencil", &SALT, 4096);
     let client = sha1.client_key(&salted);
     let keys = sha1.scram_keys(b"pencil", &SALT, 4096);
     let values = [
-        (&salted, "1d96ee3a529b5a5f9e47c01f229a2cb8a6e15f7d"),
-        (&client, "e234c47bf6c36696dd6d852b99aaa2ba26555728"),
-        (
-            &sha1.stored_key(&client),
-            "e9d94660c39d65c38fbad91c358f14da0eef2bd6",
-        ),
-        (
-            &sha1.server_key(&salted),
-            "0fe09258b3ac852ba502cc62ba903eaacdbf7d31",
-        ),
-        (&keys.stored, "e9d94660c39d65c38fbad91c358f14da0eef2bd6"),
-        (&keys.server, "0fe09258b3ac852ba502cc62ba903eaacdbf7d31"),
+        (&salted, SALTED, "SaltedPassword"),
+        (&client, CLIENT, "ClientKey"),
+        (&sha1.stored_key(&client), STORED, "StoredKey"),
+        (&sha1.server_key(&salted), SERVER, "ServerKey"),
+        (&keys.stored, STORED, "StoredKey of both"),
+        (&keys.server, SERVER, "ServerKey of both"),
         (
             &Mechanism::ScramSha256.hi(b"passwd", b"salt", 1),
             "55ac046e56e3089fec1691c22544b605f94185216dde0465e68b9d57c20dacbc",
+            "Hi by SHA-256",
         ),
     ];
-    for (tag, want) in values {
-        assert_eq!(rt; hex_of(alloc, tag)?.as_str(), want);
+    for (tag, want, at) in values {
+        check_tag(&rt, tag, want, at)?;
     }
     Ok(())
 }
 
-// The salt of RFC 7677, section 3; the keys of its user, whose password is `pencil`, are computed with Python's hashlib.
+/// The salt of RFC 7677, section 3; the keys of its user, whose password is `pencil`, are computed with Python's hashlib.
 #[test]
 fn keys_by_the_longer_hash(rt: HostRuntime) -> Result<(), Fail> {
-    let alloc = rt.alloc();
     let sha256 = Mechanism::ScramSha256;
     let salt = [
         0x5b, 0x6d, 0x99, 0x68, 0x9d, 0x12, 0x35, 0x8e, 0xec, 0xa0, 0x4b, 0x14, 0x12, 0x36, 0xfa,
@@ -424,26 +443,27 @@ fn keys_by_the_longer_hash(rt: HostRuntime) -> Result<(), Fail> {
         (
             &salted,
             "c4a49510323ab4f952cac1fa99441939e78ea74d6be81ddf7096e87513dc615d",
+            "SaltedPassword",
         ),
         (
             &client,
             "a60fc923d67e8644a92d16b96eda5ef4656b0c725c484374be25535576996e8b",
+            "ClientKey",
         ),
-        (&sha256.stored_key(&client), stored),
-        (&sha256.server_key(&salted), server),
-        (&keys.stored, stored),
-        (&keys.server, server),
+        (&sha256.stored_key(&client), stored, "StoredKey"),
+        (&sha256.server_key(&salted), server, "ServerKey"),
+        (&keys.stored, stored, "StoredKey of both"),
+        (&keys.server, server, "ServerKey of both"),
     ];
-    for (tag, want) in values {
-        assert_eq!(rt; hex_of(alloc, tag)?.as_str(), want);
+    for (tag, want, at) in values {
+        check_tag(&rt, tag, want, at)?;
     }
     Ok(())
 }
 
-// RFC 2202, section 3, case 2, and RFC 4231, section 4.3.
+/// RFC 2202, section 3, case 2, and RFC 4231, section 4.3.
 #[test]
 fn running_mac_by_mechanism(rt: HostRuntime) -> Result<(), Fail> {
-    let alloc = rt.alloc();
     let cases = [
         (
             Mechanism::ScramSha1,
@@ -460,8 +480,8 @@ fn running_mac_by_mechanism(rt: HostRuntime) -> Result<(), Fail> {
         let mut copied = running.copy();
         running.add(b"for nothing?");
         copied.add(b"for nothing?");
-        assert_eq!(rt; hex_of(alloc, &running.done())?.as_str(), want);
-        assert_eq!(rt; hex_of(alloc, &copied.done())?.as_str(), want);
+        check_tag(&rt, &running.done(), want, mechanism.name())?;
+        check_tag(&rt, &copied.done(), want, "the copy")?;
     }
     Ok(())
 }

@@ -3,9 +3,9 @@ pub mod AfterReply
 pub mod AlikePasts
 pub mod Digits
 pub mod Joins
+pub mod LeastFound
 pub mod LeastNumbers
 pub mod OneReply
-pub mod Pairs
 pub mod SomeReply
 pub mod Steps
 pub mod Used

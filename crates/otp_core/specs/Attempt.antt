@@ -6,8 +6,8 @@ use Rattle.otp_core.specs.declared.token.reply.Reply.TheVariants.{Pass, Fail, Lo
 
 -- what a client sent: the text of one code, or the texts of two codes in a row (RFC 4226, section 7.4)
 pub data CodeTexts : Type 0 where
-  OneText : List ℕ → CodeTexts
-  TwoTexts : List ℕ → List ℕ → CodeTexts
+  one_text : List ℕ → CodeTexts
+  two_texts : List ℕ → List ℕ → CodeTexts
 
 -- an attempt: when it was made, what was sent, and the reply
 pub record Attempt : Type 0 where
@@ -21,8 +21,8 @@ attempt_of moment sent reply = record { moment = moment; sent = sent; reply = re
 
 -- the counters that a pass uses: with one code, its counter; with two codes, the counter of the second and the one before it
 abbrev pub counters_of : CodeTexts → ℕ → List ℕ
-counters_of (OneText text) counter = counter ∷ []
-counters_of (TwoTexts first second) counter = counter ∷ (counter - 1) ∷ []
+counters_of (one_text text) counter = counter ∷ []
+counters_of (two_texts first second) counter = counter ∷ (counter - 1) ∷ []
 
 -- the counters that a reply uses: those of a pass, else none
 abbrev pub used_in_reply : CodeTexts → Reply → List ℕ

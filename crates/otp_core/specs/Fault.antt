@@ -2,8 +2,7 @@
 use Rattle.std.specs.Prelude.{ℕ, List, codes}
 use Rattle.otp_core.specs.declared.fault.OtpFault.{OtpFault}
 use Rattle.otp_core.specs.declared.fault.OtpFault.TheVariants.{SecretLength, DigitCount, Setting}
-use Rattle.otp_core.specs.declared.fault.Setting.TheVariants.{Next, LookAhead, SyncAhead, Step, Back, Ahead, MaxDrift, Last, Drift, Limit}
-use Rattle.otp_core.specs.declared.fault.Setting.TheVariants.{Failures}
+use Rattle.otp_core.specs.declared.fault.Setting.TheVariants.{Next, LookAhead, SyncAhead, Step, Back, Ahead, MaxDrift, Last, Drift, Limit, Failures}
 use Rattle.otp_core.specs.declared.fault.Setting as setting
 
 -- the number of a refusal

@@ -23,7 +23,7 @@ pub record AreAlike (start : TokenFields) (history : List Attempt) (other : Toke
   pub settings : settings_of start ≡ settings_of other
   pub failures : failures_after start history ≡ failures_after other since
   pub candidates : (moment c : ℕ) → IsMoment moment → IsCandidate start history moment c ↔ IsCandidate other since moment c
-  pub pairs : (w : ℕ) → IsPairCandidate start history w ↔ IsPairCandidate other since w
+  pub pairs : (c : ℕ) → IsPairCandidate start history c ↔ IsPairCandidate other since c
 
 -- a legal history leads from a start to this token: the start with the history and the token without one are alike
 pub record IsAfter (start : TokenFields) (history : List Attempt) (token : TokenFields) : Type 0 where

@@ -39,9 +39,10 @@ failures_after start (a ∷ before) = failures_after_reply a.reply (failures_aft
 -- what was sent fits this counter: one text that is its code, if the counter can pass; or two texts that are the codes of the
 -- counter before it and of this one, if the two can pass as a pair
 abbrev pub IsFitting : (start : TokenFields) → (history : List Attempt) → (moment : ℕ) → CodeTexts → (c : ℕ) → Type 0
-IsFitting start history moment (CodeTexts.OneText text) c = IsCandidate start history moment c × (code_text start c ≡ text)
-IsFitting start history moment (CodeTexts.TwoTexts first second) c =
-    (w : ℕ) × (c ≡ w + 1) × IsPairCandidate start history w × (code_text start w ≡ first) × (code_text start (w + 1) ≡ second)
+IsFitting start history moment (CodeTexts.one_text text) c = IsCandidate start history moment c × (code_text start c ≡ text)
+IsFitting start history moment (CodeTexts.two_texts first second) c =
+    (first_counter : ℕ) × (c ≡ first_counter + 1) × IsPairCandidate start history first_counter
+    × (code_text start first_counter ≡ first) × (code_text start (first_counter + 1) ≡ second)
 
 -- the reply that is due: Locked if the failures have reached the limit; else Pass of the least counter that fits, if there is one;
 -- else Fail

@@ -20,7 +20,8 @@ greatest (c ∷ counters) = Some (option_map_or (λ most. max c most) (greatest 
 abbrev pub first_in_window : (next : ℕ) → (counters : List ℕ) → ℕ
 first_in_window next counters = option_map_or (λ most. most + 1) (greatest counters) next
 
--- a counter of HOTP's window (RFC 4226, section 7.4): the first counter, or one of the `ahead` counters after it
+-- a counter of HOTP's window (RFC 4226, section 7.4): the first counter or one of the `ahead` counters after it, and at most the
+-- greatest that can pass
 pub record IsInHotpWindow (first ahead c : ℕ) : Type 0 where
   pub not_before : first ≤ c
   pub within : c ≤ first + ahead
@@ -54,7 +55,8 @@ abbrev pub IsAbove : List ℕ → ℕ → Type 0
 IsAbove counters c = AllByRecursion (λ used. used < c) counters
 
 -- two codes in a row can pass, and this is the counter of the first. With HOTP it is the first counter of the window or one of the
--- sync_ahead counters after it (RFC 4226, section 7.4). With TOTP two codes in a row never pass.
+-- sync_ahead counters after it (RFC 4226, section 7.4), and the second is at most the greatest that can pass. With TOTP two codes in a
+-- row never pass.
 abbrev pub IsPairCandidate : (start : TokenFields) → (history : List Attempt) → (c : ℕ) → Type 0
 IsPairCandidate (Hotp t) history c = IsInHotpWindow (first_in_window t.next (used_in history)) t.sync_ahead c × (c + 1 ≤ most_counter)
 IsPairCandidate (Totp t) history c = ⊥

@@ -1,7 +1,7 @@
 //! Tokens of either kind, with each field within its range.
 ghost use Rattle.std.specs.Prelude.{◌≡◌, MatchResult};
 ghost use Rattle.otp_core.specs.TokenRanges.{IsHotpInRange, IsTotpInRange, IsInRange, IsRefusalOf, hotp_ranges, totp_ranges};
-ghost use Rattle.otp_core.specs.Attempt.CodeTexts.{OneText, TwoTexts};
+ghost use Rattle.otp_core.specs.Attempt.CodeTexts.{one_text, two_texts};
 ghost use Rattle.otp_core.specs.Sent.{texts_of};
 ghost use Rattle.otp_core.specs.State.{unlocked};
 ghost use Rattle.otp_core.specs.TokenAttempt.{IsTokenAttempt};
@@ -99,7 +99,7 @@ impl Token {
     /// `last` to the step that passed, and `drift` to the number of steps by which it is ahead of the present step. Both set the
     /// failures to 0. `Fail` adds one to the failures; `Locked` changes nothing. A counter that passes is at most 2^63 - 2.
     pub fn attempt(&mut self, moment: Moment, text: &[u8]) -> Reply
-        ensures { IsTokenAttempt self.old moment (OneText text.now) result self.new }
+        ensures { IsTokenAttempt self.old moment (one_text text.now) result self.new }
     {
         self.judge(moment, Sent::One(text))
     }
@@ -114,7 +114,7 @@ impl Token {
     /// The fields change as in `attempt`, and a counter that passes is at most 2^63 - 2. The call computes at most `sync_ahead` + 2
     /// codes (no clause says so).
     pub fn sync(&mut self, moment: Moment, first: &[u8], second: &[u8]) -> Reply
-        ensures { IsTokenAttempt self.old moment (TwoTexts first.now second.now) result self.new }
+        ensures { IsTokenAttempt self.old moment (two_texts first.now second.now) result self.new }
     {
         self.judge(moment, Sent::Two(first, second))
     }

@@ -40,7 +40,7 @@ fn check_code<H: HashFn>(
     Ok(())
 }
 
-// RFC 4226, appendix D.
+/// RFC 4226, appendix D.
 #[test]
 fn hotp_values(rt: HostRuntime) -> Result<(), Fail> {
     let codes = [
@@ -53,7 +53,7 @@ fn hotp_values(rt: HostRuntime) -> Result<(), Fail> {
     Ok(())
 }
 
-// RFC 6238, appendix B.
+/// RFC 6238, appendix B.
 #[test]
 fn totp_values(rt: HostRuntime) -> Result<(), Fail> {
     let rows = [
@@ -85,7 +85,7 @@ fn code_of_bytes(rt: &impl Abort, bytes: &[u8], count: u8) -> Code {
     truncate(&tag, Digits::new(count).ok().expect(rt, "6 to 8 digits"))
 }
 
-// RFC 4226, section 5.4.
+/// RFC 4226, section 5.4.
 #[test]
 fn truncation_of_rfc(rt: HostRuntime) {
     let tag = [
@@ -101,8 +101,8 @@ fn truncation_of_rfc(rt: HostRuntime) {
     }
 }
 
-// The offset is in the last of 32 bytes and not in the twentieth; the top bit is dropped. Worked out by hand: 7F000000 in
-// hexadecimal is 2130706432.
+/// The offset is in the last of 32 bytes and not in the twentieth; the top bit is dropped. Worked out by hand: 7F000000 in
+/// hexadecimal is 2130706432.
 #[test]
 fn truncation_of_long_tag(rt: HostRuntime) {
     let mut tag = [0; 32];
@@ -119,6 +119,8 @@ fn truncation_of_long_tag(rt: HostRuntime) {
     }
 }
 
+/// Both ends of each range and what is next to them: secrets of 10 to 64 bytes, codes of 6 to 8 digits, moments up to the end of the
+/// year 9999.
 #[test]
 fn ranges(rt: HostRuntime) -> Result<(), Fail> {
     for (len, number) in [
@@ -148,6 +150,7 @@ fn ranges(rt: HostRuntime) -> Result<(), Fail> {
     Ok(())
 }
 
+/// Step 0 begins at `t0`, and before it there is none (RFC 6238, section 4.2). Worked out by hand.
 #[test]
 fn steps(rt: HostRuntime) {
     let rows = [
@@ -166,6 +169,7 @@ fn steps(rt: HostRuntime) {
     }
 }
 
+/// The number of each fault, as in docs/REFUSALS.md, and the text that a user reads.
 #[test]
 fn fault_texts(rt: HostRuntime) -> Result<(), Fail> {
     let rows = [
@@ -178,13 +182,17 @@ fn fault_texts(rt: HostRuntime) -> Result<(), Fail> {
         ),
     ];
     for (fault, number, want) in rows {
-        assert_eq!(rt; fault.number(), number);
-        assert_eq!(rt; format!(in rt.alloc(); "{fault}")?.as_str(), want);
+        assert_eq!(rt; fault.number(), number, "{want}");
+        assert_eq!(rt;
+            format!(in rt.alloc(); "{fault}")?.as_str(),
+            want,
+            "fault {number}"
+        );
     }
     Ok(())
 }
 
-// A setting has the name of its field.
+/// A setting has the name of its field.
 #[test]
 fn setting_names(rt: HostRuntime) -> Result<(), Fail> {
     let rows = [
@@ -201,8 +209,12 @@ fn setting_names(rt: HostRuntime) -> Result<(), Fail> {
         (Setting::Failures, "failures"),
     ];
     for (setting, name) in rows {
-        assert_eq!(rt; setting.name(), name);
-        assert_eq!(rt; format!(in rt.alloc(); "{setting}")?.as_str(), name);
+        assert_eq!(rt; setting.name(), name, "{setting:?}");
+        assert_eq!(rt;
+            format!(in rt.alloc(); "{setting}")?.as_str(),
+            name,
+            "{setting:?}"
+        );
     }
     Ok(())
 }
@@ -221,6 +233,7 @@ fn hotp_fields(rt: &impl Abort, state: (u64, u64, u64, u64, u64)) -> HotpFields 
     }
 }
 
+/// Both ends of each range and what is next to them. Of several settings out of range, the first in the order of the fields is named.
 #[test]
 fn hotp_ranges(rt: HostRuntime) {
     let top = 0x7fff_ffff_ffff_ffff;
@@ -236,7 +249,7 @@ fn hotp_ranges(rt: HostRuntime) {
     ];
     for (state, want) in rows {
         let fault = Token::hotp(hotp_fields(&rt, state)).err();
-        assert_eq!(rt; fault, want.map(OtpFault::Setting), "want {want:?}");
+        assert_eq!(rt; fault, want.map(OtpFault::Setting), "{state:?}");
     }
 }
 
@@ -264,6 +277,7 @@ fn totp_fields(
     }
 }
 
+/// Both ends of each range and what is next to them. Of several settings out of range, the first in the order of the fields is named.
 #[test]
 fn totp_ranges(rt: HostRuntime) {
     let top = 0x7fff_ffff_ffff_fffe;
@@ -289,10 +303,11 @@ fn totp_ranges(rt: HostRuntime) {
     ];
     for (window, state, want) in rows {
         let fault = Token::totp(totp_fields(&rt, window, state)).err();
-        assert_eq!(rt; fault, want.map(OtpFault::Setting), "want {want:?}");
+        assert_eq!(rt; fault, want.map(OtpFault::Setting), "{window:?} {state:?}");
     }
 }
 
+/// `unlock` of a HOTP token sets its failures to 0, and leaves its next counter and its limits.
 #[test]
 fn unlock_sets_failures_alone(rt: HostRuntime) {
     let token = Token::hotp(hotp_fields(&rt, (5, 3, 7, 3, 2)));
@@ -313,6 +328,7 @@ fn unlock_sets_failures_alone(rt: HostRuntime) {
     }
 }
 
+/// `unlock` of a TOTP token sets its failures to 0, and leaves its last step, its drift and its window.
 #[test]
 fn unlock_of_a_totp_token(rt: HostRuntime) {
     let token = Token::totp(totp_fields(&rt, (30, 0, 1, 9), (Some(7), -9, 3, 2)));
@@ -342,7 +358,7 @@ fn check_attempts(
     }
 }
 
-// The codes are those of RFC 4226, appendix D.
+/// The codes are those of RFC 4226, appendix D.
 #[test]
 fn hotp_attempts(rt: HostRuntime) {
     let attempts = [
@@ -371,7 +387,7 @@ fn hotp_attempts(rt: HostRuntime) {
     );
 }
 
-// Other spellings of the code 755224 of counter 0.
+/// Other spellings of the code 755224 of counter 0.
 #[test]
 fn texts_that_fail(rt: HostRuntime) {
     for text in [
@@ -386,7 +402,7 @@ fn texts_that_fail(rt: HostRuntime) {
     }
 }
 
-// The codes of the last counters, and of two counters that share a code, are computed with Python's hmac.
+/// The codes of the last counters, and of two counters that share a code, are computed with Python's hmac.
 #[test]
 fn hotp_edges(rt: HostRuntime) {
     let top = 0x7fff_ffff_ffff_ffff;
@@ -413,7 +429,7 @@ fn hotp_edges(rt: HostRuntime) {
     );
 }
 
-// The codes are those of RFC 6238, appendix B. A code for another hash function does not pass.
+/// The codes are those of RFC 6238, appendix B. A code for another hash function does not pass.
 #[test]
 fn totp_attempts_of_each_hash(rt: HostRuntime) -> Result<(), Fail> {
     for (hash, len, other, code) in [
@@ -434,8 +450,8 @@ fn totp_attempts_of_each_hash(rt: HostRuntime) -> Result<(), Fail> {
     Ok(())
 }
 
-// Steps of a minute, counted from the tenth second. The codes are those of steps 1 and 2: in RFC 6238, appendix B, and computed
-// with Python's hmac.
+/// Steps of a minute, counted from the tenth second. The codes are those of steps 1 and 2: in RFC 6238, appendix B, and computed
+/// with Python's hmac.
 #[test]
 fn totp_attempts_of_other_steps(rt: HostRuntime) {
     let mut fields = totp_fields(&rt, (60, 0, 0, 0), (None, 0, 3, 0));
@@ -449,7 +465,7 @@ fn totp_attempts_of_other_steps(rt: HostRuntime) {
     check_attempts(&rt, Token::totp(fields), &attempts);
 }
 
-// The codes are those of RFC 6238, appendix B, and of RFC 4226, appendix D, with eight digits.
+/// The codes are those of RFC 6238, appendix B, and of RFC 4226, appendix D, with eight digits.
 #[test]
 fn totp_attempts(rt: HostRuntime) {
     let window = (30, 0, 1, 1);
@@ -480,6 +496,7 @@ fn totp_attempts(rt: HostRuntime) {
     }
 }
 
+/// The codes of steps 0 and 1: those of counters 0 and 1 in RFC 4226, appendix D, with eight digits.
 #[test]
 fn totp_edges(rt: HostRuntime) {
     let rows = [
@@ -523,6 +540,7 @@ fn totp_edges(rt: HostRuntime) {
     }
 }
 
+/// The codes of steps 0 and 2: those of counters 0 and 2 in RFC 4226, appendix D, with eight digits.
 #[test]
 fn totp_clocks(rt: HostRuntime) {
     let rows = [
@@ -558,6 +576,8 @@ fn totp_clocks(rt: HostRuntime) {
     }
 }
 
+/// Before `t0` every code fails and is counted as a failure. The codes are those of counters 0 and 1 in RFC 4226, appendix D, with
+/// eight digits.
 #[test]
 fn nothing_passes_before_t0(rt: HostRuntime) {
     let mut fields = totp_fields(&rt, (30, 10, 10, 100), (None, 0, 2, 0));
@@ -572,6 +592,7 @@ fn nothing_passes_before_t0(rt: HostRuntime) {
     check_attempts(&rt, Token::totp(fields), &attempts);
 }
 
+/// One failure locks this token. After `unlock`, the code of counter 0 passes (RFC 4226, appendix D).
 #[test]
 fn unlock_opens_again(rt: HostRuntime) {
     let token = Token::hotp(hotp_fields(&rt, (0, 0, 0, 1, 0)));

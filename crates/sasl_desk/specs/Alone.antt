@@ -15,7 +15,7 @@ IsSameRequest one other = ⊥
 -- the calls of two sessions have the same requests, one after another
 abbrev pub HaveSameRequests : List Call → List Call → Type 0
 HaveSameRequests [] [] = Unit {0}
-HaveSameRequests (c ∷ calls) (d ∷ others) = IsSameRequest c.request d.request × HaveSameRequests calls others
+HaveSameRequests (call ∷ calls) (other ∷ others) = IsSameRequest call.request other.request × HaveSameRequests calls others
 HaveSameRequests calls others = ⊥
 
 -- the lines up to the first `S OK`, the outcome of a login that is accepted. A login that is refused ends with its outcome.

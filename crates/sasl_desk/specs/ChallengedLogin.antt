@@ -3,7 +3,7 @@ use Rattle.std.specs.Prelude.{ℕ, List}
 use Rattle.mac_core.specs.declared.mechanism.Mechanism.{Mechanism}
 use Rattle.scram_ends.specs.Entry.{Entry}
 use Rattle.scram_ends.specs.Stages.{Challenged, challenged_login}
-use Rattle.scram_ends.specs.Standing.{StandsFor}
+use Rattle.scram_ends.specs.Standing.{StandsForChallenged}
 use Rattle.scram_ends.specs.declared.server.ServerWait.{ServerWait}
 use Rattle.log_grammar.specs.Demands.{Accounts}
 
@@ -14,8 +14,8 @@ pub record ChallengedLoginFields : Type 0 where
   pub name : List ℕ
 
 -- a login of these parts
-abbrev pub challenged_login_of : ServerWait → Mechanism → List ℕ → ChallengedLoginFields
-challenged_login_of server mechanism name = record { server = server; mechanism = mechanism; name = name }
+abbrev pub waiting_login_of : ServerWait → Mechanism → List ℕ → ChallengedLoginFields
+waiting_login_of server mechanism name = record { server = server; mechanism = mechanism; name = name }
 
 -- the login to the account, with these two messages
 abbrev pub login_of : Accounts → ChallengedLoginFields → (client_first server_first : List ℕ) → Challenged
@@ -26,4 +26,4 @@ login_of accounts waiting client_first server_first =
 abbrev pub IsChallenging : ServerWait → Mechanism → Type 0
 IsChallenging server mechanism =
     (entry : Entry) × (client_first : List ℕ) × (server_first : List ℕ)
-    × StandsFor server (challenged_login entry mechanism client_first server_first)
+    × StandsForChallenged server (challenged_login entry mechanism client_first server_first)

@@ -6,13 +6,13 @@ use Rattle.account_book.specs.SavedBooks.{HasStoredText}
 use Rattle.account_book.specs.Store.{StoreFacts}
 use Rattle.log_grammar.specs.Books.{accounts_in}
 use Rattle.log_grammar.specs.Lines.{LogLine, log_bytes}
-use Rattle.log_grammar.specs.LoggedReply.{LoggedReply}
+use Rattle.log_grammar.specs.LoggedAttempt.{LoggedAttempt}
 use Rattle.log_grammar.specs.Places.{Place, between, halted}
 use Rattle.log_grammar.specs.Demands.{Accounts, demands}
 use Rattle.log_grammar.specs.Begins.{Begins}
 use Rattle.sasl_desk.specs.Keeper.{IsAttemptJudged}
 use Rattle.sasl_desk.specs.Runs.{Request, Call, call_of, run_lines, server_nonce_of, wire_bytes, IsRun}
-use Rattle.sasl_desk.specs.SavedCalls.{IsAttemptOf, CountsSaves, AsksForSave, IsQuiet, FailsInSave}
+use Rattle.sasl_desk.specs.SavedCalls.{IsAttemptOf, CountsSaves, AsksToSaveAttempt, IsQuiet, FailsInSave}
 use Rattle.sasl_desk.specs.Sessions.{IsSessionAt, CanBeWritten}
 use Rattle.sasl_desk.specs.Spent.{AreSpent, spent_by}
 use Rattle.sasl_desk.specs.declared.session.Session.{Session}
@@ -50,6 +50,10 @@ IsStateAt accounts server_nonce place Closed = place ≡ between
 IsStateAt accounts server_nonce place (Open going kept) = IsSessionAt accounts place going × (kept ≡ server_nonce)
 IsStateAt accounts server_nonce place Halted = Unit {0}
 
+-- the store may hold this text: the one that it says it holds; or, if it has failed, the one that the failed save was given
+abbrev pub MayHold : StoreFacts → (text : List ℕ) → Type 0
+MayHold store text = (text ≡ store.saved) ⊎ ((store.failed ≡ true) × (text ≡ store.asked))
+
 -- the store has not failed, and holds the text of the book, and `IsStored` is true of that text
 pub record HoldsBook (IsStored : List ℕ → Type 0) (book : BookFields) (store : StoreFacts) : Type 0 where
   pub working : store.failed ≡ false
@@ -57,20 +61,23 @@ pub record HoldsBook (IsStored : List ℕ → Type 0) (book : BookFields) (store
   pub stored : IsStored store.saved
 
 -- the latest call judged this attempt
-abbrev pub IsLatestAttempt : Accounts → List Call → LoggedReply → Type 0
-IsLatestAttempt accounts [] t = ⊥
-IsLatestAttempt accounts (c ∷ before) t = (place : Place) × IsRun accounts before place × IsAttemptOf c.request place c.lines t
+abbrev pub IsLatestAttempt : Accounts → List Call → LoggedAttempt → Type 0
+IsLatestAttempt accounts [] attempt = ⊥
+IsLatestAttempt accounts (call ∷ before) attempt =
+    (place : Place) × IsRun accounts before place × IsAttemptOf call.request place call.lines attempt
 
 -- the store failed while it saved the book with the attempt of the latest call
 pub record IsLostAfter (IsStored : List ℕ → Type 0) (accounts : Accounts) (calls : List Call)
     (book : BookFields) (store : StoreFacts) : Type 0 where
   pub failed : store.failed ≡ true
   -- the latest call judged this attempt, which makes the next book
-  pub t : LoggedReply
+  pub attempt : LoggedAttempt
   pub next : BookFields
-  pub is_latest : IsLatestAttempt accounts calls t
-  pub is_judged : IsAttemptJudged book t next
-  -- the store holds the text of the book before the attempt, which was saved, or that of the next book
+  pub is_latest : IsLatestAttempt accounts calls attempt
+  pub is_judged : IsAttemptJudged book attempt next
+  -- the failed save was given the text of the next book
+  pub asked : IsBookText store.asked next
+  -- the store says that it holds the text of the book before the attempt, which was saved, or that of the next book
   pub saved : (IsBookText store.saved book × IsStored store.saved) ⊎ IsBookText store.saved next
   -- some text of the book before the attempt was saved
   pub before : HasStoredText IsStored book
@@ -82,14 +89,15 @@ IsStoredAt IsStored accounts calls halted book store = IsLostAfter IsStored acco
 IsStoredAt IsStored accounts calls place book store = HoldsBook IsStored book store
 
 -- the book after these replies, the latest of which comes first: each attempt was judged in the book before it
-abbrev pub IsBookAfterReplies : (start : BookFields) → (told : List LoggedReply) → (book : BookFields) → Type 0
+abbrev pub IsBookAfterReplies : (start : BookFields) → (latest_first : List LoggedAttempt) → (book : BookFields) → Type 0
 IsBookAfterReplies start [] book = book ≡ start
-IsBookAfterReplies start (t ∷ before) book = (old : BookFields) × IsBookAfterReplies start before old × IsAttemptJudged old t book
+IsBookAfterReplies start (attempt ∷ before) book =
+    (old : BookFields) × IsBookAfterReplies start before old × IsAttemptJudged old attempt book
 
 -- the counters that replies use, with their accounts, the latest first
-abbrev pub spent_by_all : List LoggedReply → List (List ℕ × ℕ)
+abbrev pub spent_by_all : List LoggedAttempt → List (List ℕ × ℕ)
 spent_by_all [] = []
-spent_by_all (t ∷ before) = spent_by t ++ spent_by_all before
+spent_by_all (attempt ∷ before) = spent_by attempt ++ spent_by_all before
 
 -- the desk of this keeper, in this state
 abbrev pub desk_of : {S : Type 0} → Keeper S → State → Desk S
@@ -113,7 +121,7 @@ module _ {S : Type 0} (facts : S → StoreFacts) (IsStored : List ℕ → Type 0
   pub record IsDeskAfter (start : BookFields) (calls : List Call) (desk : Desk S) : Type 0 where
     -- where the log stands, and the replies to codes in it
     pub place : Place
-    pub told : List LoggedReply
+    pub told : List LoggedAttempt
     -- what was asked is recorded and answered
     pub is_run : IsRun (accounts_in start) calls place
     -- a clean log may begin with the log's lines, and they can be written
@@ -136,8 +144,8 @@ module _ {S : Type 0} (facts : S → StoreFacts) (IsStored : List ℕ → Type 0
         → IsDeskAfter start (call_of request lines ∷ calls) new
     -- the call saved what its lines record
     pub saves : (start : BookFields) (calls : List Call) → IsDeskAfter start calls old → CountsSaves facts lines old.keeper new.keeper
-    pub asks : (start : BookFields) (calls : List Call) (s : IsDeskAfter start calls old)
-        → AsksForSave facts request s.place lines old.keeper new.keeper
+    pub asks : (start : BookFields) (calls : List Call) (standing : IsDeskAfter start calls old)
+        → AsksToSaveAttempt facts request standing.place lines old.keeper new.keeper
     pub quiet : IsQuiet facts lines old.keeper new.keeper
     -- a call halts the desk only by a save in which the store failed
     pub halts : desk_phase new ≡ phase.Halted → FailsInSave facts old.keeper new.keeper

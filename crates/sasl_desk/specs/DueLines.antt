@@ -1,10 +1,10 @@
--- Which line of the client is due at a place, and to which place it leads, in the grammar's words. Laws say that these are the
--- steps of the grammar (`DueLinesStand`, `BadLinesStand`, `GoneClientsStand`).
+-- Which lines of the client are due at a place, and to which places they lead. The state machine of log_grammar says this of all
+-- lines by a relation, `IsTransition`. A session needs it of what is recorded of a client only, by functions that compute. Laws say that the two agree
+-- (`DueLinesStand`, `BadLinesStand`, `GoneClientsStand`).
 use Rattle.std.specs.Prelude.{ℕ, ◌≡◌, ◌↔◌, Bool, true, false, ◌||◌, List, [], ◌∷◌}
-use Rattle.otp_core.specs.Attempt.{CodeTexts, OneText, TwoTexts}
+use Rattle.otp_core.specs.Attempt.{CodeTexts, one_text, two_texts}
 use Rattle.log_grammar.specs.Lines.{LogLine, heard, bad, gone, ClientLine, auth, auth_with, resp, abort, code, sync}
-use Rattle.log_grammar.specs.Places.{Place, offered, asks_bare, waits_first, got_first}
-use Rattle.log_grammar.specs.Places.{waits_final, got_final, waits_code, got_code, leaving, over}
+use Rattle.log_grammar.specs.Places.{Place, offered, asks_bare, waits_first, got_first, waits_final, got_final, waits_code, got_code, leaving, over}
 use Rattle.log_grammar.specs.Demands.{Accounts, Demands, demands}
 use Rattle.log_grammar.specs.state_machine.Steps.{IsTransition}
 
@@ -37,32 +37,33 @@ is_due place abort = is_client_turn place
 is_due place (code text) = is_code_due place
 is_due place (sync first second) = is_code_due place
 
--- the place after a RESP that is due: it is the client-first message, or the client-final message
-abbrev pub resp_place : Place → List ℕ → Place
-resp_place (waits_first mechanism) message = got_first mechanism message
-resp_place (waits_final mechanism account client_first server_first) message = got_final mechanism account client_first server_first message
-resp_place place message = place
+-- the place after a RESP, which has the client-first message or the client-final message; where no RESP is due, the same place
+abbrev pub place_after_resp : Place → List ℕ → Place
+place_after_resp (waits_first mechanism) message = got_first mechanism message
+place_after_resp (waits_final mechanism account client_first server_first) message =
+    got_final mechanism account client_first server_first message
+place_after_resp place message = place
 
--- the place after a code that is due, or after two in a row
-abbrev pub code_place : Place → CodeTexts → Place
-code_place (waits_code account) sent = got_code account sent
-code_place place sent = place
+-- the place after a code, or after two in a row; where no code is due, the same place
+abbrev pub place_after_codes : Place → CodeTexts → Place
+place_after_codes (waits_code account) sent = got_code account sent
+place_after_codes place sent = place
 
 -- the place after a line of the client that is due
-abbrev pub heard_place : Place → ClientLine → Place
-heard_place place (auth mechanism) = asks_bare mechanism
-heard_place place (auth_with mechanism message) = got_first mechanism message
-heard_place place (resp message) = resp_place place message
-heard_place place abort = leaving
-heard_place place (code text) = code_place place (OneText text)
-heard_place place (sync first second) = code_place place (TwoTexts first second)
+abbrev pub place_after_line : Place → ClientLine → Place
+place_after_line place (auth mechanism) = asks_bare mechanism
+place_after_line place (auth_with mechanism message) = got_first mechanism message
+place_after_line place (resp message) = place_after_resp place message
+place_after_line place abort = leaving
+place_after_line place (code text) = place_after_codes place (one_text text)
+place_after_line place (sync first second) = place_after_codes place (two_texts first second)
 
 -- the place after what is recorded of the client: a line that is due, `C BAD` or `C GONE`
-abbrev pub record_place : Place → LogLine → Place
-record_place place (heard line) = heard_place place line
-record_place place bad = leaving
-record_place place gone = over
-record_place place line = place
+abbrev pub place_after_record : Place → LogLine → Place
+place_after_record place (heard line) = place_after_line place line
+place_after_record place bad = leaving
+place_after_record place gone = over
+place_after_record place line = place
 
 -- the line contains a message
 abbrev pub BearsMessage : ClientLine → Type 0
@@ -78,14 +79,15 @@ IsPath d place (line ∷ lines) next = (middle : Place) × IsTransition d place 
 -- a line of the client may stand if and only if it is due, and leads to the place after it
 abbrev pub DueLinesStand : Type 0
 DueLinesStand = (accounts : Accounts) (place : Place) (line : ClientLine) (next : Place)
-    → IsTransition (demands accounts) place (heard line) next ↔ ((is_due place line ≡ true) × (next ≡ record_place place (heard line)))
+    → IsTransition (demands accounts) place (heard line) next
+    ↔ ((is_due place line ≡ true) × (next ≡ place_after_record place (heard line)))
 
 -- `C BAD` may stand if and only if it is the client's turn
 abbrev pub BadLinesStand : Type 0
 BadLinesStand = (accounts : Accounts) (place next : Place)
-    → IsTransition (demands accounts) place bad next ↔ ((is_client_turn place ≡ true) × (next ≡ record_place place bad))
+    → IsTransition (demands accounts) place bad next ↔ ((is_client_turn place ≡ true) × (next ≡ place_after_record place bad))
 
 -- `C GONE` may stand if and only if it is the client's turn
 abbrev pub GoneClientsStand : Type 0
 GoneClientsStand = (accounts : Accounts) (place next : Place)
-    → IsTransition (demands accounts) place gone next ↔ ((is_client_turn place ≡ true) × (next ≡ record_place place gone))
+    → IsTransition (demands accounts) place gone next ↔ ((is_client_turn place ≡ true) × (next ≡ place_after_record place gone))

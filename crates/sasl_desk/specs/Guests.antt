@@ -5,7 +5,7 @@ use Rattle.sasl_desk.specs.declared.session.Session.{Session}
 
 -- the guest has this number
 abbrev pub is_of : ℕ → Guest → Bool
-is_of n guest = guest.number == n
+is_of number guest = guest.number == number
 
 -- a guest of these parts
 abbrev pub guest_of : (number : ℕ) → Session → (server_nonce : List ℕ) → Guest

@@ -1,6 +1,5 @@
 -- What a hall stands for: the book with which it began, and the run since, of all its sessions.
-use Rattle.std.specs.Prelude.{ℕ, ◌≡◌, ◌≢◌, ◌⊎◌, ◌↔◌, ◌+◌, ◌<◌, ◌≤◌, true, false, Bool, List, [], ◌∷◌, ◌++◌}
-use Rattle.std.specs.Prelude.{map, reverse, length, count_by}
+use Rattle.std.specs.Prelude.{ℕ, ◌≡◌, ◌≢◌, ◌⊎◌, ◌↔◌, ◌+◌, ◌<◌, ◌≤◌, true, false, Bool, List, [], ◌∷◌, ◌++◌, map, reverse, length, count_by}
 use Rattle.std.specs.List.{AllByRecursion, find}
 use Rattle.std.specs.List.Sorted.{IsPermutation}
 use Rattle.std.specs.declared.option.Option.{Option}
@@ -10,7 +9,7 @@ use Rattle.account_book.specs.Store.{StoreFacts}
 use Rattle.log_grammar.specs.Books.{accounts_in}
 use Rattle.log_grammar.specs.Bytes.{ended_by_lf}
 use Rattle.log_grammar.specs.Lines.{LogLine, header_two, said, ended, busy, log_bytes}
-use Rattle.log_grammar.specs.LoggedReply.{LoggedReply}
+use Rattle.log_grammar.specs.LoggedAttempt.{LoggedAttempt}
 use Rattle.log_grammar.specs.Places.{Place, between, offered, waits_first, waits_final, waits_code, open_at}
 use Rattle.log_grammar.specs.Demands.{Accounts, demands}
 use Rattle.log_grammar.specs.Numbered.{Numbered, numbered, of_number, given_in, closed_in, SpellsNumbered}
@@ -19,7 +18,7 @@ use Rattle.log_grammar.specs.NumberedLines.{numbered_text, IsNumberedWritable, l
 use Rattle.sasl_desk.specs.Desks.{session_phase, IsStoredAt, HoldsBook, IsBookAfterReplies, spent_by_all}
 use Rattle.sasl_desk.specs.Guests.{is_of}
 use Rattle.sasl_desk.specs.Runs.{Request, greets, Call, call_of, server_nonce_of, wire_bytes, IsRun}
-use Rattle.sasl_desk.specs.SavedCalls.{CountsSaves, AsksForSave, IsQuiet, FailsInSave}
+use Rattle.sasl_desk.specs.SavedCalls.{CountsSaves, AsksToSaveAttempt, IsQuiet, FailsInSave}
 use Rattle.sasl_desk.specs.Sessions.{IsSessionAt}
 use Rattle.sasl_desk.specs.Spent.{AreSpent}
 use Rattle.sasl_desk.specs.declared.keeper.Keeper.{Keeper}
@@ -46,11 +45,10 @@ hall_of keeper guests given is_halted = record { keeper = keeper; guests = guest
 abbrev pub hall_shown : {S : Type 0} → Hall S → HallFields S
 hall_shown hall = hall_of hall.keeper hall.seats hall.given hall.is_halted
 
--- the lines of a log after its first, after these calls: each call's lines have the number of
--- its session
+-- the lines of a log after its first, after these calls: each call's lines have the number of its session
 abbrev pub hall_lines : List (Numbered Call) → List (Numbered LogLine)
 hall_lines [] = []
-hall_lines (c ∷ before) = hall_lines before ++ map (numbered c.number) c.value.lines
+hall_lines (call ∷ before) = hall_lines before ++ map (numbered call.number) call.value.lines
 
 -- the bytes of numbered lines, each with its LF
 abbrev pub numbered_bytes : List (Numbered LogLine) → List ℕ
@@ -81,8 +79,8 @@ IsSeated accounts calls places guest =
 -- what the store holds after these calls: if the latest was answered by `S HALT`, its save has failed; else the book
 abbrev pub IsStoredAfter : (IsStored : List ℕ → Type 0) → Accounts → List (Numbered Call) → (ℕ → Place) → BookFields → StoreFacts → Type 0
 IsStoredAfter IsStored accounts [] places book store = HoldsBook IsStored book store
-IsStoredAfter IsStored accounts (c ∷ before) places book store =
-    IsStoredAt IsStored accounts (of_number c.number (c ∷ before)) (places c.number) book store
+IsStoredAfter IsStored accounts (call ∷ before) places book store =
+    IsStoredAt IsStored accounts (of_number call.number (call ∷ before)) (places call.number) book store
 
 -- the phase is that of this place: what the client may do there, or Closed if no session is open. Nothing is said of Halted, since
 -- a halt may come at any place.
@@ -104,7 +102,7 @@ guest_phase false (Some guest) = Some (session_phase guest.session)
 
 -- the phase of the session of a number, or none if it is not open
 abbrev pub phase_in : {S : Type 0} → HallFields S → ℕ → Option Phase
-phase_in hall n = guest_phase hall.is_halted (find (is_of n) hall.guests)
+phase_in hall number = guest_phase hall.is_halted (find (is_of number) hall.guests)
 
 -- two halls have the same book, store and open sessions, in any order, have given the same numbers, and have both halted or neither
 pub record IsSameHall {S : Type 0} (old new : HallFields S) : Type 0 where
@@ -125,18 +123,18 @@ module _ {S : Type 0} (facts : S → StoreFacts) (IsStored : List ℕ → Type 0
   pub record IsHallAfter (start : BookFields) (calls : List (Numbered Call)) (hall : HallFields S) : Type 0 where
     -- where the session of each number stands, and the replies to codes, in the order of the whole log
     pub places : ℕ → Place
-    pub told : List LoggedReply
+    pub told : List LoggedAttempt
     -- what each session was asked is recorded and answered; nothing was asked of a number that was not given
-    pub session_runs : (n : ℕ) → IsSessionRun (accounts_in start) (of_number n calls) (places n)
-    pub fresh : (n : ℕ) → given_in (hall_lines calls) < n → of_number n calls ≡ []
-    -- the lines are those of a log of version 2, at most 64 of whose sessions are open at once, and they can be written
+    pub session_runs : (number : ℕ) → IsSessionRun (accounts_in start) (of_number number calls) (places number)
+    pub fresh : (number : ℕ) → given_in (hall_lines calls) < number → of_number number calls ≡ []
+    -- the lines are those of a log of version 2, at most `most_open` of whose sessions are open at once, and they can be written
     pub spelled : SpellsNumbered most_open (demands (accounts_in start)) (hall_lines calls) places told
     pub writable : AllByRecursion IsNumberedWritable (hall_lines calls)
     -- the numbers that were given are 1, 2, and so on
     pub given : hall.given ≡ given_in (hall_lines calls)
     pub last_number : hall.given ≤ last_session_number
     -- each open session has one guest, and no other number has any
-    pub guests : (n : ℕ) → count_by (is_of n) hall.guests ≡ open_at (places n)
+    pub guests : (number : ℕ) → count_by (is_of number) hall.guests ≡ open_at (places number)
     pub open_are : length hall.guests + closed_in (hall_lines calls) ≡ given_in (hall_lines calls)
     -- each guest waits for what is due at its place, or the hall has halted
     pub seated : hall.is_halted ≡ false → AllByRecursion (IsSeated (accounts_in start) calls places) hall.guests
@@ -147,21 +145,21 @@ module _ {S : Type 0} (facts : S → StoreFacts) (IsStored : List ℕ → Type 0
     pub spent : (ps : List (List ℕ × ℕ)) → AreSpent ps start → AreSpent (spent_by_all (reverse told) ++ ps) hall.keeper.book
 
   -- what a call of a session did: it added lines, and a hall that had answered some calls has now answered this one as well
-  pub record AnswersIn (old : HallFields S) (n : ℕ) (request : Request) (phase_after : Phase) (wire wire' log log' : List ℕ)
+  pub record AnswersIn (old : HallFields S) (number : ℕ) (request : Request) (phase_after : Phase) (wire wire' log log' : List ℕ)
       (new : HallFields S) : Type 0 where
     pub lines : List LogLine
-    pub logged : log' ≡ log ++ numbered_bytes (map (numbered n) lines)
+    pub logged : log' ≡ log ++ numbered_bytes (map (numbered number) lines)
     pub sent : wire' ≡ wire ++ wire_bytes lines
     -- the hall has answered one more call, and the phase that is returned is that of the place where the session then stands
     pub stands : (start : BookFields) (calls : List (Numbered Call)) → IsHallAfter start calls old
-        → (after : IsHallAfter start (numbered n (call_of request lines) ∷ calls) new) × IsPhaseOf (after.places n) phase_after
+        → (after : IsHallAfter start (numbered number (call_of request lines) ∷ calls) new) × IsPhaseOf (after.places number) phase_after
     -- the phase that is returned is Halted if and only if the hall has halted
     pub tells : (phase_after ≡ phase.Halted) ↔ (new.is_halted ≡ true)
     -- the call saved what its lines record
     pub saves : (start : BookFields) (calls : List (Numbered Call)) → IsHallAfter start calls old
         → CountsSaves facts lines old.keeper new.keeper
-    pub asks : (start : BookFields) (calls : List (Numbered Call)) (s : IsHallAfter start calls old)
-        → AsksForSave facts request (s.places n) lines old.keeper new.keeper
+    pub asks : (start : BookFields) (calls : List (Numbered Call)) (standing : IsHallAfter start calls old)
+        → AsksToSaveAttempt facts request (standing.places number) lines old.keeper new.keeper
     pub quiet : IsQuiet facts lines old.keeper new.keeper
     -- a call halts the hall only by a save in which the store failed
     pub halts : new.is_halted ≡ true → FailsInSave facts old.keeper new.keeper

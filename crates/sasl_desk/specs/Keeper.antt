@@ -10,17 +10,17 @@ use Rattle.account_book.specs.SavedBooks.{needs_save, SavesBook}
 use Rattle.account_book.specs.Store.{StoreFacts, IsFailedSave}
 use Rattle.account_book.specs.Tokens.{IsBookAttempt}
 use Rattle.log_grammar.specs.Lines.{IsReplyInRange}
-use Rattle.log_grammar.specs.LoggedReply.{LoggedReply, logged_reply_of}
+use Rattle.log_grammar.specs.LoggedAttempt.{LoggedAttempt, logged_attempt_of}
 use Rattle.sasl_desk.specs.declared.fault.DeskFault.{DeskFault}
 use Rattle.sasl_desk.specs.declared.fault.DeskFault.TheVariants.{Halted, Unwritable, NoNumber, NoMemory}
 use Rattle.sasl_desk.specs.declared.keeper.CodeJudged.{CodeJudged}
-use Rattle.sasl_desk.specs.declared.keeper.CodeJudged.TheVariants.{Replied, Lost}
+use Rattle.sasl_desk.specs.declared.keeper.CodeJudged.TheVariants.{Replied, NotSaved}
 
 -- an attempt was judged: the reply is the one that is due, and the book is the old one in which the attempt has changed the
 -- account's token, and nothing else
-pub record IsAttemptJudged (old : BookFields) (t : LoggedReply) (new : BookFields) : Type 0 where
-  pub is_moment : IsMoment t.moment
-  pub answered : IsBookAttempt old t.account t.moment t.sent t.reply new
+pub record IsAttemptJudged (old : BookFields) (attempt : LoggedAttempt) (new : BookFields) : Type 0 where
+  pub is_moment : IsMoment attempt.moment
+  pub answered : IsBookAttempt old attempt.account attempt.moment attempt.sent attempt.reply new
 
 -- the store fails in a save of the text of this book, or had failed before
 pub record FailsToSave (old_store : StoreFacts) (book : BookFields) (new_store : StoreFacts) : Type 0 where
@@ -45,21 +45,21 @@ IsKept IsStored false old_book old_store new_book new_store = (new_book ≡ old_
 abbrev pub IsJudged : (IsStored : List ℕ → Type 0) → (old_book : BookFields) → (old_store : StoreFacts) → (name : List ℕ)
     → (moment : ℕ) → CodeTexts → CodeJudged → (new_book : BookFields) → (new_store : StoreFacts) → Type 0
 IsJudged IsStored old_book old_store name moment sent (Replied reply) new_book new_store =
-    IsAttemptJudged old_book (logged_reply_of name moment sent reply) new_book
+    IsAttemptJudged old_book (logged_attempt_of name moment sent reply) new_book
     × IsKept IsStored (needs_save reply) old_book old_store new_book new_store
-IsJudged IsStored old_book old_store name moment sent Lost new_book new_store =
+IsJudged IsStored old_book old_store name moment sent NotSaved new_book new_store =
     (new_book ≡ old_book)
     × ((reply : Option Reply) × (next : BookFields) × (needs_save reply ≡ true)
-    × IsAttemptJudged old_book (logged_reply_of name moment sent reply) next
+    × IsAttemptJudged old_book (logged_attempt_of name moment sent reply) next
     × FailsToSave old_store next new_store)
 
 -- some reply that is due to this attempt needs a save
 abbrev pub IsToBeSaved : BookFields → (name : List ℕ) → (moment : ℕ) → CodeTexts → Type 0
 IsToBeSaved old name moment sent =
     (reply : Option Reply) × (next : BookFields) × (needs_save reply ≡ true)
-    × IsAttemptJudged old (logged_reply_of name moment sent reply) next
+    × IsAttemptJudged old (logged_attempt_of name moment sent reply) next
 
--- the outcome of a code is no pass, or a pass whose counter is in its range
+-- the outcome of a code is not a pass, or is a pass whose counter is in its range
 abbrev pub IsJudgedInRange : CodeJudged → Type 0
 IsJudgedInRange (Replied reply) = IsReplyInRange reply
-IsJudgedInRange Lost = Unit {0}
+IsJudgedInRange NotSaved = Unit {0}

@@ -24,7 +24,7 @@ nonces_with (hears event moment) before = before
 -- the server's parts of the nonces with which clients were greeted, the latest first
 abbrev pub nonces_in : List Call → List (List ℕ)
 nonces_in [] = []
-nonces_in (c ∷ before) = nonces_with c.request (nonces_in before)
+nonces_in (call ∷ before) = nonces_with call.request (nonces_in before)
 
 -- the records after a request: a greeting adds none; what a client did adds its record, at the place where the log stood
 abbrev pub HasRecordOf : Accounts → Request → (before : List Call) → (Earlier : List LogLine → Type 0) → List LogLine → Type 0
@@ -37,7 +37,7 @@ HasRecordOf accounts (hears event moment) before Earlier records =
 -- first, has the last record
 abbrev pub AreRecords : Accounts → List Call → List LogLine → Type 0
 AreRecords accounts [] records = records ≡ []
-AreRecords accounts (c ∷ before) records = HasRecordOf accounts c.request before (AreRecords accounts before) records
+AreRecords accounts (call ∷ before) records = HasRecordOf accounts call.request before (AreRecords accounts before) records
 
 -- the log of these calls has one offer for each nonce, and its records are those of what clients did: nothing that a client did is left
 -- out, and nothing is invented

@@ -8,28 +8,28 @@ use Rattle.log_grammar.specs.Demands.{demands}
 use Rattle.log_grammar.specs.Lines.{LogLine, log_bytes}
 use Rattle.log_grammar.specs.Numbered.{Numbered, SpellsNumbered}
 use Rattle.log_grammar.specs.Places.{Place}
-use Rattle.log_grammar.specs.LoggedReply.{LoggedReply}
+use Rattle.log_grammar.specs.LoggedAttempt.{LoggedAttempt}
 use Rattle.log_grammar.specs.Versions.{most_open}
 use Rattle.sasl_desk.specs.Desks.{IsBookAfterReplies}
 
--- the store has saved the text of the book to which these replies lead
-pub record IsToldSaved (IsStored : List ℕ → Type 0) (start : BookFields) (told : List LoggedReply) : Type 0 where
+-- `IsStored` is true of some text of the book to which these replies lead
+pub record IsToldSaved (IsStored : List ℕ → Type 0) (start : BookFields) (told : List LoggedAttempt) : Type 0 where
   pub last : BookFields
   pub is_last : IsBookAfterReplies start (reverse told) last
   pub saved : HasStoredText IsStored last
 
--- the store has saved the text of the book to which the replies in a log of version 1 lead
+-- `IsStored` is true of some text of the book to which the replies in a log of version 1 lead
 pub record IsLogSaved (IsStored : List ℕ → Type 0) (start : BookFields) (log : List ℕ) : Type 0 where
   pub lines : List LogLine
   pub place : Place
-  pub told : List LoggedReply
+  pub told : List LoggedAttempt
   pub are_lines : log ≡ log_bytes lines
   pub begins : Begins (demands (accounts_in start)) lines place told
   pub saved : IsToldSaved IsStored start told
 
--- the store has saved the text of the book to which the replies in these lines of a log of version 2 lead
+-- `IsStored` is true of some text of the book to which the replies in these lines of a log of version 2 lead
 pub record AreLinesSaved (IsStored : List ℕ → Type 0) (start : BookFields) (lines : List (Numbered LogLine)) : Type 0 where
   pub places : ℕ → Place
-  pub told : List LoggedReply
+  pub told : List LoggedAttempt
   pub spelled : SpellsNumbered most_open (demands (accounts_in start)) lines places told
   pub saved : IsToldSaved IsStored start told

@@ -5,7 +5,7 @@ use Rattle.book_format.specs.Trees.{IsBookText}
 use Rattle.account_book.specs.SavedBooks.{needs_save}
 use Rattle.account_book.specs.Store.{StoreFacts}
 use Rattle.log_grammar.specs.Lines.{LogLine, said, heard, replies, halt, code_line}
-use Rattle.log_grammar.specs.LoggedReply.{LoggedReply}
+use Rattle.log_grammar.specs.LoggedAttempt.{LoggedAttempt}
 use Rattle.log_grammar.specs.Places.{Place, waits_code}
 use Rattle.sasl_desk.specs.Events.{ClientEvent}
 use Rattle.sasl_desk.specs.Keeper.{IsAttemptJudged}
@@ -19,13 +19,13 @@ is_saving (said halt) = true
 is_saving line = false
 
 -- the attempt of a call: by the account whose client may send a code at this place, at the moment of the call, with what the client sent
-pub record IsAttemptOf (request : Request) (at : Place) (lines : List LogLine) (t : LoggedReply) : Type 0 where
+pub record IsAttemptOf (request : Request) (at : Place) (lines : List LogLine) (attempt : LoggedAttempt) : Type 0 where
   pub event : ClientEvent
   pub answer : LogLine
-  pub is_request : request ≡ hears event t.moment
-  pub place : at ≡ waits_code t.account
-  pub lines_are : lines ≡ heard (code_line t.sent) ∷ answer ∷ []
-  pub to_save : needs_save t.reply ≡ true
+  pub is_request : request ≡ hears event attempt.moment
+  pub place : at ≡ waits_code attempt.account
+  pub lines_are : lines ≡ heard (code_line attempt.sent) ∷ answer ∷ []
+  pub to_save : needs_save attempt.reply ≡ true
 
 -- a keeper before and after calls, or a call: `facts` are those of its store
 module _ {S : Type 0} (facts : S → StoreFacts) where
@@ -34,10 +34,10 @@ module _ {S : Type 0} (facts : S → StoreFacts) where
   CountsSaves lines old new = (facts new.store).saves ≡ (facts old.store).saves + length (filter is_saving lines)
 
   -- if the store was asked to save, it was given the text of the book with the attempt of this call
-  abbrev pub AsksForSave : Request → Place → List LogLine → (old new : Keeper S) → Type 0
-  AsksForSave request place lines old new = (filter is_saving lines ≡ [] → ⊥)
-      → (t : LoggedReply) × (next : BookFields) × IsAttemptOf request place lines t × IsAttemptJudged old.book t next
-      × IsBookText (facts new.store).asked next
+  abbrev pub AsksToSaveAttempt : Request → Place → List LogLine → (old new : Keeper S) → Type 0
+  AsksToSaveAttempt request place lines old new = (filter is_saving lines ≡ [] → ⊥)
+      → (attempt : LoggedAttempt) × (next : BookFields) × IsAttemptOf request place lines attempt
+      × IsAttemptJudged old.book attempt next × IsBookText (facts new.store).asked next
 
   -- a call without a reply that needs a save, and without HALT, leaves the book and the store as they are
   abbrev pub IsQuiet : List LogLine → (old new : Keeper S) → Type 0

@@ -22,7 +22,7 @@ use Rattle.sasl_desk.specs.declared.fault.ServeFault.TheVariants.{Halted, Unwrit
 -- the lines of these calls
 abbrev pub call_lines : List Call → List LogLine
 call_lines [] = []
-call_lines (c ∷ before) = call_lines before ++ c.lines
+call_lines (call ∷ before) = call_lines before ++ call.lines
 
 -- if the desk has halted, its store has failed
 abbrev pub HaltsOnlyByStore : {S : Type 0} → (S → StoreFacts) → Desk S → Type 0
@@ -93,12 +93,12 @@ module _ {S : Type 0} (facts : S → StoreFacts) (IsStored : List ℕ → Type 0
 
   -- why what a desk was asked is not done, and what is true then. If the desk had halted, or memory ran out, the desk has answered
   -- nothing, and nothing was written.
-  abbrev pub IsUndone : Request → (old new : Desk S) → (wire wire' log log' : SinkFacts) → ServeFault → Type 0
-  IsUndone request old new wire wire' log log' Halted = IsSameDesk old new × (wire' ≡ wire) × (log' ≡ log)
-  IsUndone request old new wire wire' log log' NoMemory = IsSameDesk old new × (wire' ≡ wire) × (log' ≡ log)
-  IsUndone request old new wire wire' log log' Unwritable = ⊥
-  IsUndone request old new wire wire' log log' WriteFault = IsUnsent request old new wire' log log'
-  IsUndone request old new wire wire' log log' LogFault = IsUnlogged request old new wire wire' log'
+  abbrev pub IsNotDone : Request → (old new : Desk S) → (wire wire' log log' : SinkFacts) → ServeFault → Type 0
+  IsNotDone request old new wire wire' log log' Halted = IsSameDesk old new × (wire' ≡ wire) × (log' ≡ log)
+  IsNotDone request old new wire wire' log log' NoMemory = IsSameDesk old new × (wire' ≡ wire) × (log' ≡ log)
+  IsNotDone request old new wire wire' log log' Unwritable = ⊥
+  IsNotDone request old new wire wire' log log' WriteFault = IsUnsent request old new wire' log log'
+  IsNotDone request old new wire wire' log log' LogFault = IsUnlogged request old new wire wire' log'
 
   -- a turn: one line was read, the desk heard it at this moment and answered it, and the lines were written
   pub record IsTurnServed (moment : ℕ) (old new : Service S) : Type 0 where
@@ -111,12 +111,12 @@ module _ {S : Type 0} (facts : S → StoreFacts) (IsStored : List ℕ → Type 0
   IsTurnFault moment old new Halted = new ≡ old
   IsTurnFault moment old new fault =
       (read : LineRead) × ReadsLine old.input read new.input
-      × IsUndone (hears (event_read read) moment) old.desk new.desk old.wire new.wire old.log new.log fault
+      × IsNotDone (hears (event_read read) moment) old.desk new.desk old.wire new.wire old.log new.log fault
 
   -- the client was not greeted, for this reason
   pub record FailsInGreeting (server_nonce : List ℕ) (old new : Service S) (fault : ServeFault) : Type 0 where
     pub unread : new.input ≡ old.input
-    pub undone : IsUndone (greets server_nonce) old.desk new.desk old.wire new.wire old.log new.log fault
+    pub undone : IsNotDone (greets server_nonce) old.desk new.desk old.wire new.wire old.log new.log fault
 
   -- a session from its greeting on: `IsNow` is true of each moment of the clock
   module _ (IsNow : ℕ → Type 0) where
@@ -125,7 +125,7 @@ module _ {S : Type 0} (facts : S → StoreFacts) (IsStored : List ℕ → Type 0
     pub record IsServedUpTo (server_nonce : List ℕ) (turns : List ServedTurn) (old new : Service S) : Type 0 where
       pub greeting : List LogLine
       pub reads : ReadsLines old.input (reads_in turns) new.input
-      pub moments : AllByRecursion (λ e. IsNow e.moment) turns
+      pub moments : AllByRecursion (λ turn. IsNow turn.moment) turns
       pub answers : AnswersAll old.desk (session_calls server_nonce greeting turns) new.desk
       pub written : AreWritten (call_lines (session_calls server_nonce greeting turns)) old.wire new.wire old.log new.log
       pub halts : HaltsOnlyByStore facts new.desk
@@ -173,7 +173,7 @@ module _ {S : Type 0} (facts : S → StoreFacts) (IsStored : List ℕ → Type 0
       pub used_up : HasUsedAllTurns server_nonce old middle new
       pub moment : ℕ
       pub is_now : IsNow moment
-      pub undone : IsUndone (hears goes_away moment) middle.desk new.desk middle.wire new.wire middle.log new.log fault
+      pub undone : IsNotDone (hears goes_away moment) middle.desk new.desk middle.wire new.wire middle.log new.log fault
 
     -- why a session was not served to its end
     abbrev pub IsServeFault : (server_nonce : List ℕ) → (old new : Service S) → ServeFault → Type 0

@@ -11,18 +11,18 @@ use Rattle.otp_core.specs.declared.token.kinds.TokenFields.{TokenFields}
 use Rattle.book_format.specs.Book.{BookFields}
 use Rattle.account_book.specs.Tokens.{token_at}
 use Rattle.log_grammar.specs.Books.{accounts_in}
-use Rattle.log_grammar.specs.LoggedReply.{LoggedReply}
-use Rattle.log_grammar.specs.Demands.{IsLoggedReplyDue}
+use Rattle.log_grammar.specs.LoggedAttempt.{LoggedAttempt}
+use Rattle.log_grammar.specs.Demands.{HasDueReply}
 use Rattle.sasl_log.specs.Tokens.{IsBookAfter}
 
 -- a counter can pass at a moment after a history, by itself or as the first of a pair
-abbrev pub CanPass : TokenFields → List Attempt → (moment c : ℕ) → Type 0
-CanPass token history moment c = IsCandidate token history moment c ⊎ IsPairCandidate token history c
+abbrev pub CanPass : TokenFields → List Attempt → (moment counter : ℕ) → Type 0
+CanPass token history moment counter = IsCandidate token history moment counter ⊎ IsPairCandidate token history counter
 
 -- a counter is below each that can pass with a token, at every moment and after every legal history
 abbrev pub IsBelow : TokenFields → (counter : ℕ) → Type 0
-IsBelow token counter = (history : List Attempt) (moment c : ℕ) → IsMoment moment → IsLegal token history
-    → CanPass token history moment c → counter < c
+IsBelow token counter = (history : List Attempt) (moment passing : ℕ) → IsMoment moment → IsLegal token history
+    → CanPass token history moment passing → counter < passing
 
 -- the account has a token, and this counter is below each that can pass with it
 pub record IsCounterSpent (book : BookFields) (name : List ℕ) (counter : ℕ) : Type 0 where
@@ -33,12 +33,12 @@ pub record IsCounterSpent (book : BookFields) (name : List ℕ) (counter : ℕ) 
 -- no counter of an account appears twice
 abbrev pub AreDifferent : List (List ℕ × ℕ) → Type 0
 AreDifferent [] = Unit {0}
-AreDifferent (p ∷ ps) = AllByRecursion (λ q. p ≢ q) ps × AreDifferent ps
+AreDifferent (counter ∷ counters) = AllByRecursion (λ other. counter ≢ other) counters × AreDifferent counters
 
 -- counters, each with its account, that are different and all spent
-pub record AreSpent (ps : List (List ℕ × ℕ)) (book : BookFields) : Type 0 where
-  pub different : AreDifferent ps
-  pub spent : AllByRecursion (λ p. IsCounterSpent book p.0 p.1) ps
+pub record AreSpent (counters : List (List ℕ × ℕ)) (book : BookFields) : Type 0 where
+  pub different : AreDifferent counters
+  pub spent : AllByRecursion (λ counter. IsCounterSpent book counter.0 counter.1) counters
 
 -- the counters that the reply to a code uses: for two codes in a row both, and none if the account has no token
 abbrev pub used_by_reply : CodeTexts → Option Reply → List ℕ
@@ -48,15 +48,15 @@ used_by_reply sent (Some reply) = used_in_reply sent reply
 -- counters, each with this account
 abbrev pub of_account : (name : List ℕ) → (counters : List ℕ) → List (List ℕ × ℕ)
 of_account name [] = []
-of_account name (c ∷ counters) = (name, c) ∷ of_account name counters
+of_account name (counter ∷ counters) = (name, counter) ∷ of_account name counters
 
 -- the counters that a reply uses, each with its account
-abbrev pub spent_by : LoggedReply → List (List ℕ × ℕ)
-spent_by t = of_account t.account (used_by_reply t.sent t.reply)
+abbrev pub spent_by : LoggedAttempt → List (List ℕ × ℕ)
+spent_by attempt = of_account attempt.account (used_by_reply attempt.sent attempt.reply)
 
 -- what was spent stays spent, and the counters that a reply uses are different ones and are then spent as well. So over any number
 -- of replies, in any number of runs that each continue with the book of the one before, no counter of an account passes twice.
 abbrev pub SpentStaysSpent : Type 0
-SpentStaysSpent = (old new : BookFields) (t : LoggedReply) (ps : List (List ℕ × ℕ)) → IsMoment t.moment
-    → IsLoggedReplyDue (accounts_in old) [] t → IsBookAfter (accounts_in old) (t ∷ []) new
-    → AreSpent ps old → AreSpent (spent_by t ++ ps) new
+SpentStaysSpent = (old new : BookFields) (attempt : LoggedAttempt) (counters : List (List ℕ × ℕ)) → IsMoment attempt.moment
+    → HasDueReply (accounts_in old) [] attempt → IsBookAfter (accounts_in old) (attempt ∷ []) new
+    → AreSpent counters old → AreSpent (spent_by attempt ++ counters) new

@@ -7,8 +7,8 @@ use thiserror::Error;
 /// Why a desk or a hall refuses a call.
 #[derive(Clone, Copy, Debug, PartialEq, Eq, Error)]
 pub enum DeskFault {
-    /// 72: the desk or hall has halted, or the first save failed.
-    #[error("the desk has halted")]
+    /// 72: the desk or hall has halted, or its first save failed.
+    #[error("the desk or hall has halted, or its first save failed")]
     Halted,
 
     /// 73: the message that is due cannot be written. No call of a desk or a hall returns it.
@@ -49,10 +49,6 @@ pub enum ServeFault {
     #[error("a message that is due cannot be written")]
     Unwritable,
 
-    /// 99: memory ran out.
-    #[error("out of memory")]
-    NoMemory,
-
     /// 74: what is due to the client could not be written to it. It is in the log.
     #[error("cannot write to the client")]
     WriteFault,
@@ -60,6 +56,10 @@ pub enum ServeFault {
     /// 75: the log could not be written. The desk has halted, and nothing was sent to the client.
     #[error("cannot write the log, so the desk has halted")]
     LogFault,
+
+    /// 99: memory ran out.
+    #[error("out of memory")]
+    NoMemory,
 }
 
 impl ServeFault {
@@ -70,9 +70,9 @@ impl ServeFault {
         match self {
             ServeFault::Halted => 72,
             ServeFault::Unwritable => 73,
-            ServeFault::NoMemory => 99,
             ServeFault::WriteFault => 74,
             ServeFault::LogFault => 75,
+            ServeFault::NoMemory => 99,
         }
     }
 

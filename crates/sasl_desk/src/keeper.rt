@@ -25,7 +25,7 @@ pub enum CodeJudged {
     Replied(Option<Reply>),
 
     /// The save failed: the reply must not be sent, and the book is as before.
-    Lost,
+    NotSaved,
 }
 
 impl<S: BookStore> Keeper<S> {
@@ -33,8 +33,8 @@ impl<S: BookStore> Keeper<S> {
     /// used; 72 Halted if the save fails. The book and the store are then handed back.
     pub fn begin(alloc: Global, book: Book, mut store: S) -> Result<Keeper<S>, (Book, S, DeskFault)>
         ensures ok { IfOk result (λ keeper. (keeper.book ≡ book) × SavesBook S.IsStored (S.facts store) book (S.facts keeper.store)) }
-        ensures err { IfErr result (λ r. (r.0 ≡ book) × IsNotBegun (S.facts store) book r.2 (S.facts r.1)) }
-        ensures unasked { IfErr result (λ r. r.2 ≡ DeskFault.NoMemory → r.1 ≡ store) }
+        ensures err { IfErr result (λ refused. (refused.0 ≡ book) × IsNotBegun (S.facts store) book refused.2 (S.facts refused.1)) }
+        ensures unasked { IfErr result (λ refused. refused.2 ≡ DeskFault.NoMemory → refused.1 ≡ store) }
     {
         let text = match book.write(alloc) {
             Ok(text) => text,
@@ -62,9 +62,10 @@ impl<S: BookStore> Keeper<S> {
     }
 
     /// Judges what the client of this account sent at a moment, as `Token::judge` does. PASS and FAIL are returned after the store
-    /// has saved the text of the book with this attempt in it. LOCKED changes nothing, nor does an account without a token, and the
-    /// store is then not used. If the save fails, the book is as before, and the store holds the old text or that of the book with
-    /// this attempt. An error means that there was no memory for the text to be saved; nothing has then changed.
+    /// has saved the text of the book with this attempt in it. LOCKED changes nothing, and neither does an attempt for an account
+    /// without a token; the store is then not used. If the save fails, the book is as before, and the store holds the old text or
+    /// that of the book with this attempt. An error means that there was no memory for the text to be saved; nothing has then
+    /// changed.
     pub fn judge(
         &mut self,
         alloc: Global,
@@ -79,7 +80,7 @@ impl<S: BookStore> Keeper<S> {
         // If nothing is to be saved, memory does not run out.
         ensures no_memory { OnErr result (IsToBeSaved self.old.book name.now moment (texts_of sent.entry)) }
     {
-        moment_is_in_range(moment);
+        law_of_moments(moment);
         let Some(mut token) = self.book.token(name) else {
             return Ok(CodeJudged::Replied(None));
         };
@@ -100,14 +101,14 @@ impl<S: BookStore> Keeper<S> {
             Ok(()) => Ok(CodeJudged::Replied(Some(reply))),
             Err(_) => {
                 self.book.put_token(name, before);
-                Ok(CodeJudged::Lost)
+                Ok(CodeJudged::NotSaved)
             }
         }
     }
 }
 
 /// A law: a moment is in its range by its type. Only a proof needs it.
-pub(crate) fn moment_is_in_range(moment: Moment)
+pub(crate) fn law_of_moments(moment: Moment)
     ensures { IsMoment moment }
 {
     moment.seconds();

@@ -3,10 +3,10 @@ ghost use Rattle.std.specs.Prelude.{◌≡◌, ◌⊎◌, true, ℕ, List, [], �
 ghost use Rattle.book_format.specs.Book.{BookFields};
 ghost use Rattle.book_format.specs.Trees.{IsBookText};
 ghost use Rattle.log_grammar.specs.Books.{accounts_in};
-ghost use Rattle.log_grammar.specs.Versions.{IsFront, IsClean};
+ghost use Rattle.log_grammar.specs.Versions.{IsLogFront, IsClean};
 ghost use Rattle.log_grammar.specs.Lines.{LogLine, said, halt, log_bytes};
-ghost use Rattle.log_grammar.specs.LoggedReply.{LoggedReply};
-ghost use Rattle.sasl_desk.specs.Desks.{IsDeskAfter, desk_phase, spent_by_all};
+ghost use Rattle.log_grammar.specs.LoggedAttempt.{LoggedAttempt};
+ghost use Rattle.sasl_desk.specs.Desks.{MayHold, IsDeskAfter, desk_phase, spent_by_all};
 ghost use Rattle.sasl_desk.specs.Keeper.{IsAttemptJudged};
 ghost use Rattle.sasl_desk.specs.Records.{HasItsRecords};
 ghost use Rattle.sasl_desk.specs.Restarts.{IsDeskRunLeaving, Change, AreChanges, spent_by_changes};
@@ -45,7 +45,7 @@ pub fn records_may_stand()
 /// Whatever a desk was asked, its log is a front for the book with which it began: a clean log may begin with it.
 pub fn log_is_a_front<S: BookStore>()
     ensures { (start : BookFields) (calls : List Call) (desk : Desk S) → IsDeskAfter S.facts S.IsStored start calls desk
-        → IsFront (accounts_in start) (log_bytes (run_lines calls)) }
+        → IsLogFront (accounts_in start) (log_bytes (run_lines calls)) }
 {}
 
 /// A desk's log is clean if no session is open, if the store has failed, or if the log ends with `S HALT`.
@@ -68,44 +68,48 @@ pub fn log_has_its_records<S: BookStore>()
 
 /// The bytes of a run are those of its calls, one after another: in its log after the first line, and in what its clients are sent.
 pub fn bytes_are_those_of_calls()
-    ensures log { (c : Call) (before : List Call) → log_bytes (run_lines (c ∷ before)) ≡ log_bytes (run_lines before) ++ log_bytes c.lines }
-    ensures wire { (c : Call) (before : List Call)
-        → wire_bytes (run_lines (c ∷ before)) ≡ wire_bytes (run_lines before) ++ wire_bytes c.lines }
+    ensures log { (call : Call) (before : List Call)
+        → log_bytes (run_lines (call ∷ before)) ≡ log_bytes (run_lines before) ++ log_bytes call.lines }
+    ensures wire { (call : Call) (before : List Call)
+        → wire_bytes (run_lines (call ∷ before)) ≡ wire_bytes (run_lines before) ++ wire_bytes call.lines }
     ensures begun { wire_bytes (run_lines []) ≡ [] }
 {}
 
-/// After each call, the store holds the text of a book that the run may leave: the desk's own or, if a save failed, perhaps the
-/// same with one more attempt.
+/// After each call, each text that the store may hold is that of a book that the run may leave: the desk's own or, if a save failed,
+/// perhaps the same with one more attempt.
 pub fn store_holds_a_book<S: BookStore>()
-    ensures { (start : BookFields) (calls : List Call) (desk : Desk S) → IsDeskAfter S.facts S.IsStored start calls desk
-        → (left : BookFields) × IsDeskRunLeaving S.facts S.IsStored start calls left × IsBookText (S.facts desk.keeper.store).saved left }
+    ensures { (start : BookFields) (calls : List Call) (desk : Desk S) (text : List ℕ)
+        → IsDeskAfter S.facts S.IsStored start calls desk → MayHold (S.facts desk.keeper.store) text
+        → (left : BookFields) × IsDeskRunLeaving S.facts S.IsStored start calls left × IsBookText text left }
 {}
 
-/// After each call, the store has saved the text of the book to which the replies in the log lead: no reply was sent to a client
-/// before its change to the book was saved.
+/// After each call, `IsStored` is true of some text of the book to which the replies in the log lead. That the save comes before the
+/// reply is in the contract of `Keeper::judge`.
 pub fn log_is_saved<S: BookStore>()
     ensures { (start : BookFields) (calls : List Call) (desk : Desk S) → IsDeskAfter S.facts S.IsStored start calls desk
         → IsLogSaved S.IsStored start (log_bytes (run_lines calls)) }
 {}
 
-/// A stop within a call, while the store replaces the old text with the new one, leaves what a run may leave: the desk's book with
-/// the attempt that is judged.
+/// The desk's book with one more judged attempt is a book that the run may leave: a stop within a call, while the store replaces the
+/// old text with the new one, leaves no other.
 pub fn stops_leave_runs<S: BookStore>()
-    ensures { (start : BookFields) (calls : List Call) (desk : Desk S) (t : LoggedReply) (next : BookFields)
-        → IsDeskAfter S.facts S.IsStored start calls desk → IsAttemptJudged desk.keeper.book t next
+    ensures { (start : BookFields) (calls : List Call) (desk : Desk S) (attempt : LoggedAttempt) (next : BookFields)
+        → IsDeskAfter S.facts S.IsStored start calls desk → IsAttemptJudged desk.keeper.book attempt next
         → IsDeskRunLeaving S.facts S.IsStored start calls next }
 {}
 
-/// At every moment of a run, the store holds a book in which each counter is spent that replies to clients have used, and each that
-/// was spent before the run. This holds after a call, and also if the run stops within one, while the store replaces the old text
-/// with that of the attempt that is judged.
+/// At every moment of a run, whichever text the store may hold is that of a book in which each counter is spent that replies to
+/// clients have used, and each that was spent before the run. This holds after a call, also of the text that a failed save was given,
+/// and if the run stops within a call, while the store replaces the old text with that of the attempt that is judged.
 pub fn told_counters_are_saved<S: BookStore>()
-    ensures ended { (start : BookFields) (calls : List Call) (desk : Desk S) (s : IsDeskAfter S.facts S.IsStored start calls desk)
-        (ps : List (List ℕ × ℕ)) → AreSpent ps start
-        → (saved : BookFields) × IsBookText (S.facts desk.keeper.store).saved saved × AreSpent (spent_by_all (reverse s.told) ++ ps) saved }
-    ensures within { (start : BookFields) (calls : List Call) (desk : Desk S) (s : IsDeskAfter S.facts S.IsStored start calls desk)
-        (ps : List (List ℕ × ℕ)) (t : LoggedReply) (next : BookFields) → AreSpent ps start → IsAttemptJudged desk.keeper.book t next
-        → AreSpent (spent_by_all (reverse s.told) ++ ps) next }
+    ensures ended { (start : BookFields) (calls : List Call) (desk : Desk S) (stands : IsDeskAfter S.facts S.IsStored start calls desk)
+        (spent : List (List ℕ × ℕ)) (text : List ℕ) → AreSpent spent start → MayHold (S.facts desk.keeper.store) text
+        → (saved : BookFields) × IsBookText text saved
+        × AreSpent (spent_by_all (reverse stands.told) ++ spent) saved }
+    ensures within { (start : BookFields) (calls : List Call) (desk : Desk S) (stands : IsDeskAfter S.facts S.IsStored start calls desk)
+        (spent : List (List ℕ × ℕ)) (attempt : LoggedAttempt) (next : BookFields) → AreSpent spent start
+        → IsAttemptJudged desk.keeper.book attempt next
+        → AreSpent (spent_by_all (reverse stands.told) ++ spent) next }
 {
     begins_with_itself();
     spent_stays_spent();
@@ -115,9 +119,9 @@ pub fn told_counters_are_saved<S: BookStore>()
 /// and between them attempts that are judged without a desk, unlocked tokens and added accounts. The counters that the replies use
 /// differ from each other and from those that were spent before, and all are spent in the book that is left.
 pub fn no_counter_passes_twice<S: BookStore>()
-    ensures { (first : BookFields) (changes : List Change) (last : BookFields) (ps : List (List ℕ × ℕ))
-        → AreChanges S.facts S.IsStored first changes last → AreSpent ps first
-        → AreSpent (spent_by_changes changes ++ ps) last }
+    ensures { (first : BookFields) (changes : List Change) (last : BookFields) (spent : List (List ℕ × ℕ))
+        → AreChanges S.facts S.IsStored first changes last → AreSpent spent first
+        → AreSpent (spent_by_changes changes ++ spent) last }
 {
     begins_with_itself();
     candidates_are_new();

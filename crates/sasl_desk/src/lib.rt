@@ -1,12 +1,34 @@
 //! A server of SCRAM logins and codes, over any store, source and sink. A *desk* serves one client after another, and a *hall* up to
 //! 64 at a time. Each keeps one book and writes one log.
 //!
-//! `Session` gives the answers to one client, line by line, and hands its codes on to be judged. `Keeper` holds the book and the
-//! store of its text: it judges codes, and saves each change before the reply is sent. `Desk` is both, with the log. `serve` reads
-//! the lines of one client, hands them to a desk, and writes its answers. `Hall` is a keeper and up to 64 sessions at a time, with
-//! one log for all.
+//! `Keeper` holds the book and the store of its text: it judges codes, and saves each change before the reply is sent. `Desk` is a
+//! keeper and at most one open session, and `Hall` a keeper and up to 64. Each call appends the lines of the log to a vector that it
+//! is given. `serve` reads the lines of one client, hands them to a desk, and writes its answers.
 //!
-//! A call of a law does nothing at run time: it lets the proof use the law.
+//! A call of a law, in the modules below, does nothing at run time: it lets the proof use the law.
+//!
+//! A server calls `greet` when a client comes, and `client` for each thing that the client does. After each call it first writes
+//! what was appended to the log, and then sends what was appended to the wire; `serve` does both. The tests make these calls too, by
+//! `Service` of the crate `desk_in_memory`.
+//!
+//! ```rust
+//! use sasl_desk::{Book, Desk, Event, Moment, Phase};
+//! use scram_text::NoncePart;
+//!
+//! let book = Book::read(alloc, text)?;
+//! let mut wire = Vec::new(alloc);
+//! let mut log = Vec::new(alloc);
+//! let Ok(mut desk) = Desk::begin(alloc, book, store, &mut log) else {
+//!     return Err("no desk".into());
+//! };
+//!
+//! let server_nonce = NoncePart::new(b"3rfcNHYJY1ZVvWVs7j").ok_or("a part of a nonce")?;
+//! assert_eq!(rt; desk.greet(server_nonce, &mut wire, &mut log), Ok(Phase::WaitAuth));
+//!
+//! let line = Event::Line(b"AUTH SCRAM-SHA-1 :n,,n=user,r=fyko+d2lbbFgONRv9qkxdawL");
+//! let moment = Moment::new(3).ok_or("a moment")?;
+//! assert_eq!(rt; desk.client(alloc, line, moment, &mut wire, &mut log), Ok(Phase::WaitFinal));
+//! ```
 #![tactic(auto)]
 
 mod clock;
@@ -28,7 +50,5 @@ pub use hall::Hall;
 pub use keeper::{CodeJudged, Keeper};
 pub use otp_core::{Moment, Reply, Sent};
 pub use serving::{serve, serve_turn};
-pub use session::{
-    Answer, ChallengedLogin, Event, HearResult, Phase, Recorded, Saying, Session, Turn,
-};
-pub use write::{MOST_BYTES, MOST_NUMBERED_BYTES};
+pub use session::{Event, Phase};
+pub use write::{MOST_CALL_BYTES, MOST_NUMBERED_CALL_BYTES};

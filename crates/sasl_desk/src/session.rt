@@ -1,7 +1,7 @@
-//! The session of one client: what it is sent, line by line.
+//! The session of one client: what the client is sent, line by line.
 //!
 //! A session hears what its client does and answers it. It reads the book's accounts and keeps what it needs of the login; it knows
-//! nothing of the store, of other sessions or of the log. It hands each code on to be judged.
+//! nothing of the store or of other sessions, and writes nothing: it says what the log is to record. It hands each code on to be judged.
 ghost use Rattle.std.specs.Prelude.{◌≡◌, [], IfOk, IfErr, OnErr};
 ghost use Rattle.log_grammar.specs.Lines as grammar;
 ghost use Rattle.log_grammar.specs.Lines.{from_client};
@@ -24,8 +24,9 @@ mod line;
 mod phase;
 
 use account_book::Book;
-pub use challenged_login::ChallengedLogin;
-pub use event::{Answer, Event, HearResult, Recorded, Saying, Turn};
+pub(crate) use challenged_login::ChallengedLogin;
+pub use event::Event;
+pub(crate) use event::{Answer, HearResult, Recorded, Saying, Turn};
 use hear::{bad_turn, gone_turn, hear_auth, hear_code, hear_final, hear_first};
 use line::client_line;
 use log_grammar::laws::each_text_is_at_most_one_line;
@@ -37,7 +38,7 @@ use std::alloc::{Allocator, Global};
 
 /// An open session: where it stands, with what it keeps of its login.
 #[derive(Drop)]
-pub enum Session {
+pub(crate) enum Session {
     /// The mechanisms were offered, and the client chooses one.
     WaitAuth,
 
@@ -56,7 +57,7 @@ impl Session {
     /// the nonce, the same for the whole session. The message of the answer is put into `message`, which must be empty before. An
     /// error means that memory ran out, which can happen only on a line with a message. The session is then handed back, `message`
     /// is empty, and nothing was heard.
-    pub fn hear<'a, A: Allocator>(
+    pub(crate) fn hear<'a, A: Allocator>(
         self,
         alloc: Global,
         event: Event<'a>,

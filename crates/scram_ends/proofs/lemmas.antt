@@ -1,8 +1,9 @@
 -- Lemmas that the proofs of this crate and of those above it cite.
 pub mod Challenges
-pub mod Clients
+pub mod client_messages
 pub mod Decided
 pub mod Digests
+pub mod DueMessages
 pub mod HonestLogins
 pub mod Opening
 pub mod Servers

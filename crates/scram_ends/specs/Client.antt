@@ -16,8 +16,8 @@ use Rattle.scram_ends.specs.declared.client.ClientTwo.{ClientTwo}
 use Rattle.scram_ends.specs.declared.client.OneRefused.{OneRefused}
 use Rattle.scram_ends.specs.declared.client.OneRefused.TheVariants.{Spent, Back}
 use Rattle.scram_ends.specs.declared.client.ClientFault.{ClientFault}
-use Rattle.scram_ends.specs.declared.client.ClientFault.TheVariants.{Text, Mandatory, NonceNotMine, NonceNotLonger, CountOutside}
-use Rattle.scram_ends.specs.declared.client.ClientFault.TheVariants.{ServerRefused, WrongSignature}
+use Rattle.scram_ends.specs.declared.client.ClientFault.TheVariants.{Text, Mandatory, NonceNotMine, NonceNotLonger, CountOutside, ServerRefused}
+use Rattle.scram_ends.specs.declared.client.ClientFault.TheVariants.{WrongSignature}
 
 -- the least iteration count that a client usually accepts: the minimum that RFC 5802, section 5.1, recommends to servers
 abbrev pub usual_least : ℕ
@@ -31,8 +31,8 @@ usual_most = 1000000
 abbrev pub AreUsual : Limits → Type 0
 AreUsual limits = (limits.least ≡ usual_least) × (limits.most ≡ usual_most)
 
--- the client has sent the first message of this login
-pub record IsStarted (w : ClientOne) (l : Started) : Type 0 where
+-- the client stands for this login: it has sent the login's first message, and waits for the challenge
+pub record StandsForStarted (w : ClientOne) (l : Started) : Type 0 where
   pub first : ClientFirstParts
   pub is_first : IsHonestFirst l.name l.authzid l.nonce l.client_first first
   pub mechanism : w.mechanism ≡ l.mechanism
@@ -41,15 +41,16 @@ pub record IsStarted (w : ClientOne) (l : Started) : Type 0 where
   pub header : w.header.items ≡ gs2_header first
   pub nonce : w.nonce.items ≡ l.nonce
 
--- the client has sent client-final of this login, honestly, and expects this signature from the server
-pub record IsExpecting (w : ClientTwo) (l : Answered) : Type 0 where
+-- the client stands for this login: it has sent the login's client-final message, as an honest client builds it, and expects this
+-- signature from the server
+pub record StandsForAnswered (w : ClientTwo) (l : Answered) : Type 0 where
   pub honest : IsHonest l
   pub signature : List ℕ
   pub signed : signature ≡ honest_signature l honest
   pub expected : w.expected.items ≡ signature
 
 -- the faults of a server-first message that a client is to answer, in the order in which they are judged. Text is not among them:
--- it is the fault of a text that is no server-first message.
+-- it is the fault of a text that is not a server-first message.
 abbrev pub challenge_faults_in_order : List ClientFault
 challenge_faults_in_order = Mandatory ∷ NonceNotMine ∷ NonceNotLonger ∷ CountOutside ∷ []
 
@@ -68,7 +69,7 @@ pub record IsAnswerable (limits : Limits) (client_nonce server_first : List ℕ)
   pub is_challenge : IsServerFirst server_first challenge
   pub asked : AllByRecursion (λ row. AsksOfChallenge row limits client_nonce challenge) challenge_faults_in_order
 
--- why a client with these limits and this nonce of its own does not answer a challenge: Text, if the text is no server-first
+-- why a client with these limits and this nonce of its own does not answer a challenge: Text, if the text is not a server-first
 -- message, with its first fault; else the first row that its parts do not meet
 abbrev pub IsChallengeFault : Limits → (client_nonce server_first : List ℕ) → ClientFault → Type 0
 IsChallengeFault limits client_nonce server_first (Text fault) = ((p : ServerFirstParts) → IsServerFirst server_first p → ⊥)
@@ -95,7 +96,7 @@ IfBack (Err (Back client fault)) fact = fact client fault
 IfBack (Err (Spent fault)) fact = Unit {0}
 
 -- the faults of a server-final message, in the order in which they are judged. Text is not among them: it is the fault of a text
--- that is no server-final message.
+-- that is not a server-final message.
 abbrev pub last_faults_in_order : List ClientFault
 last_faults_in_order = Mandatory ∷ ServerRefused ∷ WrongSignature ∷ []
 
@@ -107,7 +108,7 @@ AsksOfLast ServerRefused signature last = (sent : List ℕ) × (last.outcome ≡
 AsksOfLast WrongSignature signature last = last.outcome ≡ verifier signature
 AsksOfLast other signature last = Unit {0}
 
--- why a client that expects this signature does not accept the server as authentic: Text, if the text is no server-final message,
+-- why a client that expects this signature does not accept the server as authentic: Text, if the text is not a server-final message,
 -- with its first fault; else the first row that its parts do not meet
 abbrev pub IsLastFault : (signature server_final : List ℕ) → ClientFault → Type 0
 IsLastFault signature server_final (Text fault) = ((p : ServerFinalParts) → IsServerFinal server_final p → ⊥)

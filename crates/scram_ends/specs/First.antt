@@ -20,7 +20,7 @@ pub record IsChallengeTo (e : Entry) (client_first server_nonce server_first : L
   pub is_challenge : IsServerFirst server_first (server_first_of (first.nonce ++ server_nonce) e.salt e.count [])
 
 -- the faults of a client-first message, in the order in which they are judged. Text is not among them: it is the fault of a text
--- that is no client-first message.
+-- that is not a client-first message.
 abbrev pub first_faults_in_order : List FirstFault
 first_faults_in_order = Mandatory ∷ BindingAsked ∷ OutsideProfile ∷ []
 
@@ -33,7 +33,7 @@ AsksOfFirst BindingAsked first = IsUnbound first.flag
 AsksOfFirst OutsideProfile first =
     (name : List ℕ) × (authzid : Option (List ℕ)) × IsNameOf name first.name × IsAuthzidOf authzid first.authzid
 
--- why a server does not take up a login: Text, if the text is no client-first message, with its first fault; else the first row
+-- why a server does not take up a login: Text, if the text is not a client-first message, with its first fault; else the first row
 -- that its parts do not meet
 abbrev pub IsRefusedWith : (client_first : List ℕ) → FirstFault → Type 0
 IsRefusedWith client_first (Text fault) = ((p : ClientFirstParts) → IsClientFirst client_first p → ⊥)
@@ -42,7 +42,7 @@ IsRefusedWith client_first fault = (p : ClientFirstParts) × IsClientFirst clien
     × IsFirstUnmet (λ row. AsksOfFirst row p) first_faults_in_order fault
 
 -- why two recorded texts open no login of this account: First, if a server does not take up the first text; NotThisChallenge, if it
--- does and the second text is no challenge to it
+-- does and the second text is not a challenge to it
 abbrev pub IsRecordedFault : Entry → (client_first server_first : List ℕ) → RecordedFault → Type 0
 IsRecordedFault e client_first server_first (First fault) = IsRefusedWith client_first fault
 IsRecordedFault e client_first server_first NotThisChallenge =

@@ -2,8 +2,7 @@
 use Rattle.std.specs.Prelude.{ℕ, ◌≡◌, List, [], IfSome}
 use Rattle.std.specs.declared.option.Option.{Option}
 use Rattle.scram_text.specs.Class.{IsPlainName}
-use Rattle.scram_text.specs.Messages.{ClientFirstParts, gs2_header, IsClientFirst, ServerFirstParts, IsServerFirst}
-use Rattle.scram_text.specs.Messages.{ClientFinalParts, IsClientFinal}
+use Rattle.scram_text.specs.Messages.{ClientFirstParts, gs2_header, IsClientFirst, ServerFirstParts, IsServerFirst, ClientFinalParts, IsClientFinal}
 use Rattle.scram_text.specs.Written.{client_first_of}
 use Rattle.scram_text.specs.declared.client_first.Flag.TheVariants.{NoBinding}
 use Rattle.scram_ends.specs.Stages.{Answered}

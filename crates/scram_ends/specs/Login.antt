@@ -1,8 +1,8 @@
 -- A valid login (RFC 5802, sections 3 and 5), as conditions on its four whole messages.
 use Rattle.std.specs.Prelude.{ℕ, ◌≡◌, false, List}
 use Rattle.std.specs.declared.option.Option.TheVariants.{Some}
-use Rattle.scram_text.specs.Messages.{gs2_header, ClientFinalParts, IsClientFinal, client_final_mandatory, verifier, ServerFinalParts}
-use Rattle.scram_text.specs.Messages.{IsServerFinal, server_final_mandatory}
+use Rattle.scram_text.specs.Messages.{gs2_header, ClientFinalParts, IsClientFinal, client_final_mandatory, verifier, ServerFinalParts, IsServerFinal}
+use Rattle.scram_text.specs.Messages.{server_final_mandatory}
 use Rattle.scram_ends.specs.Entry.{Keys}
 use Rattle.scram_ends.specs.Stages.{Challenged}
 use Rattle.scram_ends.specs.Auth.{auth_message, server_signature, IsProof}

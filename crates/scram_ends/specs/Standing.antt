@@ -6,7 +6,6 @@ use Rattle.std.specs.declared.option.Option.TheVariants.{None, Some}
 use Rattle.mac_core.specs.Mechanism.{IsScramMac}
 use Rattle.mac_core.specs.declared.mechanism.Mechanism.{Mechanism}
 use Rattle.scram_text.specs.Messages.{gs2_header}
-use Rattle.scram_text.specs.declared.fault.WriteFault.{WriteFault}
 use Rattle.scram_ends.specs.Entry.{Keys}
 use Rattle.scram_ends.specs.Stages.{Challenged}
 use Rattle.scram_ends.specs.Auth.{auth_to_challenge}
@@ -29,16 +28,11 @@ IsSigningFor (Some s) m (Some keys) front = IsSigning s m keys front
 IsSigningFor None m (Some keys) front = ⊥
 IsSigningFor (Some s) m None front = ⊥
 
--- the value stands for this login
-pub record StandsFor (w : ServerWait) (l : Challenged) : Type 0 where
+-- the server stands for this login: it has sent the login's challenge, and waits for client-final
+pub record StandsForChallenged (w : ServerWait) (l : Challenged) : Type 0 where
   pub opening : Opening
   pub is_opening : IsOpening l.entry l.client_first l.server_first opening
   pub nonce : w.nonce.items ≡ opening.challenge.nonce
   pub header : w.header.items ≡ gs2_header opening.first
   pub allowed : IsTrue w.allowed ↔ IsAllowed l.entry opening.name opening.authzid
   pub signing : IsSigningFor w.signing l.mechanism l.entry.keys (auth_to_challenge opening.first l.server_first)
-  pub unspent : w.spent ≡ None
-
--- the value is spent: its message could not be written, for this reason. It stands for no login.
-abbrev pub IsSpentBy : ServerWait → WriteFault → Type 0
-IsSpentBy w fault = w.spent ≡ Some fault

@@ -1,25 +1,25 @@
 -- The verdict on a client-final message (RFC 5802, sections 3, 5.1 and 7): the refusal of the first row of a table that the messages do not
 -- meet, or acceptance if they meet every row.
-use Rattle.std.specs.Prelude.{ℕ, ◌≡◌, ◌⊎◌, false, List, [], ◌∷◌, codes}
+use Rattle.std.specs.Prelude.{ℕ, ◌≡◌, ◌≤◌, ◌⊎◌, false, List, [], ◌∷◌, length, codes}
 use Rattle.std.specs.List.{AllByRecursion}
 use Rattle.std.specs.declared.option.Option.TheVariants.{Some}
-use Rattle.scram_text.specs.Messages.{gs2_header, ClientFinalParts, IsClientFinal, client_final_mandatory, VerifierOrError, verifier}
-use Rattle.scram_text.specs.Messages.{server_error, ServerFinalParts, server_final_text}
+use Rattle.scram_text.specs.Messages.{gs2_header, ClientFinalParts, IsClientFinal, client_final_mandatory, VerifierOrError, verifier, server_error}
+use Rattle.scram_text.specs.Messages.{ServerFinalParts, server_final_text}
 use Rattle.scram_text.specs.FirstUnmet.{IsFirstUnmet}
 use Rattle.scram_ends.specs.Entry.{Keys}
 use Rattle.scram_ends.specs.Stages.{Challenged}
 use Rattle.scram_ends.specs.Auth.{auth_message, server_signature, IsProof}
 use Rattle.scram_ends.specs.Opening.{Opening, IsOpening, IsAllowed}
 use Rattle.scram_ends.specs.declared.verdict.Refusal.{Refusal}
-use Rattle.scram_ends.specs.declared.verdict.Refusal.TheVariants.{InvalidEncoding, ExtensionsNotSupported, OtherNonce, Channel}
-use Rattle.scram_ends.specs.declared.verdict.Refusal.TheVariants.{InvalidProof, NotAuthorised}
+use Rattle.scram_ends.specs.declared.verdict.Refusal.TheVariants.{InvalidEncoding, ExtensionsNotSupported, OtherNonce, Channel, InvalidProof}
+use Rattle.scram_ends.specs.declared.verdict.Refusal.TheVariants.{NotAuthorised}
 use Rattle.scram_ends.specs.declared.verdict.Verdict.{Verdict}
 use Rattle.scram_ends.specs.declared.verdict.Verdict.TheVariants as verdict
 use Rattle.scram_ends.specs.declared.verdict.Judged.{Judged}
 use Rattle.scram_ends.specs.declared.verdict.Judged.TheVariants as judged
 
 -- the refusals that come from the parts of client-final, in the order in which they are judged. InvalidEncoding is not among them:
--- it is the answer to a text that is no client-final message.
+-- it is the answer to a text that is not a client-final message.
 abbrev pub refusals_in_order : List Refusal
 refusals_in_order = ExtensionsNotSupported ∷ OtherNonce ∷ Channel ∷ InvalidProof ∷ NotAuthorised ∷ []
 
@@ -57,7 +57,7 @@ pub record IsDueToParts (l : Challenged) (client_final : List ℕ) (d : Due) : T
   pub is_final : IsClientFinal client_final final
   pub is_verdict : IsVerdictOn l opening final d
 
--- what is due to a text received as client-final: InvalidEncoding if it is no client-final message, else the verdict on its parts
+-- what is due to a text received as client-final: InvalidEncoding if it is not a client-final message, else the verdict on its parts
 abbrev pub IsDue : Challenged → (client_final : List ℕ) → Due → Type 0
 IsDue l client_final d =
     (((final : ClientFinalParts) → IsClientFinal client_final final → ⊥) × (d ≡ refuse InvalidEncoding))
@@ -89,6 +89,11 @@ due_text d = server_final_text (final_due d)
 abbrev pub verdict_of : Due → Verdict
 verdict_of (accept signature) = verdict.Accepted
 verdict_of (refuse r) = verdict.Refused r
+
+-- if it is an acceptance, its signature is not empty
+abbrev pub CanBeReported : Due → Type 0
+CanBeReported (accept signature) = 1 ≤ length signature
+CanBeReported (refuse r) = Unit {0}
 
 -- what is due according to this judgement
 abbrev pub due_of : Judged → Due

@@ -1,5 +1,5 @@
-//! Joins and compares byte strings. Also a law: the elements of a slice are bytes.
-ghost use Rattle.std.specs.Prelude.{◌≡◌, ◌≤◌, ◌<◌, ◌+◌, ◌↔◌, ◌++◌, ℕ, length, slice_index, IsTrue};
+//! Joins and compares byte strings.
+ghost use Rattle.std.specs.Prelude.{◌≡◌, ◌≤◌, ◌+◌, ◌↔◌, ◌++◌, length, IsTrue};
 
 use arrayvec::ArrayVec;
 use mac_core::copy_of;
@@ -22,8 +22,3 @@ pub(crate) fn are_same(one: &[u8], other: &[u8]) -> bool
 {
     one == other
 }
-
-/// A law, which does nothing at run time: the elements of a slice are bytes by their type. Only a caller's proof needs it.
-pub(crate) fn are_bytes(bytes: &[u8])
-    ensures { (i : ℕ) → slice_index bytes.now i < 256 }
-{}

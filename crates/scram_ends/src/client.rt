@@ -114,8 +114,11 @@ impl From<TextFault> for ClientFault {
 pub struct ClientOne {
     mechanism: Mechanism,
     limits: Limits,
+    // The message without its gs2-header.
     bare: ArrayVec<u8, LONGEST_MESSAGE>,
+    // The gs2-header.
     header: ArrayVec<u8, LONGEST_CHANNEL>,
+    // The client's own nonce.
     nonce: ArrayVec<u8, LONGEST_NONCE_PART>,
 }
 
@@ -132,6 +135,7 @@ pub enum OneRefused {
 /// A client that has sent its proof and waits for the server's signature.
 #[derive(Drop)]
 pub struct ClientTwo {
+    // The server signature of the login.
     expected: Tag,
 }
 

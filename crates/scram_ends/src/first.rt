@@ -1,7 +1,7 @@
 //! What a server takes from a client-first message: `n,a=root,n=user,r=abc` has the gs2-header `n,a=root,`, the bare message
 //! `n=user,r=abc`, the name `user` and the name to act as, `root`.
 //!
-//! Names are 1 to 255 bytes of 20 to 7E hex, which SASLprep (RFC 4013) leaves as they are; others are refused. So is the flag `p=`,
+//! Names are 1 to 255 bytes from 0x20 to 0x7E, which SASLprep (RFC 4013) leaves as they are; others are refused. So is the flag `p=`,
 //! since no channel binding is offered.
 ghost use Rattle.std.specs.Prelude.{◌≡◌, ◌≤◌, ℕ, List, length, codes, IfOk, IfErr, IfSome, IfNone, ◌++◌};
 ghost use Rattle.std.specs.Bool.{OnTrue, OnFalse};
@@ -33,7 +33,7 @@ pub enum FirstFault {
     #[error("channel binding is not offered: send the flag `n` or `y`")]
     BindingAsked,
 
-    /// 23: the name or the name to act as is not 1 to 255 bytes of 20 to 7E hex.
+    /// 23: the name or the name to act as is not 1 to 255 bytes from 0x20 to 0x7E.
     #[error("a name is not 1 to 255 bytes from space to tilde")]
     OutsideProfile,
 }
@@ -62,10 +62,10 @@ impl From<TextFault> for FirstFault {
 
 /// The name in a client-first message, in plain bytes: the server looks up the account of this name. Errors: the first of these
 /// that applies:
-/// - 20 if the text is not a client-first message;
-/// - 21 if it asks for a mandatory extension;
-/// - 22 if its flag is `p=`;
-/// - 23 if the name or the name to act as is not 1 to 255 bytes of 20 to 7E hex.
+/// - 20 Text: the text is not a client-first message;
+/// - 21 Mandatory: it asks for a mandatory extension;
+/// - 22 BindingAsked: its flag is `p=`;
+/// - 23 OutsideProfile: the name or the name to act as is not 1 to 255 bytes from 0x20 to 0x7E.
 pub fn first_name(client_first: &[u8]) -> Result<PlainName, FirstFault>
     ensures ok { IfOk result (λ name. (first : ClientFirstParts) × (authzid : Option (List ℕ))
         × IsClientFirst client_first.now first × IsTakenUp first name authzid) }

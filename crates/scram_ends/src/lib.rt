@@ -4,6 +4,9 @@
 //! with `ServerWait::finish`. That call accepts exactly the valid logins, and refuses every other one for the first reason in a
 //! fixed order. `ServerWait::recorded` and `judge` give the same verdict on a recorded login, and do not allocate.
 //!
+//! A client begins with `Client::start`, answers the challenge with `ClientOne::first`, and checks the server's signature with
+//! `ClientTwo::last`. `honest_login` says that an honest client is accepted.
+//!
 //! `specs/` defines a login by its whole messages: which verdict is due to it, when it is valid, and what an honest client sends.
 //! `laws` states what follows from these definitions: if the first two messages open a login, exactly one verdict is due to every
 //! text received as client-final, and acceptance is due exactly to valid logins.

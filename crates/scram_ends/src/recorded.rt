@@ -8,7 +8,7 @@ ghost use Rattle.scram_ends.specs.Entry.{entry_of};
 ghost use Rattle.scram_ends.specs.Stages.{challenged_login};
 ghost use Rattle.scram_ends.specs.Opening.{IsTakenUp, ExtendsNonce, Opening, IsOpening};
 ghost use Rattle.scram_ends.specs.First.{IsRecordedFault};
-ghost use Rattle.scram_ends.specs.Standing.{StandsFor};
+ghost use Rattle.scram_ends.specs.Standing.{StandsForChallenged};
 ghost use Rattle.scram_ends.specs.Faults.{recorded_fault_number};
 ghost use Rattle.scram_ends.specs.declared.recorded.RecordedFault.TheVariants.{First};
 
@@ -54,15 +54,15 @@ impl From<FirstFault> for RecordedFault {
 
 impl ServerWait {
     /// A server after a recorded client-first message and challenge. Errors: those of `first_name` for the client-first message,
-    /// else 31 if the second text is not a server-first message or asks for a mandatory extension, if its nonce does not begin with
-    /// the client's or adds nothing to it, or if its salt or count is not the account's.
+    /// else 31 NotThisChallenge if the second text is not a server-first message or asks for a mandatory extension, if its nonce
+    /// does not begin with the client's or adds nothing to it, or if its salt or count is not the account's.
     pub fn recorded(
         mechanism: Mechanism,
         view: &KeysView<'_>,
         client_first: &[u8],
         server_first: &[u8],
     ) -> Result<ServerWait, RecordedFault>
-        ensures ok { IfOk result (λ wait. StandsFor wait
+        ensures ok { IfOk result (λ wait. StandsForChallenged wait
             (challenged_login (entry_of view.now) mechanism client_first.now server_first.now)) }
         ensures err { IfErr result (λ fault. IsRecordedFault (entry_of view.now)
             client_first.now server_first.now fault) }
@@ -91,13 +91,13 @@ fn is_challenge_to(view: &KeysView<'_>, nonce: &[u8], challenge: &ServerFirst<'_
     if challenge.mandatory {
         return false;
     }
-    is_longer(challenge.nonce, nonce)
+    extends_nonce(challenge.nonce, nonce)
         && are_same(challenge.salt.bytes(), view.salt.bytes())
         && challenge.count == view.count
 }
 
 // Whether the nonce begins with the client's and is longer than it.
-fn is_longer(nonce: &[u8], client: &[u8]) -> bool
+fn extends_nonce(nonce: &[u8], client: &[u8]) -> bool
     ensures { IsTrue result ↔ ExtendsNonce client.now nonce.now }
 {
     nonce.len() > client.len() && nonce.starts_with(client)

@@ -10,19 +10,19 @@
 //! The RFC lets a server report the fault of a client-first message in an `e=`. This one only returns the fault to its caller, who
 //! need not report it. It sends five of the RFC's error values; it refuses a name that has no keys in the same way as a wrong
 //! proof.
-ghost use Rattle.std.specs.Prelude.{◌≡◌, ◌≢◌, ◌≤◌, ◌<◌, ◌+◌, ◌↔◌, ℕ, List, ◌++◌, length, IsTrue, IfOk, IfErr, IsErrAnd, Contains};
+ghost use Rattle.std.specs.Prelude.{◌≡◌, ◌≤◌, ◌<◌, ◌+◌, ◌↔◌, ℕ, List, ◌++◌, length, IsTrue, IfOk, IfErr, Contains};
 ghost use Rattle.std.specs.declared.option.Option.{Option};
 ghost use Rattle.scram_text.specs.Limits.{longest_message, longest_nonce};
 ghost use Rattle.scram_text.specs.Messages.{ClientFirstParts, client_first_bare, IsClientFirst, ClientFinalParts, IsServerFinal};
 ghost use Rattle.scram_text.specs.Shown.{ShowsClientFinal};
-ghost use Rattle.scram_text.specs.Appended.{UnchangedOnErr, KeepsRoom, LacksRoom};
+ghost use Rattle.scram_text.specs.Appended.{IsUnchangedOnErr, KeepsRoom, LacksRoom};
 ghost use Rattle.scram_ends.specs.Entry.{entry_of};
 ghost use Rattle.scram_ends.specs.Stages.{Challenged, challenged_login};
 ghost use Rattle.scram_ends.specs.Auth.{auth_to_challenge};
 ghost use Rattle.scram_ends.specs.Opening.{IsTakenUp, IsAllowed, Opening, IsOpening};
-ghost use Rattle.scram_ends.specs.Verdict.{Due, refuse, IsDue, IsVerdictOn, due_of, due_text, final_due, verdict_of};
+ghost use Rattle.scram_ends.specs.Verdict.{Due, IsDue, IsVerdictOn, CanBeReported, due_of, due_text, final_due, verdict_of};
 ghost use Rattle.scram_ends.specs.Login.{IsValidLogin};
-ghost use Rattle.scram_ends.specs.Standing.{IsSigningFor, StandsFor, IsSpentBy};
+ghost use Rattle.scram_ends.specs.Standing.{IsSigningFor, StandsForChallenged};
 ghost use Rattle.scram_ends.specs.First.{IsRefusedWith, IsChallengeTo};
 ghost use Rattle.scram_ends.specs.TakenFirst.{ShowsOpening};
 ghost use Rattle.scram_ends.specs.Faults.{first_refused_number};
@@ -72,11 +72,14 @@ impl FirstRefused {
 /// fixed.
 #[derive(Drop)]
 pub struct ServerWait {
+    // The nonce that was sent: the client's, and the server's after it.
     nonce: ArrayVec<u8, LONGEST_NONCE>,
+    // The gs2-header of client-first.
     header: ArrayVec<u8, LONGEST_MESSAGE>,
+    // Whether the account may act as the name that was asked for.
     allowed: bool,
+    // None if the account has no keys: no proof is then accepted.
     signing: Option<Signing>,
-    spent: Option<WriteFault>,
 }
 
 /// Answers a client-first message: appends the challenge to `out`, with the client's nonce followed by `server_nonce`, the
@@ -94,8 +97,8 @@ pub fn server_first<A: Allocator>(
     ensures ok { IfOk result (λ wait. (server_first : List ℕ)
         × (out.new.items ≡ out.old.items ++ server_first)
         × IsChallengeTo (entry_of view.now) client_first.now server_nonce.now server_first
-        × StandsFor wait (challenged_login (entry_of view.now) mechanism client_first.now server_first)) }
-    ensures unchanged { UnchangedOnErr result out.old out.new }
+        × StandsForChallenged wait (challenged_login (entry_of view.now) mechanism client_first.now server_first)) }
+    ensures unchanged { IsUnchangedOnErr result out.old out.new }
     ensures room { KeepsRoom out.old out.new }
     ensures first { IfErr result (λ r. (f : FirstFault) → r ≡ FirstRefused.First f
         → IsRefusedWith client_first.now f) }
@@ -132,14 +135,13 @@ pub(crate) fn wait_for(
     requires header { length taken.now.header.now ≤ longest_message }
     ensures { (client_first : List ℕ) (o : Opening)
         → IsOpening (entry_of view.now) client_first challenge.now o → ShowsOpening taken.now nonce.now o
-        → StandsFor result (challenged_login (entry_of view.now) mechanism client_first challenge.now) }
+        → StandsForChallenged result (challenged_login (entry_of view.now) mechanism client_first challenge.now) }
 {
     ServerWait {
         nonce: copy_of(nonce),
         header: copy_of(taken.header),
         allowed: is_allowed(view, &taken.name, &taken.authzid),
         signing: signing_for(mechanism, view, taken.bare, challenge),
-        spent: None,
     }
 }
 
@@ -189,21 +191,22 @@ impl ServerWait {
     /// - NotAuthorised: the account may not act as the name to act as;
     /// - otherwise the login is accepted, with the server's signature.
     ///
-    /// A spent value refuses with InvalidProof. This call does not allocate.
+    /// This call does not allocate.
     pub fn judge(self, client_final: &[u8]) -> Judged
-        ensures due { (l : Challenged) → StandsFor self l → IsDue l client_final.now (due_of result) }
-        ensures spent { (fault : WriteFault) → IsSpentBy self fault
-            → due_of result ≡ refuse Refusal.InvalidProof }
+        ensures due { (l : Challenged) → StandsForChallenged self l → IsDue l client_final.now (due_of result) }
+        // The login is accepted if and only if it is valid with the message due as its last: this follows from `due` and the
+        // law `accepts_exactly_valid`.
+        ensures valid { (l : Challenged) → StandsForChallenged self l
+            → ((verdict_of (due_of result) ≡ Verdict.Accepted)
+            ↔ IsValidLogin l client_final.now (due_text (due_of result))) }
     {
-        if self.spent.is_some() {
-            return Judged::Refused(Refusal::InvalidProof);
-        }
         self.verdict_on(client_final)
     }
 
-    // As `judge`, for a value that is not spent.
+    // As `judge`, without taking the value.
     fn verdict_on(&self, client_final: &[u8]) -> Judged
-        ensures { (l : Challenged) → StandsFor self.now l → IsDue l client_final.now (due_of result) }
+        ensures due { (l : Challenged) → StandsForChallenged self.now l → IsDue l client_final.now (due_of result) }
+        ensures report { CanBeReported (due_of result) }
     {
         match read_client_final(client_final) {
             Ok(last) => self.judge_final(&last),
@@ -214,8 +217,9 @@ impl ServerWait {
     // The verdict on the parts of a client-final message.
     #[tactic(auto, using(scram_text::proofs::lemmas::FirstUnmet::found_is_first))]
     fn judge_final(&self, last: &ClientFinal<'_>) -> Judged
-        ensures { (l : Challenged) (s : StandsFor self.now l) (p : ClientFinalParts)
+        ensures verdict { (l : Challenged) (s : StandsForChallenged self.now l) (p : ClientFinalParts)
             → ShowsClientFinal last.now p → IsVerdictOn l s.opening p (due_of result) }
+        ensures report { CanBeReported (due_of result) }
     {
         if last.mandatory {
             return Judged::Refused(Refusal::ExtensionsNotSupported);
@@ -241,56 +245,34 @@ impl ServerWait {
     /// Appends the server's final message to `out` and returns its verdict: that the login is accepted, or why not, as `judge`
     /// decides.
     ///
-    /// Errors: 99 NoMemory, only if `out` had no room reserved for the message, which has at most 2048 bytes; the value that is
-    /// handed back is then unchanged. 16 and 17 come only from a value that stands for no login; the value handed back is then
-    /// spent: each later call of `finish` returns the same fault, and `judge` refuses with InvalidProof. After an error `out` is
-    /// unchanged.
+    /// Errors: 99 NoMemory, only if `out` had no room reserved for the message, which has at most 2048 bytes. The value is then
+    /// handed back, and `out` is unchanged.
     pub fn finish<A: Allocator>(
         self,
         client_final: &[u8],
         out: &mut Vec<u8, A>,
     ) -> Result<Verdict, (ServerWait, WriteFault)>
         // The message due, a server-final message, is appended, and the verdict is the one that it contains.
-        ensures ok { IfOk result (λ v. (l : Challenged) → StandsFor self l
+        ensures ok { IfOk result (λ v. (l : Challenged) → StandsForChallenged self l
             → (d : Due) × IsDue l client_final.now d × (v ≡ verdict_of d)
             × (out.new.items ≡ out.old.items ++ due_text d) × IsServerFinal (due_text d) (final_due d)) }
         // A login is accepted if and only if it is valid: this follows from `ok` and the law
         // `accepts_exactly_valid`.
-        ensures valid { IfOk result (λ v. (l : Challenged) → StandsFor self l
+        ensures valid { IfOk result (λ v. (l : Challenged) → StandsForChallenged self l
             → (server_final : List ℕ) × (out.new.items ≡ out.old.items ++ server_final)
             × ((v ≡ Verdict.Accepted) ↔ IsValidLogin l client_final.now server_final)) }
-        ensures unchanged { UnchangedOnErr result out.old out.new }
+        ensures unchanged { IsUnchangedOnErr result out.old out.new }
         ensures room { KeepsRoom out.old out.new }
-        // If there was no room, the value is handed back unchanged.
-        ensures back { IfErr result (λ r. r.1 ≡ WriteFault.NoMemory → r.0 ≡ self) }
-        // After any other fault, the value that is handed back is spent.
-        ensures spent { IfErr result (λ r. r.1 ≢ WriteFault.NoMemory → IsSpentBy r.0 r.1) }
-        // A spent value returns the same fault again.
-        ensures again { (fault : WriteFault) → IsSpentBy self fault
-            → IsErrAnd result (λ r. (r.0 ≡ self) × (r.1 ≡ fault)) }
-        // If the value stands for a login, the only fault is 99 NoMemory.
-        ensures no_memory { IfErr result (λ r. (l : Challenged) → StandsFor self l
-            → (r.1 ≡ WriteFault.NoMemory) × ((d : Due) × IsDue l client_final.now d
-            × (length (due_text d) ≤ longest_message) × LacksRoom out.old (due_text d))) }
+        // The only fault is 99 NoMemory, and the value is handed back unchanged.
+        ensures back { IfErr result (λ r. (r.0 ≡ self) × (r.1 ≡ WriteFault.NoMemory)) }
+        // It comes only if the message due is within the limit, and there was no room for it.
+        ensures no_memory { IfErr result (λ r. (l : Challenged) → StandsForChallenged self l
+            → (d : Due) × IsDue l client_final.now d × (length (due_text d) ≤ longest_message) × LacksRoom out.old (due_text d)) }
     {
-        if let Some(fault) = self.spent {
-            return Err((self, fault));
-        }
         let judged = self.verdict_on(client_final);
         match write_judgement(&judged, out) {
             Ok(()) => Ok(judged.verdict()),
-            Err(WriteFault::NoMemory) => Err((self, WriteFault::NoMemory)),
-            Err(fault) => Err((self.spent_by(fault), fault)),
-        }
-    }
-
-    // The value, spent by this fault.
-    fn spent_by(self, fault: WriteFault) -> ServerWait
-        ensures { IsSpentBy result fault }
-    {
-        ServerWait {
-            spent: Some(fault),
-            ..self
+            Err(fault) => Err((self, fault)),
         }
     }
 }

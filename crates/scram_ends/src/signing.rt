@@ -6,7 +6,6 @@ ghost use Rattle.mac_core.specs.Mechanism.{length_by, hmac_by, IsScramMac};
 ghost use Rattle.scram_text.specs.Messages.{ClientFirstParts, client_first_bare};
 ghost use Rattle.scram_ends.specs.Entry.{Keys, keys_of};
 ghost use Rattle.scram_ends.specs.Auth.{auth_to_challenge, server_signature, IsProof};
-ghost use Rattle.scram_ends.specs.Standing.{IsSigning};
 
 use crate::bytes::are_same;
 use mac_core::{Mechanism, ScramKeys, ScramMac, Tag, copy_of, xor};
@@ -15,12 +14,19 @@ use mac_core::{Mechanism, ScramKeys, ScramMac, Tag, copy_of, xor};
 #[derive(Drop)]
 pub(crate) struct Signing {
     mechanism: Mechanism,
+    // StoredKey.
     stored: Tag,
+    // Under StoredKey; it checks the proof.
     client: ScramMac,
+    // Under ServerKey; it signs.
     server: ScramMac,
+
+    ghost is_mac: { ∥ ((key : List ℕ) × (front : List ℕ) × IsScramMac mechanism server key front) ∥₁ },
 }
 
 impl Signing {
+    ghost use Rattle.scram_ends.specs.Standing.{IsSigning};
+
     /// The keys for a login with this client-first-message-bare and this challenge.
     pub(crate) fn new(
         mechanism: Mechanism,
@@ -56,8 +62,9 @@ impl Signing {
 
     /// The server's signature of the AuthMessage that ends with this client-final-message-without-proof.
     pub(crate) fn signature(&self, client_final_without_proof: &[u8]) -> Tag
-        ensures { (m : Mechanism) (keys : Keys) (front : List ℕ) → IsSigning self.now m keys front
+        ensures value { (m : Mechanism) (keys : Keys) (front : List ℕ) → IsSigning self.now m keys front
             → result.items ≡ server_signature m keys (front ++ client_final_without_proof.now) }
+        ensures some { 1 ≤ length result.items }
     {
         signed(&self.server, client_final_without_proof)
     }

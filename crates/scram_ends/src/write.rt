@@ -1,15 +1,15 @@
-//! Writes the server's two messages. Their fields are within the limits, so the only fault is that there is no memory for them.
+//! Writes the server's two messages. Their fields are within the limits and no signature is empty, so the only fault is that there is
+//! no memory for them.
 ghost use Rattle.std.specs.Prelude.{◌≡◌, ◌≤◌, ◌<◌, ℕ, List, [], length, OnOk, IsErrOf};
-ghost use Rattle.scram_text.specs.Limits.{longest_message, longest_nonce};
+ghost use Rattle.scram_text.specs.Limits.{longest_message, longest_nonce, longest_tag};
 ghost use Rattle.scram_text.specs.Class.{IsNonce};
 ghost use Rattle.scram_text.specs.Messages.{server_first_text, IsServerFirst, IsServerFinal};
 ghost use Rattle.scram_text.specs.Written.{server_first_of};
 ghost use Rattle.scram_text.specs.Appended.{IsAppended, LacksRoom};
-ghost use Rattle.scram_ends.specs.Verdict.{accept, refuse, due_of, final_due, due_text};
+ghost use Rattle.scram_ends.specs.Verdict.{accept, refuse, CanBeReported, due_of, final_due, due_text};
 
-use crate::bytes::are_bytes;
 use crate::verdict::{Judged, Refusal};
-use mac_core::copy_of;
+use mac_core::{copy_of, law_of_bytes};
 use scram_text::{FinalResult, Salt, WriteFault, write_server_final, write_server_first};
 use std::alloc::Allocator;
 
@@ -32,7 +32,7 @@ pub(crate) fn write_challenge<A: Allocator>(
         × LacksRoom out.old (server_first_text p) }
 {
     // For the proof: a salt's elements are bytes, so it fits its field, and the writer has no other fault.
-    are_bytes(salt.bytes());
+    law_of_bytes(salt.bytes());
     write_server_first(nonce, salt, count, b"", out)
 }
 
@@ -41,12 +41,11 @@ pub(crate) fn write_judgement<A: Allocator>(
     judged: &Judged,
     out: &mut Vec<u8, A>,
 ) -> Result<(), WriteFault>
+    requires { CanBeReported (due_of judged.now) }
     ensures appended { IsAppended result out.old out.new (due_text (due_of judged.now)) }
     ensures is_message { let d = due_of judged.now in
         OnOk result (IsServerFinal (due_text d) (final_due d)) }
-    // An empty signature can't be written, but no key makes one.
-    ensures unwritable { IsErrOf result WriteFault.Unwritable
-        → (signature : List ℕ) × (due_of judged.now ≡ accept signature) × (length signature ≡ 0) }
+    ensures unwritable { IsErrOf result WriteFault.Unwritable → ⊥ }
     ensures over_limit { IsErrOf result WriteFault.OverLimit → ⊥ }
     ensures no_memory { let text = due_text (due_of judged.now) in IsErrOf result WriteFault.NoMemory
         → (length text ≤ longest_message) × LacksRoom out.old text }
@@ -59,11 +58,12 @@ pub(crate) fn write_judgement<A: Allocator>(
 
 // Appends the server-final message whose verifier is this signature.
 fn write_signature<A: Allocator>(signature: &[u8], out: &mut Vec<u8, A>) -> Result<(), WriteFault>
-    requires { length signature.now ≤ 64 }
+    requires some { 1 ≤ length signature.now }
+    requires most { length signature.now ≤ longest_tag }
     ensures appended { IsAppended result out.old out.new (due_text (accept signature.now)) }
     ensures is_message { let d = accept signature.now in
         OnOk result (IsServerFinal (due_text d) (final_due d)) }
-    ensures unwritable { IsErrOf result WriteFault.Unwritable → length signature.now ≡ 0 }
+    ensures unwritable { IsErrOf result WriteFault.Unwritable → ⊥ }
     ensures over_limit { IsErrOf result WriteFault.OverLimit → ⊥ }
     ensures no_memory { let text = due_text (accept signature.now) in IsErrOf result WriteFault.NoMemory
         → (length text ≤ longest_message) × LacksRoom out.old text }

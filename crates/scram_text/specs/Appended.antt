@@ -2,8 +2,8 @@
 use Rattle.std.specs.Prelude.{ℕ, ◌+◌, ◌≤◌, ◌<◌, ◌≡◌, List, ◌++◌, length, Result, OnOk, OnErr, Vec, vec_items, vec_len, vec_capacity}
 
 -- if the call returns Err, the vector is unchanged
-abbrev pub UnchangedOnErr : {T E Z : Type 0} → Result T E → (old new : Vec ℕ Z) → Type 0
-UnchangedOnErr result old new = OnErr result (vec_items new ≡ vec_items old)
+abbrev pub IsUnchangedOnErr : {T E Z : Type 0} → Result T E → (old new : Vec ℕ Z) → Type 0
+IsUnchangedOnErr result old new = OnErr result (vec_items new ≡ vec_items old)
 
 -- the vector's capacity does not shrink
 abbrev pub KeepsRoom : {Z : Type 0} → (old new : Vec ℕ Z) → Type 0
@@ -12,7 +12,7 @@ KeepsRoom old new = vec_capacity old ≤ vec_capacity new
 -- if the call returns Ok, the text is appended; if it returns Err, nothing is. In both cases the vector's capacity does not shrink.
 abbrev pub IsAppended : {T E Z : Type 0} → Result T E → (old new : Vec ℕ Z) → (text : List ℕ) → Type 0
 IsAppended result old new text =
-    OnOk result (vec_items new ≡ vec_items old ++ text) × UnchangedOnErr result old new × KeepsRoom old new
+    OnOk result (vec_items new ≡ vec_items old ++ text) × IsUnchangedOnErr result old new × KeepsRoom old new
 
 -- the vector's spare capacity is too small for the text
 abbrev pub LacksRoom : {Z : Type 0} → Vec ℕ Z → (text : List ℕ) → Type 0

@@ -1,4 +1,4 @@
--- What is wrong with a text that is no message: its first fault. A fault is one of the whole text or of one of its parts, and the
+-- What is wrong with a text that is not a message: its first fault. A fault is one of the whole text or of one of its parts, and the
 -- four messages differ only in the places of their parts.
 use Rattle.std.specs.Prelude.{ℕ, ◌≡◌, ◌<◌, ◌≤◌, ◌+◌, ◌-◌, ◌⊎◌, List, [], ◌∷◌, ◌++◌, length, drop, replicate, IfSome, if◌then◌else◌, IsTrue}
 use Rattle.std.specs.List.{zip}
@@ -11,8 +11,8 @@ use Rattle.scram_text.specs.Name.{IsSaslName}
 use Rattle.scram_text.specs.Parts.{parts, is_named, is_flag, authzid_text, IsAttrVal, IsValue, IsExtension, SpellsCount, SpellsField}
 use Rattle.scram_text.specs.declared.fault.TextFault.{TextFault}
 use Rattle.scram_text.specs.declared.fault.TextWhy.{TextWhy}
-use Rattle.scram_text.specs.declared.fault.TextWhy.TheVariants.{TooLong, NotText, Missing, Flag, Authzid, Mandatory, Name, Nonce, Salt}
-use Rattle.scram_text.specs.declared.fault.TextWhy.TheVariants.{Count, Channel, Extension, Proof, Verifier, ErrorValue}
+use Rattle.scram_text.specs.declared.fault.TextWhy.TheVariants.{TooLong, NotText, Missing, Flag, Authzid, Mandatory, Name, Nonce, Salt, Count}
+use Rattle.scram_text.specs.declared.fault.TextWhy.TheVariants.{Channel, Extension, Proof, Verifier, ErrorValue}
 use Rattle.scram_text.specs.declared.fault.WriteFault.{WriteFault}
 use Rattle.scram_text.specs.declared.fault.WriteFault.TheVariants.{Unwritable, OverLimit, NoMemory}
 
@@ -90,7 +90,7 @@ IsWholeFault text f =
     ((longest_message < length text) × (f ≡ fault 0 TooLong))
     ⊎ ((length text ≤ longest_message) × (IsUtf8Text text → ⊥) × (f ≡ fault 0 NotText))
 
--- the first fault of a text that is no message with these fixed places
+-- the first fault of a text that is not a message with these fixed places
 abbrev pub IsFault : (most : ℕ) → (front back : List TextWhy) → (text : List ℕ) → TextFault → Type 0
 IsFault most front back text f =
     IsWholeFault text f
@@ -109,7 +109,7 @@ places_with_mext pieces later = if is_named (byte "m") (first_of pieces) then Ma
 abbrev pub client_first_places : List (List ℕ) → List TextWhy
 client_first_places pieces = Flag ∷ Authzid ∷ places_with_mext (drop 2 pieces) (Name ∷ Nonce ∷ [])
 
--- the first fault of a text that is no client-first message
+-- the first fault of a text that is not a client-first message
 abbrev pub IsClientFirstFault : List ℕ → TextFault → Type 0
 IsClientFirstFault text f = IsFault longest_nonce_part (client_first_places (parts text)) [] text f
 
@@ -117,11 +117,11 @@ IsClientFirstFault text f = IsFault longest_nonce_part (client_first_places (par
 abbrev pub server_first_places : List (List ℕ) → List TextWhy
 server_first_places pieces = places_with_mext pieces (Nonce ∷ Salt ∷ Count ∷ [])
 
--- the first fault of a text that is no server-first message
+-- the first fault of a text that is not a server-first message
 abbrev pub IsServerFirstFault : List ℕ → TextFault → Type 0
 IsServerFirstFault text f = IsFault longest_nonce (server_first_places (parts text)) [] text f
 
--- the first fault of a text that is no client-final message
+-- the first fault of a text that is not a client-final message
 abbrev pub IsClientFinalFault : List ℕ → TextFault → Type 0
 IsClientFinalFault text f = IsFault longest_nonce (Channel ∷ Nonce ∷ []) (Proof ∷ []) text f
 
@@ -133,6 +133,6 @@ outcome_place part = if is_named (byte "e") part then ErrorValue else Verifier
 abbrev pub server_final_places : List (List ℕ) → List TextWhy
 server_final_places pieces = outcome_place (first_of pieces) ∷ []
 
--- the first fault of a text that is no server-final message. It has no nonce, so the limit of a nonce plays no part.
+-- the first fault of a text that is not a server-final message. It has no nonce, so the limit of a nonce plays no part.
 abbrev pub IsServerFinalFault : List ℕ → TextFault → Type 0
 IsServerFinalFault text f = IsFault longest_nonce (server_final_places (parts text)) [] text f

@@ -1,6 +1,5 @@
 -- User names in plain bytes, and as messages spell them (RFC 5802, sections 5.1 and 7).
-use Rattle.std.specs.Prelude.{ℕ, ◌≡◌, ◌≤◌, ◌==◌, Bool, true, false, not, ◌&&◌, ◌||◌, if◌then◌else◌, IsTrue, List, [], ◌∷◌, length, flat_map}
-use Rattle.std.specs.Prelude.{codes}
+use Rattle.std.specs.Prelude.{ℕ, ◌≡◌, ◌≤◌, ◌==◌, Bool, true, false, not, ◌&&◌, ◌||◌, if◌then◌else◌, IsTrue, List, [], ◌∷◌, length, flat_map, codes}
 use Rattle.std.specs.List.{list_all}
 use Rattle.std.specs.Str.{byte}
 use Rattle.scram_text.specs.Class.{is_comma}
@@ -20,7 +19,8 @@ abbrev pub is_escaped : List ℕ → Bool
 is_escaped [] = true
 is_escaped (c ∷ rest) = (not (c == byte "=") || begins_with_code rest) && is_escaped rest
 
--- saslname = 1*(value-safe-char / "=2C" / "=3D"), as "a=2Cb", in UTF-8 without NUL
+-- saslname = 1*(value-safe-char / "=2C" / "=3D"), as "a=2Cb". That the characters are UTF-8 without NUL is asked of the whole text
+-- (IsUtf8Text).
 pub record IsSaslName (spelled : List ℕ) : Type 0 where
   pub at_least : 1 ≤ length spelled
   pub no_comma : LacksComma spelled

@@ -33,7 +33,7 @@ is_named letter (a ∷ b ∷ value) = (a == letter) && (b == byte "=")
 abbrev pub IsAttrVal : (letter : ℕ) → (class : List ℕ → Type 0) → (part : List ℕ) → Type 0
 IsAttrVal letter class part = (value : List ℕ) × (part ≡ letter ∷ byte "=" ∷ value) × class value
 
--- value = 1*value-char, in UTF-8 without NUL
+-- value = 1*value-char. That the characters are UTF-8 without NUL is asked of the whole text (IsUtf8Text).
 pub record IsValue (value : List ℕ) : Type 0 where
   pub at_least : 1 ≤ length value
   pub no_comma : LacksComma value

@@ -22,7 +22,7 @@ use Rattle.scram_text.specs.declared.fault.TextWhy.TheVariants.{Name, Nonce, Ext
 abbrev pub most_parts : ℕ
 most_parts = longest_message + 1
 
--- the fault is that of the first part that is no extension, if all of them must be extensions, with parts counted from k
+-- the fault is that of the first part that is not an extension, if all of them must be extensions, with parts counted from k
 abbrev pub IsExtensionMisfit : ℕ → List (List ℕ) → TextFault → Type 0
 IsExtensionMisfit k pieces f =
     (most : ℕ) → IsFirstMisfit most (replicate (length pieces) Extension) k pieces f
@@ -52,7 +52,7 @@ pub record IsMextAndRest (pieces rest : List (List ℕ)) (mext : Option (List �
   pub value : IfSome mext IsValue
   pub headed : is_named (byte "m") (first_of pieces) ≡ is_some mext
 
--- the fault is that of a first part that begins with "m=" and is no mandatory extension, whatever the later places are
+-- the fault is that of a first part that begins with "m=" and is not a mandatory extension, whatever the later places are
 abbrev pub IsMextMisfit : ℕ → List (List ℕ) → TextFault → Type 0
 IsMextMisfit k pieces f =
     (most : ℕ) (later : List TextWhy) → IsFirstMisfit most (places (places_with_mext pieces later) [] (length pieces)) k pieces f

@@ -2,8 +2,8 @@
 use Rattle.std.specs.Prelude.{◌≡◌, ℕ, List, ◌++◌, codes}
 use Rattle.scram_text.specs.Parts.{joined}
 use Rattle.scram_text.specs.Messages.{ClientFirstParts, gs2_header, client_first_bare, client_first_mandatory, ServerFirstParts}
-use Rattle.scram_text.specs.Messages.{server_first_mandatory, ClientFinalParts, client_final_without_proof, client_final_mandatory}
-use Rattle.scram_text.specs.Messages.{VerifierOrError, verifier, server_error, ServerFinalParts, server_final_mandatory}
+use Rattle.scram_text.specs.Messages.{server_first_mandatory, ClientFinalParts, client_final_without_proof, client_final_mandatory, VerifierOrError}
+use Rattle.scram_text.specs.Messages.{verifier, server_error, ServerFinalParts, server_final_mandatory}
 use Rattle.scram_text.specs.declared.client_first.Flag.{Flag}
 use Rattle.scram_text.specs.declared.client_first.Flag.TheVariants.{NoBinding, NotOffered, Binding}
 use Rattle.scram_text.specs.declared.client_first.ClientFirst.{ClientFirst}

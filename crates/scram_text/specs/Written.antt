@@ -1,5 +1,4 @@
--- What the writers write: the parts that their arguments make, and when the arguments are in their
--- classes.
+-- What the writers write: the parts that their arguments make, and when the arguments are in their classes.
 use Rattle.std.specs.Prelude.{ℕ, ◌≡◌, ◌<◌, List, [], ◌∷◌, length, IsTrue, option_map, Result, OnOk, IsErrOf, Vec}
 use Rattle.std.specs.declared.option.Option.{Option}
 use Rattle.std.specs.declared.option.Option.TheVariants.{None}
@@ -9,8 +8,8 @@ use Rattle.scram_text.specs.Class.{IsNonce, IsUtf8Text}
 use Rattle.scram_text.specs.Name.{name_spelling}
 use Rattle.scram_text.specs.Base64Field.{IsField}
 use Rattle.scram_text.specs.Parts.{parts, is_flag, IsCount, AreExtensions}
-use Rattle.scram_text.specs.Messages.{ClientFirstParts, ServerFirstParts, ClientFinalParts, client_final_without_proof, VerifierOrError}
-use Rattle.scram_text.specs.Messages.{verifier, server_error, IsVerifierOrError, ServerFinalParts}
+use Rattle.scram_text.specs.Messages.{ClientFirstParts, ServerFirstParts, ClientFinalParts, client_final_without_proof, VerifierOrError, verifier}
+use Rattle.scram_text.specs.Messages.{server_error, IsVerifierOrError, ServerFinalParts}
 use Rattle.scram_text.specs.Shown.{flag_text}
 use Rattle.scram_text.specs.declared.client_first.Flag.{Flag}
 use Rattle.scram_text.specs.declared.fault.WriteFault.{WriteFault}

@@ -19,21 +19,21 @@ pub(crate) fn lacks_comma(bytes: &[u8]) -> bool
     bytes.iter().all(|byte| *byte != b',')
 }
 
-/// Whether the byte is one of 20 to 7E hex.
+/// Whether the byte is from 0x20 to 0x7E.
 pub(crate) fn is_plain(byte: u8) -> bool
     ensures { result ≡ is_plain byte }
 {
     (0x20..=0x7E).contains(&byte)
 }
 
-/// Whether these are 1 to `most` bytes of 20 to 7E hex.
+/// Whether these are 1 to `most` bytes from 0x20 to 0x7E.
 pub(crate) fn is_plain_run(bytes: &[u8], most: usize) -> bool
     ensures { IsTrue result ↔ IsRunOf is_plain most bytes.now }
 {
     are_plain(bytes) && !bytes.is_empty() && bytes.len() <= most
 }
 
-// Whether each byte is one of 20 to 7E hex.
+// Whether each byte is from 0x20 to 0x7E.
 fn are_plain(bytes: &[u8]) -> bool
     ensures { result ≡ list_all is_plain bytes.now }
 {

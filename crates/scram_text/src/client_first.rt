@@ -221,7 +221,7 @@ fn read_bare(bare: &[u8]) -> Result<Bare<'_>, TextFault>
     })
 }
 
-// The parts after a mandatory extension: the first of them has this index in the message.
+// The parts after the place of reserved-mext. The first of them has this index in the message.
 #[derive(Drop)]
 struct BarePieces<'a> {
     has_mext: bool,

@@ -132,10 +132,12 @@ fn is_attribute(part: &[u8]) -> bool
     }
 }
 
-/// The extensions at the end of a message: their text, and whether one is named `m`.
+/// The extensions at the end of a message.
 #[derive(Drop)]
 pub(crate) struct Extensions<'a> {
+    /// All of them, with the commas between them; empty if there are none.
     pub(crate) text: &'a [u8],
+    /// Whether one is named `m`.
     pub(crate) mandatory: bool,
 }
 

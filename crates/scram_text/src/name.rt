@@ -14,7 +14,7 @@ use mac_core::copy_of;
 use std::alloc::Allocator;
 use std::marker::Model;
 
-/// A name: 1 to 255 bytes of 20 to 7E hex, which SASLprep (RFC 4013) leaves as they are. Names are ordered by their bytes: `Z`,
+/// A name: 1 to 255 bytes from 0x20 to 0x7E, which SASLprep (RFC 4013) leaves as they are. Names are ordered by their bytes: `Z`,
 /// `a`, `a.`, `aa`. Contracts see a name as its bytes.
 #[derive(PartialEq, Eq, PartialOrd, Ord, Drop)]
 pub struct PlainName {
@@ -32,7 +32,7 @@ impl Model for PlainName {
 }
 
 impl PlainName {
-    /// The name of these bytes, or None if they are not 1 to 255 bytes of 20 to 7E hex.
+    /// The name of these bytes, or None if they are not 1 to 255 bytes from 0x20 to 0x7E.
     pub fn new(bytes: &[u8]) -> Option<PlainName>
         ensures { SomeIff result (IsPlainName bytes.now) bytes.now }
     {
@@ -108,7 +108,7 @@ impl<'a> SaslText<'a> {
         self.spelled
     }
 
-    /// The name that it spells, or None if that is not 1 to 255 bytes of 20 to 7E hex.
+    /// The name that it spells, or None if that is not 1 to 255 bytes from 0x20 to 0x7E.
     pub fn plain(&self) -> Option<PlainName>
         ensures some { IfSome result (λ name. SpellsName name self.now) }
         ensures none { IfNone result ((name : List ℕ) → IsPlainName name

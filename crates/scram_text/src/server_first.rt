@@ -91,7 +91,7 @@ fn read_parts(message: &[u8]) -> Result<ServerFirst<'_>, TextFault>
     })
 }
 
-// The parts after a mandatory extension: the first of them has this index.
+// The parts after the place of reserved-mext. The first of them has this index in the message.
 #[derive(Drop)]
 struct Pieces<'a> {
     has_mext: bool,

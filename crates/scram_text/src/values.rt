@@ -8,7 +8,7 @@ use arrayvec::ArrayVec;
 use mac_core::copy_of;
 use std::marker::Model;
 
-/// A password: 1 to 1024 bytes of 20 to 7E hex, which SASLprep (RFC 4013) leaves as they are. Contracts see it as its bytes.
+/// A password: 1 to 1024 bytes from 0x20 to 0x7E, which SASLprep (RFC 4013) leaves as they are. Contracts see it as its bytes.
 #[derive(Drop)]
 pub struct Password {
     bytes: ArrayVec<u8, LONGEST_PASSWORD>,
@@ -23,7 +23,7 @@ impl Model for Password {
 }
 
 impl Password {
-    /// The password of these bytes, or None if they are not 1 to 1024 bytes of 20 to 7E hex.
+    /// The password of these bytes, or None if they are not 1 to 1024 bytes from 0x20 to 0x7E.
     pub fn new(bytes: &[u8]) -> Option<Password>
         ensures { SomeIff result (IsPassword bytes.now) bytes.now }
     {
@@ -44,7 +44,7 @@ impl Password {
     }
 }
 
-/// What one end contributes to the nonce: 1 to 256 printable characters (RFC 5802, section 7), which are the bytes 21 to 7E hex
+/// What one end contributes to the nonce: 1 to 256 printable characters (RFC 5802, section 7), which are the bytes from 0x21 to 0x7E
 /// except the comma. Contracts see it as its bytes.
 #[derive(Drop)]
 pub struct NoncePart {

@@ -173,6 +173,7 @@ fn reads_and_writes_again(rt: &impl Abort, alloc: Global, exchange: &[&str; 5]) 
     }
 }
 
+/// The messages of RFC 5802, section 5, and RFC 7677, section 3, are read, and written again byte for byte.
 #[test]
 fn published_messages(rt: HostRuntime) {
     for exchange in &PUBLISHED {
@@ -180,6 +181,7 @@ fn published_messages(rt: HostRuntime) {
     }
 }
 
+/// The messages of GNU SASL and Cyrus SASL are read, and written again byte for byte.
 #[test]
 fn messages_of_other_software(rt: HostRuntime) {
     for exchange in &exchanges::EXCHANGES {
@@ -187,6 +189,7 @@ fn messages_of_other_software(rt: HostRuntime) {
     }
 }
 
+/// The part at fault is counted from 0, as the grammar of RFC 5802, section 7, cuts the text at its commas.
 #[test]
 fn faults_of_client_first(rt: HostRuntime) {
     for (text, part, why) in [
@@ -220,6 +223,7 @@ fn faults_of_client_first(rt: HostRuntime) {
     }
 }
 
+/// The part at fault is counted from 0, as the grammar of RFC 5802, section 7, cuts the text at its commas.
 #[test]
 fn faults_of_server_first(rt: HostRuntime) {
     for (text, part, why) in [
@@ -245,6 +249,7 @@ fn faults_of_server_first(rt: HostRuntime) {
     }
 }
 
+/// The greatest count is 2^32 - 1.
 #[test]
 fn the_greatest_count(rt: HostRuntime) {
     let Ok(message) = read_server_first(b"r=ab,s=QQ==,i=4294967295") else {
@@ -253,6 +258,7 @@ fn the_greatest_count(rt: HostRuntime) {
     assert_eq!(rt; message.count, 4294967295);
 }
 
+/// The part at fault is counted from 0, as the grammar of RFC 5802, section 7, cuts the text at its commas.
 #[test]
 fn faults_of_client_final(rt: HostRuntime) {
     for (text, part, why) in [
@@ -278,6 +284,7 @@ fn faults_of_client_final(rt: HostRuntime) {
     }
 }
 
+/// The proof is the last part (RFC 5802, section 7), also if an extension before it begins in the same way.
 #[test]
 fn an_extension_may_be_named_p(rt: HostRuntime) {
     let Ok(message) = read_client_final(b"c=biws,r=abc,p=AA==,p=AA==") else {
@@ -287,6 +294,7 @@ fn an_extension_may_be_named_p(rt: HostRuntime) {
     check_bytes(&rt, message.proof.as_slice(), &[0], "the proof");
 }
 
+/// The part at fault is counted from 0, as the grammar of RFC 5802, section 7, cuts the text at its commas.
 #[test]
 fn faults_of_server_final(rt: HostRuntime) {
     for (text, part, why) in [
@@ -305,6 +313,7 @@ fn faults_of_server_final(rt: HostRuntime) {
     }
 }
 
+/// An extension named `m` is mandatory (RFC 5802, section 5.1), before the name or after the nonce. One named `M` is not.
 #[test]
 fn mandatory_extensions(rt: HostRuntime) {
     for (text, mandatory) in [
@@ -320,6 +329,7 @@ fn mandatory_extensions(rt: HostRuntime) {
     }
 }
 
+/// A message with every part of the grammar, cut by hand as RFC 5802, section 7, says.
 #[test]
 fn parts_of_client_first(rt: HostRuntime) {
     let Ok(message) = read_client_first(b"p=tls-unique,a=root,n=a=2Cb=3Dc,r=x,y=1,z=2") else {
@@ -338,6 +348,7 @@ fn parts_of_client_first(rt: HostRuntime) {
     }
 }
 
+/// Characters of each length in UTF-8, at both ends; then a NUL, and sequences that RFC 3629 forbids or that are cut off.
 #[test]
 fn utf8(rt: HostRuntime) {
     for value in [
@@ -352,7 +363,7 @@ fn utf8(rt: HostRuntime) {
         let mut message = Vec::new(rt.alloc());
         let made = message.extend_from_slice(b"e=").is_ok()
             && message.extend_from_slice(value.as_bytes()).is_ok();
-        assert!(rt; made);
+        assert!(rt; made, "{value:?}");
         assert!(rt; read_server_final(message.as_slice()).is_ok(), "{value:?}");
     }
     for message in [
@@ -376,6 +387,7 @@ fn utf8(rt: HostRuntime) {
     }
 }
 
+/// A comma is written as `=2C` and an equals sign as `=3D` (RFC 5802, section 5.1). A name with a DEL is not a plain one.
 #[test]
 fn names(rt: HostRuntime) -> Result<(), Fail> {
     let name = PlainName::new(b"a,b=c").ok_or("a plain name")?;
@@ -391,6 +403,7 @@ fn names(rt: HostRuntime) -> Result<(), Fail> {
     Ok(())
 }
 
+/// Lengths at the ends of each range: names have 1 to 255 bytes, passwords to 1024, parts of nonces to 256, salts to 64.
 #[test]
 fn limits(rt: HostRuntime) -> Result<(), Fail> {
     for (length, plain, password, nonce, salt) in [
@@ -417,6 +430,7 @@ fn limits(rt: HostRuntime) -> Result<(), Fail> {
     Ok(())
 }
 
+/// Characters next to the ends of each class. Spaces may be in names and passwords but not in nonces, which also have no comma.
 #[test]
 fn classes(rt: HostRuntime) {
     assert!(rt;
@@ -467,6 +481,7 @@ fn fault_of_long(
     })
 }
 
+/// Messages with one part that is as long as it may be, or longer. The letter `A` is six bits of 0 in base64.
 #[test]
 fn limits_of_messages(rt: HostRuntime) -> Result<(), Fail> {
     let rows: [(Kind, &[u8], usize, &[u8], bool); 10] = [
@@ -506,6 +521,7 @@ fn limits_of_messages(rt: HostRuntime) -> Result<(), Fail> {
     Ok(())
 }
 
+/// An argument outside the grammar of RFC 5802, section 7, is refused, and nothing is appended.
 #[test]
 fn refused_writes_of_a_server(rt: HostRuntime) -> Result<(), Fail> {
     let salt = Salt::new(b"A").ok_or("a salt")?;
@@ -532,6 +548,7 @@ fn refused_writes_of_a_server(rt: HostRuntime) -> Result<(), Fail> {
     Ok(())
 }
 
+/// An argument outside the grammar of RFC 5802, section 7, is refused, and nothing is appended.
 #[test]
 fn refused_writes_of_a_client(rt: HostRuntime) -> Result<(), Fail> {
     let name = PlainName::new(b"u").ok_or("a name")?;
@@ -568,6 +585,7 @@ fn refused_writes_of_a_client(rt: HostRuntime) -> Result<(), Fail> {
     Ok(())
 }
 
+/// A message of 2048 bytes is written: 17 of the parts and 2031 letters. One of a byte more is refused.
 #[test]
 fn longest_write(rt: HostRuntime) -> Result<(), Fail> {
     let alloc = rt.alloc();

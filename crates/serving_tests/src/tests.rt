@@ -5,7 +5,7 @@ mod serving;
 mod torn;
 mod turns;
 
-use desk_in_memory::{AMPLE, Service, Ticking};
+use desk_in_memory::{AMPLE, Service, TickingClock};
 use sasl_desk::{Phase, ServeFault};
 use sasl_log::{Got, Source};
 use std::process::Abort;
@@ -20,7 +20,7 @@ fn check_halted<C: Source>(
     assert_eq!(rt; service.desk.phase(), Phase::Halted);
     let again = service.serve(rt.alloc(), client, AMPLE, AMPLE)?;
     assert_eq!(rt; again, Err(ServeFault::Halted));
-    let turn = service.take_turn(rt.alloc(), client, &mut Ticking::after(0)?)?;
+    let turn = service.take_turn(rt.alloc(), client, &mut TickingClock::after(0)?)?;
     assert_eq!(rt; turn, Err(ServeFault::Halted));
     assert_eq!(rt; client.next(), Got::Byte(b'A'));
     Ok(())

@@ -5,8 +5,7 @@ use Rattle.std.specs.declared.cmp.Ordering.{Ordering}
 use Rattle.std.specs.declared.cmp.Ordering.TheVariants.{Less, Equal, Greater}
 use Rattle.std.specs.Ordering.{eq_by_cmp, match_ordering}
 use Rattle.std.specs.FinMap as map
-use Rattle.std.specs.FinMap.{from_entries, get-from_entries, get-insert, get-remove, same_map, slice_cmp-IsAntisymmetric}
-use Rattle.std.specs.FinMap.{nat_cmp-IsAntisymmetric}
+use Rattle.std.specs.FinMap.{from_entries, get-from_entries, get-insert, get-remove, same_map, slice_cmp-IsAntisymmetric, nat_cmp-IsAntisymmetric}
 use Rattle.std.specs.FinMap.Entries.{by_order, find, find-put, put}
 use Rattle.std.specs.Option.{option_map_or}
 use Rattle.std.specs.BTreeMap.{is_at, insert_entry}
@@ -16,7 +15,7 @@ use Rattle.std.proofs.lemmas.Map.{lookup-set_value}
 use Rattle.std.proofs.lemmas.Map.Text.{is_eq-slice_cmp}
 use Rattle.book_format.specs.Account.{AccountFields}
 use Rattle.book_format.specs.Book.{BookFields}
-use Rattle.account_book.specs.Accounts.{name_cmp, account_at, accounts_of, with_account, with_changed, IsAdded, IsChanged, IsRemoved}
+use Rattle.account_book.specs.Accounts.{name_cmp, account_at, account_map, with_account, with_changed, IsAdded, IsChanged, IsRemoved}
 use Rattle.account_book.specs.Laws.{AddedIsApart}
 
 -- a look-up of a name by `find` and one by `lookup` give the same result
@@ -32,7 +31,7 @@ map_get_is_lookup es name = get-from_entries nat_list_cmp_total es name ∙ find
 
 -- an account that a look-up shows is the one that the map has
 pub account_is_in_map : (r : Option (Bor AccountFields)) (book : BookFields) (name : List ℕ) → option_copied r ≡ account_at book name
-    → option_copied r ≡ map.get (accounts_of book) name
+    → option_copied r ≡ map.get (account_map book) name
 account_is_in_map r book name found = found ∙ sym (map_get_is_lookup book.accounts name)
 
 -- a list and a map that give the same result for each look-up are the same map
@@ -81,8 +80,8 @@ pub account_is_changed : (old : BookFields) (name : List ℕ) (change : AccountF
     → new ≡ with_changed old name change → IsChanged old name change new
 account_is_changed old name change new same = record {
   book = same;
-  accounts = ap accounts_of same ∙ map_follows_change old.accounts name change _ refl
-      ∙ ap (λ o. option_map_or (λ account. map.insert (accounts_of old) name (change account)) o (accounts_of old))
+  accounts = ap account_map same ∙ map_follows_change old.accounts name change _ refl
+      ∙ ap (λ o. option_map_or (λ account. map.insert (account_map old) name (change account)) o (account_map old))
       (sym (map_get_is_lookup old.accounts name));
 }
 
@@ -119,7 +118,7 @@ account_is_added old name account new free same = record {
   free = free;
   added = record {
     book = same;
-    accounts = ap accounts_of same ∙ map_follows_insert old.accounts _ name account (lookup-insert_entry old.accounts name account);
+    accounts = ap account_map same ∙ map_follows_insert old.accounts _ name account (lookup-insert_entry old.accounts name account);
   };
 }
 

@@ -1,6 +1,6 @@
 -- Each account of a book stays in its ranges, whatever is changed, added or removed.
-use Rattle.std.proofs.Common.{◌≡◌, ◌≤◌, cond, length, unwrap_or, ap, sym, subst, Bool, true, false, List, [], ◌∷◌, ℕ, IfSome, OnOk, OnErr}
-use Rattle.std.proofs.Common.{Option, Result, Bor, option_copied}
+use Rattle.std.proofs.Common.{◌≡◌, ◌≤◌, cond, length, unwrap_or, ap, sym, subst, Bool, true, false, List, [], ◌∷◌, ℕ, IfSome, OnOk, OnErr, Option}
+use Rattle.std.proofs.Common.{Result, Bor, option_copied}
 use Rattle.std.specs.declared.option.Option.TheVariants.{None, Some}
 use Rattle.std.specs.declared.result.Result.TheVariants.{Ok, Err}
 use Rattle.std.specs.declared.cmp.Ordering.{Ordering}

@@ -1,6 +1,5 @@
 //! Adds an account with a password.
 ghost use Rattle.std.specs.Prelude.{◌≡◌, ◌≤◌, IfErr, OnOk, OnErr, MatchOption};
-ghost use Rattle.hex.specs.Hex.{IsBytes};
 ghost use Rattle.mac_core.specs.Mechanism.{length_by};
 ghost use Rattle.book_format.specs.Account.{AreKeys};
 ghost use Rattle.account_book.specs.Accounts.{account_at, IsAdded};
@@ -9,7 +8,7 @@ ghost use Rattle.account_book.specs.Faults.{enrol_fault_number};
 
 use crate::book::Book;
 use book_format::{Account, MechKeys};
-use mac_core::Mechanism;
+use mac_core::{Mechanism, law_of_bytes};
 use scram_text::{Password, PlainName, Salt};
 use std::alloc::Global;
 use thiserror::Error;
@@ -78,17 +77,10 @@ fn made_keys(mechanism: Mechanism, password: &Password, salt: &Salt, count: u32)
     ensures range { AreKeys (length_by mechanism) result }
 {
     let bytes = salt.bytes();
-    are_bytes(bytes);
+    law_of_bytes(bytes);
     MechKeys {
         salt: salt.copy(),
         count,
         keys: mechanism.scram_keys(password.bytes(), bytes, count),
     }
-}
-
-// A law: the elements of a slice are bytes by their type. Only the proof needs it.
-fn are_bytes(bytes: &[u8])
-    ensures { IsBytes bytes.now }
-{
-    let _ = bytes;
 }

@@ -1,6 +1,6 @@
 //! The tokens of accounts, and attempts with codes.
 ghost use Rattle.std.specs.Prelude.{◌≡◌, is_some};
-ghost use Rattle.otp_core.specs.Attempt.CodeTexts.{OneText, TwoTexts};
+ghost use Rattle.otp_core.specs.Attempt.CodeTexts.{one_text, two_texts};
 ghost use Rattle.otp_core.specs.Sent.{texts_of};
 ghost use Rattle.account_book.specs.Accounts.{account_at, IsChanged};
 ghost use Rattle.account_book.specs.Tokens.{IsBookAttempt, IsUnlocked, token_at, with_token};
@@ -37,7 +37,7 @@ impl Book {
     /// Judges `text` as a code at `moment` with the token of the account of this name, as `Token::attempt` does, and keeps the
     /// changed token. Returns None, and changes nothing, if there is no such account or it has no token.
     pub fn attempt(&mut self, name: &PlainName, moment: Moment, text: &[u8]) -> Option<Reply>
-        ensures { IsBookAttempt self.old name.now moment (OneText text.now) result self.new }
+        ensures { IsBookAttempt self.old name.now moment (one_text text.now) result self.new }
     {
         self.judge(name, moment, Sent::One(text))
     }
@@ -51,7 +51,7 @@ impl Book {
         first: &[u8],
         second: &[u8],
     ) -> Option<Reply>
-        ensures { IsBookAttempt self.old name.now moment (TwoTexts first.now second.now) result self.new }
+        ensures { IsBookAttempt self.old name.now moment (two_texts first.now second.now) result self.new }
     {
         self.judge(name, moment, Sent::Two(first, second))
     }

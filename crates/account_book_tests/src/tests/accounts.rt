@@ -56,6 +56,8 @@ fn check_published(rt: &(impl Abort + AllocGlobal), account: Option<&Account>) -
     )
 }
 
+/// A new account has the keys of the published examples, whose password and salts it was enrolled with. A name in another case is
+/// another name.
 #[test]
 fn a_password_is_enrolled(rt: HostRuntime) -> Result<(), Fail> {
     let mut book = Book::new(rt.alloc(), DECOY_KEY, 5000);
@@ -66,7 +68,7 @@ fn a_password_is_enrolled(rt: HostRuntime) -> Result<(), Fail> {
     Ok(())
 }
 
-// A name that is taken keeps its account.
+/// A name that is taken keeps its account.
 #[test]
 fn a_name_is_taken(rt: HostRuntime) -> Result<(), Fail> {
     let mut book = two_accounts(&rt)?;
@@ -85,6 +87,7 @@ fn acts_as(book: &Book, name: &PlainName) -> Option<usize> {
     Some(account.act_as.len())
 }
 
+/// An account's new names to act as change no other account. A name without an account is refused, and gets none.
 #[test]
 fn names_to_act_as(rt: HostRuntime) -> Result<(), Fail> {
     let mut book = two_accounts(&rt)?;
@@ -97,6 +100,7 @@ fn names_to_act_as(rt: HostRuntime) -> Result<(), Fail> {
     Ok(())
 }
 
+/// An account is removed once, and the other one keeps its keys.
 #[test]
 fn an_account_is_removed(rt: HostRuntime) -> Result<(), Fail> {
     let mut book = two_accounts(&rt)?;
@@ -108,6 +112,7 @@ fn an_account_is_removed(rt: HostRuntime) -> Result<(), Fail> {
     Ok(())
 }
 
+/// The number of each refusal, as in docs/REFUSALS.md, and the text that a user reads.
 #[test]
 fn refusals_to_enrol(rt: HostRuntime) -> Result<(), Fail> {
     for (fault, number, text) in [

@@ -8,6 +8,7 @@ fn salt_of(rt: &impl AllocGlobal, view: &KeysView<'_>) -> Result<String, Fail> {
     Ok(hex::encode(rt.alloc(), view.salt.bytes())?)
 }
 
+/// A server sees the keys of its mechanism, and the names to act as. The keys are those of the published examples.
 #[test]
 fn accounts_are_seen_by_mechanism(rt: HostRuntime) -> Result<(), Fail> {
     let mut book = two_accounts(&rt)?;
@@ -34,7 +35,7 @@ fn accounts_are_seen_by_mechanism(rt: HostRuntime) -> Result<(), Fail> {
     Ok(())
 }
 
-// Computed with Python: hmac.new(bytes(range(32)), mechanism + b"\0" + name, "sha256").digest()[:16].
+/// Computed with Python: hmac.new(bytes(range(32)), mechanism + b"\0" + name, "sha256").digest()[:16].
 #[test]
 fn decoys(rt: HostRuntime) -> Result<(), Fail> {
     let book = Book::new(rt.alloc(), crate::tests::DECOY_KEY, 5000);

@@ -53,6 +53,8 @@ secret = \"3132333435363738393031323334353637383930\"
 sync_ahead = 0
 ";
 
+/// A book as a person writes it is written as docs/FORMATS.md says, worked out by hand. What was written is written the same once it is
+/// read.
 #[test]
 fn a_text_is_read_and_written(rt: HostRuntime) -> Result<(), Fail> {
     let book = Book::read(rt.alloc(), TEXT.as_bytes())?;
@@ -62,6 +64,7 @@ fn a_text_is_read_and_written(rt: HostRuntime) -> Result<(), Fail> {
     Ok(())
 }
 
+/// A book that is written and read has the accounts that it had, and no other.
 #[test]
 fn a_book_is_read_back(rt: HostRuntime) -> Result<(), Fail> {
     let book = two_accounts(&rt)?;
@@ -72,6 +75,7 @@ fn a_book_is_read_back(rt: HostRuntime) -> Result<(), Fail> {
     Ok(())
 }
 
+/// The number of each fault, as in docs/REFUSALS.md, and the account at fault, counted from 0 in the order of the names.
 #[test]
 fn faults_of_a_text(rt: HostRuntime) -> Result<(), Fail> {
     for (text, number, account) in [

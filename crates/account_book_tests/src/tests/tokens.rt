@@ -40,6 +40,7 @@ fn state(book: &Book, name: &PlainName) -> Option<(u64, u64)> {
     }
 }
 
+/// Each reply, and the next counter and the failures that the token then has. The other account's token stays as it was.
 #[test]
 fn attempts_are_kept(rt: HostRuntime) -> Result<(), Fail> {
     let mut book = two_tokens(&rt)?;
@@ -61,6 +62,7 @@ fn attempts_are_kept(rt: HostRuntime) -> Result<(), Fail> {
     Ok(())
 }
 
+/// Three failures lock a token, even for the right code, and no other account's. Once it is unlocked, the right code passes.
 #[test]
 fn a_locked_account_is_unlocked(rt: HostRuntime) -> Result<(), Fail> {
     let mut book = two_tokens(&rt)?;
@@ -91,6 +93,7 @@ fn a_locked_account_is_unlocked(rt: HostRuntime) -> Result<(), Fail> {
     Ok(())
 }
 
+/// Two codes in a row pass at the counter of the second, which uses both. In the other order, or once used, they fail.
 #[test]
 fn pairs_are_kept(rt: HostRuntime) -> Result<(), Fail> {
     let mut book = two_tokens(&rt)?;
@@ -108,6 +111,7 @@ fn pairs_are_kept(rt: HostRuntime) -> Result<(), Fail> {
     Ok(())
 }
 
+/// `judge` takes one text as `attempt` does, and two as `sync` does.
 #[test]
 fn one_text_or_two(rt: HostRuntime) -> Result<(), Fail> {
     let mut book = two_tokens(&rt)?;
@@ -122,6 +126,7 @@ fn one_text_or_two(rt: HostRuntime) -> Result<(), Fail> {
     Ok(())
 }
 
+/// Failures of single codes and of pairs are counted together: three of them lock the token for both.
 #[test]
 fn codes_and_pairs_lock_together(rt: HostRuntime) -> Result<(), Fail> {
     let mut book = two_tokens(&rt)?;
@@ -150,6 +155,8 @@ fn codes_and_pairs_lock_together(rt: HostRuntime) -> Result<(), Fail> {
     Ok(())
 }
 
+/// An account without a token, and a name without an account, get no reply and can't be unlocked. A name without an account gets no
+/// token.
 #[test]
 fn no_account_and_no_token(rt: HostRuntime) -> Result<(), Fail> {
     let mut book = two_accounts(&rt)?;

@@ -1,7 +1,7 @@
 //! Serves two clients in a hall while one request for memory is refused, as `refused` does at a desk.
-use crate::memory::Memory;
+use crate::memory::MemoryStore;
 use crate::refused::print_end;
-use crate::service::{SERVER_NONCE, book_at, login_and_codes};
+use crate::service::{SERVER_NONCE, login_and_codes, read_book};
 use account_book::Book;
 use otp_core::Moment;
 use sasl_desk::{DeskFault, Event, Hall};
@@ -15,8 +15,8 @@ fn begun<A: Allocator>(
     alloc: Global,
     book: Book,
     log: &mut Vec<u8, A>,
-) -> Option<(Hall<Memory>, u32)> {
-    match Hall::begin(alloc, book, Memory::new(alloc), log) {
+) -> Option<(Hall<MemoryStore>, u32)> {
+    match Hall::begin(alloc, book, MemoryStore::new(alloc), log) {
         Ok(hall) => Some((hall, 0)),
         Err((book, store, DeskFault::NoMemory)) => {
             Some((Hall::begin(alloc, book, store, log).ok()?, 1))
@@ -28,7 +28,7 @@ fn begun<A: Allocator>(
 // Lets the hall greet a client, whose session should get the number `session`. Returns how often the call ran out of memory first,
 // 0 or 1; None if the session gets another number or none.
 fn greeted(
-    hall: &mut Hall<Memory>,
+    hall: &mut Hall<MemoryStore>,
     session: u64,
     wire: &mut Vec<u8>,
     log: &mut Vec<u8>,
@@ -46,7 +46,7 @@ fn greeted(
 // Lets the hall hear what the client of this session does, and returns a count as `greeted` does.
 fn heard(
     alloc: Global,
-    hall: &mut Hall<Memory>,
+    hall: &mut Hall<MemoryStore>,
     session: u64,
     event: Event<'_>,
     wire: &mut Vec<u8>,
@@ -70,7 +70,7 @@ fn heard(
 // out, or None.
 fn all_heard(
     alloc: Global,
-    hall: &mut Hall<Memory>,
+    hall: &mut Hall<MemoryStore>,
     lines: &str,
     wire: &mut Vec<u8>,
     log: &mut Vec<u8>,
@@ -105,7 +105,7 @@ where
     R: Print + Files + AllocGlobal,
 {
     let alloc = rt.alloc();
-    let (book, text) = (book_at(rt, path)?, login_and_codes(alloc, count)?);
+    let (book, text) = (read_book(rt, path)?, login_and_codes(alloc, count)?);
     let mut log = Vec::new(alloc);
     let refused = called(alloc, book, text.as_str(), &mut log);
     print_end(rt, log.as_slice(), refused)

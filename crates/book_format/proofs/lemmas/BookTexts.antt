@@ -16,8 +16,10 @@ use Rattle.book_format.specs.Trees.{IsBookText}
 use Rattle.book_format.specs.declared.fault.BookFault.{BookFault}
 use Rattle.book_format.specs.declared.fault.BookWhy.{BookWhy}
 use Rattle.book_format.specs.declared.fault.BookWhy.TheVariants.{Toml}
-use Rattle.book_format.proofs.lemmas.Tables.{book_tree_is_read, read_book_tree_stands, book_follows, book_is_in_range, at_top_keeps_value}
-use Rattle.book_format.proofs.lemmas.Demands.{Follows, read_fault_is_first, first_fault_is_read}
+use Rattle.book_format.proofs.lemmas.Documents.{book_tree_is_read, read_book_tree_stands, book_follows}
+use Rattle.book_format.proofs.lemmas.ReadRanges.{book_is_in_range}
+use Rattle.book_format.proofs.lemmas.FaultPlaces.{at_top_keeps_value}
+use Rattle.book_format.proofs.lemmas.Demands.{FollowsDemands, read_fault_is_first, first_fault_is_read}
 use Rattle.book_format.proofs.lemmas.Steps.{each_step_gives_value, option_holds_value}
 
 -- a text that has no tree is read as no book, for the tree's reason and with no account named
@@ -34,15 +36,13 @@ top_fault_is_fault_of_book bytes ms why read h = rw (read, ← h) refl
 
 -- a text whose accounts are refused is read as no book, with their fault
 pub accounts_fault_is_fault_of_book : (bytes : List ℕ) (ms : Members) (top : TopFields) (fault : BookFault) → tree_in bytes ≡ Ok ms
-    → Ok top ≡ top_of ms
-    → accounts_of_table top.accounts ≡ Err fault → book_in bytes ≡ Err fault
+    → Ok top ≡ top_of ms → accounts_of_table top.accounts ≡ Err fault → book_in bytes ≡ Err fault
 unfolding book_in book_of
 accounts_fault_is_fault_of_book bytes ms top fault read h accounts = rw (read, ← h, accounts) refl
 
 -- a text whose top table and accounts are read is read as the book of both
 pub parts_are_read_as_book : (bytes : List ℕ) (ms : Members) (top : TopFields) (entries : List (List ℕ × AccountFields))
-    → tree_in bytes ≡ Ok ms
-    → Ok top ≡ top_of ms → accounts_of_table top.accounts ≡ Ok entries
+    → tree_in bytes ≡ Ok ms → Ok top ≡ top_of ms → accounts_of_table top.accounts ≡ Ok entries
     → book_in bytes ≡ Ok (record { decoy_key = top.decoy_key; decoy_count = top.decoy_count; accounts = entries })
 unfolding book_in book_of
 parts_are_read_as_book bytes ms top entries read h accounts = rw (read, ← h, accounts) refl
@@ -70,14 +70,14 @@ unfolding book_in tree_in
 book_text_is_read bytes book h = rw (is_utf8-from_IsUtf8 bytes h.utf8, h.parsed) (book_tree_is_read h.tree book h.of_book)
 
 -- reading a text follows the demands on it
-text_follows : (bytes : List ℕ) → Follows (book_demands bytes) (book_in bytes)
+text_follows : (bytes : List ℕ) → FollowsDemands (book_demands bytes) (book_in bytes)
 unfolding book_demands book_in tree_in
 text_follows bytes = follows (is_utf8 bytes) (parse_document bytes)
   where
     no_toml : BookFault
     no_toml = record { why = Toml; account = None }
 
-    follows : (utf8 : Bool) (parsed : Option Members) → Follows (must utf8 no_toml ∷ required no_toml document_demands parsed)
+    follows : (utf8 : Bool) (parsed : Option Members) → FollowsDemands (must utf8 no_toml ∷ required no_toml document_demands parsed)
         (at_top (if utf8 then ok_or parsed Toml else Err Toml) >>= book_of)
     follows true None = refl
     follows true (Some ms) = book_follows ms

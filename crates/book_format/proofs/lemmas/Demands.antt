@@ -1,6 +1,5 @@
 -- How a reading relates to a list of demands: it gives a value if all are met, and else the fault of the first that is not.
-use Rattle.std.proofs.Common.{◌≡◌, ◌++◌, List, [], ◌∷◌, Bool, true, false, Option, Some, None, ok_or, Result, Ok, Err, refl, ap, ◌∙◌, inl}
-use Rattle.std.proofs.Common.{inr}
+use Rattle.std.proofs.Common.{◌≡◌, ◌++◌, List, [], ◌∷◌, Bool, true, false, Option, Some, None, ok_or, Result, Ok, Err, refl, ap, ◌∙◌, inl, inr}
 use Rattle.std.specs.Prelude.{IsTrue, is_some}
 use Rattle.std.specs.List.{AllByRecursion}
 use Rattle.std.proofs.lemmas.Bool.{cases_Bool, both_ways}
@@ -20,8 +19,8 @@ without_value (Ok x) = Ok tt
 without_value (Err fault) = Err fault
 
 -- a reading gives a value if all demands are met, else the fault of the first that is not
-abbrev pub Follows : {A F : Type 0} → List (Demand F) → Result A F → Type 0
-Follows demands read = judged demands ≡ without_value read
+abbrev pub FollowsDemands : {A F : Type 0} → List (Demand F) → Result A F → Type 0
+FollowsDemands demands read = judged demands ≡ without_value read
 
 -- Steps of a reading.
 
@@ -40,25 +39,25 @@ judged-append (demand ∷ demands) others =
 
 -- a step and the next follow two lists of demands, if each follows its own
 pub both_follow : {A B F : Type 0} (demands others : List (Demand F)) (first : Result A F) (next : A → Result B F)
-    → Follows demands first → ((x : A) → first ≡ Ok x → Follows others (next x)) → Follows (demands ++ others) (first >>= next)
+    → FollowsDemands demands first → ((x : A) → first ≡ Ok x → FollowsDemands others (next x)) → FollowsDemands (demands ++ others) (first >>= next)
 both_follow demands others (Ok x) next h rest =
     judged-append demands others ∙ ap (λ r. r >>= λ u. judged others) h ∙ rest x refl
 both_follow demands others (Err fault) next h rest = judged-append demands others ∙ ap (λ r. r >>= λ u. judged others) h
 
 -- a test and the steps after it follow a demand and those after it
 pub test_follows : {B F : Type 0} (test : Bool) (fault : F) (demands : List (Demand F)) (next : Unit {0} → Result B F)
-    → (test ≡ true → Follows demands (next tt)) → Follows (must test fault ∷ demands) (pass_or test fault >>= next)
+    → (test ≡ true → FollowsDemands demands (next tt)) → FollowsDemands (must test fault ∷ demands) (pass_or test fault >>= next)
 test_follows true fault demands next h = h refl
 test_follows false fault demands next h = refl
 
 -- a value that must be there, and the steps on it, follow the demand for it and those on it
 pub required_follows : {A B F : Type 0} (fault : F) (demands : A → List (Demand F)) (o : Option A) (next : A → Result B F)
-    → ((x : A) → Follows (demands x) (next x)) → Follows (required fault demands o) (ok_or o fault >>= next)
+    → ((x : A) → FollowsDemands (demands x) (next x)) → FollowsDemands (required fault demands o) (ok_or o fault >>= next)
 required_follows fault demands None next h = refl
 required_follows fault demands (Some x) next h = h x
 
 -- a value that must be there follows the demand for it
-pub presence_follows : {A F : Type 0} (fault : F) (o : Option A) → Follows (must (is_some o) fault ∷ []) (ok_or o fault)
+pub presence_follows : {A F : Type 0} (fault : F) (o : Option A) → FollowsDemands (must (is_some o) fault ∷ []) (ok_or o fault)
 presence_follows fault None = refl
 presence_follows fault (Some x) = refl
 
@@ -99,13 +98,12 @@ demands_are_met (demand ∷ demands) h = elim (cases_Bool demand.met) [
 ]
 
 -- the fault of a reading that follows demands is that of the first that is not met
-pub read_fault_is_first : {A F : Type 0} (demands : List (Demand F)) (fault : F) (read : Result A F) → Follows demands read
-    → read ≡ Err fault
-    → HasFirstFault demands fault
+pub read_fault_is_first : {A F : Type 0} (demands : List (Demand F)) (fault : F) (read : Result A F) → FollowsDemands demands read
+    → read ≡ Err fault → HasFirstFault demands fault
 read_fault_is_first demands fault read follows h = judged_fault_is_first demands fault (follows ∙ ap without_value h)
 
 -- the fault of the first demand that is not met is that of a reading that follows the demands
-pub first_fault_is_read : {A F : Type 0} (demands : List (Demand F)) (fault : F) (read : Result A F) → Follows demands read
+pub first_fault_is_read : {A F : Type 0} (demands : List (Demand F)) (fault : F) (read : Result A F) → FollowsDemands demands read
     → HasFirstFault demands fault → read ≡ Err fault
 first_fault_is_read demands fault (Ok x) follows first =
     absurd (met_rows_have_no_first_unmet (λ demand. IsTrue demand.met) demands (must false fault) (demands_are_met demands follows) first)

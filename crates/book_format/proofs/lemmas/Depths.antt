@@ -1,6 +1,5 @@
 -- A book's tree is no deeper than the parser goes, and has no dates.
-use Rattle.std.proofs.Common.{◌≡◌, ℕ, pos, ◌≤◌, List, [], ◌∷◌, map, true, Less, Equal, Greater, nat_cmp, Option, Some, None, option_map}
-use Rattle.std.proofs.Common.{refl, arith}
+use Rattle.std.proofs.Common.{◌≡◌, ℕ, pos, ◌≤◌, List, [], ◌∷◌, map, true, Less, Equal, Greater, nat_cmp, Option, Some, None, option_map, refl, arith}
 use Rattle.std.proofs.lemmas.Bool.{and_parts}
 use Rattle.std.specs.Cmp.Lexicographic.{slice_cmp}
 use Rattle.std.specs.Ordering.{match_ordering}
@@ -15,10 +14,10 @@ use Rattle.otp_core.specs.declared.token.kinds.TotpFields.{TotpFields}
 use Rattle.book_format.specs.Account.{AccountFields}
 use Rattle.book_format.specs.Book.{BookFields}
 use Rattle.book_format.specs.Put.{put_member, put_some, put_all}
-use Rattle.book_format.specs.Rows.{entries, written}
-use Rattle.book_format.specs.RowKinds.{in_table}
-use Rattle.book_format.specs.Tables.{mech, sha1_keys, sha256_keys, token, account}
-use Rattle.book_format.specs.Tokens.{totp, token_tree}
+use Rattle.book_format.specs.Rows.{table_entries, written_table}
+use Rattle.book_format.specs.RowKinds.{table_type}
+use Rattle.book_format.specs.Tables.{keys_table, sha1_keys_table, sha256_keys_table, token_type, account_table}
+use Rattle.book_format.specs.Tokens.{totp_table, token_tree}
 use Rattle.book_format.specs.Written.{accounts_tree, book_tree}
 use Rattle.book_format.specs.declared.account.MechKeys.{MechKeys}
 use Rattle.book_format.proofs.lemmas.Put.{Entries}
@@ -82,8 +81,8 @@ option_is_flat most write None each = tt
 option_is_flat most write (Some v) each = each v
 
 -- the table of a mechanism's keys has one level
-mech_is_flat : (len : ℕ) (m : MechKeys) → IsFlat 1 (table (written (mech len) m))
-unfolding written
+mech_is_flat : (len : ℕ) (m : MechKeys) → IsFlat 1 (table (written_table (keys_table len) m))
+unfolding written_table
 mech_is_flat len m = (omega arith, refl)
 
 -- the list of some names has no level below it, and no date:
@@ -96,31 +95,31 @@ names_have_valid_dates [] = refl
 names_have_valid_dates (name ∷ names) = names_have_valid_dates names
 
 -- the tree of each part of a book is flat, from a TOTP token up to the accounts:
-totp_is_flat : (t : TotpFields) → AreFlat 0 (written totp t)
-unfolding written
+totp_is_flat : (t : TotpFields) → AreFlat 0 (written_table totp_table t)
+unfolding written_table
 totp_is_flat t =
     let leaf : (0 ≤ 0) × (true ≡ true) = (omega arith, refl) in
     let last = option_is_flat 0 (λ n. integer (pos n)) t.last (λ n. leaf) in
-    put_all_is_flat 0 (entries totp t) no_members
+    put_all_is_flat 0 (table_entries totp_table t) no_members
     (leaf, (leaf, (leaf, (leaf, (leaf, (leaf, (leaf, (leaf, (leaf, (last, (leaf, (leaf, (leaf, tt))))))))))))) leaf
 
 token_is_flat : (t : TokenFields) → IsFlat 1 (token_tree t)
-unfolding written
+unfolding written_table
 token_is_flat (Hotp t) = (omega arith, refl)
 token_is_flat (Totp t) =
     let flat = totp_is_flat t in
     (omega (arith, flat.0), flat.1)
 
-account_is_flat : (a : AccountFields) → IsFlat 2 (table (written account a))
-unfolding written
+account_is_flat : (a : AccountFields) → IsFlat 2 (table (written_table account_table a))
+unfolding written_table
 account_is_flat a =
-    let flat = put_all_is_flat 1 (entries account a) no_members (
-      option_is_flat 1 (in_table sha1_keys).write a.sha1 (mech_is_flat (length_by ScramSha1)),
+    let flat = put_all_is_flat 1 (table_entries account_table a) no_members (
+      option_is_flat 1 (table_type sha1_keys_table).write a.sha1 (mech_is_flat (length_by ScramSha1)),
       (
-        option_is_flat 1 (in_table sha256_keys).write a.sha256 (mech_is_flat (length_by ScramSha256)),
+        option_is_flat 1 (table_type sha256_keys_table).write a.sha256 (mech_is_flat (length_by ScramSha256)),
         (
           (omega (arith, names_have_no_depth a.act_as), names_have_valid_dates a.act_as),
-          (option_is_flat 1 token.write a.token token_is_flat, tt),
+          (option_is_flat 1 token_type.write a.token token_is_flat, tt),
         ),
       ),
     ) (omega arith, refl) in
@@ -129,11 +128,12 @@ account_is_flat a =
 accounts_are_flat : (entries : List (List ℕ × AccountFields)) → AreFlat 2 (accounts_tree entries)
 unfolding accounts_tree
 accounts_are_flat [] = (omega arith, refl)
-accounts_are_flat (e ∷ entries) = member_is_flat 2 e.0 (table (written account e.1)) _ (account_is_flat e.1) (accounts_are_flat entries)
+accounts_are_flat (e ∷ entries) =
+    member_is_flat 2 e.0 (table (written_table account_table e.1)) _ (account_is_flat e.1) (accounts_are_flat entries)
 
 -- the tree of a book is at most three levels deep below its top, and has no dates
 pub book_is_flat : (b : BookFields) → AreFlat 3 (book_tree b)
-unfolding book_tree written
+unfolding book_tree written_table
 book_is_flat b =
     let flat = accounts_are_flat b.accounts in
     (omega (arith, flat.0), rw flat.1 refl)

@@ -9,7 +9,7 @@ use Rattle.book_format.specs.declared.fault.BookFault.{BookFault}
 use Rattle.book_format.proofs.lemmas.Steps.{same_ok_has_same_value, same_err_has_same_fault}
 use Rattle.book_format.proofs.lemmas.BookTexts.{read_book_text_stands, book_text_is_read, text_fault_is_first, text_first_fault_is_read}
 
--- a text is that of a book, or it has a first fault
+-- the law: a text is that of a book, or it has a first fault
 pub is_book_or_at_fault : IsBookOrAtFault
 is_book_or_at_fault text = by_reading (book_in text) refl
   where
@@ -18,18 +18,18 @@ is_book_or_at_fault text = by_reading (book_in text) refl
     by_reading (Ok book) is = inl (book, read_book_text_stands text book is)
     by_reading (Err fault) is = inr (fault, text_fault_is_first text fault is)
 
--- the text of a book has no first fault
+-- the law: the text of a book has no first fault
 pub book_is_not_at_fault : BookIsNotAtFault
 book_is_not_at_fault text book fault is first =
     let both = sym (book_text_is_read text book is) ∙ text_first_fault_is_read text fault first in
     cc both
 
--- a text is that of at most one book
+-- the law: a text is that of at most one book
 pub has_one_book : HasOneBook
 has_one_book text one other is also = same_ok_has_same_value one other (sym (book_text_is_read text one is) ∙ book_text_is_read text other
     also)
 
--- a text has at most one first fault
+-- the law: a text has at most one first fault
 pub has_one_first_fault : HasOneFirstFault
 has_one_first_fault text one other first also =
     same_err_has_same_fault one other (sym (text_first_fault_is_read text one first) ∙ text_first_fault_is_read text other also)

@@ -1,6 +1,5 @@
 -- How a list of names is read, depending on whether all are texts and on how many there are.
-use Rattle.std.proofs.Common.{◌≡◌, ◌<◌, ◌≤◌, nat_le, le-leb, ℕ, List, [], ◌∷◌, ◌++◌, length, true, false, Result, Ok, Err, refl}
-use Rattle.std.proofs.Common.{append_assoc, arith}
+use Rattle.std.proofs.Common.{◌≡◌, ◌<◌, ◌≤◌, nat_le, le-leb, ℕ, List, [], ◌∷◌, ◌++◌, length, true, false, Result, Ok, Err, refl, append_assoc, arith}
 use Rattle.std.proofs.lemmas.Bool.Decides.{nat_tests}
 use Rattle.toml.specs.Data.{Items}
 use Rattle.toml.specs.View.{items_view}

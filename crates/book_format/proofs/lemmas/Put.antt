@@ -1,6 +1,6 @@
 -- What an insert does to a table, and which keys are there after it.
-use Rattle.std.proofs.Common.{◌≡◌, ℕ, Bool, true, false, not, ◌&&◌, List, [], ◌∷◌, ◌++◌, String, Global, Ordering, Less, Equal, Greater}
-use Rattle.std.proofs.Common.{is_eq, nat_cmp, string_bytes, string_cmp, Option, Some, None, refl, sym, ap, ◌∙◌, subst}
+use Rattle.std.proofs.Common.{◌≡◌, ℕ, Bool, true, false, not, ◌&&◌, List, [], ◌∷◌, ◌++◌, String, Global, Ordering, Less, Equal, Greater, is_eq}
+use Rattle.std.proofs.Common.{nat_cmp, string_bytes, string_cmp, Option, Some, None, refl, sym, ap, ◌∙◌, subst}
 use Rattle.std.proofs.lemmas.Bool.{and_parts, false≢true, not-true}
 use Rattle.std.proofs.lemmas.Cmp.{nat_list_cmp_total}
 use Rattle.std.proofs.lemmas.Map.Lookups.{exact_bytes}
@@ -17,8 +17,8 @@ use Rattle.toml.proofs.Views.{Entry}
 use Rattle.book_format.specs.Account.{AccountFields}
 use Rattle.book_format.specs.Keys.{has_only}
 use Rattle.book_format.specs.Put.{put_member, put_some, put_all}
-use Rattle.book_format.specs.Rows.{written}
-use Rattle.book_format.specs.Tables.{account}
+use Rattle.book_format.specs.Rows.{written_table}
+use Rattle.book_format.specs.Tables.{account_table}
 use Rattle.book_format.specs.Written.{accounts_tree}
 
 -- the view of the list that an ordering chooses is what it chooses among the views
@@ -43,14 +43,14 @@ key_is_below_middle cmp key (x ∷ front) e more h = key_is_below_middle cmp key
 -- an account whose name is above those before it goes last
 pub put_account_goes_last : (done : List (List ℕ × AccountFields)) (e : List ℕ × AccountFields) (more : List (List ℕ × AccountFields))
     → IsStrictlySortedBy (slice_cmp nat_cmp) (keys_of (done ++ e ∷ more))
-    → put_member e.0 (table (written account e.1)) (accounts_tree done) ≡ accounts_tree (done ++ e ∷ [])
+    → put_member e.0 (table (written_table account_table e.1)) (accounts_tree done) ≡ accounts_tree (done ++ e ∷ [])
 unfolding IsStrictlySortedBy accounts_tree
 put_account_goes_last [] e more h = refl
 put_account_goes_last (first ∷ done) e more h =
     let above : slice_cmp nat_cmp e.0 first.0
     ≡ Greater =
     nat_list_cmp_total.antisymm e.0 first.0 ∙ ap ordering_reverse (key_is_below_middle (slice_cmp nat_cmp) first.0 done e more h.0) in
-    rw above (ap (member first.0 (table (written account first.1))) (put_account_goes_last done e more h.1))
+    rw above (ap (member first.0 (table (written_table account_table first.1))) (put_account_goes_last done e more h.1))
 
 -- Look-ups.
 

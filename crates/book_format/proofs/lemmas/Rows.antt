@@ -1,18 +1,15 @@
--- A table is read as the value whose table it is; any other is refused for the first demand that it does not meet.
-use Rattle.std.proofs.Common.{◌≡◌, ◌⊎◌, ℕ, List, [], ◌∷◌, codes, Option, Some, None, Result, Ok, Err, refl, sym, ap, subst, ◌∙◌, inl, inr}
-use Prim.Native.String.{String}
-use Rattle.toml.specs.Data.{Data, table, Members, get_member, as_table}
+-- A table whose rows are exact is read as the value whose table it is; any other is refused for the first demand that it does not meet.
+-- So it is with such tables as a type of values.
+use Rattle.std.proofs.Common.{◌≡◌, List, [], ◌∷◌, Ok, refl, sym, ap, subst, ◌∙◌}
+use Rattle.toml.specs.Data.{Data, table, Members, as_table}
 use Rattle.book_format.specs.Keys.{is_among, has_only}
-use Rattle.book_format.specs.reading.Steps.{◌>>=◌, pass_or}
-use Rattle.book_format.specs.Rows.{ValueType, Row, Table, Maker, table_keys, HasMarks, HasRows, IsTable, row_demands}
-use Rattle.book_format.specs.Rows.{table_demands}
-use Rattle.book_format.specs.Demands.{required, if_there}
-use Rattle.book_format.specs.reading.Rows.{read_rows, read_table, table_in, read_or, read_some}
+use Rattle.book_format.specs.reading.Steps.{pass_or}
+use Rattle.book_format.specs.Rows.{ValueType, Row, Table, Maker, table_keys, HasMarks, HasRows, IsTable, row_demands, table_demands}
+use Rattle.book_format.specs.reading.Rows.{read_rows, read_table, table_in}
 use Rattle.book_format.specs.reading.Values.{table_of}
-use Rattle.book_format.specs.RowKinds.{in_table, HasAt, HasSome, row, row_up_to, row_or_default, optional, bound_at}
-use Rattle.book_format.specs.declared.fault.BookWhy.{BookWhy}
+use Rattle.book_format.specs.RowKinds.{table_type}
 use Rattle.book_format.specs.declared.fault.BookWhy.TheVariants.{Key}
-use Rattle.book_format.proofs.lemmas.Demands.{Follows, both_follow, test_follows, required_follows, making_keeps_faults}
+use Rattle.book_format.proofs.lemmas.Demands.{FollowsDemands, both_follow, test_follows, required_follows}
 use Rattle.book_format.proofs.lemmas.Steps.{each_step_gives_value, test_was_passed, same_ok_has_same_value}
 
 -- the values of all rows
@@ -37,9 +34,9 @@ HasValues (r ∷ rows) ms vs = r.Has ms vs.0 × HasValues rows ms vs.1
 
 -- a row is exact: it reads the value that the table has there and no other, and otherwise refuses for the first demand that is not met
 pub record IsExactRow {T : Type 0} (r : Row T) : Type 0 where
-  pub found : (ms : Members) (v : r.V) → r.read ms ≡ Ok v → r.Has ms v
-  pub held : (ms : Members) (v : r.V) → r.Has ms v → r.read ms ≡ Ok v
-  pub follows : (ms : Members) → Follows (r.demands ms) (r.read ms)
+  pub found : (ms : Members) (v : r.V) → r.from_table ms ≡ Ok v → r.Has ms v
+  pub held : (ms : Members) (v : r.V) → r.Has ms v → r.from_table ms ≡ Ok v
+  pub follows : (ms : Members) → FollowsDemands (r.demands ms) (r.from_table ms)
 
 -- each row of the list is exact
 abbrev pub AreExactRows : {T : Type 0} → List (Row T) → Type 0
@@ -48,24 +45,22 @@ AreExactRows (r ∷ rows) = IsExactRow r × AreExactRows rows
 
 -- a table is exact: its T is its fields and nothing else, and each of its rows is exact
 pub record IsExactTable {T : Type 0} (t : Table T) : Type 0 where
-  pub gives : (vs : Values t.rows) → fields_of t.rows (made t.rows t.make vs) ≡ vs
-  pub keeps : (x : T) → made t.rows t.make (fields_of t.rows x) ≡ x
+  pub gives : (vs : Values t.rows) → fields_of t.rows (made t.rows t.from_values vs) ≡ vs
+  pub keeps : (x : T) → made t.rows t.from_values (fields_of t.rows x) ≡ x
   pub rows : AreExactRows t.rows
 
 -- values that were read by exact rows are those that the table has there, and what was read is made of them
 read_rows_stand : {T X : Type 0} (rows : List (Row T)) (make : Maker rows X) (ms : Members) (x : X) → AreExactRows rows
-    → read_rows rows make ms ≡ Ok x
-    → (vs : Values rows) × HasValues rows ms vs × (made rows make vs ≡ x)
+    → read_rows rows make ms ≡ Ok x → (vs : Values rows) × HasValues rows ms vs × (made rows make vs ≡ x)
 read_rows_stand [] make ms x sound h = (tt, tt, same_ok_has_same_value make x h)
 read_rows_stand (r ∷ rows) make ms x sound h =
-    let (v, read, rest) = each_step_gives_value (r.read ms) (λ v. read_rows rows (make v) ms) x h in
+    let (v, read, rest) = each_step_gives_value (r.from_table ms) (λ v. read_rows rows (make v) ms) x h in
     let (vs, has, same) = read_rows_stand rows (make v) ms x sound.1 rest in
     ((v, vs), (sound.0.found ms v read, has), same)
 
 -- if the table has the values of exact rows, what is made of them is read
 rows_are_read : {T X : Type 0} (rows : List (Row T)) (make : Maker rows X) (ms : Members) (vs : Values rows) → AreExactRows rows
-    → HasValues rows ms vs
-    → read_rows rows make ms ≡ Ok (made rows make vs)
+    → HasValues rows ms vs → read_rows rows make ms ≡ Ok (made rows make vs)
 rows_are_read [] make ms vs sound h = refl
 rows_are_read (r ∷ rows) make ms vs sound h = rw (sound.0.held ms vs.0 h.0) (rows_are_read rows (make vs.0) ms vs.1 sound.1 h.1)
 
@@ -83,9 +78,10 @@ pub read_table_stands : {T : Type 0} (t : Table T) → IsExactTable t → (ms : 
     → IsTable t ms x
 unfolding read_table
 read_table_stands t sound ms x marks h =
-    let (u, known, rest) = each_step_gives_value (pass_or (has_only (is_among (table_keys t)) ms) Key) (λ u. read_rows t.rows t.make ms) x
+    let (u, known, rest) = each_step_gives_value (pass_or (has_only (is_among (table_keys t)) ms) Key)
+    (λ u. read_rows t.rows t.from_values ms) x
     h in
-    let (vs, has, same) = read_rows_stand t.rows t.make ms x sound.rows rest in
+    let (vs, has, same) = read_rows_stand t.rows t.from_values ms x sound.rows rest in
     let fields = sym (sound.gives vs) ∙ ap (fields_of t.rows) same in
     record {
       marks = marks;
@@ -97,29 +93,28 @@ read_table_stands t sound ms x marks h =
 pub table_is_read : {T : Type 0} (t : Table T) → IsExactTable t → (ms : Members) (x : T) → IsTable t ms x → read_table t ms ≡ Ok x
 unfolding read_table
 table_is_read t sound ms x h =
-    rw h.known (rows_are_read t.rows t.make ms (fields_of t.rows x) sound.rows (rows_hold_fields t.rows ms x h.rows)
+    rw h.known (rows_are_read t.rows t.from_values ms (fields_of t.rows x) sound.rows (rows_hold_fields t.rows ms x h.rows)
     ∙ ap Ok (sound.keeps x))
 
 -- reading rows follows their demands
 rows_follow : {T : Type 0} (X : Type 0) (rows : List (Row T)) (make : Maker rows X) (ms : Members) → AreExactRows rows
-    → Follows (row_demands rows ms) (read_rows rows make ms)
+    → FollowsDemands (row_demands rows ms) (read_rows rows make ms)
 rows_follow X [] make ms sound = refl
-rows_follow X (r ∷ rows) make ms sound = both_follow (r.demands ms) (row_demands rows ms) (r.read ms) (λ v. read_rows rows (make v) ms)
+rows_follow X (r ∷ rows) make ms sound =
+    both_follow (r.demands ms) (row_demands rows ms) (r.from_table ms) (λ v. read_rows rows (make v) ms)
     (sound.0.follows ms) (λ v is. rows_follow X rows (make v) ms sound.1)
 
 -- reading a table follows its demands
-pub table_follows : {T : Type 0} (t : Table T) → IsExactTable t → (ms : Members) → Follows (table_demands t ms) (read_table t ms)
+pub table_follows : {T : Type 0} (t : Table T) → IsExactTable t → (ms : Members) → FollowsDemands (table_demands t ms) (read_table t ms)
 unfolding read_table table_demands
 table_follows t sound ms = test_follows (has_only (is_among (table_keys t)) ms) Key (row_demands t.rows ms)
-    (λ known. read_rows t.rows t.make ms) (λ is. rows_follow _ t.rows t.make ms sound.rows)
-
--- Types of values.
+    (λ known. read_rows t.rows t.from_values ms) (λ is. rows_follow _ t.rows t.from_values ms sound.rows)
 
 -- a type of values is exact: it reads its own values and no other, and otherwise refuses for the first demand that is not met
 pub record IsExactType {V : Type 0} (values : ValueType V) : Type 0 where
-  pub found : (d : Data) (v : V) → values.read d ≡ Ok v → values.Is d v
-  pub held : (d : Data) (v : V) → values.Is d v → values.read d ≡ Ok v
-  pub follows : (d : Data) → Follows (values.demands d) (values.read d)
+  pub found : (d : Data) (v : V) → values.from_tree d ≡ Ok v → values.Is d v
+  pub held : (d : Data) (v : V) → values.Is d v → values.from_tree d ≡ Ok v
+  pub follows : (d : Data) → FollowsDemands (values.demands d) (values.from_tree d)
 
 -- a value that is read as a table is that table
 pub read_members_stand : (d : Data) (ms : Members) → table_of d ≡ Ok ms → d ≡ table ms
@@ -127,107 +122,12 @@ read_members_stand (table ns) ms h = ap table (same_ok_has_same_value ns ms h)
 read_members_stand d ms h = absurd (cc h)
 
 -- an exact table without marks makes an exact type of values
-pub in_table_is_exact : {T : Type 0} (t : Table T) → IsExactTable t → ((ms : Members) → HasMarks t.marks ms) → IsExactType (in_table t)
+pub table_type_is_exact : {T : Type 0} (t : Table T) → IsExactTable t → ((ms : Members) → HasMarks t.marks ms) → IsExactType (table_type t)
 unfolding table_in
-in_table_is_exact t sound marks = record {
+table_type_is_exact t sound marks = record {
   found = λ d x h.
       let (ms, is_table, rest) = each_step_gives_value (table_of d) (read_table t) x h in
       (ms, read_members_stand d ms is_table, read_table_stands t sound ms x (marks ms) rest);
   held = λ d x h. rw h.1 (table_is_read t sound h.0 x h.2);
   follows = λ d. required_follows Key (table_demands t) (as_table d) (read_table t) (table_follows t sound);
-}
-
--- Rows of each kind.
-
--- a value that was read at a key that must be there is there
-pub read_at_stands : {V : Type 0} (values : ValueType V) → IsExactType values → (v : V) (o : Option Data)
-    → read_or (Err Key) values.read o ≡ Ok v
-    → (d : Data) × (o ≡ Some d) × values.Is d v
-read_at_stands values sound v None h = absurd (cc h)
-read_at_stands values sound v (Some d) h = (d, refl, sound.found d v h)
-
--- if a key has a value of the type, it is read, whatever a missing key would give
-pub value_at_is_read : {V : Type 0} (values : ValueType V) (missing : Result V BookWhy) → IsExactType values
-    → (key : List ℕ) (ms : Members) (v : V)
-    → HasAt key values ms v
-    → read_or missing values.read (get_member key ms) ≡ Ok v
-value_at_is_read values missing sound key ms v h = rw h.1 (sound.held h.0 v h.2)
-
--- if a key was read that may be missing, either it is missing and the default was read, or its value was
-pub read_or_stands : {V : Type 0} (values : ValueType V) → IsExactType values
-    → (other v : V) (o : Option Data) → read_or (Ok other) values.read o ≡ Ok v
-    → ((o ≡ None) × (v ≡ other)) ⊎ ((d : Data) × (o ≡ Some d) × values.Is d v)
-read_or_stands values sound other v None h = inl (refl, sym (same_ok_has_same_value other v h))
-read_or_stands values sound other v (Some d) h = inr (d, refl, sound.found d v h)
-
--- an optional value that was read is what the key has
-read_some_stands : {V : Type 0} (values : ValueType V) → IsExactType values → (key : List ℕ) (ms : Members) (v : Option V) (o : Option Data)
-    → get_member key ms ≡ o
-    → read_or (Ok None) (λ d. values.read d >>= λ v. Ok (Some v)) o ≡ Ok v → HasSome key values ms v
-read_some_stands values sound key ms None None at h = at
-read_some_stands values sound key ms (Some v) None at h = absurd (cc h)
-read_some_stands values sound key ms v (Some d) at h =
-    let (x, said, same) = each_step_gives_value (values.read d) (λ v. Ok (Some v)) v h in
-    subst (λ o. HasSome key values ms o) (same_ok_has_same_value (Some x) v same) (d, at, sound.found d x said)
-
--- if a key has an optional value, it is read
-optional_value_is_read : {V : Type 0} (values : ValueType V) → IsExactType values → (key : List ℕ) (ms : Members) (v : Option V)
-    → HasSome key values ms v → read_some key values ms ≡ Ok v
-optional_value_is_read values sound key ms None h = rw h refl
-optional_value_is_read values sound key ms (Some v) h = rw (h.1, sound.held h.0 v h.2) refl
-
--- what is read at a key follows the demands there: if the key must be there, if it has a default, and if it is optional:
-read_at_follows : {V : Type 0} (values : ValueType V) → IsExactType values → (o : Option Data)
-    → Follows (required Key values.demands o) (read_or (Err Key) values.read o)
-read_at_follows values sound None = refl
-read_at_follows values sound (Some d) = sound.follows d
-
-read_or_follows : {V : Type 0} (values : ValueType V) → IsExactType values → (other : V) (o : Option Data)
-    → Follows (if_there values.demands o) (read_or (Ok other) values.read o)
-read_or_follows values sound other None = refl
-read_or_follows values sound other (Some d) = sound.follows d
-
-read_some_follows : {V : Type 0} (values : ValueType V) → IsExactType values → (o : Option Data)
-    → Follows (if_there values.demands o) (read_or (Ok None) (λ d. values.read d >>= λ v. Ok (Some v)) o)
-read_some_follows values sound None = refl
-read_some_follows values sound (Some d) = sound.follows d ∙ making_keeps_faults (values.read d) Some
-
--- a row whose key must be there is exact, if its type is
-pub row_is_exact : {T V : Type 0} (name : String) (values : ValueType V) (field : T → V) → IsExactType values
-    → IsExactRow (row name values field)
-row_is_exact name values field sound = record {
-  found = λ ms v h. read_at_stands values sound v (get_member (codes name) ms) h;
-  held = λ ms v h. value_at_is_read values (Err Key) sound (codes name) ms v h;
-  follows = λ ms. read_at_follows values sound (get_member (codes name) ms);
-}
-
--- a row whose type depends on the number at another key is exact, if the type is exact for each number
-pub row_to_is_exact : {T V : Type 0} (name : String) (values : ℕ → ValueType V) (bound : String) (field : T → V)
-    → ((n : ℕ) → IsExactType (values n)) → IsExactRow (row_up_to name values bound field)
-row_to_is_exact name values bound field sound = record {
-  found = λ ms v h. read_at_stands (values (bound_at (codes bound) ms)) (sound (bound_at (codes bound) ms)) v (get_member (codes name) ms)
-      h;
-  held = λ ms v h. value_at_is_read (values (bound_at (codes bound) ms)) (Err Key) (sound (bound_at (codes bound) ms)) (codes name) ms v h;
-  follows = λ ms. read_at_follows (values (bound_at (codes bound) ms)) (sound (bound_at (codes bound) ms)) (get_member (codes name) ms);
-}
-
--- a row with a default is exact, if its type is
-pub row_or_is_exact : {T V : Type 0} (other : V) (name : String) (values : ValueType V) (field : T → V) → IsExactType values
-    → IsExactRow (row_or_default other name values field)
-row_or_is_exact other name values field sound = record {
-  found = λ ms v h. read_or_stands values sound other v (get_member (codes name) ms) h;
-  held = λ ms v h. elim h [
-    | inl missing ↦ rw (missing.0, missing.1) refl
-    | inr has ↦ value_at_is_read values (Ok other) sound (codes name) ms v has
-  ];
-  follows = λ ms. read_or_follows values sound other (get_member (codes name) ms);
-}
-
--- a row that may be missing is exact, if its type is
-pub optional_is_exact : {T V : Type 0} (name : String) (values : ValueType V) (field : T → Option V) → IsExactType values
-    → IsExactRow (optional name values field)
-optional_is_exact name values field sound = record {
-  found = λ ms v h. read_some_stands values sound (codes name) ms v (get_member (codes name) ms) refl h;
-  held = λ ms v h. optional_value_is_read values sound (codes name) ms v h;
-  follows = λ ms. read_some_follows values sound (get_member (codes name) ms);
 }

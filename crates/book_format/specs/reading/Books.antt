@@ -6,7 +6,7 @@ use Rattle.toml.specs.Data.{Data, Members, no_members, member, get_member, as_in
 use Rattle.toml.specs.Parse.{parse_document}
 use Rattle.book_format.specs.Account.{AccountFields}
 use Rattle.book_format.specs.Book.{BookFields}
-use Rattle.book_format.specs.Tables.{account, document, TopFields}
+use Rattle.book_format.specs.Tables.{account_table, document_table, TopFields}
 use Rattle.book_format.specs.FirstFault.{is_one}
 use Rattle.book_format.specs.reading.Steps.{◌>>=◌, pass_or}
 use Rattle.book_format.specs.reading.Values.{plain_name_of}
@@ -19,7 +19,7 @@ use Rattle.book_format.specs.declared.fault.BookWhy.TheVariants.{Toml, Format}
 unfoldable pub named_account_of : List ℕ → Data → Result (List ℕ × AccountFields) BookWhy
 named_account_of key d = do
   name ← plain_name_of key
-  fields ← table_in account d
+  fields ← table_in account_table d
   Ok (name, fields)
 
 -- a fault in the account of this index
@@ -49,7 +49,7 @@ accounts_of_table (Some ms) = accounts_from 0 ms
 unfoldable pub top_of : Members → Result TopFields BookWhy
 top_of ms = do
   format ← pass_or (is_one (option_and_then as_integer (get_member (codes "format") ms))) Format
-  read_table document ms
+  read_table document_table ms
 
 -- the book of a document, or the first fault: those of its own keys come before those of accounts
 unfoldable pub book_of : Members → Result BookFields BookFault

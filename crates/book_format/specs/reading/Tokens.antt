@@ -1,11 +1,11 @@
--- How a token is read. For private functions only: no public contract cites this file, and the definition of a book's text does not
--- depend on it.
+-- How a token is read. For private functions only: no public contract cites this file. The type of tokens names this reading in its field
+-- `from_tree`. Which text is a book's does not depend on this field.
 use Rattle.std.specs.Prelude.{ℕ, List, codes, if◌then◌else◌, Result, Ok, Err}
 use Rattle.std.specs.Str.{bytes_eq}
 use Rattle.toml.specs.Data.{Data, Members, get_member}
 use Rattle.otp_core.specs.declared.token.kinds.TokenFields.{TokenFields}
 use Rattle.otp_core.specs.declared.token.kinds.TokenFields.TheVariants.{Hotp, Totp}
-use Rattle.book_format.specs.Tokens.{hotp, totp}
+use Rattle.book_format.specs.Tokens.{hotp_table, totp_table}
 use Rattle.book_format.specs.reading.Steps.{◌>>=◌}
 use Rattle.book_format.specs.reading.Values.{text_in, table_of}
 use Rattle.book_format.specs.reading.Rows.{read_or, read_table}
@@ -15,8 +15,8 @@ use Rattle.book_format.specs.declared.fault.BookWhy.TheVariants.{Key, Token}
 -- a token of the kind with this name
 unfoldable pub token_of_kind : List ℕ → Members → Result TokenFields BookWhy
 token_of_kind name ms =
-    if bytes_eq name (codes "hotp") then (read_table hotp ms >>= λ t. Ok (Hotp t))
-    else if bytes_eq name (codes "totp") then (read_table totp ms >>= λ t. Ok (Totp t))
+    if bytes_eq name (codes "hotp") then (read_table hotp_table ms >>= λ t. Ok (Hotp t))
+    else if bytes_eq name (codes "totp") then (read_table totp_table ms >>= λ t. Ok (Totp t))
     else Err Token
 
 -- a token: its kind is read before all else

@@ -1,5 +1,5 @@
--- How values are read. For private functions only: no public contract cites this file, and the definition of a book's text does not
--- depend on it.
+-- How values are read. For private functions only: no public contract cites this file. Types of values name these readings in their field
+-- `from_tree`. Which text is a book's does not depend on this field.
 use Rattle.std.specs.Prelude.{ℕ, ◌&&◌, nat_le, ℤ, pos, negsuc, nat_abs, Bool, if◌then◌else◌, List, [], ◌∷◌, length, ok_or, Result, Ok, Err}
 use Rattle.hex.specs.Hex.{decode_of}
 use Rattle.toml.specs.Data.{Data, string, integer, array, Items, no_items, item, Members, as_str, as_table}

@@ -6,9 +6,9 @@ ghost use Rattle.book_format.specs.reading.Values.{plain_name_of, names_in, name
 ghost use Rattle.book_format.specs.Names.{are_texts};
 ghost use Rattle.book_format.specs.reading.Steps.{IsReadAs, IsReadOrFault};
 ghost use Rattle.book_format.specs.reading.Books.{named_account_of, accounts_from, in_account};
-ghost use Rattle.book_format.specs.RowKinds.{in_table};
+ghost use Rattle.book_format.specs.RowKinds.{table_type};
 ghost use Rattle.book_format.specs.reading.Rows.{read_or, read_some, table_in};
-ghost use Rattle.book_format.specs.Tables.{mech, token, account};
+ghost use Rattle.book_format.specs.Tables.{keys_table, token_type, account_table};
 ghost use Rattle.book_format.specs.declared.fault.BookWhy.TheVariants.{NoMemory};
 
 use crate::account::{Account, MechKeys, SHA1_KEY_LEN, SHA256_KEY_LEN};
@@ -84,7 +84,7 @@ fn plain_name_of(text: &str) -> Result<PlainName, BookWhy>
 // fault of the first of `sha1`, `sha256`, `act_as` and `token` at fault.
 #[tactic(auto, unfolding(crate::specs::reading::Rows::table_in, crate::specs::reading::Rows::read_table))]
 fn account_of(alloc: Global, value: &Value) -> Result<Account, BookWhy>
-    ensures { IsReadAs (λ a. a) result (table_in account (view value.now)) }
+    ensures { IsReadAs (λ a. a) result (table_in account_table (view value.now)) }
 {
     let table = table_of(value)?;
     check_keys(table, &["sha1", "sha256", "act_as", "token"])?;
@@ -103,7 +103,7 @@ fn account_of(alloc: Global, value: &Value) -> Result<Account, BookWhy>
 // What is kept for a mechanism, or None if its key is missing. Errors: those of `mech_of`.
 fn keys_if_any(len: usize, table: &Table, key: &str) -> Result<Option<MechKeys>, BookWhy>
     requires { len ≤ 64 }
-    ensures { result ≡ read_some key.now (in_table (mech len)) (table_view table.now) }
+    ensures { result ≡ read_some key.now (table_type (keys_table len)) (table_view table.now) }
 {
     match at(table, key) {
         Some(value) => Ok(Some(mech_of(len, value)?)),
@@ -113,7 +113,7 @@ fn keys_if_any(len: usize, table: &Table, key: &str) -> Result<Option<MechKeys>,
 
 // The token, or None if there is no key `token`. Errors: those of `token_of`.
 fn token_if_any(table: &Table) -> Result<Option<Token>, BookWhy>
-    ensures { result ≡ read_some (codes "token") token (table_view table.now) }
+    ensures { result ≡ read_some (codes "token") token_type (table_view table.now) }
 {
     match at(table, "token") {
         Some(value) => Ok(Some(token_of(value)?)),

@@ -2,7 +2,7 @@
 ghost use Rattle.std.specs.Prelude.{◌≡◌, ◌≤◌, length};
 ghost use Rattle.toml.specs.View.{view};
 ghost use Rattle.book_format.specs.reading.Rows.{table_in};
-ghost use Rattle.book_format.specs.Tables.{mech};
+ghost use Rattle.book_format.specs.Tables.{keys_table};
 
 use crate::account::MechKeys;
 use crate::fault::BookWhy;
@@ -17,7 +17,7 @@ use toml::Value;
 #[tactic(auto, unfolding(crate::specs::reading::Rows::table_in, crate::specs::reading::Rows::read_table))]
 pub(crate) fn mech_of(len: usize, value: &Value) -> Result<MechKeys, BookWhy>
     requires { len ≤ 64 }
-    ensures { result ≡ table_in (mech len) (view value.now) }
+    ensures { result ≡ table_in (keys_table len) (view value.now) }
 {
     let table = table_of(value)?;
     check_keys(table, &["salt", "count", "stored", "server"])?;

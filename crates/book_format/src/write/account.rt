@@ -6,7 +6,7 @@ ghost use Rattle.book_format.specs.Account.{AreKeys, IsAccount};
 ghost use Rattle.book_format.specs.Put.{put_some};
 ghost use Rattle.book_format.specs.Names.{AreNames, names_tree};
 ghost use Rattle.book_format.specs.Rows.{WritesItself};
-ghost use Rattle.book_format.specs.RowKinds.{in_table};
+ghost use Rattle.book_format.specs.RowKinds.{table_type};
 ghost use Rattle.book_format.specs.Tables as tables;
 
 use super::put::{put, put_count, put_hex};
@@ -18,10 +18,10 @@ use std::alloc::{AllocError, Global};
 use toml::{Table, Value};
 
 /// The TOML value of an account. Errors: `AllocError` if memory runs out.
-#[tactic(auto, unfolding(crate::specs::Rows::written))]
+#[tactic(auto, unfolding(crate::specs::Rows::written_table))]
 pub(crate) fn account_value(alloc: Global, account: &Account) -> Result<Value, AllocError>
-    ensures tree { IfOk result (λ v. view v ≡ (in_table tables.account).write account.now) }
-    ensures itself { OnOk result (IsAccount account.now → WritesItself (in_table tables.account) account.now) }
+    ensures tree { IfOk result (λ v. view v ≡ (table_type tables.account_table).write account.now) }
+    ensures itself { OnOk result (IsAccount account.now → WritesItself (table_type tables.account_table) account.now) }
 {
     let mut table = Table::new(alloc);
     put_keys(alloc, &mut table, "sha1", &account.sha1)?;
@@ -44,9 +44,9 @@ fn put_keys(
     keys: &Option<MechKeys>,
 ) -> Result<(), AllocError>
     ensures tree { OnOk result (table_view table.new
-        ≡ put_some key.now (option_map (in_table tables.sha1_keys).write keys.now) (table_view table.old)) }
+        ≡ put_some key.now (option_map (table_type tables.sha1_keys_table).write keys.now) (table_view table.old)) }
     ensures itself { OnOk result ((len : ℕ) → ForSome keys.now (AreKeys len)
-        → ForSome keys.now (WritesItself (in_table (tables.mech len)))) }
+        → ForSome keys.now (WritesItself (table_type (tables.keys_table len)))) }
 {
     match keys {
         Some(keys) => put(alloc, table, key, mech_value(alloc, keys)?),
@@ -57,8 +57,8 @@ fn put_keys(
 // Puts the token, if there is one.
 fn put_token(alloc: Global, table: &mut Table, token: &Option<Token>) -> Result<(), AllocError>
     ensures tree { OnOk result (table_view table.new
-        ≡ put_some (codes "token") (option_map tables.token.write token.now) (table_view table.old)) }
-    ensures itself { OnOk result (ForSome token.now (WritesItself tables.token)) }
+        ≡ put_some (codes "token") (option_map tables.token_type.write token.now) (table_view table.old)) }
+    ensures itself { OnOk result (ForSome token.now (WritesItself tables.token_type)) }
 {
     match token {
         Some(token) => put(alloc, table, "token", token_value(alloc, token)?),
@@ -67,10 +67,10 @@ fn put_token(alloc: Global, table: &mut Table, token: &Option<Token>) -> Result<
 }
 
 // The TOML value of what is kept for a mechanism.
-#[tactic(auto, unfolding(crate::specs::Rows::written))]
+#[tactic(auto, unfolding(crate::specs::Rows::written_table))]
 fn mech_value(alloc: Global, keys: &MechKeys) -> Result<Value, AllocError>
-    ensures tree { IfOk result (λ v. view v ≡ (in_table tables.sha1_keys).write keys.now) }
-    ensures itself { OnOk result ((len : ℕ) → AreKeys len keys.now → WritesItself (in_table (tables.mech len)) keys.now) }
+    ensures tree { IfOk result (λ v. view v ≡ (table_type tables.sha1_keys_table).write keys.now) }
+    ensures itself { OnOk result ((len : ℕ) → AreKeys len keys.now → WritesItself (table_type (tables.keys_table len)) keys.now) }
 {
     let mut table = Table::new(alloc);
     put_hex(alloc, &mut table, "salt", keys.salt.bytes())?;

@@ -6,8 +6,8 @@ ghost use Rattle.toml.specs.View.{view, table_view};
 ghost use Rattle.otp_core.specs.Ranges.{most_counter};
 ghost use Rattle.otp_core.specs.TokenRanges.{IsHotpInRange, IsTotpInRange};
 ghost use Rattle.book_format.specs.Put.{put_some};
-ghost use Rattle.book_format.specs.Rows.{WritesItself, written};
-ghost use Rattle.book_format.specs.RowKinds.{in_table};
+ghost use Rattle.book_format.specs.Rows.{WritesItself, written_table};
+ghost use Rattle.book_format.specs.RowKinds.{table_type};
 ghost use Rattle.book_format.specs.Tables as tables;
 ghost use Rattle.book_format.specs.Tokens as tokens;
 
@@ -18,8 +18,8 @@ use toml::{Table, Value};
 
 /// The TOML value of a token. Errors: `AllocError` if memory runs out.
 pub(crate) fn token_value(alloc: Global, token: &Token) -> Result<Value, AllocError>
-    ensures tree { IfOk result (λ v. view v ≡ tables.token.write token.now) }
-    ensures itself { OnOk result (WritesItself tables.token token.now) }
+    ensures tree { IfOk result (λ v. view v ≡ tables.token_type.write token.now) }
+    ensures itself { OnOk result (WritesItself tables.token_type token.now) }
 {
     match token.fields() {
         TokenFields::Hotp(fields) => hotp_value(alloc, fields),
@@ -28,11 +28,11 @@ pub(crate) fn token_value(alloc: Global, token: &Token) -> Result<Value, AllocEr
 }
 
 // The TOML value of a HOTP token.
-#[tactic(auto, unfolding(crate::specs::Rows::written))]
+#[tactic(auto, unfolding(crate::specs::Rows::written_table))]
 fn hotp_value(alloc: Global, fields: &HotpFields) -> Result<Value, AllocError>
     requires { IsHotpInRange fields.now }
-    ensures tree { IfOk result (λ v. view v ≡ (in_table tokens.hotp).write fields.now) }
-    ensures itself { OnOk result (WritesItself (in_table tokens.hotp) fields.now) }
+    ensures tree { IfOk result (λ v. view v ≡ (table_type tokens.hotp_table).write fields.now) }
+    ensures itself { OnOk result (WritesItself (table_type tokens.hotp_table) fields.now) }
 {
     let mut table = Table::new(alloc);
     put_text(alloc, &mut table, "kind", "hotp")?;
@@ -54,8 +54,8 @@ fn hotp_value(alloc: Global, fields: &HotpFields) -> Result<Value, AllocError>
 // The TOML value of a TOTP token.
 fn totp_value(alloc: Global, fields: &TotpFields) -> Result<Value, AllocError>
     requires { IsTotpInRange fields.now }
-    ensures tree { IfOk result (λ v. view v ≡ (in_table tokens.totp).write fields.now) }
-    ensures itself { OnOk result (WritesItself (in_table tokens.totp) fields.now) }
+    ensures tree { IfOk result (λ v. view v ≡ (table_type tokens.totp_table).write fields.now) }
+    ensures itself { OnOk result (WritesItself (table_type tokens.totp_table) fields.now) }
 {
     let mut table = settings_table(alloc, fields)?;
     put_last(alloc, &mut table, fields.last)?;
@@ -63,11 +63,11 @@ fn totp_value(alloc: Global, fields: &TotpFields) -> Result<Value, AllocError>
 }
 
 // The table of a TOTP token, without its last step.
-#[tactic(auto, unfolding(crate::specs::Rows::written))]
+#[tactic(auto, unfolding(crate::specs::Rows::written_table))]
 fn settings_table(alloc: Global, fields: &TotpFields) -> Result<Table, AllocError>
     requires { IsTotpInRange fields.now }
-    ensures tree { IfOk result (λ t. table_view t ≡ written tokens.totp (record fields.now { last = None })) }
-    ensures itself { OnOk result (WritesItself (in_table tokens.totp) fields.now) }
+    ensures tree { IfOk result (λ t. table_view t ≡ written_table tokens.totp_table (record fields.now { last = None })) }
+    ensures itself { OnOk result (WritesItself (table_type tokens.totp_table) fields.now) }
 {
     let mut table = Table::new(alloc);
     put_text(alloc, &mut table, "kind", "totp")?;

@@ -51,6 +51,7 @@ const ACCOUNT_EDITS: [(&str, &str, u16); 35] = [
     ("server = \"0f", "server = \"-f", 66),
 ];
 
+/// Each edit of USER has this fault, with its number in docs/REFUSALS.md. Of two faults, the one that is looked for first counts.
 #[test]
 fn faults_of_an_account(rt: HostRuntime) -> Result<(), Fail> {
     for (old, new, number) in ACCOUNT_EDITS {
@@ -59,13 +60,14 @@ fn faults_of_an_account(rt: HostRuntime) -> Result<(), Fail> {
     Ok(())
 }
 
-// The keys of SCRAM-SHA-1 and of SCRAM-SHA-256 have different lengths.
+/// The keys of SCRAM-SHA-1 and of SCRAM-SHA-256 have different lengths.
 #[test]
 fn keys_of_the_other_length(rt: HostRuntime) -> Result<(), Fail> {
     let want = Some((66, Some(0)));
     check_edit(&rt, [USER, ""], "user.sha1", "user.sha256", want)
 }
 
+/// Faults of names and tables of accounts. The account at fault is counted from 0 in byte order of the names.
 #[test]
 fn faults_of_tables_of_accounts(rt: HostRuntime) -> Result<(), Fail> {
     let rows = [
@@ -108,6 +110,7 @@ fn names(alloc: Global, count: usize) -> Result<String, AllocError> {
     Ok(text)
 }
 
+/// An account may act as up to 16 names (docs/FORMATS.md).
 #[test]
 fn sixteen_names_at_most(rt: HostRuntime) -> Result<(), Fail> {
     for (count, want) in [(0, None), (16, None), (17, Some((63, Some(0))))] {
@@ -126,7 +129,7 @@ fn letters(alloc: Global, count: usize) -> Result<String, AllocError> {
     Ok(text)
 }
 
-// Names have at most 255 bytes, and salts at most 64.
+/// Names have at most 255 bytes, and salts at most 64.
 #[test]
 fn longest_texts(rt: HostRuntime) -> Result<(), Fail> {
     for (count, want) in [(255, None), (256, Some((63, Some(0))))] {

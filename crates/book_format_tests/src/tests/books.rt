@@ -6,6 +6,17 @@ fn book_of(alloc: Global, text: &str) -> Result<Contents, Fail> {
     Ok(Contents::read(alloc, text.as_bytes())?)
 }
 
+// Asserts that these bytes are those that `want` spells in hexadecimal; `at` says what they are.
+fn check_hex(
+    rt: &(impl Abort + AllocGlobal),
+    bytes: &[u8],
+    want: &str,
+    at: &str,
+) -> Result<(), Fail> {
+    assert_eq!(rt; hex::encode(rt.alloc(), bytes)?.as_str(), want, "{at}");
+    Ok(())
+}
+
 // Asserts that the keys are those of USER; `at` says whose they are.
 fn check_users_keys(
     rt: &(impl Abort + AllocGlobal),
@@ -13,21 +24,11 @@ fn check_users_keys(
     at: &str,
 ) -> Result<(), Fail> {
     assert_eq!(rt; keys.count, 4096, "{at}");
-    let salt = hex::encode(rt.alloc(), keys.salt.bytes())?;
-    assert_eq!(rt; salt.as_str(), "4125c247e43ab1e93c6dff76", "{at}");
-    let stored = hex::encode(rt.alloc(), keys.keys.stored.as_slice())?;
-    assert_eq!(rt;
-        stored.as_str(),
-        "e9d94660c39d65c38fbad91c358f14da0eef2bd6",
-        "{at}"
-    );
-    let server = hex::encode(rt.alloc(), keys.keys.server.as_slice())?;
-    assert_eq!(rt;
-        server.as_str(),
-        "0fe09258b3ac852ba502cc62ba903eaacdbf7d31",
-        "{at}"
-    );
-    Ok(())
+    check_hex(rt, keys.salt.bytes(), "4125c247e43ab1e93c6dff76", at)?;
+    let stored = keys.keys.stored.as_slice();
+    check_hex(rt, stored, "e9d94660c39d65c38fbad91c358f14da0eef2bd6", at)?;
+    let server = keys.keys.server.as_slice();
+    check_hex(rt, server, "0fe09258b3ac852ba502cc62ba903eaacdbf7d31", at)
 }
 
 fn only_account(book: &Contents) -> Option<(&[u8], &Account)> {
@@ -38,17 +39,22 @@ fn only_account(book: &Contents) -> Option<(&[u8], &Account)> {
     Some((name.bytes(), account))
 }
 
+/// The document's own keys are read, and there is no account.
 #[test]
 fn book_without_accounts(rt: HostRuntime) -> Result<(), Fail> {
     let book = book_of(rt.alloc(), TOP)?;
-    for (index, byte) in book.decoy_key.iter().enumerate() {
-        assert_eq!(rt; *byte as usize, index);
-    }
+    check_hex(
+        &rt,
+        book.decoy_key.as_slice(),
+        "000102030405060708090a0b0c0d0e0f101112131415161718191a1b1c1d1e1f",
+        "the decoys' key",
+    )?;
     check(&rt, &book.decoy_count, &4096, "the decoys' count");
     check(&rt, &book.accounts.len(), &0, "no account");
     Ok(())
 }
 
+/// The keys of USER are read, and whatever it leaves out is empty.
 #[test]
 fn account_with_keys(rt: HostRuntime) -> Result<(), Fail> {
     let text = format!(in rt.alloc(); "{TOP}{USER}")?;
@@ -63,6 +69,7 @@ fn account_with_keys(rt: HostRuntime) -> Result<(), Fail> {
     Ok(())
 }
 
+/// Each value of HOTP is read. `sync_ahead`, which it leaves out, is 0.
 #[test]
 fn account_with_a_hotp_token(rt: HostRuntime) -> Result<(), Fail> {
     let text = format!(in rt.alloc(); "{TOP}{USER}{HOTP}")?;
@@ -90,6 +97,7 @@ fn account_with_a_hotp_token(rt: HostRuntime) -> Result<(), Fail> {
     Ok(())
 }
 
+/// `sync_ahead` is read as it stands, and `look_ahead` stays what it is.
 #[test]
 fn tokens_with_sync_ahead(rt: HostRuntime) -> Result<(), Fail> {
     for (line, sync_ahead) in [("sync_ahead = 0", 0), ("sync_ahead = 8", 8)] {
@@ -111,6 +119,7 @@ fn tokens_with_sync_ahead(rt: HostRuntime) -> Result<(), Fail> {
     Ok(())
 }
 
+/// Each value of TOTP is read, here also a last step, and a drift below 0.
 #[test]
 fn account_with_a_totp_token(rt: HostRuntime) -> Result<(), Fail> {
     let text = edited(
@@ -142,7 +151,7 @@ fn account_with_a_totp_token(rt: HostRuntime) -> Result<(), Fail> {
     Ok(())
 }
 
-// Hexadecimal text in upper case spells the same bytes.
+/// Hexadecimal text in upper case spells the same bytes.
 #[test]
 fn hex_in_upper_case(rt: HostRuntime) -> Result<(), Fail> {
     let rows = [
@@ -166,7 +175,7 @@ fn hex_in_upper_case(rt: HostRuntime) -> Result<(), Fail> {
     Ok(())
 }
 
-// Keys have 32 bytes for SCRAM-SHA-256, and come in any order.
+/// Keys have 32 bytes for SCRAM-SHA-256, and come in any order.
 #[test]
 fn keys_of_the_other_mechanism(rt: HostRuntime) -> Result<(), Fail> {
     let text = format!(in rt.alloc();
@@ -180,36 +189,46 @@ fn keys_of_the_other_mechanism(rt: HostRuntime) -> Result<(), Fail> {
     let (_, account) = only_account(&book).ok_or("one account")?;
     assert!(rt; account.sha1.is_none());
     let keys = account.sha256.as_ref().ok_or("its keys")?;
-    check(&rt, &keys.salt.bytes(), &b"\xAB".as_slice(), "the salt");
+    check_hex(&rt, keys.salt.bytes(), "ab", "the salt")?;
     check(&rt, &keys.count, &4294967295, "the count");
-    for (index, byte) in keys.keys.stored.as_slice().iter().enumerate() {
-        assert_eq!(rt; *byte as usize, index + 16);
-    }
-    assert!(rt; keys.keys.server.as_slice().starts_with(b"\x00\x11\x22"));
-    check(&rt, &keys.keys.server.len(), &32, "the server's key");
-    Ok(())
+    check_hex(
+        &rt,
+        keys.keys.stored.as_slice(),
+        "101112131415161718191a1b1c1d1e1f202122232425262728292a2b2c2d2e2f",
+        "the stored key",
+    )?;
+    check_hex(
+        &rt,
+        keys.keys.server.as_slice(),
+        "00112233445566778899aabbccddeeffffeeddccbbaa99887766554433221100",
+        "the server's key",
+    )
 }
 
-// Names with quotes, dots, backslashes, spaces and number signs, in byte order.
+/// Names with quotes, dots, backslashes, spaces and number signs, in byte order.
 #[test]
 fn names_of_any_plain_bytes(rt: HostRuntime) -> Result<(), Fail> {
     let text = format!(in rt.alloc();
         "{TOP}[accounts.\"a.b\"]\n[accounts.'a\"b']\n[accounts.\"a\\\\b\"]\n[accounts.\"a b\"]\n[accounts.'a#b']\n[accounts.\"~\"]\nact_as = [\" \", 'root', \"a=b,c\"]\n"
     )?;
     let book = book_of(rt.alloc(), text.as_str())?;
-    let wanted: [&[u8]; 6] = [b"a b", b"a\"b", b"a#b", b"a.b", b"a\\b", b"~"];
+    let wanted = ["a b", "a\"b", "a#b", "a.b", "a\\b", "~"];
     assert_eq!(rt; book.accounts.len(), 6);
     for ((name, account), want) in book.accounts.iter().zip(wanted.iter()) {
-        assert_eq!(rt; name.bytes(), *want);
+        check_text(&rt, name.bytes(), want, "the name of an account");
         assert_eq!(rt;
             account.act_as.len(),
-            if *want == b"~".as_slice() { 3 } else { 0 }
+            if name.bytes() == b"~".as_slice() {
+                3
+            } else {
+                0
+            },
+            "{want}"
         );
     }
     let (_, last) = book.accounts.iter().last().ok_or("an account")?;
-    let acts: [&[u8]; 3] = [b" ", b"root", b"a=b,c"];
-    for (name, want) in last.act_as.iter().zip(acts.iter()) {
-        assert_eq!(rt; name.bytes(), *want);
+    for (name, want) in last.act_as.iter().zip([" ", "root", "a=b,c"].iter()) {
+        check_text(&rt, name.bytes(), want, "a name to act as");
     }
     Ok(())
 }

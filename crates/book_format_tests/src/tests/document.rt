@@ -1,6 +1,7 @@
 //! Faults of the document and of its keys.
 use super::*;
 
+/// A text that is not TOML in UTF-8 has the fault 60, and TOML without the right `format` 61. Neither belongs to an account.
 #[test]
 fn texts_of_no_book(rt: HostRuntime) -> Result<(), Fail> {
     let rows: [(&[u8], u16); 6] = [
@@ -63,6 +64,7 @@ const DOCUMENT_EDITS: [(&str, &str, u16); 25] = [
     ),
 ];
 
+/// Each edit of TOP has this fault, with its number in docs/REFUSALS.md. Of two faults, the one that is looked for first counts.
 #[test]
 fn faults_of_the_document(rt: HostRuntime) -> Result<(), Fail> {
     for (old, new, number) in DOCUMENT_EDITS {
@@ -71,7 +73,7 @@ fn faults_of_the_document(rt: HostRuntime) -> Result<(), Fail> {
     Ok(())
 }
 
-// A fault of the document belongs to no account, even if the document has one.
+/// A fault of the document belongs to no account, even if the document has one.
 #[test]
 fn faults_before_those_of_an_account(rt: HostRuntime) -> Result<(), Fail> {
     for (old, new, number) in [
@@ -93,7 +95,7 @@ fn check_words(rt: &(impl Abort + AllocGlobal), fault: BookFault, want: &str) ->
     Ok(())
 }
 
-// The text that a user reads for each fault.
+/// The text that a user reads for each fault.
 #[test]
 fn texts_of_faults(rt: HostRuntime) -> Result<(), Fail> {
     let rows = [

@@ -5,6 +5,7 @@ use std::collections::BTreeMap;
 use std::process::Abort;
 use std::test::Fail;
 
+/// A book that was never a text: the greatest count, and a key with high and low bytes.
 #[test]
 fn book_without_accounts(rt: HostRuntime) -> Result<(), Fail> {
     let book = Contents {
@@ -23,6 +24,7 @@ format = 1
     Ok(())
 }
 
+/// A name is written bare if TOML allows it, and else in double quotes, or in single ones if that saves an escape.
 #[test]
 fn names_in_quotes(rt: HostRuntime) -> Result<(), Fail> {
     let alloc = rt.alloc();
@@ -106,6 +108,7 @@ step = 30
 t0 = 253402300799
 ";
 
+/// Tables and keys are written in one order, whatever the order in which they were read, and bytes in lower case.
 #[test]
 fn account_with_everything(rt: HostRuntime) -> Result<(), Fail> {
     let alloc = rt.alloc();
@@ -227,10 +230,11 @@ fn writes(rt: &(impl AllocGlobal + Abort), text: &str, want: &str) -> Result<(),
     let written = Contents::read(alloc, text.as_bytes())?.write(alloc)?;
     assert_eq!(rt; written.as_str(), want);
     let again = Contents::read(alloc, written.as_bytes())?.write(alloc)?;
-    assert_eq!(rt; again.as_str(), want);
+    assert_eq!(rt; again.as_str(), want, "written once more");
     Ok(())
 }
 
+/// Each kind of token is written with all its keys, also if the text left one out.
 #[test]
 fn books_that_were_read(rt: HostRuntime) -> Result<(), Fail> {
     let alloc = rt.alloc();
@@ -248,7 +252,7 @@ fn books_that_were_read(rt: HostRuntime) -> Result<(), Fail> {
     Ok(())
 }
 
-// An account with everything, and one with nothing, whose name comes first.
+/// An account with everything, and one with nothing, whose name comes first.
 #[test]
 fn accounts_in_order_of_their_names(rt: HostRuntime) -> Result<(), Fail> {
     let alloc = rt.alloc();
@@ -258,6 +262,7 @@ fn accounts_in_order_of_their_names(rt: HostRuntime) -> Result<(), Fail> {
     writes(&rt, text.as_str(), want.as_str())
 }
 
+/// Accounts that are read in the reverse order of their names are written in order.
 #[test]
 fn thousand_accounts(rt: HostRuntime) -> Result<(), Fail> {
     let alloc = rt.alloc();

@@ -44,7 +44,7 @@ pub failed_read_prevents_holding : (path : List ℕ) (kind : ErrorKind) (file : 
 failed_read_prevents_holding path kind file fault named memory plain =
     unread_file_prevents_holding path fault (failed_read_leaves_file_unread path kind file fault named memory plain)
 
--- if a text was read that is no book, the fault is that the file can't be read, or it is the text's own fault
+-- if a text was read that is not a book, the fault is that the file can't be read, or it is the text's own fault
 pub bad_text_leaves_book_unread : {File : Type 0} (bytes_of : File → Option (List ℕ)) (path text : List ℕ) (found : BookFault)
     (fault : Fault)
     → IsRead bytes_of text
@@ -54,7 +54,7 @@ bad_text_leaves_book_unread bytes_of path text found fault read is (inl memory) 
     inl (subst (IsFileUnreadOrNoMemory path) (sym (is ∙ ap fault_of_book_why memory)) refl)
 bad_text_leaves_book_unread bytes_of path text found fault read is (inr first) = inr (text, found, read, first, is)
 
--- if a text was read that is no book, the fault is one of a book that can't be held or read
+-- if a text was read that is not a book, the fault is one of a book that can't be held or read
 pub bad_text_prevents_opening : {File : Type 0} (bytes_of : File → Option (List ℕ)) (path text : List ℕ) (found : BookFault) (fault : Fault)
     → IsRead bytes_of text
     → fault ≡ fault_of_book found → (found.why ≡ why.NoMemory) ⊎ IsFirstFault text found → CannotOpenBook bytes_of path fault
@@ -64,7 +64,7 @@ bad_text_prevents_opening bytes_of path text found fault read is reason =
       | inr of_text ↦ inr of_text
     ]
 
--- the first fault of bytes that are not UTF-8 is that they are no TOML
+-- the first fault of bytes that are not UTF-8 is that they are not TOML
 non_utf8_is_no_toml : (bytes : List ℕ) → (IsUtf8 bytes → ⊥) → IsFirstFault bytes (record { why = why.Toml; account = None })
 unfolding book_demands
 non_utf8_is_no_toml bytes none = elim (cases_Bool (is_utf8 bytes)) [

@@ -95,9 +95,9 @@ pub(crate) const AUDIT_NOTES: &str =
     "The book must be a copy from when the log began, because codes change the book. It is read without a
 lock, and no file is written. Standard input is read only if the log is /dev/stdin.
 
-Prints `clean` and the numbers of sessions, of accepted logins and of codes that passed. If the log
-is not clean, prints the number of the first line at fault and the reason. If that line has a wrong
-outcome or reply, prints the right one too.
+Prints `clean` and the numbers of sessions, of accepted logins and of PASS lines (one for two codes
+in a row). If the log is not clean, prints the number of the first line at fault and the reason. If
+that line has a wrong outcome or reply, prints the right one too.
 
 Exit status 0 means that the log is clean; 1, that a line is at fault, that there are more than
 1000000 lines, or that the book is invalid; 3, among others, that the log cannot be read.
@@ -156,8 +156,8 @@ pub(crate) const HALL_NOTES: &str = "Each line of standard input is an event:
 
   open NONCE          a client connects; NONCE is the server's part of the nonce, new and random for
                       each client
-  line N MOMENT TEXT  the client of session N sends a line; TEXT is the whole line, and MOMENT is
-                      the time in seconds since 1970
+  line N MOMENT TEXT  the client of session N sends a line; TEXT is the line without its LF, and may
+                      hold any other byte; MOMENT is the time in seconds since 1970
   gone N MOMENT       the client of session N disconnects
 
 Sessions are numbered 1, 2 and so on, in the order in which clients connect. Up to 64 can be open. A

@@ -13,7 +13,7 @@ use Rattle.log_grammar.proofs.lemmas.lines.ReadBack.{one_line}
 use Rattle.scram_text.specs.Messages.{ServerFirstParts}
 use Rattle.scram_ends.specs.Stages.{Started, Answered}
 use Rattle.scram_ends.specs.Login.{IsAuthentic}
-use Rattle.scram_ends.specs.Client.{IsStarted, IsAnswerable, IsExpecting}
+use Rattle.scram_ends.specs.Client.{StandsForStarted, IsAnswerable, StandsForAnswered}
 use Rattle.scram_ends.specs.declared.client.ClientOne.{ClientOne}
 use Rattle.scram_ends.specs.declared.client.ClientTwo.{ClientTwo}
 use Rattle.commands.specs.ClientEnd.{IfSays, IsChosen, BeginsLogin, AnswersChallenge, MaySay, ShowsKeys, HasItsLogin, HasToLeave}
@@ -41,37 +41,37 @@ says_weaker LoggedIn fact other follows says = tt
 says_weaker Leaves fact other follows says = tt
 
 -- a client may say from its stage what it may say from an equal stage
-next_may_be_said : (client : ClientEnd) (old stage new : Stage) (told : List ℕ) (result : Result Next Fault) (fact : List ℕ → Type 0)
+next_may_be_said : (client : ClientEnd) (old stage new : Stage) (received : List ℕ) (result : Result Next Fault) (fact : List ℕ → Type 0)
     → old ≡ stage
-    → ((said : List ℕ) → fact said → MaySay client stage told said new) → IfOk result (λ next. IfSays next fact)
-    → IfOk result (λ next. IfSays next (λ said. MaySay client old told said new))
-next_may_be_said client old stage new told result fact is follows says =
+    → ((said : List ℕ) → fact said → MaySay client stage received said new) → IfOk result (λ next. IfSays next fact)
+    → IfOk result (λ next. IfSays next (λ said. MaySay client old received said new))
+next_may_be_said client old stage new received result fact is follows says =
     IfOk-weaker result _ _
-    (λ next. says_weaker next _ _ (λ said holds. subst (λ (s : Stage). MaySay client s told said new) (sym is) (follows said holds)))
+    (λ next. says_weaker next _ _ (λ said holds. subst (λ (s : Stage). MaySay client s received said new) (sym is) (follows said holds)))
     says
 
 -- a client that has said nothing may begin a login with one of the mechanisms that it was offered
-pub beginning_may_be_said : (client : ClientEnd) (old new : Stage) (told names : List ℕ) (result : Result Next Fault) → old ≡ Silent
-    → IsLine told (from_server (mechs names))
+pub beginning_may_be_said : (client : ClientEnd) (old new : Stage) (received names : List ℕ) (result : Result Next Fault) → old ≡ Silent
+    → IsLine received (from_server (mechs names))
     → IfOk result (λ next. IfSays next (λ said. BeginsLogin client.user client.nonce names said new))
-    → IfOk result (λ next. IfSays next (λ said. MaySay client old told said new))
-beginning_may_be_said client old new told names result is line says =
-    next_may_be_said client old Silent new told result _ is (λ said begins. (names, line, begins)) says
+    → IfOk result (λ next. IfSays next (λ said. MaySay client old received said new))
+beginning_may_be_said client old new received names result is line says =
+    next_may_be_said client old Silent new received result _ is (λ said begins. (names, line, begins)) says
 
--- a client that waits for the challenge may say its answer to the one that it was sent
-pub answer_may_be_said : (client : ClientEnd) (one : ClientOne) (old new : Stage) (told server_first : List ℕ) (result : Result Next Fault)
-    → old ≡ Begun one
-    → IsLine told (from_server (cont server_first))
-    → IfOk result (λ next. IfSays next (λ said. (login : Started) → IsStarted one login
+-- a client that waits for the challenge may say its answer to the one that it received
+pub answer_may_be_said : (client : ClientEnd) (one : ClientOne) (old new : Stage) (received server_first : List ℕ)
+    (result : Result Next Fault) → old ≡ Begun one
+    → IsLine received (from_server (cont server_first))
+    → IfOk result (λ next. IfSays next (λ said. (login : Started) → StandsForStarted one login
     → AnswersChallenge login client.password server_first said new))
-    → IfOk result (λ next. IfSays next (λ said. MaySay client old told said new))
-answer_may_be_said client one old new told server_first result is line says =
-    next_may_be_said client old (Begun one) new told result _ is (λ said answers. (server_first, line, answers)) says
+    → IfOk result (λ next. IfSays next (λ said. MaySay client old received said new))
+answer_may_be_said client one old new received server_first result is line says =
+    next_may_be_said client old (Begun one) new received result _ is (λ said answers. (server_first, line, answers)) says
 
 -- a client that says nothing says only what it may
-pub silence_may_be_kept : (client : ClientEnd) (old new : Stage) (told : List ℕ) (result : Result Next Fault)
-    → IfOk result (λ next. IfSays next (λ said. ⊥)) → IfOk result (λ next. IfSays next (λ said. MaySay client old told said new))
-silence_may_be_kept client old new told result silent =
+pub silence_may_be_kept : (client : ClientEnd) (old new : Stage) (received : List ℕ) (result : Result Next Fault)
+    → IfOk result (λ next. IfSays next (λ said. ⊥)) → IfOk result (λ next. IfSays next (λ said. MaySay client old received said new))
+silence_may_be_kept client old new received result silent =
     IfOk-weaker result _ _ (λ next. says_weaker next _ _ (λ said never. absurd never)) silent
 
 -- no mechanism is chosen if none was asked for and none is offered
@@ -90,44 +90,46 @@ IsDueTo stage line = ⊥
 
 -- if the client has its login at this stage, there is nothing that it may say to this line, and the line does not show that the server
 -- has the keys
-abbrev pub LeavesAt : ClientEnd → Stage → (told : List ℕ) → Type 0
-LeavesAt client stage told = HasItsLogin stage → ((said : List ℕ) (new : Stage) → MaySay client stage told said new → ⊥)
-    × (ShowsKeys stage told → ⊥)
+abbrev pub LeavesAt : ClientEnd → Stage → (received : List ℕ) → Type 0
+LeavesAt client stage received = HasItsLogin stage → ((said : List ℕ) (new : Stage) → MaySay client stage received said new → ⊥)
+    × (ShowsKeys stage received → ⊥)
 
 -- if a client at this stage has to leave, so does one whose stage is equal
-stage_makes_client_leave : (client : ClientEnd) (stage : Stage) (told : List ℕ) → client.stage ≡ stage → LeavesAt client stage told
-    → HasToLeave client told
-stage_makes_client_leave client stage told is leaves = subst (λ (s : Stage). LeavesAt client s told) (sym is) leaves
+stage_makes_client_leave : (client : ClientEnd) (stage : Stage) (received : List ℕ) → client.stage ≡ stage → LeavesAt client stage received
+    → HasToLeave client received
+stage_makes_client_leave client stage received is leaves = subst (λ (s : Stage). LeavesAt client s received) (sym is) leaves
 
--- a client that was sent no line after which it may continue has to leave
-undue_line_makes_client_leave : (client : ClientEnd) (stage : Stage) (told : List ℕ)
-    → ((line : ServerLine) → IsLine told (from_server line) → IsDueTo stage line → ⊥)
-    → LeavesAt client stage told
-undue_line_makes_client_leave client Silent told none stands = (λ said new may. none (mechs may.0) may.1 tt, λ shows. shows)
-undue_line_makes_client_leave client (Begun one) told none stands = (λ said new may. none (cont may.0) may.1 tt, λ shows. shows)
-undue_line_makes_client_leave client (Proved two) told none stands = (λ said new never. never, λ shows. none (accepts shows.0) shows.1 tt)
-undue_line_makes_client_leave client Over told none stands = (λ said new never. never, λ shows. shows)
+-- a client that received no line after which it may continue has to leave
+undue_line_makes_client_leave : (client : ClientEnd) (stage : Stage) (received : List ℕ)
+    → ((line : ServerLine) → IsLine received (from_server line) → IsDueTo stage line → ⊥)
+    → LeavesAt client stage received
+undue_line_makes_client_leave client Silent received none stands = (λ said new may. none (mechs may.0) may.1 tt, λ shows. shows)
+undue_line_makes_client_leave client (Begun one) received none stands = (λ said new may. none (cont may.0) may.1 tt, λ shows. shows)
+undue_line_makes_client_leave client (Proved two) received none stands =
+    (λ said new never. never, λ shows. none (accepts shows.0) shows.1 tt)
+undue_line_makes_client_leave client Over received none stands = (λ said new never. never, λ shows. shows)
 
--- a client has to leave if what it was sent is no line of the server
-pub no_line_makes_client_leave : (client : ClientEnd) (told : List ℕ) → ((line : ServerLine) → IsLine told (from_server line) → ⊥)
-    → HasToLeave client told
-no_line_makes_client_leave client told none = undue_line_makes_client_leave client client.stage told (λ line is due. none line is)
+-- a client has to leave if what it received is not a line of the server
+pub no_line_makes_client_leave : (client : ClientEnd) (received : List ℕ) → ((line : ServerLine) → IsLine received (from_server line) → ⊥)
+    → HasToLeave client received
+no_line_makes_client_leave client received none = undue_line_makes_client_leave client client.stage received (λ line is due. none line is)
 
 -- a text is at most one line of the server
-one_server_line : (told : List ℕ) (one other : ServerLine) → IsLine told (from_server one) → IsLine told (from_server other) → one ≡ other
-one_server_line told one other is also = let same = one_line told (from_server one) (from_server other) is also in cc same
+one_server_line : (received : List ℕ) (one other : ServerLine) → IsLine received (from_server one) → IsLine received (from_server other)
+    → one ≡ other
+one_server_line received one other is also = let same = one_line received (from_server one) (from_server other) is also in cc same
 
 -- a client that leaves after an offer has to: the offer has no mechanism that it takes
-pub offer_leaver_has_to_leave : (client : ClientEnd) (told names : List ℕ) (result : Result Next Fault) → client.stage ≡ Silent
-    → IsLine told (from_server (mechs names))
+pub offer_leaver_has_to_leave : (client : ClientEnd) (received names : List ℕ) (result : Result Next Fault) → client.stage ≡ Silent
+    → IsLine received (from_server (mechs names))
     → IfOk result (λ next. next ≡ Leaves → (mechanism : Mechanism) → IsChosen client.user.mechanism names mechanism → ⊥)
-    → IfOk result (λ next. next ≡ Leaves → HasToLeave client told)
-offer_leaver_has_to_leave client told names result is line leaves =
+    → IfOk result (λ next. next ≡ Leaves → HasToLeave client received)
+offer_leaver_has_to_leave client received names result is line leaves =
     IfOk-weaker result _ _
-    (λ next none left. stage_makes_client_leave client Silent told is (λ stands. (
+    (λ next none left. stage_makes_client_leave client Silent received is (λ stands. (
       λ said new may.
           let (others, also, begins) = may in
-          let same = one_server_line told (mechs others) (mechs names) also line in
+          let same = one_server_line received (mechs others) (mechs names) also line in
           let are : others ≡ names = cc same in
           none left begins.login.mechanism
           (subst (λ (n : List ℕ). IsChosen client.user.mechanism n begins.login.mechanism) are begins.is_mechanism),
@@ -135,19 +137,19 @@ offer_leaver_has_to_leave client told names result is line leaves =
     ))) leaves
 
 -- a client that leaves after a challenge has to: the challenge is none that it answers
-pub challenge_leaver_has_to_leave : (client : ClientEnd) (one : ClientOne) (told server_first : List ℕ) (result : Result Next Fault)
+pub challenge_leaver_has_to_leave : (client : ClientEnd) (one : ClientOne) (received server_first : List ℕ) (result : Result Next Fault)
     → client.stage ≡ Begun one
-    → IsLine told (from_server (cont server_first))
-    → IfOk result (λ next. next ≡ Leaves → (login : Started) → IsStarted one login
+    → IsLine received (from_server (cont server_first))
+    → IfOk result (λ next. next ≡ Leaves → (login : Started) → StandsForStarted one login
     → (parts : ServerFirstParts) → IsAnswerable login.limits login.nonce server_first parts → ⊥)
-    → IfOk result (λ next. next ≡ Leaves → HasToLeave client told)
-challenge_leaver_has_to_leave client one told server_first result is line leaves =
+    → IfOk result (λ next. next ≡ Leaves → HasToLeave client received)
+challenge_leaver_has_to_leave client one received server_first result is line leaves =
     IfOk-weaker result _ _
-    (λ next none left. stage_makes_client_leave client (Begun one) told is (λ stands. (
+    (λ next none left. stage_makes_client_leave client (Begun one) received is (λ stands. (
       λ said new may.
           let (login, started) = stands in
           let (other, also, answers) = may in
-          let same = one_server_line told (cont other) (cont server_first) also line in
+          let same = one_server_line received (cont other) (cont server_first) also line in
           let are : other ≡ server_first = cc same in
           let answer = answers login started in
           none left login started answer.challenge
@@ -156,19 +158,19 @@ challenge_leaver_has_to_leave client one told server_first result is line leaves
     ))) leaves
 
 -- a client that leaves after an acceptance has to: the message does not have the signature that it expects
-pub acceptance_leaver_has_to_leave : (client : ClientEnd) (two : ClientTwo) (told message : List ℕ) (result : Result Next Fault)
+pub acceptance_leaver_has_to_leave : (client : ClientEnd) (two : ClientTwo) (received message : List ℕ) (result : Result Next Fault)
     → client.stage ≡ Proved two
-    → IsLine told (from_server (accepts message))
-    → IfOk result (λ next. next ≡ Leaves → (l : Answered) (x : IsExpecting two l) → IsAuthentic message x.signature → ⊥)
-    → IfOk result (λ next. next ≡ Leaves → HasToLeave client told)
-acceptance_leaver_has_to_leave client two told message result is line leaves =
+    → IsLine received (from_server (accepts message))
+    → IfOk result (λ next. next ≡ Leaves → (l : Answered) (x : StandsForAnswered two l) → IsAuthentic message x.signature → ⊥)
+    → IfOk result (λ next. next ≡ Leaves → HasToLeave client received)
+acceptance_leaver_has_to_leave client two received message result is line leaves =
     IfOk-weaker result _ _
-    (λ next none left. stage_makes_client_leave client (Proved two) told is (λ stands. (
+    (λ next none left. stage_makes_client_leave client (Proved two) received is (λ stands. (
       λ said new never. never,
       λ shows.
           let (login, expecting) = stands in
           let (other, also, keys) = shows in
-          let same = one_server_line told (accepts other) (accepts message) also line in
+          let same = one_server_line received (accepts other) (accepts message) also line in
           let are : other ≡ message = cc same in
           none left login expecting (subst (λ (text : List ℕ). IsAuthentic text expecting.signature) are (keys login expecting)),
     ))) leaves

@@ -11,7 +11,7 @@ use Rattle.sasl_desk.specs.Inputs.{event_read}
 use Rattle.sasl_desk.specs.Events.{ClientEvent}
 use Rattle.sasl_desk.specs.Runs.{Request, greets, hears, Call, call_of, run_lines}
 use Rattle.sasl_desk.specs.Desks.{IsDeskAfter, Answers, IsSameDesk}
-use Rattle.sasl_desk.specs.Serves.{IsUndone, Service, service_of, IsTurnServed, IsTurnFault}
+use Rattle.sasl_desk.specs.Serves.{IsNotDone, Service, service_of, IsTurnServed, IsTurnFault}
 use Rattle.sasl_desk.specs.declared.desk.Desk.{Desk}
 use Rattle.sasl_desk.specs.declared.desk.state.State.{State}
 use Rattle.sasl_desk.specs.declared.fault.ServeFault.{ServeFault}
@@ -70,7 +70,7 @@ module _ {S : Type 0} {facts : S → StoreFacts} {IsStored : List ℕ → Type 0
     -- the log stays the desk's after an event that was not done, or the fault is that the log has failed
     undone_turn_leaves_log : (event : ClientEvent) (moment : ℕ) (wire wire' : SinkFacts) (path : List ℕ) (why : ServeFault) (fault : Fault)
         → (why ≢ Halted → IsNow moment) → IsFaultOfServing path why fault
-        → IsUndone facts IsStored (hears event moment) old new wire wire' log log' why
+        → IsNotDone facts IsStored (hears event moment) old new wire wire' log log' why
         → IsLogAfterFault facts IsStored IsNow old log new log' fault
     undone_turn_leaves_log event moment wire wire' path Halted fault now is (same, unsent, unlogged) = inr
         (same_desk_keeps_log same unlogged)

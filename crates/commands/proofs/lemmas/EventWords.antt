@@ -21,7 +21,7 @@ text_before_space_is_moment text front back (lacks, whole) n is rest same =
 
 -- a line of this word and a text
 module _ (word line text : List ℕ) (is : line ≡ word ++ text) where
-  -- if the number of a session and a space follow the word, the text begins with them
+  -- if the number of a session and a space follow a line's word, the text after the word begins with them
   pub text_begins_with_number : (session : ℕ) (rest : List ℕ) → IsSessionNumber session
       → line ≡ word ++ (decimal session ++ (byte " " ∷ rest)) → BeginsWithNumber text session rest
   text_begins_with_number session rest number whole = record {
@@ -29,7 +29,7 @@ module _ (word line text : List ℕ) (is : line ≡ word ++ text) where
     whole = append_cancel_left word text (decimal session ++ (byte " " ∷ rest)) (sym is ∙ whole);
   }
 
-  -- at most one text follows them
+  -- at most one text follows the word, the number of a session and a space
   pub one_text_follows_number : (n : ℕ) (rest : List ℕ) → BeginsWithNumber text n rest → (session : ℕ) (more : List ℕ)
       → IsSessionNumber session → line ≡ word ++ (decimal session ++ (byte " " ∷ more)) → rest ≡ more
   one_text_follows_number n rest begins session more number whole =

@@ -25,7 +25,7 @@ failed_begin_excludes_bad_event path old new fault (inl (output, failed)) is = c
 failed_begin_excludes_bad_event path old new fault (inr (same, unwritten)) is =
     let wrong = subst (IsFileUnwrittenOrNoMemory path) is unwritten in cc wrong
 
--- no fault that says why a text is no book is a `BadEvent`
+-- no fault that says why a text is not a book is a `BadEvent`
 book_why_excludes_bad_event : (reason : BookWhy) → fault_of_book_why reason ≡ BadEvent → ⊥
 book_why_excludes_bad_event why.NoMemory is = cc is
 book_why_excludes_bad_event reason is = cc is

@@ -16,7 +16,7 @@ use Rattle.sasl_desk.specs.Halls.{HallFields, hall_of, hall_shown, hall_bytes, n
 use Rattle.sasl_desk.specs.Runs.{Request, Call, call_of}
 use Rattle.sasl_desk.specs.declared.session.phase.Phase.{Phase}
 use Rattle.sasl_desk.specs.declared.hall.Hall.{Hall}
-use Rattle.sasl_desk.proofs.lemmas.halls.Logs.{hall_bytes_next}
+use Rattle.sasl_desk.proofs.lemmas.halls.CallBytes.{hall_bytes-next_call}
 use Rattle.sasl_desk.proofs.lemmas.halls.Working.{reordered_hall_stands}
 use Rattle.commands.specs.PrintedLog.{IsUnsavedOrUnlogged}
 use Rattle.commands.specs.Hall.{InputEvent, opens, does_at, SaysEvent, SaysNoEvent, IsCallFor, IsHallLogOf, Hears}
@@ -47,7 +47,7 @@ module _ {S : Type 0} {facts : S → StoreFacts} {IsStored : List ℕ → Type 0
         calls = call ∷ l.calls;
         heard = (is a.lines, l.heard);
         stands = (a.stands start l.calls l.stands).0;
-        logged = subst (λ (b : List ℕ). Appends before log'.given b) (sym (hall_bytes_next call l.calls))
+        logged = subst (λ (b : List ℕ). Appends before log'.given b) (sym (hall_bytes-next_call call l.calls))
             (Appends-trans before log.given log'.given (hall_bytes l.calls) more l.logged putting);
       }
 

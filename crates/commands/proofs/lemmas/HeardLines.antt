@@ -8,15 +8,15 @@ use Rattle.command_line.specs.declared.fault.Fault.{Fault}
 use Rattle.log_grammar.specs.Books.{accounts_in}
 use Rattle.log_grammar.specs.Numbered.{Numbered, of_number}
 use Rattle.log_grammar.specs.Places.{Place, between}
-use Rattle.log_grammar.specs.Versions.{IsFront}
+use Rattle.log_grammar.specs.Versions.{IsLogFront}
 use Rattle.sasl_log.specs.Sink.{SinkFacts}
 use Rattle.sasl_desk.specs.Halls.{HallFields, hall_shown, hall_lines, hall_bytes, phase_in, IsPhaseIn, IsSessionRun, IsHallAfter}
 use Rattle.sasl_desk.specs.Runs.{Call}
 use Rattle.sasl_desk.specs.Saved.{AreLinesSaved}
 use Rattle.sasl_desk.specs.declared.session.phase.Phase.{Phase}
 use Rattle.sasl_desk.specs.declared.hall.Hall.{Hall}
-use Rattle.commands.specs.Hall.{InputEvent, opens, does_at, IsBadEvent, IsBadEventAfter, AreCallsFor, IsHallLogOf, Hears, HearsLine}
-use Rattle.commands.specs.Hall.{HearsUpTo, HearsFirstLines, MeetsBadEvent, PrintsHallLog, PrintsToBadEvent}
+use Rattle.commands.specs.Hall.{InputEvent, opens, does_at, IsBadEvent, IsBadEventAfter, AreCallsFor, IsHallLogOf, Hears, HearsLine, HearsUpTo}
+use Rattle.commands.specs.Hall.{HearsFirstLines, MeetsBadEvent, PrintsHallLog, PrintsToBadEvent}
 use Rattle.command_io.specs.Input.{line_bytes, TakesLine}
 use Rattle.commands.specs.PrintedLog.{IsLogFault, StopsAfter}
 use Rattle.commands.proofs.lemmas.HallLogs.{hearings_join}
@@ -33,7 +33,7 @@ HallHasCome {S} facts IsStored first start a left now b =
 -- what a hall hears of a line and of the lines after it
 module _ {S : Type 0} {facts : S → StoreFacts} {IsStored : List ℕ → Type 0} {left rest : Option (List ℕ)} {last : List (List ℕ)}
     {now next new : Hall S} {a b c : SinkFacts} where
-  -- the line's event is heard, and then those of the lines after it
+  -- what is heard of a line and of the lines after it begins with the line's event
   hearing_begins_with_line : {line : List ℕ} {has_lf : Bool} → TakesLine left line has_lf rest → 1 ≤ length (line_bytes line has_lf)
       → HearsLine facts IsStored line now a next b → HearsUpTo facts IsStored rest last next b new c
       → HearsUpTo facts IsStored left last now a new c
@@ -51,7 +51,7 @@ module _ {S : Type 0} {facts : S → StoreFacts} {IsStored : List ℕ → Type 0
 -- a hall that has come to a place in its input
 module _ {S : Type 0} {facts : S → StoreFacts} {IsStored : List ℕ → Type 0} {first left : Option (List ℕ)} {start now : Hall S}
     {a b : SinkFacts} (come : HallHasCome facts IsStored first start a left now b) where
-  -- at the end of its input it has heard what each line says
+  -- a hall at the end of its input has heard what each line says
   pub hall_at_end_heard_all : IsAtEnd left → HearsUpTo facts IsStored first [] start a now b
   hall_at_end_heard_all end =
       come [] now b (record {
@@ -59,7 +59,7 @@ module _ {S : Type 0} {facts : S → StoreFacts} {IsStored : List ℕ → Type 0
         heard = λ start before earlier l. l;
       })
 
-  -- after a fault before the next line was read it has heard the first lines of the input
+  -- after a fault before the next line was read, a hall has heard the first lines of its input
   pub hall_before_line_heard_first : (fault : Fault) → HearsFirstLines facts IsStored first start a now b fault
   hall_before_line_heard_first fault =
       let more = some_lines left in
@@ -75,12 +75,12 @@ module _ {S : Type 0} {facts : S → StoreFacts} {IsStored : List ℕ → Type 0
 module _ {S : Type 0} {facts : S → StoreFacts} {IsStored : List ℕ → Type 0} {first left rest : Option (List ℕ)} {start now : Hall S}
     {a b : SinkFacts} {line : List ℕ} {has_lf : Bool} (come : HallHasCome facts IsStored first start a left now b)
     (takes : TakesLine left line has_lf rest) (some : 1 ≤ length (line_bytes line has_lf)) where
-  -- once it has heard the event of the line, it has come to what is left after the line
+  -- a hall that has heard the event of a line has come to what is left after the line
   pub hall_comes_past_line : {next : Hall S} {c : SinkFacts} → HearsLine facts IsStored line now b next c
       → HallHasCome facts IsStored first start a rest next c
   hall_comes_past_line heard last new d more = come last new d (hearing_begins_with_line takes some heard more)
 
-  -- if it does not hear it, the line is the first of those that are left
+  -- a line that a hall does not hear is the first of those that are left
   unheard_line_is_left : {new : Hall S} {c : SinkFacts} → Hears facts IsStored [] now b new c
       → (last : List (List ℕ)) × HearsUpTo facts IsStored first (line ∷ last) start a new c
   unheard_line_is_left {new = new} {c = c} none =
@@ -93,7 +93,7 @@ module _ {S : Type 0} {facts : S → StoreFacts} {IsStored : List ℕ → Type 0
         }),
       )
 
-  -- after a fault at the line it has heard the lines before it, and this line or not; or the log has failed
+  -- after a fault at a line, a hall has heard the lines before it, and this line or not; or the log has failed
   pub hall_at_line_heard_first : {new : Hall S} {c : SinkFacts} (fault : Fault)
       → (IsLogFault c fault ⊎ (Hears facts IsStored [] now b new c ⊎ HearsLine facts IsStored line now b new c))
       → HearsFirstLines facts IsStored first start a new c fault
@@ -101,7 +101,7 @@ module _ {S : Type 0} {facts : S → StoreFacts} {IsStored : List ℕ → Type 0
   hall_at_line_heard_first fault (inr (inl none)) = let found = unheard_line_is_left none in inr (line ∷ found.0, found.1)
   hall_at_line_heard_first fault (inr (inr heard)) = hall_before_line_heard_first (hall_comes_past_line heard) fault
 
-  -- if the line is bad to it, it meets a bad event there
+  -- a hall that has come to a line that is bad for it meets a bad event there
   pub hall_meets_bad_event : IsBadEvent line (hall_shown now) → MeetsBadEvent facts IsStored first start a now b
   hall_meets_bad_event bad =
       let found = unheard_line_is_left (λ start before earlier l. l) in (line, found.0, found.1, bad)
@@ -109,14 +109,14 @@ module _ {S : Type 0} {facts : S → StoreFacts} {IsStored : List ℕ → Type 0
 -- a hall that stands for its calls
 module _ {S : Type 0} {facts : S → StoreFacts} {IsStored : List ℕ → Type 0} {start : BookFields} {calls : List (Numbered Call)}
     {hall : HallFields S} (s : IsHallAfter facts IsStored start calls hall) where
-  -- if it has no session of a number, its calls have left none open
+  -- if a hall has no session of a number, its calls have left none open
   closed_session_is_between : (n : ℕ) → IsPhaseIn (s.places n) (phase_in hall n) → phase_in hall n ≡ None
       → IsSessionRun (accounts_in start) (of_number n calls) between
   closed_session_is_between n phase none =
       let at : s.places n ≡ between = subst (λ (p : Option Phase). IsPhaseIn (s.places n) p) none phase in
       subst (λ (p : Place). IsSessionRun (accounts_in start) (of_number n calls) p) at (s.session_runs n)
 
-  -- a line that is bad to it is bad after its calls
+  -- a line that is bad for a hall is bad after the calls of the hall
   bad_line_stays_bad : (line : List ℕ) → ((n : ℕ) → IsPhaseIn (s.places n) (phase_in hall n)) → IsBadEvent line hall
       → IsBadEventAfter (accounts_in start) calls line
   bad_line_stays_bad line phases (inl nothing) = inl nothing
@@ -128,11 +128,11 @@ module _ {S : Type 0} {facts : S → StoreFacts} {IsStored : List ℕ → Type 0
 module _ {S : Type 0} {facts : S → StoreFacts} {IsStored : List ℕ → Type 0} {book : BookFields} {input given before after : Option (List ℕ)}
     {old new : Hall S} {log log' : SinkFacts}
     (front : (start : BookFields) (calls : List (Numbered Call)) (hall : HallFields S) → IsHallAfter facts IsStored start calls hall
-    → IsFront (accounts_in start) (hall_bytes calls))
+    → IsLogFront (accounts_in start) (hall_bytes calls))
     (kept : (start : BookFields) (calls : List (Numbered Call)) (hall : HallFields S) → IsHallAfter facts IsStored start calls hall
     → AreLinesSaved IsStored start (hall_lines calls))
     (was : given ≡ before) (is : after ≡ log'.given) (begun : IsHallLogOf facts IsStored book given [] old log) where
-  -- what it heard of its input is printed, and that is a front
+  -- a hall prints the log of what it heard of its input, and that log is a front
   pub hall_prints_its_log : {last : List (List ℕ)} → HearsUpTo facts IsStored input last old log new log'
       → PrintsHallLog IsStored book input last before after
   hall_prints_its_log heard =
@@ -146,13 +146,13 @@ module _ {S : Type 0} {facts : S → StoreFacts} {IsStored : List ℕ → Type 0
             (subst (λ (o : Option (List ℕ)). Appends o log'.given (hall_bytes hall.calls)) was hall.logged);
       }
 
-  -- after a fault it has printed nothing, or the log of what it heard of its input's first lines, or the output can't be written
+  -- after a fault, a hall has printed nothing, or the log of what it heard of its input's first lines, or the output can't be written
   pub hall_stops_after : (fault : Fault) → HearsFirstLines facts IsStored input old log new log' fault
       → StopsAfter fault before after ((last : List (List ℕ)) × PrintsHallLog IsStored book input last before after)
   hall_stops_after fault (inl (output, failed)) = inl (inl output)
   hall_stops_after fault (inr (last, heard)) = inr (last, hall_prints_its_log heard)
 
-  -- if it meets a bad event, the log of what it heard before is printed, and the next line is bad after it
+  -- a hall that meets a bad event prints the log of what it heard before, and the next line is bad after that
   pub hall_prints_to_bad_event : ((start : BookFields) (calls : List (Numbered Call)) (hall : HallFields S)
       (s : IsHallAfter facts IsStored start calls hall) (n : ℕ) → IsPhaseIn (s.places n) (phase_in hall n))
       → MeetsBadEvent facts IsStored input old log new log' → PrintsToBadEvent IsStored book input before after

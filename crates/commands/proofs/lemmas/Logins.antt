@@ -5,7 +5,7 @@ use Rattle.book_format.specs.Book.{BookFields}
 use Rattle.account_book.specs.Store.{StoreFacts}
 use Rattle.log_grammar.specs.Books.{accounts_in}
 use Rattle.log_grammar.specs.Lines.{LogLine, log_bytes}
-use Rattle.log_grammar.specs.Versions.{IsClean, IsFront}
+use Rattle.log_grammar.specs.Versions.{IsClean, IsLogFront}
 use Rattle.sasl_log.specs.Sink.{SinkFacts}
 use Rattle.sasl_desk.specs.Runs.{Call, run_lines}
 use Rattle.sasl_desk.specs.Desks.{IsDeskAfter}
@@ -31,11 +31,11 @@ module _ {S : Type 0} {facts : S → StoreFacts} {IsStored : List ℕ → Type 0
   -- after a fault a login has printed nothing, or its saved log, which is a front, or the output can't be written
   pub login_stops_after : {new : Desk S} {log' : SinkFacts} {fault : Fault} → after ≡ log'.given
       → ((start : BookFields) (calls : List Call) (desk : Desk S) → IsDeskAfter facts IsStored start calls desk
-      → IsFront (accounts_in start) (log_bytes (run_lines calls)))
+      → IsLogFront (accounts_in start) (log_bytes (run_lines calls)))
       → ((start : BookFields) (calls : List Call) (desk : Desk S) → IsDeskAfter facts IsStored start calls desk
       → IsLogSaved IsStored start (log_bytes (run_lines calls)))
       → IsLogAfterFaultWith facts IsStored IsNow server_nonce old log new log' fault
-      → StopsAfter fault before after (HasSavedLog IsStored IsNow IsFront book server_nonce before after)
+      → StopsAfter fault before after (HasSavedLog IsStored IsNow IsLogFront book server_nonce before after)
   login_stops_after is front kept (inl (output, failed)) = inl (inl output)
   login_stops_after {new = new} {log' = log'} is front kept (inr stays) =
       let desk = stays book given begun in
@@ -49,7 +49,7 @@ module _ {S : Type 0} {facts : S → StoreFacts} {IsStored : List ℕ → Type 0
         kept book desk.calls new desk.stands,
       )
 
-  -- when it is clean, it is printed as the saved log
+  -- a clean log of a desk is printed as the saved log
   pub clean_log_is_printed : {logged : Option (List ℕ)} → after ≡ logged
       → ((start : BookFields) (earlier : Option (List ℕ)) → IsDeskLog facts IsStored IsNow start earlier server_nonce old log
       → HasSavedLog IsStored IsNow IsClean start server_nonce earlier logged)
@@ -77,7 +77,7 @@ no_memory_is_unwritten path fault is = subst (λ (f : Fault). IsFileUnwrittenOrN
 
 -- a turn that is not served
 module _ {S : Type 0} (facts : S → StoreFacts) (IsStored : List ℕ → Type 0) (moment : ℕ) (old new : Service S) where
-  -- why it is not served is a fault of the turn
+  -- why a turn is not served is a fault of the turn
   pub serving_fault_is_in_turn : (path : List ℕ) (fault : ServeFault) (result : Fault) → IsTurnFault facts IsStored moment old new fault
       → IsFaultOfServing path fault result → IsFaultInTurn path new.log result
   serving_fault_is_in_turn path Halted result served is = inr (inl is)
@@ -86,7 +86,7 @@ module _ {S : Type 0} (facts : S → StoreFacts) (IsStored : List ℕ → Type 0
   serving_fault_is_in_turn path WriteFault result served is = inr (inl (no_memory_is_unwritten path result is))
   serving_fault_is_in_turn path LogFault result (read, reads, undone) is = inr (inr (is, undone.failed))
 
-  -- the reason is not that what is due can't be written
+  -- a turn never goes unserved because what is due can't be written
   pub no_turn_is_unwritable : (fault : ServeFault) → IsTurnFault facts IsStored moment old new fault → fault ≢ Unwritable
   no_turn_is_unwritable Unwritable (read, reads, never) same = never
   no_turn_is_unwritable fault served same = cc same

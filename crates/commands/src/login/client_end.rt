@@ -2,7 +2,7 @@
 ghost use Rattle.std.specs.Prelude.{◌≡◌, ◌≢◌, [], ◌∷◌, ◌++◌, IfOk, IfErr};
 ghost use Rattle.std.specs.Str.{byte};
 ghost use Rattle.log_grammar.specs.Payload.{escaped};
-ghost use Rattle.scram_ends.specs.Client.{IsStarted, IsAnswerable, IsExpecting};
+ghost use Rattle.scram_ends.specs.Client.{StandsForStarted, IsAnswerable, StandsForAnswered};
 ghost use Rattle.scram_ends.specs.Login.{IsAuthentic};
 ghost use Rattle.scram_ends.specs.Stages.{Started, Answered};
 ghost use Rattle.scram_text.specs.Messages.{ServerFirstParts};
@@ -19,20 +19,20 @@ use std::mem;
 
 /// Who logs in, and how.
 #[derive(Drop)]
-pub struct User {
+pub(crate) struct User {
     /// The mechanism, or None for the best one offered.
-    pub mechanism: Option<Mechanism>,
+    pub(crate) mechanism: Option<Mechanism>,
 
     /// The name of the account that the user logs in to.
-    pub name: PlainName,
+    pub(crate) name: PlainName,
 
     /// The name to act as (the authzid of RFC 5802), if one is given.
-    pub authzid: Option<PlainName>,
+    pub(crate) authzid: Option<PlainName>,
 }
 
 /// What a client does next.
 #[derive(Drop)]
-pub enum Next {
+pub(crate) enum Next {
     /// It sends this line, which ends in an LF.
     Says(Vec<u8>),
 
@@ -61,7 +61,7 @@ enum Stage {
 
 /// A client that logs a user in.
 #[derive(Drop)]
-pub struct ClientEnd {
+pub(crate) struct ClientEnd {
     user: User,
     password: Password,
     nonce: NoncePart,
@@ -70,7 +70,7 @@ pub struct ClientEnd {
 
 impl ClientEnd {
     /// A client for this user that has sent nothing yet. The nonce should be a fresh random one.
-    pub fn new(user: User, password: Password, nonce: NoncePart) -> ClientEnd
+    pub(crate) fn new(user: User, password: Password, nonce: NoncePart) -> ClientEnd
         ensures user { result.user ≡ user }
         ensures nonce { result.nonce ≡ nonce }
         ensures password { result.password ≡ password }
@@ -86,17 +86,17 @@ impl ClientEnd {
 
     /// Returns what the client does after the server has sent `line`, which is given without its LF. It leaves if another line was
     /// due, or if it finds an error in the server's message (RFC 5802, section 5). The only fault is NoMemory.
-    pub fn hear(&mut self, alloc: Global, line: &[u8]) -> Result<Next, Fault>
+    pub(crate) fn hear(&mut self, alloc: Global, line: &[u8]) -> Result<Next, Fault>
         ensures kept { (self.new.user ≡ self.old.user) × (self.new.nonce ≡ self.old.nonce) × (self.new.password ≡ self.old.password) }
         ensures is_in { IfOk result (λ next. next ≡ Next.LoggedIn → ShowsKeys self.old.stage line.now) }
         ensures says { IfOk result (λ next. IfSays next (λ said. MaySay self.old self.old.stage line.now said self.new.stage)) }
         ensures leaves { IfOk result (λ next. next ≡ Next.Leaves → HasToLeave self.old line.now) }
         ensures err { IfErr result (λ fault. fault ≡ Fault.NoMemory) }
     {
-        let Ok(Line::FromServer(told)) = read_line(line) else {
+        let Ok(Line::FromServer(received)) = read_line(line) else {
             return Ok(Next::Leaves);
         };
-        match (mem::replace(&mut self.stage, Stage::Over), told) {
+        match (mem::replace(&mut self.stage, Stage::Over), received) {
             (Stage::Silent, ServerLine::Mechs(names)) => self.send_first(alloc, names),
             (Stage::Begun(client), ServerLine::Cont(message)) => {
                 let challenge = message.bytes(alloc).map_err(|_| Fault::NoMemory)?;
@@ -142,9 +142,9 @@ impl ClientEnd {
     ) -> Result<Next, Fault>
         ensures kept { (self.new.user ≡ self.old.user) × (self.new.nonce ≡ self.old.nonce) × (self.new.password ≡ self.old.password) }
         ensures not_in { IfOk result (λ next. next ≢ Next.LoggedIn) }
-        ensures says { IfOk result (λ next. IfSays next (λ said. (login : Started) → IsStarted client login
+        ensures says { IfOk result (λ next. IfSays next (λ said. (login : Started) → StandsForStarted client login
             → AnswersChallenge login self.old.password challenge.now said self.new.stage)) }
-        ensures leaves { IfOk result (λ next. next ≡ Next.Leaves → (login : Started) → IsStarted client login
+        ensures leaves { IfOk result (λ next. next ≡ Next.Leaves → (login : Started) → StandsForStarted client login
             → (parts : ServerFirstParts) → IsAnswerable login.limits login.nonce challenge.now parts → ⊥) }
         ensures err { IfErr result (λ fault. fault ≡ Fault.NoMemory) }
     {
@@ -163,10 +163,12 @@ impl ClientEnd {
 // Checks the server's signature in the message by which it accepts the client, and returns LoggedIn or Leaves.
 fn check_signature(alloc: Global, client: ClientTwo, message: Payload<'_>) -> Result<Next, Fault>
     ensures is_in { IfOk result (λ next. next ≡ Next.LoggedIn
-        → (l : Answered) (x : IsExpecting client l) → IsAuthentic message.entry x.signature) }
+        → (login : Answered) (expecting : StandsForAnswered client login)
+        → IsAuthentic message.entry expecting.signature) }
     ensures silent { IfOk result (λ next. IfSays next (λ said. ⊥)) }
     ensures leaves { IfOk result (λ next. next ≡ Next.Leaves
-        → (l : Answered) (x : IsExpecting client l) → IsAuthentic message.entry x.signature → ⊥) }
+        → (login : Answered) (expecting : StandsForAnswered client login)
+        → IsAuthentic message.entry expecting.signature → ⊥) }
     ensures err { IfErr result (λ fault. fault ≡ Fault.NoMemory) }
 {
     let Ok(last) = message.bytes(alloc) else {

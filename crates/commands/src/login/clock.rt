@@ -7,7 +7,7 @@ use std::marker::{Brand, PhantomData};
 use std::time::{Clock, SystemTime, UNIX_EPOCH};
 
 /// The moment that `--moment` gives, or None, as part of a type, so that contracts over any clock can name it.
-pub trait GivenMoment {
+pub(crate) trait GivenMoment {
     ghost moment: { Option ℕ };
 }
 
@@ -19,7 +19,7 @@ impl GivenMoment for Brand {
 
 /// A clock that stands still at a given moment; without one, the machine's clock.
 #[derive(Drop)]
-pub struct LoginClock<'a, R, G: GivenMoment> {
+pub(crate) struct LoginClock<'a, R, G: GivenMoment> {
     rt: &'a R,
     given: Option<Moment>,
 
@@ -32,7 +32,7 @@ pub struct LoginClock<'a, R, G: GivenMoment> {
 
 impl<'a, R: Clock, G: GivenMoment> LoginClock<'a, R, G> {
     /// A clock for the moment `given`, or for the machine's time if it is None.
-    pub fn new(rt: &'a R, given: Option<Moment>) -> LoginClock<'a, R, G>
+    pub(crate) fn new(rt: &'a R, given: Option<Moment>) -> LoginClock<'a, R, G>
         requires { given ≡ G.moment }
         ensures { result.given ≡ given }
     {
@@ -46,7 +46,7 @@ impl<'a, R: Clock, G: GivenMoment> LoginClock<'a, R, G> {
 }
 
 impl<R: Clock, G: GivenMoment> sasl_desk::Clock for LoginClock<'_, R, G> {
-    ghost last = { λ m. m.last };
+    ghost last = { λ clock. clock.last };
 
     ghost IsNow = { IsGiven G.moment };
 

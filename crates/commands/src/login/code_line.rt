@@ -6,18 +6,18 @@ ghost use Rattle.commands.specs.SentCodes.{sent_for, SaysCodes};
 ghost use Rattle.commands.specs.declared.login.TheConstants.{MOST_WITH_LF};
 
 use crate::login::MOST_WITH_LF;
-use crate::sent_codes::sent_by;
+use crate::sent_codes::codes_in;
 use command_line::Fault;
 use otp_core::Sent;
 use std::alloc::Global;
 
 /// The line to send for an input line, with its LF: the input line itself if it is a SYNC line of the protocol; otherwise a CODE
 /// line with it as the text, even if it can't be a code. The only fault is NoMemory.
-pub fn code_line(alloc: Global, line: &[u8]) -> Result<Vec<u8>, Fault>
+pub(crate) fn code_line(alloc: Global, line: &[u8]) -> Result<Vec<u8>, Fault>
     ensures ok { IfOk result (λ said. (texts : CodeTexts) × SaysCodes line.now texts × (said.items ≡ sent_for line.now texts)) }
     ensures err { IfErr result (λ fault. fault ≡ Fault.NoMemory) }
 {
-    match sent_by(line) {
+    match codes_in(line) {
         Sent::One(_) => code_text_line(alloc, b"CODE ", line),
         Sent::Two(_, _) => code_text_line(alloc, b"", line),
     }

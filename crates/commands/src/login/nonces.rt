@@ -14,17 +14,17 @@ use std::io::Read;
 
 /// The two nonces of a login.
 #[derive(Drop)]
-pub struct Nonces {
+pub(crate) struct Nonces {
     /// The client's nonce.
-    pub client: NoncePart,
+    pub(crate) client: NoncePart,
 
     /// The server's part of the nonce.
-    pub server: NoncePart,
+    pub(crate) server: NoncePart,
 }
 
-/// Both nonces. One that is not given is the base64 text of the next 18 bytes of the file at `path`, which is opened only if such a
-/// nonce is needed. The client's nonce comes first. Faults: CannotRead and NoMemory.
-pub fn both<R: Files + AllocGlobal>(
+/// The two nonces of a login. One that is not given is the base64 text of the next 18 bytes of the file at `path`, which is opened only
+/// if such a nonce is needed. The client's nonce comes first. Faults: CannotRead and NoMemory.
+pub(crate) fn login_nonces<R: Files + AllocGlobal>(
     rt: &R,
     path: &str,
     client: Option<NoncePart>,
@@ -37,13 +37,13 @@ pub fn both<R: Files + AllocGlobal>(
         (Some(client), Some(server)) => Ok(Nonces { client, server }),
         (client, server) => {
             let mut random = RandomFile::open(rt, path)?;
-            both_from(rt.alloc(), client, server, &mut random)
+            login_nonces_from(rt.alloc(), client, server, &mut random)
         }
     }
 }
 
-// Both nonces; one that is not given is made from the next random bytes.
-fn both_from<F: Read + Drop>(
+// The two nonces of a login; one that is not given is made from the next random bytes.
+fn login_nonces_from<F: Read + Drop>(
     alloc: Global,
     client: Option<NoncePart>,
     server: Option<NoncePart>,
@@ -72,13 +72,13 @@ fn given_or_random<F: Read + Drop>(
         Some(nonce) => Ok(nonce),
         None => {
             let bytes: [u8; 18] = random.bytes()?;
-            spelled(alloc, bytes.as_slice())
+            nonce_of_bytes(alloc, bytes.as_slice())
         }
     }
 }
 
 // The nonce of these 18 bytes: their base64 text (RFC 4648, section 4), which is printable and has no comma.
-fn spelled(alloc: Global, bytes: &[u8]) -> Result<NoncePart, Fault>
+fn nonce_of_bytes(alloc: Global, bytes: &[u8]) -> Result<NoncePart, Fault>
     requires { length bytes.now ≡ 18 }
     ensures ok { IfOk result (λ nonce. nonce ≡ base64 bytes.now) }
     ensures err { IfErr result (λ fault. fault ≡ Fault.NoMemory) }

@@ -1,5 +1,6 @@
 //! Checks the options of a login.
-ghost use Rattle.std.specs.Prelude.{◌≡◌, ℕ, List, Some, decimal, option_map, IfOk, IfErr};
+ghost use Rattle.std.specs.Prelude.{◌≡◌, ℕ, List, Some, decimal, option_map, IfOk, IfErr, IfSome};
+ghost use Rattle.otp_core.specs.Ranges.{IsMoment};
 ghost use Rattle.scram_text.specs.Class.{IsNoncePart};
 ghost use Rattle.command_words.specs.Values.{value_of};
 ghost use Rattle.commands.specs.Login.{IsUserAsked};
@@ -14,26 +15,28 @@ use scram_text::NoncePart;
 
 /// What the words say about a login.
 #[derive(Drop)]
-pub struct LoginOptions {
+pub(crate) struct LoginOptions {
     /// Who logs in, and how.
-    pub user: User,
+    pub(crate) user: User,
 
     /// The client's nonce, if it is given.
-    pub client_nonce: Option<NoncePart>,
+    pub(crate) client_nonce: Option<NoncePart>,
 
     /// The server's part of the nonce, if it is given.
-    pub server_nonce: Option<NoncePart>,
+    pub(crate) server_nonce: Option<NoncePart>,
 
     /// The moment of all codes, if it is given.
-    pub moment: Option<Moment>,
+    pub(crate) moment: Option<Moment>,
 }
 
 /// Checks all options except the paths, in their order. The only fault is BadValue.
-pub fn read_options(matches: &ArgMatches<'_>) -> Result<LoginOptions, Fault>
+pub(crate) fn read_options(matches: &ArgMatches<'_>) -> Result<LoginOptions, Fault>
     ensures user { IfOk result (λ options. IsUserAsked matches.now options.user) }
     ensures client_nonce { IfOk result (λ options. options.client_nonce ≡ value_of matches.now OptionName.ClientNonce) }
     ensures server_nonce { IfOk result (λ options. options.server_nonce ≡ value_of matches.now OptionName.ServerNonce) }
-    ensures moment { IfOk result (λ options. option_map decimal options.moment ≡ value_of matches.now OptionName.Moment) }
+    ensures nonces { IfOk result (λ options. IfSome options.client_nonce IsNoncePart × IfSome options.server_nonce IsNoncePart) }
+    ensures moment { IfOk result (λ options. (option_map decimal options.moment ≡ value_of matches.now OptionName.Moment)
+        × IfSome options.moment IsMoment) }
     ensures err { IfErr result (HasBadLoginValue matches.now) }
 {
     let name = value::name(given(matches, OptionName::Name))?;
@@ -63,9 +66,10 @@ pub fn read_options(matches: &ArgMatches<'_>) -> Result<LoginOptions, Fault>
     })
 }
 
-// The nonce that an option gives, or None if the option is not given. The only fault is BadValue, if the value is no nonce.
+// The nonce that an option gives, or None if the option is not given. The only fault is BadValue, if the value is not a nonce.
 fn optional_nonce(matches: &ArgMatches<'_>, option: OptionName) -> Result<Option<NoncePart>, Fault>
     ensures ok { IfOk result (λ nonce. nonce ≡ value_of matches.now option) }
+    ensures range { IfOk result (λ nonce. IfSome nonce IsNoncePart) }
     ensures err { IfErr result (λ fault. (fault ≡ Fault.BadValue option)
         × ((text : List ℕ) × (value_of matches.now option ≡ Some text) × (IsNoncePart text → ⊥))) }
 {

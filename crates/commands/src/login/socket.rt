@@ -13,8 +13,9 @@ use std::net::{Net, Shutdown};
 use std::os::unix::net::{UnixListener, UnixStream};
 use std::{fs, io};
 
-/// The file of a socket that this run has made. Dropping this value removes the file, unless another file has its name by then.
-pub struct SocketFile<'a, R: Files> {
+/// The file of a socket that this run has made. Dropping this value removes the file, unless another file is seen to have its name by
+/// then. If the metadata can't be read, what has the name is removed.
+pub(crate) struct SocketFile<'a, R: Files> {
     rt: &'a R,
     path: &'a str,
 
@@ -53,7 +54,7 @@ impl<'a, R: Files> SocketFile<'a, R> {
 
 /// A connection with both ends in this run.
 #[derive(Drop)]
-pub struct Connection {
+pub(crate) struct Connection {
     // The client's end.
     client: UnixStream,
 
@@ -63,27 +64,27 @@ pub struct Connection {
 
 /// One end of a connection, to read and to write.
 #[derive(Drop)]
-pub struct End<R, W> {
+pub(crate) struct End<R, W> {
     /// Reads what the other end writes.
-    pub reader: R,
+    pub(crate) reader: R,
 
     /// Writes what the other end reads.
-    pub writer: W,
+    pub(crate) writer: W,
 }
 
 /// Both ends of a connection, to read and to write.
 #[derive(Drop)]
-pub struct Ends<R, W> {
+pub(crate) struct Ends<R, W> {
     /// The client's end.
-    pub client: End<R, W>,
+    pub(crate) client: End<R, W>,
 
     /// The server's end.
-    pub server: End<R, W>,
+    pub(crate) server: End<R, W>,
 }
 
 impl Connection {
     /// Both ends, to read and to write.
-    pub fn ends(&self) -> Ends<OverRead<&UnixStream>, OverWrite<&UnixStream>> {
+    pub(crate) fn ends(&self) -> Ends<OverRead<&UnixStream>, OverWrite<&UnixStream>> {
         Ends {
             client: end_of(&self.client),
             server: end_of(&self.server),
@@ -91,7 +92,7 @@ impl Connection {
     }
 
     /// Shuts down the client's writing half, so that the server reads to the end. The only fault is Socket.
-    pub fn hang_up(&self) -> Result<(), Fault>
+    pub(crate) fn hang_up(&self) -> Result<(), Fault>
         ensures { IfErr result (λ fault. fault ≡ Fault.Socket) }
     {
         self.client
@@ -110,7 +111,7 @@ fn end_of(stream: &UnixStream) -> End<OverRead<&UnixStream>, OverWrite<&UnixStre
 
 /// Makes a socket at `path`, and connects to it. The path has at most 107 bytes, and nothing may be there yet. The only fault is
 /// Socket; if the socket was made, its file is then removed.
-pub fn open<'a, R: Files + Net>(
+pub(crate) fn open<'a, R: Files + Net>(
     rt: &'a R,
     path: &'a str,
 ) -> Result<(Connection, SocketFile<'a, R>), Fault>
@@ -124,7 +125,8 @@ pub fn open<'a, R: Files + Net>(
 }
 
 // Makes a socket at `path`. `UnixListener::bind` makes the file before the socket listens, so a failure between the two leaves a
-// file, which is removed here. A file that had the name before, or takes it meanwhile, is another's and stays.
+// file, which is removed here. A file that had the name before is another's and stays, and so does one that makes `bind` fail with
+// AddrInUse.
 fn bind<'a, R: Files + Net>(
     rt: &'a R,
     path: &'a str,

@@ -73,6 +73,8 @@ fn check_line(rt: &impl Abort, text: &str, line: &str) {
     assert!(rt; contains(text, line), "no {line:?} in {text}");
 }
 
+/// `enrol`, `verify` and `unlock` in turn, with what each prints and saves. The codes of RFC 4226, appendix D, are those of counters 0,
+/// 2 and 3, and 1 and 2.
 #[test]
 fn each_command(rt: HostRuntime) -> Result<(), Fail> {
     let path = path_of_book(&rt, "commands")?;
@@ -108,8 +110,8 @@ fn each_command(rt: HostRuntime) -> Result<(), Fail> {
     remove(&rt, book)
 }
 
-// Whichever file system call fails, a code that was reported as passed is spent, and a run that reports
-// nothing has status 3.
+/// Whichever file system call fails, a code that was reported as passed is spent, and a run that reports
+/// nothing has status 3.
 #[test]
 fn verify_with_each_call_failing(rt: HostRuntime) -> Result<(), Fail> {
     let path = path_of_book(&rt, "failing")?;
@@ -161,7 +163,7 @@ E
 
 const CLEAN: &str = "clean sessions=1 accepted=0 codes=0\n";
 
-// Whichever file system call fails, a run that could not read the whole log does not call it clean.
+/// Whichever file system call fails, a run that could not read the whole log does not call it clean.
 #[test]
 fn audit_with_each_call_failing(rt: HostRuntime) -> Result<(), Fail> {
     let path = path_of_book(&rt, "audit")?;

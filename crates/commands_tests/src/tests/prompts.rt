@@ -8,7 +8,7 @@ const PASSWORD: &str = "Type the password and press Enter; it is shown as you ty
 
 const CODES: &str = "Type one code per line; it is shown as you type. End with Ctrl-D.\n";
 
-// The prompt is shown if and only if the input and standard error are both terminals.
+/// The prompt is shown if and only if the input and standard error are both terminals.
 #[test]
 fn at_terminals_alone(rt: HostRuntime) -> Result<(), Fail> {
     let path = path_of_book(&rt, "prompts")?;
@@ -48,7 +48,7 @@ fn at_terminals_alone(rt: HostRuntime) -> Result<(), Fail> {
     remove(&rt, book)
 }
 
-// Faults of the words and of the book are reported before any prompt, and a command that reads no input shows no prompt.
+/// Faults of the words and of the book are reported before any prompt, and a command that reads no input shows no prompt.
 #[test]
 fn nothing_to_ask_for(rt: HostRuntime) -> Result<(), Fail> {
     let path = path_of_book(&rt, "unasked")?;

@@ -1,7 +1,8 @@
 //! Sessions in a hall: many at a time, one log, and each client's own wire.
 use account_book::Book;
 use desk_in_memory::{
-    ACCEPTANCE, ANSWERS, BOOK, CHALLENGE, LOGIN, Memory, OPENS, PROVES, When, book_text,
+    ACCEPTANCE, AUTH_LINE, BOOK, CHALLENGE, FailurePoint, LOGIN_ANSWERS, LOGIN_LINES, MemoryStore,
+    RESP_LINE, book_text,
 };
 use sasl_desk::{DeskFault, Event, Hall, Moment, Phase};
 use scram_text::NoncePart;
@@ -12,14 +13,14 @@ use std::test::Fail;
 // A hall, and all that it has written: its log, and what was sent to the clients with odd and with even numbers.
 #[derive(Drop)]
 struct Party {
-    hall: Hall<Memory>,
+    hall: Hall<MemoryStore>,
     odd: Vec<u8>,
     even: Vec<u8>,
     log: Vec<u8>,
 }
 
 // A hall over this store.
-fn begun(alloc: Global, store: Memory) -> Result<Party, Fail> {
+fn begun(alloc: Global, store: MemoryStore) -> Result<Party, Fail> {
     let book = Book::read(alloc, book_text(alloc)?.as_bytes())?;
     let mut log = Vec::new(alloc);
     match Hall::begin(alloc, book, store, &mut log) {
@@ -95,7 +96,7 @@ fn play(
 }
 
 // A hall that has greeted `many` clients, which have the numbers from 1 on.
-fn greeted(rt: &(impl Abort + AllocGlobal), store: Memory, many: u64) -> Result<Party, Fail> {
+fn greeted(rt: &(impl Abort + AllocGlobal), store: MemoryStore, many: u64) -> Result<Party, Fail> {
     let mut party = begun(rt.alloc(), store)?;
     for before in 0..many {
         let came = greet(&mut party, before % 2 == 0)?;
@@ -104,13 +105,15 @@ fn greeted(rt: &(impl Abort + AllocGlobal), store: Memory, many: u64) -> Result<
     Ok(party)
 }
 
+/// The published login with a code, and a client that is refused meanwhile: each line of the log has its session's number, and each
+/// client is sent its own lines alone.
 #[test]
 fn two_sessions_stand_in_one_log(rt: HostRuntime) -> Result<(), Fail> {
-    let mut party = greeted(&rt, Memory::sound(rt.alloc()), 2)?;
+    let mut party = greeted(&rt, MemoryStore::sound(rt.alloc()), 2)?;
     let steps = [
         (2, "AUTH PLAIN", Phase::Closed),
-        (1, OPENS, Phase::WaitFinal),
-        (1, PROVES, Phase::WaitCode),
+        (1, AUTH_LINE, Phase::WaitFinal),
+        (1, RESP_LINE, Phase::WaitCode),
         (1, "CODE 755224", Phase::WaitCode),
         (1, "", Phase::Closed),
     ];
@@ -122,8 +125,8 @@ fn two_sessions_stand_in_one_log(rt: HostRuntime) -> Result<(), Fail> {
 2 C AUTH PLAIN
 2 S NO :
 2 E
-1 C {OPENS}
-1 S {CHALLENGE}1 C {PROVES}
+1 C {AUTH_LINE}
+1 S {CHALLENGE}1 C {RESP_LINE}
 1 S {ACCEPTANCE}1 C CODE 755224
 1 S PASS 3 0
 1 C GONE
@@ -131,7 +134,7 @@ fn two_sessions_stand_in_one_log(rt: HostRuntime) -> Result<(), Fail> {
 "
     )?;
     assert_eq!(rt; str::from_utf8(party.log.as_slice())?, log.as_str());
-    let told = format!(in rt.alloc(); "{ANSWERS}PASS 3 0\n")?;
+    let told = format!(in rt.alloc(); "{LOGIN_ANSWERS}PASS 3 0\n")?;
     assert_eq!(rt; str::from_utf8(party.odd.as_slice())?, told.as_str());
     assert_eq!(rt;
         str::from_utf8(party.even.as_slice())?,
@@ -140,11 +143,11 @@ fn two_sessions_stand_in_one_log(rt: HostRuntime) -> Result<(), Fail> {
     Ok(())
 }
 
-// The login's client is sent the same lines wherever another client's line comes between its own.
+/// The login's client is sent the same lines wherever another client's line comes between its own.
 #[test]
 fn a_login_is_told_as_if_alone(rt: HostRuntime) -> Result<(), Fail> {
     for place in 0..3usize {
-        let mut party = greeted(&rt, Memory::sound(rt.alloc()), 2)?;
+        let mut party = greeted(&rt, MemoryStore::sound(rt.alloc()), 2)?;
         for at in 0..3usize {
             if at == place {
                 play(
@@ -153,11 +156,11 @@ fn a_login_is_told_as_if_alone(rt: HostRuntime) -> Result<(), Fail> {
                     &[(2, "AUTH SCRAM-SHA-256", Phase::WaitFirst)],
                 )?;
             }
-            if let Some(line) = LOGIN.get(at) {
+            if let Some(line) = LOGIN_LINES.get(at) {
                 assert!(rt; hear(rt.alloc(), &mut party, 1, line)?.is_ok());
             }
         }
-        assert_eq!(rt; str::from_utf8(party.odd.as_slice())?, ANSWERS);
+        assert_eq!(rt; str::from_utf8(party.odd.as_slice())?, LOGIN_ANSWERS);
         assert_eq!(rt;
             str::from_utf8(party.even.as_slice())?,
             "MECHS SCRAM-SHA-256 SCRAM-SHA-1\nCONT :\n"
@@ -166,9 +169,10 @@ fn a_login_is_told_as_if_alone(rt: HostRuntime) -> Result<(), Fail> {
     Ok(())
 }
 
+/// If 64 sessions are open, the next client gets a number, is told so by `BUSY`, and is not open.
 #[test]
 fn the_sixty_fifth_is_turned_away(rt: HostRuntime) -> Result<(), Fail> {
-    let mut party = greeted(&rt, Memory::sound(rt.alloc()), 64)?;
+    let mut party = greeted(&rt, MemoryStore::sound(rt.alloc()), 64)?;
     let mut log = Vec::new(rt.alloc());
     log.extend_from_slice(party.log.as_slice())?;
     assert_eq!(rt; greet(&mut party, true)?, Ok((65, Phase::Closed)));
@@ -182,9 +186,10 @@ fn the_sixty_fifth_is_turned_away(rt: HostRuntime) -> Result<(), Fail> {
     Ok(())
 }
 
+/// After one of 64 sessions has ended, the next client is greeted, with a number that was not used before.
 #[test]
 fn an_ended_session_frees_its_place(rt: HostRuntime) -> Result<(), Fail> {
-    let mut party = greeted(&rt, Memory::sound(rt.alloc()), 64)?;
+    let mut party = greeted(&rt, MemoryStore::sound(rt.alloc()), 64)?;
     play(&rt, &mut party, &[(7, "", Phase::Closed)])?;
     assert_eq!(rt; greet(&mut party, true)?, Ok((65, Phase::WaitAuth)));
     for number in 1..66u64 {
@@ -193,12 +198,17 @@ fn an_ended_session_frees_its_place(rt: HostRuntime) -> Result<(), Fail> {
     Ok(())
 }
 
+/// If the save for a code fails, its client is told `HALT`. No session goes on after that, and no client is greeted.
 #[test]
 fn a_failed_save_halts_all(rt: HostRuntime) -> Result<(), Fail> {
-    let mut party = greeted(&rt, Memory::failing_at(rt.alloc(), 2, When::Before), 2)?;
+    let mut party = greeted(
+        &rt,
+        MemoryStore::failing_at(rt.alloc(), 2, FailurePoint::Before),
+        2,
+    )?;
     let steps = [
-        (1, OPENS, Phase::WaitFinal),
-        (1, PROVES, Phase::WaitCode),
+        (1, AUTH_LINE, Phase::WaitFinal),
+        (1, RESP_LINE, Phase::WaitCode),
         (1, "CODE 755224", Phase::Halted),
     ];
     play(&rt, &mut party, &steps)?;
@@ -214,7 +224,7 @@ fn a_failed_save_halts_all(rt: HostRuntime) -> Result<(), Fail> {
         hear(rt.alloc(), &mut party, 2, "")?,
         Err(DeskFault::Halted)
     );
-    let told = format!(in rt.alloc(); "{ANSWERS}HALT\n")?;
+    let told = format!(in rt.alloc(); "{LOGIN_ANSWERS}HALT\n")?;
     assert_eq!(rt; str::from_utf8(party.odd.as_slice())?, told.as_str());
     assert!(rt;
         party
@@ -225,6 +235,7 @@ fn a_failed_save_halts_all(rt: HostRuntime) -> Result<(), Fail> {
     Ok(())
 }
 
+/// A hall does not begin if its first save fails. The book is handed back as it was, and nothing is logged.
 #[test]
 fn a_hall_begins_with_a_save(rt: HostRuntime) -> Result<(), Fail> {
     let alloc = rt.alloc();
@@ -233,7 +244,7 @@ fn a_hall_begins_with_a_save(rt: HostRuntime) -> Result<(), Fail> {
     match Hall::begin(
         alloc,
         book,
-        Memory::failing_at(alloc, 1, When::Before),
+        MemoryStore::failing_at(alloc, 1, FailurePoint::Before),
         &mut log,
     ) {
         Ok(_) => return Err("a hall over a store that fails".into()),
@@ -247,9 +258,10 @@ fn a_hall_begins_with_a_save(rt: HostRuntime) -> Result<(), Fail> {
     Ok(())
 }
 
+/// A hall that was halted greets no client and hears none. Its log has only its first line.
 #[test]
 fn a_halted_hall_does_nothing(rt: HostRuntime) -> Result<(), Fail> {
-    let mut party = greeted(&rt, Memory::sound(rt.alloc()), 0)?;
+    let mut party = greeted(&rt, MemoryStore::sound(rt.alloc()), 0)?;
     party.hall.halt();
     assert_eq!(rt; greet(&mut party, true)?, Err(DeskFault::Halted));
     assert_eq!(rt;

@@ -1,6 +1,6 @@
 -- Lists with a last element, and their elements in general.
-use Rattle.std.proofs.Common.{◌≡◌, ◌⊎◌, inl, inr, ℕ, zero, suc, ◌+◌, ◌<◌, List, [], ◌∷◌, ◌++◌, length, take, refl, sym, ◌∙◌, ap, arith}
-use Rattle.std.proofs.Common.{length-append, append_assoc, subst, append-nil}
+use Rattle.std.proofs.Common.{◌≡◌, ◌⊎◌, inl, inr, ℕ, zero, suc, ◌+◌, ◌<◌, List, [], ◌∷◌, ◌++◌, length, take, refl, sym, ◌∙◌, ap, arith, length-append}
+use Rattle.std.proofs.Common.{append_assoc, subst, append-nil}
 use Rattle.std.specs.List.{AllByRecursion, AllZip}
 use Rattle.std.proofs.Math.Seq.{take-append-add}
 use Rattle.std.proofs.lemmas.List.{same_from_push}
@@ -12,10 +12,10 @@ empty_has_no_element [] x rest e = cc e
 empty_has_no_element (y ∷ before) x rest e = cc e
 
 -- an element of a list with a last element is the last one, or stands before it
-pub last_or_earlier : {A : Type 0} (log : List A) (x : A) (before : List A) (y : A) (rest : List A) → log ++ x ∷ [] ≡ before ++ y ∷ rest
-    → ((log ≡ before) × (x ≡ y)) ⊎ ((less : List A) × (log ≡ before ++ y ∷ less))
-last_or_earlier log x before y [] e = inl (same_from_push log before x y e)
-last_or_earlier log x before y (z ∷ rest) e =
+pub element_is_last_or_earlier : {A : Type 0} (log : List A) (x : A) (before : List A) (y : A) (rest : List A)
+    → log ++ x ∷ [] ≡ before ++ y ∷ rest → ((log ≡ before) × (x ≡ y)) ⊎ ((less : List A) × (log ≡ before ++ y ∷ less))
+element_is_last_or_earlier log x before y [] e = inl (same_from_push log before x y e)
+element_is_last_or_earlier log x before y (z ∷ rest) e =
     let last = nonempty_has_last z rest in
     let moved = ap (λ l. before ++ y ∷ l) last.2 ∙ sym (append_assoc before (y ∷ last.0) (last.1 ∷ [])) in
     inr (last.0, (same_from_push log (before ++ y ∷ last.0) x last.1 (e ∙ moved)).0)
@@ -71,18 +71,17 @@ pub length-last : {A : Type 0} (xs : List A) (x : A) → length (xs ++ x ∷ [])
 length-last xs x = length-append xs (x ∷ [])
 
 -- the first 0 elements of a list are none
-take_none : {A : Type 0} (xs : List A) → take 0 xs ≡ []
-take_none [] = refl
-take_none (x ∷ xs) = refl
+take-zero : {A : Type 0} (xs : List A) → take 0 xs ≡ []
+take-zero [] = refl
+take-zero (x ∷ xs) = refl
 
 -- the elements of a list up to a given one are those before it, and this one
 pub take-append_next : {A : Type 0} (xs : List A) (x : A) (more : List A) → take (length xs + 1) (xs ++ x ∷ more) ≡ xs ++ x ∷ []
-take-append_next xs x more = take-append-add xs (x ∷ more) 1 ∙ ap (λ l. xs ++ x ∷ l) (take_none more)
+take-append_next xs x more = take-append-add xs (x ∷ more) 1 ∙ ap (λ l. xs ++ x ∷ l) (take-zero more)
 
 -- at each index below a list's length there is an element, with that many elements before it
 pub index_has_element : {A : Type 0} (xs : List A) (n : ℕ) → n < length xs
-    → (before : List A) × (x : A) × (more : List A) × (xs ≡ before ++ x ∷ more)
-    × (n ≡ length before)
+    → (before : List A) × (x : A) × (more : List A) × (xs ≡ before ++ x ∷ more) × (n ≡ length before)
 index_has_element [] n less = absurd (omega (arith, less))
 index_has_element (a ∷ xs) zero less = ([], a, xs, refl, refl)
 index_has_element (a ∷ xs) (suc n) less =
@@ -90,20 +89,21 @@ index_has_element (a ∷ xs) (suc n) less =
     (a ∷ before, x, more, ap (λ l. a ∷ l) same, ap suc at)
 
 -- what is true of each element of two lists is true of each element of both appended
-pub all_append : {A : Type 0} (P : A → Type 0) (front back : List A) → AllByRecursion P front → AllByRecursion P back
+pub appended_lists_keep_all : {A : Type 0} (P : A → Type 0) (front back : List A) → AllByRecursion P front → AllByRecursion P back
     → AllByRecursion P (front ++ back)
-all_append P [] back h k = k
-all_append P (a ∷ front) back h k = (h.0, all_append P front back h.1 k)
+appended_lists_keep_all P [] back h k = k
+appended_lists_keep_all P (a ∷ front) back h k = (h.0, appended_lists_keep_all P front back h.1 k)
 
 -- what is true of each element of a list is true of each element of its front, of each after the front, and of any single one:
-pub all_front : {A : Type 0} (P : A → Type 0) (front back : List A) → AllByRecursion P (front ++ back) → AllByRecursion P front
-all_front P [] back each = tt
-all_front P (a ∷ front) back each = (each.0, all_front P front back each.1)
+pub front_keeps_all : {A : Type 0} (P : A → Type 0) (front back : List A) → AllByRecursion P (front ++ back) → AllByRecursion P front
+front_keeps_all P [] back each = tt
+front_keeps_all P (a ∷ front) back each = (each.0, front_keeps_all P front back each.1)
 
-pub all_back : {A : Type 0} (P : A → Type 0) (front back : List A) → AllByRecursion P (front ++ back) → AllByRecursion P back
-all_back P [] back each = each
-all_back P (a ∷ front) back each = all_back P front back each.1
+pub back_keeps_all : {A : Type 0} (P : A → Type 0) (front back : List A) → AllByRecursion P (front ++ back) → AllByRecursion P back
+back_keeps_all P [] back each = each
+back_keeps_all P (a ∷ front) back each = back_keeps_all P front back each.1
 
-pub all_at : {A : Type 0} (P : A → Type 0) (front : List A) (a : A) (back : List A) → AllByRecursion P (front ++ a ∷ back) → P a
-all_at P [] a back each = each.0
-all_at P (other ∷ front) a back each = all_at P front a back each.1
+pub all_includes_element : {A : Type 0} (P : A → Type 0) (front : List A) (a : A) (back : List A) → AllByRecursion P (front ++ a ∷ back)
+    → P a
+all_includes_element P [] a back each = each.0
+all_includes_element P (other ∷ front) a back each = all_includes_element P front a back each.1

@@ -5,7 +5,7 @@ use Rattle.std.specs.List.{AllByRecursion}
 use Rattle.otp_core.specs.Attempt.{CodeTexts}
 use Rattle.log_grammar.specs.Lines.{LogLine, header, said, ended, halt, mechs, log_bytes, EndsWith, IsWritable}
 use Rattle.log_grammar.specs.Bytes.{IsSplit}
-use Rattle.log_grammar.specs.LoggedReply.{LoggedReply}
+use Rattle.log_grammar.specs.LoggedAttempt.{LoggedAttempt}
 use Rattle.log_grammar.specs.Places.{got_code}
 use Rattle.log_grammar.specs.Demands.{Accounts, AllCanBeChallenged, IsFirstOf, demands}
 use Rattle.log_grammar.specs.Sessions.{Session, session_lines, session_told, SessionMeets}
@@ -13,7 +13,7 @@ use Rattle.log_grammar.specs.laws.Histories.{IsHistory}
 use Rattle.log_grammar.specs.Begins.{Begins}
 use Rattle.log_grammar.specs.VersionOne.{version_one}
 use Rattle.log_grammar.specs.LogKinds.{IsCleanOf}
-use Rattle.log_grammar.specs.Versions.{IsFront, BeginsClean, IsFirstOutsideCleanLogs, IsFaultLine}
+use Rattle.log_grammar.specs.Versions.{IsFirstOutsideCleanLogs, IsFaultLine}
 use Rattle.log_grammar.specs.laws.Outcomes.{IsSentBy}
 
 -- the session is closed: `E` is its last line
@@ -47,12 +47,6 @@ abbrev pub CleanLogsAreThoseOfSessions : Type 0
 CleanLogsAreThoseOfSessions = (accounts : Accounts) (bytes : List ℕ)
     → IsCleanOf (version_one accounts) bytes ↔ ((sessions : List Session) × IsLogOf accounts bytes sessions)
 
--- if a challenge can be written for each name, whole lines are a front if and only if they begin a clean log
-abbrev pub FrontsAreWhatBeginsCleanLogs : Type 0
-FrontsAreWhatBeginsCleanLogs = (accounts : Accounts) → AllCanBeChallenged accounts → (bytes : List ℕ) (texts : List (List ℕ))
-    → IsSplit bytes texts []
-    → IsFront accounts bytes ↔ BeginsClean accounts bytes
-
 -- if a challenge can be written for each name, a line is the fault line if and only if it is the first that begins no clean log
 abbrev pub FaultLinesBeginNoCleanLog : Type 0
 FaultLinesBeginNoCleanLog = (accounts : Accounts) → AllCanBeChallenged accounts
@@ -80,5 +74,5 @@ EndsInLoginOf log account = (s : Session) × EndsWith log (session_lines s) × I
 
 -- when the reply to a code is due, the last lines are those of a session whose client-first message names the account
 abbrev pub EachReplyDueFollowsItsLogin : Type 0
-EachReplyDueFollowsItsLogin = (accounts : Accounts) (log : List LogLine) (account : List ℕ) (sent : CodeTexts) (told : List LoggedReply)
+EachReplyDueFollowsItsLogin = (accounts : Accounts) (log : List LogLine) (account : List ℕ) (sent : CodeTexts) (told : List LoggedAttempt)
     → Begins (demands accounts) log (got_code account sent) told → EndsInLoginOf log account

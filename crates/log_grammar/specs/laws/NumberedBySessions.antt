@@ -5,7 +5,7 @@ use Rattle.std.specs.declared.option.Option.{Option}
 use Rattle.std.specs.declared.option.Option.TheVariants.{None, Some}
 use Rattle.log_grammar.specs.Lines.{LogLine, header_two, said, ended, halt, log_line_text, EndsWith}
 use Rattle.log_grammar.specs.Bytes.{ended_by_lf}
-use Rattle.log_grammar.specs.LoggedReply.{LoggedReply}
+use Rattle.log_grammar.specs.LoggedAttempt.{LoggedAttempt}
 use Rattle.log_grammar.specs.Demands.{Accounts, demands}
 use Rattle.log_grammar.specs.laws.Histories.{IsHistory}
 use Rattle.log_grammar.specs.Numbered.{Numbered, Visit, visit_lines, AreOfSessions}
@@ -30,7 +30,7 @@ pub record IsNumberedLogOf (limit : ℕ) (accounts : Accounts) (bytes : List ℕ
   pub written : AllByRecursion IsNumberedWritable log
   -- the lines are those of sessions, and either all are closed or one halted
   pub visit : ℕ → Option Visit
-  pub numbered_told : List (Numbered LoggedReply)
+  pub numbered_told : List (Numbered LoggedAttempt)
   pub sessions : AreOfSessions limit (demands accounts) log visit numbered_told
   pub finished : ((n : ℕ) → IsClosedVisit (visit n)) ⊎ ((n : ℕ) × IsHaltedVisit (visit n))
   -- the replies to each account under all numbers, in the order of the log, are a legal history of its token

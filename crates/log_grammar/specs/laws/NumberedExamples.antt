@@ -2,7 +2,7 @@
 use Rattle.std.specs.Prelude.{ℕ, List, [], ◌∷◌, ◌++◌}
 use Rattle.log_grammar.specs.Words.{offered_names}
 use Rattle.log_grammar.specs.Lines.{LogLine, said, heard, gone, ended, mechs, refuses, busy, abort}
-use Rattle.log_grammar.specs.LoggedReply.{LoggedReply}
+use Rattle.log_grammar.specs.LoggedAttempt.{LoggedAttempt}
 use Rattle.log_grammar.specs.Places.{Place}
 use Rattle.log_grammar.specs.Demands.{Accounts, demands}
 use Rattle.log_grammar.specs.Numbered.{Numbered, numbered, SpellsNumbered, MayEndNumbered}
@@ -27,5 +27,5 @@ IsWholeForTwo accounts log = (places : ℕ → Place) × SpellsNumbered 2 (deman
 
 -- if two sessions may be open at once, no log begins with these lines
 abbrev pub BeginsNoneForTwo : Accounts → List (Numbered LogLine) → Type 0
-BeginsNoneForTwo accounts log = (rest : List (Numbered LogLine)) (places : ℕ → Place) (told : List LoggedReply)
+BeginsNoneForTwo accounts log = (rest : List (Numbered LogLine)) (places : ℕ → Place) (told : List LoggedAttempt)
     → SpellsNumbered 2 (demands accounts) (log ++ rest) places told → ⊥

@@ -1,12 +1,11 @@
--- The laws of numbered lines: that a text is one or none, that a line without a number is none, and that a line is read
--- from its text.
+-- The laws of numbered lines: a text is one or none, a line without a number is none, the text of one has no LF and is not too
+-- long, and a number, a space and a text are one if and only if the text is a line that may have a number.
 use Rattle.std.specs.Prelude.{ℕ, ◌≡◌, ◌≤◌, ◌⊎◌, ◌↔◌, List, ◌∷◌, ◌++◌, length, decimal}
 use Rattle.std.specs.Str.{byte}
 use Rattle.log_grammar.specs.Bytes.{LacksLf}
-use Rattle.log_grammar.specs.Lines.{LogLine, IsLogLine, IsWritable}
+use Rattle.log_grammar.specs.Lines.{LogLine, IsLogLine}
 use Rattle.log_grammar.specs.Numbered.{Numbered, numbered}
-use Rattle.log_grammar.specs.NumberedLines.{IsSessionNumber, IsNoFirstLine, numbered_text, longest_numbered_line, IsNumberedLine}
-use Rattle.log_grammar.specs.NumberedLines.{IsNoNumberedLine}
+use Rattle.log_grammar.specs.NumberedLines.{IsSessionNumber, IsNoFirstLine, longest_numbered_line, IsNumberedLine, IsNoNumberedLine}
 
 -- each text is one numbered line or none
 abbrev pub IsOneNumberedLineOrNone : Type 0
@@ -18,12 +17,10 @@ IsOneNumberedLineOrNone = (text : List ℕ)
 abbrev pub UnnumberedLinesAreNone : Type 0
 UnnumberedLinesAreNone = (text : List ℕ) (line : LogLine) → IsLogLine text line → IsNoNumberedLine text
 
--- if a number is in its range, and a line may have a number and can be written, their text is read as this numbered line and as no
--- other, has no LF, and is not too long
-abbrev pub WrittenNumberedLinesAreRead : Type 0
-WrittenNumberedLinesAreRead = (x : Numbered LogLine) → IsSessionNumber x.number → IsNoFirstLine x.value → IsWritable x.value
-    → IsNumberedLine (numbered_text x) x × ((other : Numbered LogLine) → IsNumberedLine (numbered_text x) other → other ≡ x)
-    × LacksLf (numbered_text x) × (length (numbered_text x) ≤ longest_numbered_line)
+-- the text of a numbered line has no LF and is not too long
+abbrev pub NumberedLinesLackLf : Type 0
+NumberedLinesLackLf = (text : List ℕ) (x : Numbered LogLine) → IsNumberedLine text x
+    → LacksLf text × (length text ≤ longest_numbered_line)
 
 -- a number in its range, a space and a text are a numbered line, with this number, if and only if the text is a line that may have a number
 abbrev pub NumbersGoBeforeLines : Type 0

@@ -2,7 +2,7 @@
 use Rattle.std.proofs.Common.{◌≡◌, ◌<◌, ◌+◌, ◌↔◌, ℕ, List, refl, sym, ap, arith, ◌∙◌}
 use Rattle.otp_core.specs.Ranges.{IsMoment}
 use Rattle.otp_core.specs.Attempt.{Attempt, CodeTexts}
-use Rattle.otp_core.specs.Attempt.CodeTexts.{OneText, TwoTexts}
+use Rattle.otp_core.specs.Attempt.CodeTexts.{one_text, two_texts}
 use Rattle.otp_core.specs.Reply.{IsDueReply, IsFitting, code_text, limit_of, failures_after}
 use Rattle.otp_core.specs.History.{AreAlike, settings_of}
 use Rattle.otp_core.specs.declared.token.reply.Reply.{Reply}
@@ -40,7 +40,7 @@ alike_is_symmetric s t h k alike = record {
   settings = sym alike.settings;
   failures = sym alike.failures;
   candidates = λ m c is. iff_is_symmetric (alike.candidates m c is);
-  pairs = λ w. iff_is_symmetric (alike.pairs w);
+  pairs = λ c. iff_is_symmetric (alike.pairs c);
 }
 
 -- if one past is alike to a second, and the second to a third, the first is alike to the third
@@ -49,20 +49,20 @@ alike_is_transitive s t u h k l one other = record {
   settings = one.settings ∙ other.settings;
   failures = one.failures ∙ other.failures;
   candidates = λ m c is. iff_is_transitive (one.candidates m c is) (other.candidates m c is);
-  pairs = λ w. iff_is_transitive (one.pairs w) (other.pairs w);
+  pairs = λ c. iff_is_transitive (one.pairs c) (other.pairs c);
 }
 
 -- a counter that fits after one of two alike pasts fits after the other
 pub alike_pasts_share_fitting : (s t : TokenFields) (h k : List Attempt) (m : ℕ) (sent : CodeTexts) (c : ℕ) → AreAlike s h t k → IsMoment m
     → IsFitting s h m sent c → IsFitting t k m sent c
-alike_pasts_share_fitting s t h k m (OneText text) c alike is fits =
+alike_pasts_share_fitting s t h k m (one_text text) c alike is fits =
     ((alike.candidates m c is).0 fits.0, sym (same_settings_give_same_codes s t c alike.settings) ∙ fits.1)
-alike_pasts_share_fitting s t h k m (TwoTexts one other) c alike is (w, next, pair, first, second) = (
-  w,
+alike_pasts_share_fitting s t h k m (two_texts one other) c alike is (first_counter, next, pair, first, second) = (
+  first_counter,
   next,
-  (alike.pairs w).0 pair,
-  sym (same_settings_give_same_codes s t w alike.settings) ∙ first,
-  sym (same_settings_give_same_codes s t (w + 1) alike.settings) ∙ second,
+  (alike.pairs first_counter).0 pair,
+  sym (same_settings_give_same_codes s t first_counter alike.settings) ∙ first,
+  sym (same_settings_give_same_codes s t (first_counter + 1) alike.settings) ∙ second,
 )
 
 -- a reply that is due after one of two alike pasts is due after the other

@@ -7,8 +7,7 @@ use Rattle.std.specs.Option.{ForSome}
 use Rattle.mac_core.proofs.lemmas.Decided.{Decided, decided_equivalent, decided_both, decided_le, decided_lt, decided_same_text}
 use Rattle.otp_core.specs.Ranges.{most_counter}
 use Rattle.otp_core.specs.Attempt.{Attempt, CodeTexts, used_in}
-use Rattle.otp_core.specs.Window.{IsAbove, IsCandidate, IsPairCandidate, IsInHotpWindow, IsInTotpWindow, first_in_window}
-use Rattle.otp_core.specs.Window.{drift_after, step_at}
+use Rattle.otp_core.specs.Window.{IsAbove, IsCandidate, IsPairCandidate, IsInHotpWindow, IsInTotpWindow, first_in_window, drift_after, step_at}
 use Rattle.otp_core.specs.Reply.{IsDueReply, IsFitting, code_text, failures_after, limit_of}
 use Rattle.otp_core.specs.Laws.{SomeReplyIsDue}
 use Rattle.otp_core.specs.declared.token.reply.Reply.{Reply}
@@ -71,19 +70,19 @@ decided_candidate (Totp t) h m w =
     (decided_both _ _ (decided_above_last t.last w) (decided_above (used_in h) w))))
 
 -- it is decidable whether a counter can be the first of a pair
-decided_pair_candidate : (s : TokenFields) (h : List Attempt) (w : ℕ) → Decided (IsPairCandidate s h w)
-decided_pair_candidate (Hotp t) h w = decided_both _ _ (decided_hotp_window (first_in_window t.next (used_in h)) t.sync_ahead w)
-    (decided_le (w + 1) most_counter)
-decided_pair_candidate (Totp t) h w = inr (λ pair. pair)
+decided_pair_candidate : (s : TokenFields) (h : List Attempt) (c : ℕ) → Decided (IsPairCandidate s h c)
+decided_pair_candidate (Hotp t) h c = decided_both _ _ (decided_hotp_window (first_in_window t.next (used_in h)) t.sync_ahead c)
+    (decided_le (c + 1) most_counter)
+decided_pair_candidate (Totp t) h c = inr (λ pair. pair)
 
 -- it is decidable whether a counter fits what was sent
 decided_fitting : (s : TokenFields) (h : List Attempt) (m : ℕ) (sent : CodeTexts) (c : ℕ) → Decided (IsFitting s h m sent c)
-decided_fitting s h m (CodeTexts.OneText text) c =
+decided_fitting s h m (CodeTexts.one_text text) c =
     decided_both _ _ (decided_candidate s h m c) (decided_same_text (code_text s c) text)
-decided_fitting s h m (CodeTexts.TwoTexts first second) zero = inr (λ fits. let wrong : zero ≡ fits.0 + 1 = fits.1 in omega arith)
-decided_fitting s h m (CodeTexts.TwoTexts first second) (suc w) =
+decided_fitting s h m (CodeTexts.two_texts first second) zero = inr (λ fits. let wrong : zero ≡ fits.0 + 1 = fits.1 in omega arith)
+decided_fitting s h m (CodeTexts.two_texts first second) (suc w) =
     decided_equivalent (IsPairCandidate s h w × ((code_text s w ≡ first) × (code_text s (w + 1) ≡ second)))
-    (IsFitting s h m (CodeTexts.TwoTexts first second) (suc w))
+    (IsFitting s h m (CodeTexts.two_texts first second) (suc w))
     (λ is. (w, omega arith, is.0, is.1.0, is.1.1))
     (λ fits. by_first fits.0 (omega (arith, fits.1)) (fits.2, (fits.3, fits.4)))
     (decided_both _ _ (decided_pair_candidate s h w)
@@ -106,12 +105,12 @@ some_reply_under_bound s h m sent n bound = elim (cases_lt (failures_after s h) 
 
 -- the law: some reply is due to each attempt
 pub some_reply_is_due : SomeReplyIsDue
-some_reply_is_due (Hotp t) h m (CodeTexts.OneText text) =
-    some_reply_under_bound (Hotp t) h m (CodeTexts.OneText text) (2 ^ 63) (λ k fits. omega (arith, fits.0.most))
-some_reply_is_due (Hotp t) h m (CodeTexts.TwoTexts first second) =
-    some_reply_under_bound (Hotp t) h m (CodeTexts.TwoTexts first second) (2 ^ 63) (λ k fits. omega (arith, fits.1, fits.2.1))
-some_reply_is_due (Totp t) h m (CodeTexts.TwoTexts first second) =
-    some_reply_under_bound (Totp t) h m (CodeTexts.TwoTexts first second) 0 (λ k fits. absurd fits.2)
-some_reply_is_due (Totp t) h m (CodeTexts.OneText text) =
-    some_reply_under_bound (Totp t) h m (CodeTexts.OneText text) (step_at t m + t.max_drift + 1)
+some_reply_is_due (Hotp t) h m (CodeTexts.one_text text) =
+    some_reply_under_bound (Hotp t) h m (CodeTexts.one_text text) (2 ^ 63) (λ k fits. omega (arith, fits.0.most))
+some_reply_is_due (Hotp t) h m (CodeTexts.two_texts first second) =
+    some_reply_under_bound (Hotp t) h m (CodeTexts.two_texts first second) (2 ^ 63) (λ k fits. omega (arith, fits.1, fits.2.1))
+some_reply_is_due (Totp t) h m (CodeTexts.two_texts first second) =
+    some_reply_under_bound (Totp t) h m (CodeTexts.two_texts first second) 0 (λ k fits. absurd fits.2)
+some_reply_is_due (Totp t) h m (CodeTexts.one_text text) =
+    some_reply_under_bound (Totp t) h m (CodeTexts.one_text text) (step_at t m + t.max_drift + 1)
     (λ w fits. omega (arith, fits.0.1.not_late))

@@ -2,7 +2,7 @@
 use Rattle.std.proofs.Common.{◌≡◌, ◌≤◌, ◌<◌, ◌+◌, ◌++◌, inl, inr, ℕ, List, [], ◌∷◌, Option, Some, None, max, refl, arith}
 use Rattle.std.specs.Option.{option_map_or}
 use Rattle.otp_core.specs.Attempt.{Attempt, CodeTexts, counters_of, used_in_reply, used_in}
-use Rattle.otp_core.specs.Attempt.CodeTexts.{OneText, TwoTexts}
+use Rattle.otp_core.specs.Attempt.CodeTexts.{one_text, two_texts}
 use Rattle.otp_core.specs.Window.{IsAbove, first_in_window, greatest}
 use Rattle.otp_core.specs.Reply.{IsDueReply, IsFitting}
 use Rattle.otp_core.specs.History.{IsLegal}
@@ -48,8 +48,9 @@ candidates_are_new (Totp t) history moment c (inr pair) = absurd pair
 fitting_is_not_before_first : (t : HotpFields) (before : List Attempt) (m : ℕ) (sent : CodeTexts) (p : ℕ)
     → IsFitting (Hotp t) before m sent p
     → first_in_window t.next (used_in before) ≤ p
-fitting_is_not_before_first t before m (OneText text) p fits = fits.0.not_before
-fitting_is_not_before_first t before m (TwoTexts one other) p (w, next, pair, first, second) = omega (arith, next, pair.0.not_before)
+fitting_is_not_before_first t before m (one_text text) p fits = fits.0.not_before
+fitting_is_not_before_first t before m (two_texts one other) p (first_counter, next, pair, first, second) =
+    omega (arith, next, pair.0.not_before)
 
 -- a due reply never moves HOTP's first counter back
 reply_never_lowers_first : (t : HotpFields) (before : List Attempt) (m : ℕ) (sent : CodeTexts) (reply : Reply)

@@ -3,6 +3,7 @@ ghost use Rattle.std.specs.Prelude.{◌≡◌, ◌≤◌, ◌<◌, ◌↔◌, �
 ghost use Rattle.std.specs.Option.{ForSome};
 ghost use Rattle.otp_core.specs.TokenRanges.{IsHotpInRange, IsTotpInRange, IsInRange};
 ghost use Rattle.otp_core.specs.Window.{IsInHotpWindow, IsInTotpWindow, IsCandidate};
+ghost use Rattle.otp_core.specs.Passes.{IsOneOf};
 ghost use Rattle.otp_core.specs.Ranges.{IsMoment, last_moment, most_counter, most_steps_aside, most_drift};
 
 use crate::code::step;
@@ -20,7 +21,7 @@ pub(crate) struct Counters {
 pub(crate) fn candidates(token: &TokenFields, moment: Moment) -> Counters
     requires range { IsInRange token.now }
     requires moment { IsMoment moment }
-    ensures { (c : ℕ) → IsCandidate token.now [] moment c ↔ ((result.first ≤ c) × (c < result.end)) }
+    ensures { (c : ℕ) → IsCandidate token.now [] moment c ↔ IsOneOf result c }
 {
     match token {
         TokenFields::Hotp(token) => hotp_candidates(token),
@@ -34,7 +35,7 @@ pub(crate) fn candidates(token: &TokenFields, moment: Moment) -> Counters
 // The counters from `next` to `look_ahead` after it, up to the greatest that can pass.
 fn hotp_candidates(token: &HotpFields) -> Counters
     requires { IsHotpInRange token.now }
-    ensures { (c : ℕ) → IsInHotpWindow token.now.next token.now.look_ahead c ↔ ((result.first ≤ c) × (c < result.end)) }
+    ensures { (c : ℕ) → IsInHotpWindow token.now.next token.now.look_ahead c ↔ IsOneOf result c }
 {
     Counters {
         first: token.next,
@@ -45,8 +46,8 @@ fn hotp_candidates(token: &HotpFields) -> Counters
 /// The counters that can be the first of a pair that passes.
 pub(crate) fn pair_candidates(token: &HotpFields) -> Counters
     requires { IsHotpInRange token.now }
-    ensures pairs { (w : ℕ) → (IsInHotpWindow token.now.next token.now.sync_ahead w × (w + 1 ≤ most_counter))
-        ↔ ((result.first ≤ w) × (w < result.end)) }
+    ensures pairs { (c : ℕ) → (IsInHotpWindow token.now.next token.now.sync_ahead c × (c + 1 ≤ most_counter))
+        ↔ IsOneOf result c }
     ensures most { result.end ≤ 2 ^ 63 }
 {
     Counters {
@@ -76,7 +77,7 @@ fn totp_window(now: u64, drift: i64, back: u64, ahead: u64, max_drift: u64) -> C
     requires back { back ≤ most_steps_aside }
     requires ahead { ahead ≤ most_steps_aside }
     requires max_drift { max_drift ≤ most_drift }
-    ensures { (w : ℕ) → IsInTotpWindow now drift back ahead max_drift w ↔ ((result.first ≤ w) × (w < result.end)) }
+    ensures { (w : ℕ) → IsInTotpWindow now drift back ahead max_drift w ↔ IsOneOf result w }
 {
     let (fast, slow) = fast_and_slow(drift);
     let first = (now + fast).saturating_sub(slow + back);
@@ -92,7 +93,7 @@ fn totp_candidates(token: &TotpFields, now: u64) -> Counters
     requires range { IsTotpInRange token.now }
     requires now { now ≤ last_moment }
     ensures { (w : ℕ) → (IsInTotpWindow now token.now.drift token.now.back token.now.ahead token.now.max_drift w
-        × ForSome token.now.last (λ l. l < w)) ↔ ((result.first ≤ w) × (w < result.end)) }
+        × ForSome token.now.last (λ l. l < w)) ↔ IsOneOf result w }
 {
     let near = totp_window(now, token.drift, token.back, token.ahead, token.max_drift);
     let first = match token.last {

@@ -19,6 +19,7 @@ fn check_pairs(
     }
 }
 
+/// Two codes in a row pass up to `sync_ahead` counters ahead, where a single code does not.
 #[test]
 fn far_ahead(rt: HostRuntime) {
     // The code of counter 8 by itself is too far ahead, and two codes have to be of counters in a row.
@@ -38,6 +39,7 @@ fn far_ahead(rt: HostRuntime) {
     check_pairs(&rt, (0, 3, 0, 3, 0), &attempts);
 }
 
+/// `judge` takes one text as `attempt` does, and two as `sync` does.
 #[test]
 fn one_text_or_two(rt: HostRuntime) {
     let token = Token::hotp(hotp_fields(&rt, (0, 3, 8, 3, 0)));
@@ -50,6 +52,7 @@ fn one_text_or_two(rt: HostRuntime) {
     );
 }
 
+/// After two codes in a row, neither passes again, alone or in a pair. The code of the next counter does.
 #[test]
 fn both_counters_are_used(rt: HostRuntime) {
     let attempts = [
@@ -68,6 +71,7 @@ fn both_counters_are_used(rt: HostRuntime) {
     check_pairs(&rt, (0, 3, 8, 3, 0), &attempts);
 }
 
+/// Failures of pairs are counted with those of single codes, and lock the token. A pass sets them to 0.
 #[test]
 fn failures_of_pairs_lock(rt: HostRuntime) {
     let attempts = [
@@ -88,6 +92,7 @@ fn failures_of_pairs_lock(rt: HostRuntime) {
     check_pairs(&rt, (0, 3, 8, 2, 0), &attempts);
 }
 
+/// If two counters have the same code, the other code of the pair decides which of them passes.
 #[test]
 fn codes_that_come_twice(rt: HostRuntime) {
     // Counters 2386 and 2394 have the same code.
@@ -106,6 +111,7 @@ fn codes_that_come_twice(rt: HostRuntime) {
     }
 }
 
+/// The last counter that passes is 2^63 - 2, whose code is 891618. A pair with the code of the next one, 181742, fails.
 #[test]
 fn last_pair(rt: HostRuntime) {
     let top = 0x7fff_ffff_ffff_ffff;
@@ -123,7 +129,7 @@ fn last_pair(rt: HostRuntime) {
     check_pairs(&rt, (top - 1, 0, 0, 9, 0), &attempts);
 }
 
-// The codes of steps 1 and 2, as in RFC 6238, appendix B, and in RFC 4226, appendix D, with eight digits.
+/// The codes of steps 1 and 2, as in RFC 6238, appendix B, and in RFC 4226, appendix D, with eight digits.
 #[test]
 fn steps_have_no_pairs(rt: HostRuntime) {
     let token = Token::totp(totp_fields(&rt, (30, 10, 10, 10), (None, 0, 2, 0)));
@@ -131,7 +137,8 @@ fn steps_have_no_pairs(rt: HostRuntime) {
     let now = moment(&rt, 59);
     assert_eq!(rt; token.sync(now, b"94287082", b"37359152"), Reply::Fail);
     assert_eq!(rt; token.attempt(now, b"94287082"), Reply::Pass(1));
-    for want in [Reply::Fail, Reply::Fail, Reply::Locked] {
-        assert_eq!(rt; token.sync(now, b"37359152", b"37359152"), want);
+    for (failures, want) in [(0, Reply::Fail), (1, Reply::Fail), (2, Reply::Locked)] {
+        let reply = token.sync(now, b"37359152", b"37359152");
+        assert_eq!(rt; reply, want, "after {failures} failures");
     }
 }

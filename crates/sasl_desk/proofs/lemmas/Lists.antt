@@ -32,9 +32,9 @@ each_follows_from_both P Q R [] these those both = tt
 each_follows_from_both P Q R (x ∷ xs) these those both = (both x these.0 those.0, each_follows_from_both P Q R xs these.1 those.1 both)
 
 -- if no element passes a test, `filter` keeps none
-pub none_passes_none_kept : {X : Type 0} (p : X → Bool) (xs : List X) → AllByRecursion (λ x. p x ≡ false) xs → filter p xs ≡ []
-none_passes_none_kept p [] none = refl
-none_passes_none_kept p (x ∷ xs) none = rw none.0 (none_passes_none_kept p xs none.1)
+pub filter_keeps_none_if_none_passes : {X : Type 0} (p : X → Bool) (xs : List X) → AllByRecursion (λ x. p x ≡ false) xs → filter p xs ≡ []
+filter_keeps_none_if_none_passes p [] none = refl
+filter_keeps_none_if_none_passes p (x ∷ xs) none = rw none.0 (filter_keeps_none_if_none_passes p xs none.1)
 
 -- the element at the first place that passes is the first that does
 pub found_is_at_position : {X : Type 0} (p : X → Bool) (xs : List X) (i : ℕ) → position p xs ≡ Some i → find p xs ≡ slice_get xs i
@@ -47,8 +47,8 @@ found_is_at_position p xs i is = elim (cases_Bool (nat_lt (position_or_len p xs)
 ]
 
 -- if `position` finds no element that passes, `find` finds none
-pub no_position_finds_none : {X : Type 0} (p : X → Bool) (xs : List X) → position p xs ≡ None → find p xs ≡ None
-no_position_finds_none p xs is = elim (cases_Bool (nat_lt (position_or_len p xs) (length xs))) [
+pub find_gives_none_without_position : {X : Type 0} (p : X → Bool) (xs : List X) → position p xs ≡ None → find p xs ≡ None
+find_gives_none_without_position p xs is = elim (cases_Bool (nat_lt (position_or_len p xs) (length xs))) [
   | inl less ↦ let there = rw less at is in absurd (cc there)
   | inr not_less ↦
       let past = subst (λ (b : Bool). Decides b (position_or_len p xs < length xs)) not_less
@@ -60,13 +60,13 @@ no_position_finds_none p xs is = elim (cases_Bool (nat_lt (position_or_len p xs)
 ]
 
 -- if `find` finds no element that passes, none is counted
-pub none_found_none_counted : {X : Type 0} (p : X → Bool) (xs : List X) → find p xs ≡ None → count_by p xs ≡ 0
-none_found_none_counted p [] none = refl
-none_found_none_counted p (x ∷ xs) none = elim (cases_Bool (p x)) [
+pub none_is_counted_if_none_found : {X : Type 0} (p : X → Bool) (xs : List X) → find p xs ≡ None → count_by p xs ≡ 0
+none_is_counted_if_none_found p [] none = refl
+none_is_counted_if_none_found p (x ∷ xs) none = elim (cases_Bool (p x)) [
   | inl passes ↦ let some = rw passes at none in absurd (cc some)
   | inr fails ↦
       let rest = rw fails at none in
-      omega (arith, failing_counts_none p x fails, first_adds_its_count p x xs, none_found_none_counted p xs rest)
+      omega (arith, failing_counts_none p x fails, first_adds_its_count p x xs, none_is_counted_if_none_found p xs rest)
 ]
 
 -- the element that `find` finds passes, and what holds of each holds of it

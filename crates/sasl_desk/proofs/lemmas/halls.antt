@@ -7,9 +7,11 @@ pub mod Seats
 pub mod Turns
 pub mod Steps
 pub mod Calls
+pub mod Begins
 pub mod Greetings
 pub mod Phases
 pub mod Logs
+pub mod CallBytes
 pub mod Records
 pub mod Stores
 pub mod Alone

@@ -6,6 +6,7 @@ pub mod Calls
 pub mod Records
 pub mod Acceptances
 pub mod AnswerShapes
+pub mod OneRecord
 pub mod OneAnswer
 pub mod SameRequests
 pub mod Spent

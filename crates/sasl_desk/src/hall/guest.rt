@@ -1,4 +1,4 @@
-//! A client whose session is open in a hall.
+//! An open session of a hall, with its number: the guest of a seat.
 use crate::session::Session;
 use scram_text::NoncePart;
 

@@ -10,7 +10,7 @@ use sasl_log::{MOST_OPEN, NoMemory};
 use std::alloc::Global;
 use std::marker::Model;
 
-/// Seats for 64 sessions. Their memory is reserved once, so that no session takes more.
+/// Seats for 64 sessions. Their memory is reserved once, so that seating a guest takes none.
 #[derive(Drop)]
 pub(crate) struct Seats {
     guests: Vec<Guest>,
@@ -19,9 +19,9 @@ pub(crate) struct Seats {
 impl Model for Seats {
     ghost Value = { List Guest };
 
-    ghost view = { λ s. s.guests.items };
+    ghost view = { λ seats. seats.guests.items };
 
-    ghost invariant = { λ s. (most_open ≤ vec_capacity s.guests) × (vec_len s.guests ≤ most_open) };
+    ghost invariant = { λ seats. (most_open ≤ vec_capacity seats.guests) × (vec_len seats.guests ≤ most_open) };
 }
 
 impl Seats {

@@ -5,10 +5,10 @@ ghost use Rattle.book_format.specs.Trees.{IsBookText};
 ghost use Rattle.log_grammar.specs.Books.{accounts_in};
 ghost use Rattle.log_grammar.specs.Lines.{LogLine, said, halt};
 ghost use Rattle.log_grammar.specs.Numbered.{Numbered, numbered, of_number};
-ghost use Rattle.log_grammar.specs.LoggedReply.{LoggedReply};
-ghost use Rattle.log_grammar.specs.Versions.{IsFront, IsClean};
+ghost use Rattle.log_grammar.specs.LoggedAttempt.{LoggedAttempt};
+ghost use Rattle.log_grammar.specs.Versions.{IsLogFront, IsClean};
 ghost use Rattle.sasl_desk.specs.Alone.{HaveSameRequests, HaveSameEntries, up_to_acceptance};
-ghost use Rattle.sasl_desk.specs.Desks.{spent_by_all};
+ghost use Rattle.sasl_desk.specs.Desks.{MayHold, spent_by_all};
 ghost use Rattle.sasl_desk.specs.Halls.{HallFields, busy_lines, hall_lines, hall_bytes, numbered_bytes, phase_in, IsPhaseIn, IsHallAfter};
 ghost use Rattle.sasl_desk.specs.Keeper.{IsAttemptJudged};
 ghost use Rattle.sasl_desk.specs.Records.{HasSessionRecords};
@@ -28,20 +28,20 @@ use scram_text::laws::{has_one_client_first, has_one_server_final, spells_one_na
 /// Whatever a hall was asked, its log is a front of version 2 for the book with which it began: a clean log may begin with it.
 pub fn log_is_a_front<S: BookStore>()
     ensures { (start : BookFields) (calls : List (Numbered Call)) (hall : HallFields S) → IsHallAfter S.facts S.IsStored start calls hall
-        → IsFront (accounts_in start) (hall_bytes calls) }
+        → IsLogFront (accounts_in start) (hall_bytes calls) }
 {}
 
 /// A hall's log is clean if no session is open, if the store has failed, or if the log ends with `S HALT`.
 pub fn log_is_clean<S: BookStore>()
     ensures closed { (start : BookFields) (calls : List (Numbered Call)) (hall : HallFields S)
         → IsHallAfter S.facts S.IsStored start calls hall
-        → ((n : ℕ) → phase_in hall n ≡ None) → IsClean (accounts_in start) (hall_bytes calls) }
+        → ((number : ℕ) → phase_in hall number ≡ None) → IsClean (accounts_in start) (hall_bytes calls) }
     ensures failed { (start : BookFields) (calls : List (Numbered Call)) (hall : HallFields S)
         → IsHallAfter S.facts S.IsStored start calls hall
         → (S.facts hall.keeper.store).failed ≡ true → IsClean (accounts_in start) (hall_bytes calls) }
     ensures halted { (start : BookFields) (calls : List (Numbered Call)) (hall : HallFields S)
         → IsHallAfter S.facts S.IsStored start calls hall
-        → (lines : List (Numbered LogLine)) (n : ℕ) → hall_lines calls ≡ lines ++ numbered n (said halt) ∷ []
+        → (lines : List (Numbered LogLine)) (number : ℕ) → hall_lines calls ≡ lines ++ numbered number (said halt) ∷ []
         → IsClean (accounts_in start) (hall_bytes calls) }
 {}
 
@@ -49,58 +49,64 @@ pub fn log_is_clean<S: BookStore>()
 /// is open.
 pub fn phases_are_those_of_places<S: BookStore>()
     ensures { (start : BookFields) (calls : List (Numbered Call)) (hall : HallFields S)
-        (s : IsHallAfter S.facts S.IsStored start calls hall) (n : ℕ) → IsPhaseIn (s.places n) (phase_in hall n) }
+        (stands : IsHallAfter S.facts S.IsStored start calls hall) (number : ℕ)
+        → IsPhaseIn (stands.places number) (phase_in hall number) }
 {}
 
 /// Unless a session was turned away, its log offers mechanisms for its greeting and records all that its client did, in order, each
 /// act as is due at its place: nothing is left out, and nothing is invented.
 pub fn sessions_have_their_records<S: BookStore>()
     ensures { (start : BookFields) (calls : List (Numbered Call)) (hall : HallFields S) → IsHallAfter S.facts S.IsStored start calls hall
-        → (n : ℕ) → HasSessionRecords (accounts_in start) (of_number n calls) }
+        → (number : ℕ) → HasSessionRecords (accounts_in start) (of_number number calls) }
 {}
 
 /// The bytes of a log are those of its calls, one after another, and the lines of a session are those of its own calls. So a client
 /// is sent what the server says in the lines of its own session.
 pub fn bytes_are_those_of_calls()
-    ensures log { (c : Numbered Call) (before : List (Numbered Call))
-        → hall_bytes (c ∷ before) ≡ hall_bytes before ++ numbered_bytes (map (numbered c.number) c.value.lines) }
-    ensures lines { (n : ℕ) (calls : List (Numbered Call)) → of_number n (hall_lines calls) ≡ call_lines (of_number n calls) }
-    ensures wire { (c : Call) (before : List Call)
-        → wire_bytes (call_lines (c ∷ before)) ≡ wire_bytes (call_lines before) ++ wire_bytes c.lines }
+    ensures log { (call : Numbered Call) (before : List (Numbered Call))
+        → hall_bytes (call ∷ before) ≡ hall_bytes before ++ numbered_bytes (map (numbered call.number) call.value.lines) }
+    ensures lines { (number : ℕ) (calls : List (Numbered Call))
+        → of_number number (hall_lines calls) ≡ call_lines (of_number number calls) }
+    ensures wire { (call : Call) (before : List Call)
+        → wire_bytes (call_lines (call ∷ before)) ≡ wire_bytes (call_lines before) ++ wire_bytes call.lines }
 {}
 
-/// After each call, the store holds the text of a book that the run may leave: the hall's own or, if a save failed, perhaps the
-/// same with one more attempt.
+/// After each call, each text that the store may hold is that of a book that the run may leave: the hall's own or, if a save failed,
+/// perhaps the same with one more attempt.
 pub fn store_holds_a_book<S: BookStore>()
-    ensures { (start : BookFields) (calls : List (Numbered Call)) (hall : HallFields S) → IsHallAfter S.facts S.IsStored start calls hall
-        → (left : BookFields) × IsHallRunLeaving S.facts S.IsStored start calls left
-        × IsBookText (S.facts hall.keeper.store).saved left }
+    ensures { (start : BookFields) (calls : List (Numbered Call)) (hall : HallFields S) (text : List ℕ)
+        → IsHallAfter S.facts S.IsStored start calls hall → MayHold (S.facts hall.keeper.store) text
+        → (left : BookFields) × IsHallRunLeaving S.facts S.IsStored start calls left × IsBookText text left }
 {}
 
-/// After each call, the store has saved the text of the book to which the replies in the log lead: no reply was sent to a client
-/// before its change to the book was saved.
+/// After each call, `IsStored` is true of some text of the book to which the replies in the log lead. That the save comes before the
+/// reply is in the contract of `Keeper::judge`.
 pub fn log_is_saved<S: BookStore>()
     ensures { (start : BookFields) (calls : List (Numbered Call)) (hall : HallFields S) → IsHallAfter S.facts S.IsStored start calls hall
         → AreLinesSaved S.IsStored start (hall_lines calls) }
 {}
 
-/// A stop within a call, while the store replaces the old text with the new one, leaves what a run may leave: the hall's book with
-/// the attempt that is judged.
+/// The hall's book with one more judged attempt is a book that the run may leave: a stop within a call, while the store replaces the
+/// old text with the new one, leaves no other.
 pub fn stops_leave_runs<S: BookStore>()
-    ensures { (start : BookFields) (calls : List (Numbered Call)) (hall : HallFields S) (t : LoggedReply) (next : BookFields)
-        → IsHallAfter S.facts S.IsStored start calls hall → IsAttemptJudged hall.keeper.book t next
+    ensures { (start : BookFields) (calls : List (Numbered Call)) (hall : HallFields S) (attempt : LoggedAttempt) (next : BookFields)
+        → IsHallAfter S.facts S.IsStored start calls hall → IsAttemptJudged hall.keeper.book attempt next
         → IsHallRunLeaving S.facts S.IsStored start calls next }
 {}
 
-/// At every moment of a run, the store holds a book in which each counter is spent that replies to clients have used, and each that
-/// was spent before the run. This holds after a call, and also if the run stops within one.
+/// At every moment of a run, whichever text the store may hold is that of a book in which each counter is spent that replies to
+/// clients have used, and each that was spent before the run. This holds after a call, also of the text that a failed save was given,
+/// and if the run stops within a call.
 pub fn told_counters_are_saved<S: BookStore>()
     ensures ended { (start : BookFields) (calls : List (Numbered Call)) (hall : HallFields S)
-        (s : IsHallAfter S.facts S.IsStored start calls hall) (ps : List (List ℕ × ℕ)) → AreSpent ps start
-        → (saved : BookFields) × IsBookText (S.facts hall.keeper.store).saved saved × AreSpent (spent_by_all (reverse s.told) ++ ps) saved }
+        (stands : IsHallAfter S.facts S.IsStored start calls hall) (spent : List (List ℕ × ℕ)) (text : List ℕ)
+        → AreSpent spent start → MayHold (S.facts hall.keeper.store) text
+        → (saved : BookFields) × IsBookText text saved
+        × AreSpent (spent_by_all (reverse stands.told) ++ spent) saved }
     ensures within { (start : BookFields) (calls : List (Numbered Call)) (hall : HallFields S)
-        (s : IsHallAfter S.facts S.IsStored start calls hall) (ps : List (List ℕ × ℕ)) (t : LoggedReply) (next : BookFields)
-        → AreSpent ps start → IsAttemptJudged hall.keeper.book t next → AreSpent (spent_by_all (reverse s.told) ++ ps) next }
+        (stands : IsHallAfter S.facts S.IsStored start calls hall) (spent : List (List ℕ × ℕ)) (attempt : LoggedAttempt) (next : BookFields)
+        → AreSpent spent start → IsAttemptJudged hall.keeper.book attempt next
+        → AreSpent (spent_by_all (reverse stands.told) ++ spent) next }
 {
     begins_with_itself();
     spent_stays_spent();
@@ -110,12 +116,13 @@ pub fn told_counters_are_saved<S: BookStore>()
 /// entries of the book's accounts. Two sessions, of one hall or of two, that agree in these and were not turned away have the same
 /// lines up to there. So these do not depend on the lines of other sessions, their order, the moments or a token.
 pub fn sessions_are_told_alone<S: BookStore>()
-    ensures { (start other_start : BookFields) (calls others : List (Numbered Call)) (hall other : HallFields S) (n m : ℕ)
+    ensures { (start other_start : BookFields) (calls others : List (Numbered Call)) (hall other : HallFields S)
+        (number other_number : ℕ)
         → IsHallAfter S.facts S.IsStored start calls hall → IsHallAfter S.facts S.IsStored other_start others other
         → HaveSameEntries (accounts_in start) (accounts_in other_start)
-        → of_number n (hall_lines calls) ≢ busy_lines → of_number m (hall_lines others) ≢ busy_lines
-        → HaveSameRequests (of_number n calls) (of_number m others)
-        → up_to_acceptance (of_number n (hall_lines calls)) ≡ up_to_acceptance (of_number m (hall_lines others)) }
+        → of_number number (hall_lines calls) ≢ busy_lines → of_number other_number (hall_lines others) ≢ busy_lines
+        → HaveSameRequests (of_number number calls) (of_number other_number others)
+        → up_to_acceptance (of_number number (hall_lines calls)) ≡ up_to_acceptance (of_number other_number (hall_lines others)) }
 {
     has_one_client_first();
     has_one_server_final();

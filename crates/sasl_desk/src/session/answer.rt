@@ -35,7 +35,7 @@ pub(crate) fn silence() -> Answer
 
 /// The answer to a client that asks for the mechanism of this name, without a message: an empty challenge, or a bare `S NO` if it
 /// is not offered.
-pub(crate) fn auth_answer(mechanism_name: &[u8]) -> Answer
+pub(crate) fn answer_to_auth(mechanism_name: &[u8]) -> Answer
     ensures due { (accounts : Accounts) (server_nonce : List ℕ) → IsAnswer accounts server_nonce (asks_bare mechanism_name.now) result [] }
     ensures lines { CanBeWritten (lines_of_answer result []) }
 {

@@ -1,10 +1,10 @@
 //! A login that was challenged, and the answer to its client-final message.
 ghost use Rattle.std.specs.Prelude.{◌≡◌, ℕ, List, [], IfOk, IfErr};
 ghost use Rattle.mac_core.specs.Mechanism.{name_of};
-ghost use Rattle.scram_ends.specs.Standing.{StandsFor};
+ghost use Rattle.scram_ends.specs.Standing.{StandsForChallenged};
 ghost use Rattle.log_grammar.specs.Places.{got_final};
 ghost use Rattle.log_grammar.specs.Demands.{Accounts};
-ghost use Rattle.sasl_desk.specs.ChallengedLogin.{ChallengedLoginFields, challenged_login_of, login_of, IsChallenging};
+ghost use Rattle.sasl_desk.specs.ChallengedLogin.{ChallengedLoginFields, waiting_login_of, login_of, IsChallenging};
 
 use crate::session::answer::verdict_answer;
 use crate::session::event::Answer;
@@ -16,9 +16,9 @@ use std::alloc::{Allocator, Global};
 use std::marker::Model;
 
 /// A login that was challenged: the server that waits for its client-final message, its mechanism and the name of its account. The
-/// server is not spent, in the sense of `ServerWait::finish`.
+/// server stands for a login with this mechanism.
 #[derive(Drop)]
-pub struct ChallengedLogin {
+pub(crate) struct ChallengedLogin {
     server: ServerWait,
     mechanism: Mechanism,
     name: PlainName,
@@ -27,9 +27,9 @@ pub struct ChallengedLogin {
 impl Model for ChallengedLogin {
     ghost Value = { ChallengedLoginFields };
 
-    ghost view = { λ w. challenged_login_of w.server w.mechanism w.name };
+    ghost view = { λ login. waiting_login_of login.server login.mechanism login.name };
 
-    ghost invariant = { λ w. IsChallenging w.server w.mechanism };
+    ghost invariant = { λ login. IsChallenging login.server login.mechanism };
 }
 
 impl ChallengedLogin {
@@ -38,7 +38,7 @@ impl ChallengedLogin {
     /// The login of this account, for which the server waits.
     pub(crate) fn new(server: ServerWait, mechanism: Mechanism, name: PlainName) -> ChallengedLogin
         requires { IsChallenging server mechanism }
-        ensures { result ≡ challenged_login_of server mechanism name }
+        ensures { result ≡ waiting_login_of server mechanism name }
     {
         ChallengedLogin {
             server,
@@ -57,7 +57,7 @@ impl ChallengedLogin {
     ) -> Result<Answer, ChallengedLogin>
         requires { message.old.items ≡ [] }
         ensures due { (accounts : Accounts) (server_nonce client_first server_first : List ℕ)
-            → StandsFor self.server (login_of accounts self client_first server_first)
+            → StandsForChallenged self.server (login_of accounts self client_first server_first)
             → IfOk result (λ answer. IsAnswer accounts server_nonce
             (got_final (name_of self.mechanism) self.name client_first server_first client_final.now) answer message.new.items) }
         ensures lines { IfOk result (λ answer. CanBeWritten (lines_of_answer answer message.new.items)) }
@@ -77,7 +77,7 @@ impl ChallengedLogin {
     ) -> Result<Answer, ChallengedLogin>
         requires { message.old.items ≡ [] }
         ensures due { (accounts : Accounts) (server_nonce client_first server_first : List ℕ)
-            → StandsFor self.server (login_of accounts self client_first server_first)
+            → StandsForChallenged self.server (login_of accounts self client_first server_first)
             → IfOk result (λ answer. IsAnswer accounts server_nonce
             (got_final (name_of self.mechanism) self.name client_first server_first client_final.now) answer message.new.items) }
         ensures lines { IfOk result (λ answer. CanBeWritten (lines_of_answer answer message.new.items)) }

@@ -24,7 +24,7 @@ use std::alloc::{Allocator, Global};
 /// The answer to a client that asks for the mechanism of this name with a client-first message: a challenge, whose message is put
 /// into `message`; or a bare `S NO`, if the mechanism is not offered or the client-first message is refused. Errors: 99 NoMemory if
 /// memory runs out; `message` is then empty.
-pub(crate) fn auth_with_answer<A: Allocator>(
+pub(crate) fn answer_to_auth_with_message<A: Allocator>(
     alloc: Global,
     mechanism_name: &[u8],
     client_first: &Payload<'_>,
@@ -40,7 +40,7 @@ pub(crate) fn auth_with_answer<A: Allocator>(
     ensures err { OnErr result (message.new.items ≡ []) }
 {
     match Mechanism::of_name(mechanism_name) {
-        Some(mechanism) => first_answer(
+        Some(mechanism) => answer_to_client_first(
             alloc,
             mechanism,
             client_first,
@@ -52,8 +52,8 @@ pub(crate) fn auth_with_answer<A: Allocator>(
     }
 }
 
-/// The answer to a client-first message by this mechanism, which is offered. As for `auth_with_answer`.
-pub(crate) fn first_answer<A: Allocator>(
+/// The answer to a client-first message by this mechanism, which is offered. As for `answer_to_auth_with_message`.
+pub(crate) fn answer_to_client_first<A: Allocator>(
     alloc: Global,
     mechanism: Mechanism,
     client_first: &Payload<'_>,
@@ -69,11 +69,11 @@ pub(crate) fn first_answer<A: Allocator>(
     ensures err { OnErr result (message.new.items ≡ []) }
 {
     let text = client_first.bytes(alloc)?;
-    answer_to(mechanism, text.as_slice(), book, server_nonce, message)
+    answer_to_text(mechanism, text.as_slice(), book, server_nonce, message)
 }
 
 // Reads the name in the message, and challenges its login; a bare `S NO` if the message is refused.
-fn answer_to<A: Allocator>(
+fn answer_to_text<A: Allocator>(
     mechanism: Mechanism,
     client_first: &[u8],
     book: &Book,

@@ -14,10 +14,10 @@ ghost use Rattle.sasl_desk.specs.Sessions.{IsWaitingAt, IsRecord, turn_lines, he
 ghost use Rattle.sasl_desk.specs.Sessions.{IsTurnOnEvent, IsTurnOnLine, ComesOfLine, JudgesOnlyWhereCodeIsDue, JudgesOnlyLine};
 
 use crate::session::Session;
-use crate::session::answer::{auth_answer, bare_no, silence};
+use crate::session::answer::{answer_to_auth, bare_no, silence};
 use crate::session::challenged_login::ChallengedLogin;
 use crate::session::event::{HearResult, Recorded, Turn};
-use crate::session::first::{auth_with_answer, first_answer};
+use crate::session::first::{answer_to_auth_with_message, answer_to_client_first};
 use account_book::Book;
 use mac_core::Mechanism;
 use otp_core::Sent;
@@ -25,7 +25,7 @@ use sasl_log::ClientLine;
 use scram_text::{NoncePart, PlainName};
 use std::alloc::{Allocator, Global};
 
-/// A client that has gone away: it is recorded, and the session is over.
+/// The client has gone away: that is recorded, and the session is over.
 pub(crate) fn gone_turn<'a>() -> Turn<'a>
     ensures turn { (accounts : Accounts) (server_nonce : List ℕ) (place : Place) (event : ClientEvent) → IsRecord event place gone
         → IsTurnOnEvent accounts server_nonce event place result [] }
@@ -37,7 +37,7 @@ pub(crate) fn gone_turn<'a>() -> Turn<'a>
     }
 }
 
-/// A line that is not due, or a text that is no line: it is recorded as `C BAD`, and refused.
+/// A line that is not due, or a text that is not a line: it is recorded as `C BAD`, and refused.
 pub(crate) fn bad_turn<'a>() -> Turn<'a>
     ensures turn { (accounts : Accounts) (server_nonce : List ℕ) (place : Place) (event : ClientEvent) → IsRecord event place bad
         → IsTurnOnEvent accounts server_nonce event place result [] }
@@ -51,7 +51,7 @@ pub(crate) fn bad_turn<'a>() -> Turn<'a>
     }
 }
 
-// A client that gives up: it is refused, and the session is over.
+// The client gives up: it is sent a bare `S NO`, and the session is over.
 fn abort_turn<'a>() -> Turn<'a>
     ensures line { (accounts : Accounts) (server_nonce : List ℕ) (place : Place) → is_client_turn place ≡ true
         → IsTurnOnLine accounts server_nonce abort place result [] }
@@ -81,12 +81,12 @@ pub(crate) fn hear_auth<'a, A: Allocator>(
 {
     match line {
         ClientLine::Auth(mechanism_name) => {
-            let answer = auth_answer(mechanism_name);
+            let answer = answer_to_auth(mechanism_name);
             let recorded = Recorded::Line(ClientLine::Auth(mechanism_name));
             Ok(Turn { recorded, answer })
         }
         ClientLine::AuthWith(mechanism_name, client_first) => {
-            match auth_with_answer(
+            match answer_to_auth_with_message(
                 alloc,
                 mechanism_name,
                 &client_first,
@@ -129,7 +129,14 @@ pub(crate) fn hear_first<'a, A: Allocator>(
 {
     match line {
         ClientLine::Resp(client_first) => {
-            match first_answer(alloc, mechanism, &client_first, book, server_nonce, message) {
+            match answer_to_client_first(
+                alloc,
+                mechanism,
+                &client_first,
+                book,
+                server_nonce,
+                message,
+            ) {
                 Ok(answer) => {
                     let recorded = Recorded::Line(ClientLine::Resp(client_first));
                     Ok(Turn { recorded, answer })

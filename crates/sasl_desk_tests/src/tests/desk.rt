@@ -1,32 +1,37 @@
 //! Whole sessions at a desk: what the client is sent, and the log, line by line.
 use account_book::Book;
-use desk_in_memory::{BOOK, LOGIN, Memory, Service, When, book_at, book_text};
+use desk_in_memory::{
+    BOOK, FailurePoint, LOGIN_LINES, MemoryStore, Service, book_text, book_text_with,
+};
 use sasl_desk::{Desk, DeskFault, Event, Phase};
 use sasl_log::Clean;
 use std::process::Abort;
 use std::test::Fail;
 
 // The published login, after which the client may send codes.
-fn login(rt: &(impl Abort + AllocGlobal), store: Memory) -> Result<Service, Fail> {
+fn login(rt: &(impl Abort + AllocGlobal), store: MemoryStore) -> Result<Service, Fail> {
     let mut service = Service::begin(rt.alloc(), store)?;
     assert_eq!(rt; service.greet()?, Ok(Phase::WaitAuth));
-    let opens = service.hear(rt.alloc(), Event::Line(LOGIN[0].as_bytes()))?;
+    let opens = service.hear(rt.alloc(), Event::Line(LOGIN_LINES[0].as_bytes()))?;
     assert_eq!(rt; opens, Ok(Phase::WaitFinal));
-    let proves = service.hear(rt.alloc(), Event::Line(LOGIN[1].as_bytes()))?;
+    let proves = service.hear(rt.alloc(), Event::Line(LOGIN_LINES[1].as_bytes()))?;
     assert_eq!(rt; proves, Ok(Phase::WaitCode));
     Ok(service)
 }
 
+/// The login of RFC 5802, section 5: what the client is sent, and the log, byte for byte.
 #[test]
 fn the_published_login_is_logged(rt: HostRuntime) -> Result<(), Fail> {
-    let mut service = login(&rt, Memory::sound(rt.alloc()))?;
+    let mut service = login(&rt, MemoryStore::sound(rt.alloc()))?;
     assert_eq!(rt; service.hear(rt.alloc(), Event::Gone)?, Ok(Phase::Closed));
     service.check_after_login(rt.alloc(), "", "C GONE\nE\n", 0)
 }
 
+/// Codes of RFC 4226, appendix D, and then a line that is not due. Of the four saves, one is made as the desk begins, and one for each
+/// reply.
 #[test]
 fn codes_are_saved_and_told(rt: HostRuntime) -> Result<(), Fail> {
-    let mut service = login(&rt, Memory::sound(rt.alloc()))?;
+    let mut service = login(&rt, MemoryStore::sound(rt.alloc()))?;
     for text in ["CODE 755224", "CODE 755224", "SYNC 969429 338314"] {
         let phase = service.hear(rt.alloc(), Event::Line(text.as_bytes()))?;
         assert_eq!(rt; phase, Ok(Phase::WaitCode), "{text}");
@@ -55,8 +60,12 @@ fn check_halted(rt: &(impl Abort + AllocGlobal), service: &mut Service) -> Resul
 
 // The store fails at the first code, before or after the new text is in its place. It then has the text in which the counter
 // `held` is next.
-fn check_failed_save(rt: &(impl Abort + AllocGlobal), when: When, held: u64) -> Result<(), Fail> {
-    let mut service = login(rt, Memory::failing_at(rt.alloc(), 2, when))?;
+fn check_failed_save(
+    rt: &(impl Abort + AllocGlobal),
+    when: FailurePoint,
+    held: u64,
+) -> Result<(), Fail> {
+    let mut service = login(rt, MemoryStore::failing_at(rt.alloc(), 2, when))?;
     let phase = service.hear(rt.alloc(), Event::Line(b"CODE 755224"))?;
     assert_eq!(rt; phase, Ok(Phase::Halted));
     check_halted(rt, &mut service)?;
@@ -66,15 +75,16 @@ fn check_failed_save(rt: &(impl Abort + AllocGlobal), when: When, held: u64) -> 
     assert_eq!(rt; book.write(rt.alloc())?.as_str(), text.as_str());
     assert_eq!(rt;
         store.saved.as_str(),
-        book_at(rt.alloc(), 0, held)?.as_str()
+        book_text_with(rt.alloc(), 0, held)?.as_str()
     );
     Ok(())
 }
 
+/// The store then holds the old text, or the new one, in which counter 0 is used. The desk's book is the old one in both cases.
 #[test]
 fn a_failed_save_halts(rt: HostRuntime) -> Result<(), Fail> {
-    check_failed_save(&rt, When::Before, 0)?;
-    check_failed_save(&rt, When::After, 1)
+    check_failed_save(&rt, FailurePoint::Before, 0)?;
+    check_failed_save(&rt, FailurePoint::After, 1)
 }
 
 // What is sent to clients whose first lines are refused.
@@ -108,12 +118,12 @@ S NO :
 E
 ";
 
-// Each session has its own lines, and the log goes on with the next session.
+/// Each session has its own lines, and the log goes on with the next session.
 #[test]
 fn sessions_follow_each_other(rt: HostRuntime) -> Result<(), Fail> {
-    let mut service = Service::begin(rt.alloc(), Memory::sound(rt.alloc()))?;
+    let mut service = Service::begin(rt.alloc(), MemoryStore::sound(rt.alloc()))?;
     for text in ["AUTH PLAIN", "CODE 755224", "HALT", ""] {
-        assert_eq!(rt; service.greet()?, Ok(Phase::WaitAuth));
+        assert_eq!(rt; service.greet()?, Ok(Phase::WaitAuth), "{text}");
         let phase = service.hear(rt.alloc(), Event::Line(text.as_bytes()))?;
         assert_eq!(rt; phase, Ok(Phase::Closed), "{text}");
     }
@@ -126,9 +136,10 @@ fn sessions_follow_each_other(rt: HostRuntime) -> Result<(), Fail> {
     service.check_log(rt.alloc(), LOG_OF_REFUSED, counts)
 }
 
+/// A desk that was halted greets no client and hears none. Its log has only its first line.
 #[test]
 fn a_halted_desk_does_nothing(rt: HostRuntime) -> Result<(), Fail> {
-    let mut service = Service::begin(rt.alloc(), Memory::sound(rt.alloc()))?;
+    let mut service = Service::begin(rt.alloc(), MemoryStore::sound(rt.alloc()))?;
     service.desk.halt();
     check_halted(&rt, &mut service)?;
     assert_eq!(rt; str::from_utf8(service.log.as_slice())?, "SCRAMLOG 1\n");
@@ -136,6 +147,7 @@ fn a_halted_desk_does_nothing(rt: HostRuntime) -> Result<(), Fail> {
     Ok(())
 }
 
+/// A desk does not begin if its first save fails. The book is handed back as it was, and nothing is logged.
 #[test]
 fn a_desk_begins_with_a_save(rt: HostRuntime) -> Result<(), Fail> {
     let alloc = rt.alloc();
@@ -144,7 +156,7 @@ fn a_desk_begins_with_a_save(rt: HostRuntime) -> Result<(), Fail> {
     match Desk::begin(
         alloc,
         book,
-        Memory::failing_at(alloc, 1, When::Before),
+        MemoryStore::failing_at(alloc, 1, FailurePoint::Before),
         &mut log,
     ) {
         Ok(_) => return Err("a desk over a store that fails".into()),

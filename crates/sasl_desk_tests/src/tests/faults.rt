@@ -2,10 +2,15 @@
 use sasl_desk::{DeskFault, ServeFault};
 use std::test::Fail;
 
+/// The number of each fault of a desk, as in docs/REFUSALS.md, and its text.
 #[test]
 fn numbers_and_texts(rt: HostRuntime) -> Result<(), Fail> {
     for (fault, number, text) in [
-        (DeskFault::Halted, 72, "the desk has halted"),
+        (
+            DeskFault::Halted,
+            72,
+            "the desk or hall has halted, or its first save failed",
+        ),
         (
             DeskFault::Unwritable,
             73,
@@ -14,13 +19,17 @@ fn numbers_and_texts(rt: HostRuntime) -> Result<(), Fail> {
         (DeskFault::NoNumber, 76, "all session numbers are used"),
         (DeskFault::NoMemory, 99, "out of memory"),
     ] {
-        assert_eq!(rt; fault.number(), number);
-        assert_eq!(rt; format!(in rt.alloc(); "{fault}")?.as_str(), text);
+        assert_eq!(rt; fault.number(), number, "{text}");
+        assert_eq!(rt;
+            format!(in rt.alloc(); "{fault}")?.as_str(),
+            text,
+            "fault {number}"
+        );
     }
     Ok(())
 }
 
-// The faults of serving. The first three are also a desk's.
+/// The number of each fault of serving, as in docs/REFUSALS.md, and its text. The first three are also a desk's.
 #[test]
 fn numbers_and_texts_of_serving(rt: HostRuntime) -> Result<(), Fail> {
     for (fault, number, text) in [
@@ -38,8 +47,12 @@ fn numbers_and_texts_of_serving(rt: HostRuntime) -> Result<(), Fail> {
             "cannot write the log, so the desk has halted",
         ),
     ] {
-        assert_eq!(rt; fault.number(), number);
-        assert_eq!(rt; format!(in rt.alloc(); "{fault}")?.as_str(), text);
+        assert_eq!(rt; fault.number(), number, "{text}");
+        assert_eq!(rt;
+            format!(in rt.alloc(); "{fault}")?.as_str(),
+            text,
+            "fault {number}"
+        );
     }
     Ok(())
 }

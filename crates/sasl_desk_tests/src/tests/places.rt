@@ -1,5 +1,5 @@
 //! What ends a session at each place where it is the client's turn.
-use desk_in_memory::{ACCEPTANCE, CHALLENGE, Memory, OPENS, PROVES, Service};
+use desk_in_memory::{ACCEPTANCE, AUTH_LINE, CHALLENGE, MemoryStore, RESP_LINE, Service};
 use sasl_desk::{Event, Phase};
 use sasl_log::Clean;
 use std::process::Abort;
@@ -23,11 +23,11 @@ struct Place<'a> {
 
 // A service whose session stands there.
 fn service_at(rt: &(impl Abort + AllocGlobal), place: Place<'_>) -> Result<Service, Fail> {
-    let mut service = Service::begin(rt.alloc(), Memory::sound(rt.alloc()))?;
+    let mut service = Service::begin(rt.alloc(), MemoryStore::sound(rt.alloc()))?;
     assert_eq!(rt; service.greet()?, Ok(Phase::WaitAuth));
     for line in place.lines {
         let phase = service.hear(rt.alloc(), Event::Line(line.as_bytes()))?;
-        assert!(rt; phase.is_ok());
+        assert!(rt; phase.is_ok(), "{line}: {phase:?}");
     }
     Ok(service)
 }
@@ -97,6 +97,8 @@ const INVITED: Place<'static> = Place {
     accepted: 0,
 };
 
+/// What is not due after the offer of mechanisms, and what is refused: unknown mechanisms, an empty message, channel binding, mandatory
+/// extensions (RFC 5802).
 #[test]
 fn after_the_offer(rt: HostRuntime) -> Result<(), Fail> {
     check_ends(
@@ -117,12 +119,13 @@ fn after_the_offer(rt: HostRuntime) -> Result<(), Fail> {
     Ok(())
 }
 
+/// What is not due after a mechanism with no message, and which client-first messages are then refused.
 #[test]
 fn after_the_empty_challenge(rt: HostRuntime) -> Result<(), Fail> {
     check_ends(
         &rt,
         INVITED,
-        &[ASKS, OPENS, "CODE 755224", "SYNC 969429 338314"],
+        &[ASKS, AUTH_LINE, "CODE 755224", "SYNC 969429 338314"],
     )?;
     for line in ["RESP :", "RESP :p=tls-unique,,n=user,r=x"] {
         check_refusal(&rt, INVITED, line, "")?;
@@ -130,14 +133,14 @@ fn after_the_empty_challenge(rt: HostRuntime) -> Result<(), Fail> {
     Ok(())
 }
 
-// After the challenge, whether the client-first message came with the mechanism or after it.
+/// After the challenge, whether the client-first message came with the mechanism or after it.
 #[test]
 fn after_the_challenge(rt: HostRuntime) -> Result<(), Fail> {
-    let logged = format!(in rt.alloc(); "C {OPENS}\nS {CHALLENGE}")?;
+    let logged = format!(in rt.alloc(); "C {AUTH_LINE}\nS {CHALLENGE}")?;
     let later = format!(in rt.alloc(); "{ASKED}C {OPENS_LATER}\nS {CHALLENGE}")?;
     for place in [
         Place {
-            lines: &[OPENS],
+            lines: &[AUTH_LINE],
             logged: logged.as_str(),
             accepted: 0,
         },
@@ -150,7 +153,7 @@ fn after_the_challenge(rt: HostRuntime) -> Result<(), Fail> {
         check_ends(
             &rt,
             place,
-            &[ASKS, OPENS, "CODE 755224", "SYNC 969429 338314"],
+            &[ASKS, AUTH_LINE, "CODE 755224", "SYNC 969429 338314"],
         )?;
         check_refusal(
             &rt,
@@ -163,20 +166,23 @@ fn after_the_challenge(rt: HostRuntime) -> Result<(), Fail> {
     Ok(())
 }
 
+/// Once a login is accepted, only codes are due: its own lines are bad.
 #[test]
 fn after_the_acceptance(rt: HostRuntime) -> Result<(), Fail> {
-    let logged = format!(in rt.alloc(); "C {OPENS}\nS {CHALLENGE}C {PROVES}\nS {ACCEPTANCE}")?;
+    let logged = format!(in rt.alloc();
+        "C {AUTH_LINE}\nS {CHALLENGE}C {RESP_LINE}\nS {ACCEPTANCE}"
+    )?;
     let place = Place {
-        lines: &[OPENS, PROVES],
+        lines: &[AUTH_LINE, RESP_LINE],
         logged: logged.as_str(),
         accepted: 1,
     };
-    check_ends(&rt, place, &[ASKS, OPENS, PROVES])
+    check_ends(&rt, place, &[ASKS, AUTH_LINE, RESP_LINE])
 }
 
-// A name without an account, and one without keys for the mechanism. The salts are the first 16 bytes of the HMAC-SHA-256,
-// with the book's key, of the mechanism's name, a byte 00 and the user's name, as Python's hmac gives it. They are the same in
-// every session, and every proof is refused as a wrong one.
+/// A name without an account, and one without keys for the mechanism. The salts are the first 16 bytes of the HMAC-SHA-256,
+/// with the book's key, of the mechanism's name, a byte 00 and the user's name, as Python's hmac gives it. They are the same in
+/// every session, and every proof is refused as a wrong one.
 #[test]
 fn decoys(rt: HostRuntime) -> Result<(), Fail> {
     for (line, challenge) in [
@@ -201,7 +207,7 @@ fn decoys(rt: HostRuntime) -> Result<(), Fail> {
             logged: logged.as_str(),
             accepted: 0,
         };
-        check_refusal(&rt, place, PROVES, "e=invalid-proof")?;
+        check_refusal(&rt, place, RESP_LINE, "e=invalid-proof")?;
     }
     Ok(())
 }

@@ -1,19 +1,20 @@
 //! Calls that get no memory: they change nothing, and the same call then succeeds.
 use account_book::Book;
-use desk_in_memory::{BOOK, Memory, Service};
+use desk_in_memory::{BOOK, MemoryStore, Service};
 use linked_list_allocator::LocalHeap;
 use sasl_desk::{Desk, DeskFault, Event, Moment, Phase};
 use scram_text::NoncePart;
 use std::process::Abort;
 use std::test::Fail;
 
+/// A heap of 16 bytes has no room for the log's first line. The book and the store are handed back as they were.
 #[test]
 fn a_desk_begins_with_room_for_its_log(rt: HostRuntime) -> Result<(), Fail> {
     let alloc = rt.alloc();
     let heap = LocalHeap::new(alloc, 16)?;
     let mut log = Vec::new(&heap);
     let book = Book::read(alloc, BOOK.as_bytes())?;
-    match Desk::begin(alloc, book, Memory::sound(alloc), &mut log) {
+    match Desk::begin(alloc, book, MemoryStore::sound(alloc), &mut log) {
         Ok(_) => return Err("memory was there".into()),
         Err((book, store, fault)) => {
             assert_eq!(rt; fault, DeskFault::NoMemory);
@@ -25,11 +26,12 @@ fn a_desk_begins_with_room_for_its_log(rt: HostRuntime) -> Result<(), Fail> {
     Ok(())
 }
 
+/// A heap of 16 bytes has no room for a greeting in the log. Nothing is sent or logged, and the next greeting succeeds.
 #[test]
 fn a_greeting_needs_room(rt: HostRuntime) -> Result<(), Fail> {
     let heap = LocalHeap::new(rt.alloc(), 16)?;
     let mut none = Vec::new(&heap);
-    let mut service = Service::begin(rt.alloc(), Memory::sound(rt.alloc()))?;
+    let mut service = Service::begin(rt.alloc(), MemoryStore::sound(rt.alloc()))?;
     let server_nonce = NoncePart::new(b"3rfcNHYJY1ZVvWVs7j").ok_or("a part of a nonce")?;
     let Service { desk, wire, log } = &mut service;
     if desk.phase() != Phase::Closed {
@@ -46,11 +48,12 @@ fn a_greeting_needs_room(rt: HostRuntime) -> Result<(), Fail> {
     Ok(())
 }
 
+/// A heap of 16 bytes has no room for what the client is sent. The session stays where it is, and then hears the same line.
 #[test]
 fn a_turn_needs_room(rt: HostRuntime) -> Result<(), Fail> {
     let heap = LocalHeap::new(rt.alloc(), 16)?;
     let mut none = Vec::new(&heap);
-    let mut service = Service::begin(rt.alloc(), Memory::sound(rt.alloc()))?;
+    let mut service = Service::begin(rt.alloc(), MemoryStore::sound(rt.alloc()))?;
     assert_eq!(rt; service.greet()?, Ok(Phase::WaitAuth));
     let moment = Moment::new(3).ok_or("a moment")?;
     let asks = Event::Line(b"AUTH SCRAM-SHA-1");

@@ -78,6 +78,7 @@ fn again(text: &[u8], number: u64, out: &mut Vec<u8>) -> bool {
     session == number && write_numbered_line(session, &line, out).is_ok()
 }
 
+/// Each line is read with its number, and written again byte for byte.
 #[test]
 fn numbered_lines(rt: HostRuntime) {
     for (number, text) in TWO_SESSIONS {
@@ -92,6 +93,7 @@ fn numbered_lines(rt: HostRuntime) {
     }
 }
 
+/// Texts that are almost numbered lines of docs/FORMATS.md.
 #[test]
 fn texts_that_are_no_numbered_lines(rt: HostRuntime) {
     for text in NO_LINES {
@@ -103,6 +105,7 @@ fn texts_that_are_no_numbered_lines(rt: HostRuntime) {
     }
 }
 
+/// What was written before it stays, and no LF is written.
 #[test]
 fn a_numbered_line_is_appended(rt: HostRuntime) -> Result<(), Fail> {
     let mut out = Vec::from_slice(rt.alloc(), b"SCRAMLOG 2\n")?;
@@ -111,6 +114,7 @@ fn a_numbered_line_is_appended(rt: HostRuntime) -> Result<(), Fail> {
     Ok(())
 }
 
+/// A line after its number and a space has at most 6202 bytes, whatever the length of the number (docs/FORMATS.md).
 #[test]
 fn longest_numbered_lines(rt: HostRuntime) -> Result<(), Fail> {
     let alloc = rt.alloc();
@@ -136,6 +140,8 @@ fn longest_numbered_lines(rt: HostRuntime) -> Result<(), Fail> {
     Ok(())
 }
 
+/// The longest numbered line has 6222 bytes. A text that begins with no session number is no line up to this length, and too long
+/// beyond it.
 #[test]
 fn long_texts_without_a_number(rt: HostRuntime) -> Result<(), Fail> {
     let alloc = rt.alloc();
@@ -158,6 +164,7 @@ fn long_texts_without_a_number(rt: HostRuntime) -> Result<(), Fail> {
     Ok(())
 }
 
+/// A text of 6202 bytes after a number is no line, and one of a byte more is too long.
 #[test]
 fn long_texts_after_a_number(rt: HostRuntime) -> Result<(), Fail> {
     let alloc = rt.alloc();

@@ -60,6 +60,7 @@ fn place_of(fault: Option<AuditFault>) -> Option<(u64, u16)> {
     Some((line, why.number()))
 }
 
+/// The published login has 8 lines, and becomes UPGRADED.
 #[test]
 fn a_login_is_upgraded(rt: HostRuntime) -> Result<(), Fail> {
     let log = log_of(rt.alloc(), &LOGIN)?;
@@ -67,6 +68,7 @@ fn a_login_is_upgraded(rt: HostRuntime) -> Result<(), Fail> {
     Ok(())
 }
 
+/// Sessions are numbered from 1 on in the order of the log, also one that is still open.
 #[test]
 fn each_session_has_its_number(rt: HostRuntime) -> Result<(), Fail> {
     let names = "S MECHS SCRAM-SHA-256 SCRAM-SHA-1";
@@ -99,6 +101,7 @@ fn each_session_has_its_number(rt: HostRuntime) -> Result<(), Fail> {
     Ok(())
 }
 
+/// An upgrade looks only at the form of each line. Each `E` ends a session, and the next line has the next number.
 #[test]
 fn lines_need_not_be_due(rt: HostRuntime) -> Result<(), Fail> {
     let log = log_of(
@@ -122,6 +125,7 @@ fn lines_need_not_be_due(rt: HostRuntime) -> Result<(), Fail> {
     Ok(())
 }
 
+/// A log that ends in a line, before its LF, is cut in this line (80 in docs/REFUSALS.md).
 #[test]
 fn a_log_is_cut_in_each_line(rt: HostRuntime) -> Result<(), Fail> {
     let alloc = rt.alloc();
@@ -135,6 +139,7 @@ fn a_log_is_cut_in_each_line(rt: HostRuntime) -> Result<(), Fail> {
     Ok(())
 }
 
+/// A first line other than `SCRAMLOG 1`, and a text that is no line of a log, are at fault (81 in docs/REFUSALS.md), whatever follows.
 #[test]
 fn lines_that_are_none(rt: HostRuntime) -> Result<(), Fail> {
     let alloc = rt.alloc();
@@ -158,6 +163,8 @@ fn lines_that_are_none(rt: HostRuntime) -> Result<(), Fail> {
     Ok(())
 }
 
+/// A line of a log has at most 6202 bytes. Without its LF the longest is cut (80), while a longer one is no line (81) with or without
+/// it.
 #[test]
 fn lengths_of_lines(rt: HostRuntime) -> Result<(), Fail> {
     let alloc = rt.alloc();
@@ -178,6 +185,7 @@ fn lengths_of_lines(rt: HostRuntime) -> Result<(), Fail> {
     Ok(())
 }
 
+/// Wherever a read fails, the result is that it failed, and nothing is appended.
 #[test]
 fn reads_that_fail_after_each_byte(rt: HostRuntime) -> Result<(), Fail> {
     let log = log_of(rt.alloc(), &LOGIN)?;
@@ -194,6 +202,7 @@ fn reads_that_fail_after_each_byte(rt: HostRuntime) -> Result<(), Fail> {
     Ok(())
 }
 
+/// A fault of line 3 is told, although a read fails after the last line.
 #[test]
 fn a_fault_before_a_failed_read_is_told(rt: HostRuntime) -> Result<(), Fail> {
     let log = log_of(rt.alloc(), &["SCRAMLOG 1", "E", "S"])?;
@@ -204,6 +213,7 @@ fn a_fault_before_a_failed_read_is_told(rt: HostRuntime) -> Result<(), Fail> {
     Ok(())
 }
 
+/// After the fault of line 2, the source gives the first byte of line 3.
 #[test]
 fn nothing_is_taken_after_the_line_at_fault(rt: HostRuntime) -> Result<(), Fail> {
     let mut source = OverRead::new(&b"SCRAMLOG 1\nx\nE\n"[..]);
@@ -229,6 +239,8 @@ fn had_memory(alloc: Global, bytes: usize) -> Result<Option<bool>, Fail> {
     }
 }
 
+/// With 64 to 3200 bytes of memory the login is upgraded, or memory runs out and nothing is appended. 16 bytes are too few, and 4096
+/// are enough.
 #[test]
 fn refused_memory(rt: HostRuntime) -> Result<(), Fail> {
     let alloc = rt.alloc();

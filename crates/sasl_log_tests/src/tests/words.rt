@@ -21,6 +21,7 @@ fn is_moment(text: &[u8], seconds: u64) -> bool {
     moment(text).is_some_and(|found| found.seconds() == seconds)
 }
 
+/// A word is found only where a text begins, with the space after it. The first space cuts a text, also at its beginning or end.
 #[test]
 fn words(rt: HostRuntime) {
     assert!(rt; goes_on(b"CODE 755224", b"CODE ", b"755224"));
@@ -33,6 +34,7 @@ fn words(rt: HostRuntime) {
     assert!(rt; cut(b"ABORT").is_none());
 }
 
+/// Session numbers are 1 to 2^63 - 2, and moments end with the year 9999. Neither has a sign or a zero in front.
 #[test]
 fn numbers(rt: HostRuntime) {
     assert!(rt; is_numbered(b"1 C GONE", 1, b"C GONE"));

@@ -7,34 +7,32 @@ use Rattle.scram_text.specs.Messages.{ServerFirstParts}
 use Rattle.scram_text.proofs.lemmas.FirstUnmet.{met_rows_have_no_first_unmet}
 use Rattle.scram_text.proofs.lemmas.ServerFirst.{has_one_server_first}
 use Rattle.scram_ends.specs.Stages.{Started}
-use Rattle.scram_ends.specs.Client.{IsStarted, challenge_faults_in_order, AsksOfChallenge, IsAnswerable, IsChallengeFault}
+use Rattle.scram_ends.specs.Client.{StandsForStarted, challenge_faults_in_order, AsksOfChallenge, IsAnswerable, IsChallengeFault}
 use Rattle.scram_ends.specs.declared.client.Limits.{Limits}
 use Rattle.scram_ends.specs.declared.client.ClientOne.{ClientOne}
 use Rattle.scram_ends.specs.declared.client.ClientFault.{ClientFault}
 use Rattle.scram_ends.specs.declared.client.ClientFault.TheVariants.{Text}
 
 -- a challenge's nonce that does not begin with the client's is not the client's with more after it
-pub nonce_begins_otherwise : (client_nonce nonce sent prefix : List ℕ) → sent ≡ nonce → prefix ≡ client_nonce
-    → ((rest : List ℕ) → sent ≢ prefix ++ rest)
-    → (more : List ℕ) → nonce ≡ client_nonce ++ more → ⊥
+pub nonce_begins_otherwise : (client_nonce nonce sent prefix : List ℕ)
+    → sent ≡ nonce → prefix ≡ client_nonce → ((rest : List ℕ) → sent ≢ prefix ++ rest) → (more : List ℕ) → nonce ≡ client_nonce ++ more → ⊥
 nonce_begins_otherwise client_nonce nonce sent prefix same is none more cut =
     none more (same ∙ (cut ∙ ap (λ (front : List ℕ). front ++ more) (sym is)))
 
 -- a challenge's nonce that begins with the client's is the client's with the rest after it
-pub nonce_begins_with_clients : (client_nonce nonce sent prefix rest : List ℕ) → sent ≡ nonce → prefix ≡ client_nonce
-    → sent ≡ prefix ++ rest
-    → nonce ≡ client_nonce ++ rest
+pub nonce_begins_with_clients : (client_nonce nonce sent prefix rest : List ℕ)
+    → sent ≡ nonce → prefix ≡ client_nonce → sent ≡ prefix ++ rest → nonce ≡ client_nonce ++ rest
 nonce_begins_with_clients client_nonce nonce sent prefix rest same is cut = sym same ∙ (cut ∙ ap (λ (front : List ℕ). front ++ rest) is)
 
 -- if a challenge's nonce is the client's with nothing after it, it is not longer
-pub nonce_is_not_longer : (client_nonce nonce rest : List ℕ) → nonce ≡ client_nonce ++ rest → eqb (length rest) 0 ≡ true
-    → length client_nonce < length nonce → ⊥
+pub nonce_is_not_longer : (client_nonce nonce rest : List ℕ)
+    → nonce ≡ client_nonce ++ rest → eqb (length rest) 0 ≡ true → length client_nonce < length nonce → ⊥
 nonce_is_not_longer client_nonce nonce rest is empty long =
     omega (arith, long, ap length is, length-append client_nonce rest, eqb-true (length rest) 0 empty)
 
 -- if a challenge's nonce is the client's with more after it, it is longer
-pub nonce_is_longer : (client_nonce nonce rest : List ℕ) → nonce ≡ client_nonce ++ rest → eqb (length rest) 0 ≡ false
-    → length client_nonce < length nonce
+pub nonce_is_longer : (client_nonce nonce rest : List ℕ)
+    → nonce ≡ client_nonce ++ rest → eqb (length rest) 0 ≡ false → length client_nonce < length nonce
 nonce_is_longer client_nonce nonce rest is some =
     omega (arith, ap length is, length-append client_nonce rest, eqb-false (length rest) 0 some)
 
@@ -49,7 +47,8 @@ refused_is_not_answerable limits client_nonce server_first fault c h a =
 
 -- a fault of a challenge for the limits and the nonce that the client keeps is a fault for those of its login
 pub login_has_challenge_fault : (w : ClientOne) (l : Started) (server_first : List ℕ) (fault : ClientFault)
-    → IsStarted w l → IsChallengeFault w.limits w.nonce.items server_first fault → IsChallengeFault l.limits l.nonce server_first fault
+    → StandsForStarted w l → IsChallengeFault w.limits w.nonce.items server_first fault
+    → IsChallengeFault l.limits l.nonce server_first fault
 login_has_challenge_fault w l server_first fault started is =
     subst (λ (limits : Limits). IsChallengeFault limits l.nonce server_first fault) started.limits
     (subst (λ (nonce : List ℕ). IsChallengeFault w.limits nonce server_first fault) started.nonce is)

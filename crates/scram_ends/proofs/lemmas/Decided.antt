@@ -20,8 +20,8 @@ use Rattle.scram_ends.specs.Opening.{Opening, IsAllowed}
 use Rattle.scram_ends.specs.Verdict.{refusals_in_order, AsksOfFinal, Due, accept, refuse, IsVerdictOn}
 use Rattle.scram_ends.specs.Laws.{SomeVerdictIsDue}
 use Rattle.scram_ends.specs.declared.verdict.Refusal.{Refusal}
-use Rattle.scram_ends.specs.declared.verdict.Refusal.TheVariants.{InvalidEncoding, ExtensionsNotSupported, OtherNonce, Channel}
-use Rattle.scram_ends.specs.declared.verdict.Refusal.TheVariants.{InvalidProof, NotAuthorised}
+use Rattle.scram_ends.specs.declared.verdict.Refusal.TheVariants.{InvalidEncoding, ExtensionsNotSupported, OtherNonce, Channel, InvalidProof}
+use Rattle.scram_ends.specs.declared.verdict.Refusal.TheVariants.{NotAuthorised}
 use Rattle.scram_text.proofs.lemmas.FirstUnmet.{first_unmet_or_all_met}
 
 -- it is decidable whether a name is among others
@@ -45,8 +45,7 @@ decided_allowed e name (Some authzid) = elim (decided_same_text authzid name) [
 decided_proof : (m : Mechanism) (keys : Keys) (auth proof : List ℕ) → Decided (IsProof m keys auth proof)
 decided_proof m keys auth proof =
     decided_equivalent ((length proof ≡ length_by m) × (stored_key_by m (xor_bytes proof (client_signature m keys auth)) ≡ keys.stored))
-    (IsProof m keys auth proof)
-    (λ h. record { len = h.0; opens = h.1 }) (λ p. (p.len, p.opens))
+    (IsProof m keys auth proof) (λ h. record { len = h.0; opens = h.1 }) (λ p. (p.len, p.opens))
     (decided_both _ _ (decided_same_number (length proof) (length_by m)) (decided_same_text _ _))
 
 -- it is decidable whether a proof is one for keys that may be missing

@@ -5,6 +5,7 @@ use Rattle.mac_core.specs.Mechanism.{length_by, hi_by, client_key_by, stored_key
 use Rattle.mac_core.specs.Keys.{xor_bytes}
 use Rattle.mac_core.specs.declared.mechanism.Mechanism.{Mechanism}
 use Rattle.mac_core.specs.declared.mechanism.Mechanism.TheVariants.{ScramSha1, ScramSha256}
+use Rattle.scram_text.specs.Limits.{longest_tag}
 use Rattle.scram_text.specs.Parts.{have_mandatory}
 use Rattle.scram_text.specs.Messages.{ClientFirstParts, ServerFirstParts, server_first_mandatory, verifier}
 use Rattle.scram_text.proofs.lemmas.Base64.{bytes_are_field}
@@ -20,7 +21,8 @@ use Rattle.scram_ends.specs.Login.{IsAuthentic, IsValidLogin}
 use Rattle.scram_ends.specs.First.{IsChallengeTo}
 use Rattle.scram_ends.specs.Honest.{IsHonest, honest_signature}
 use Rattle.scram_ends.specs.Laws.{HonestLogsIn}
-use Rattle.scram_ends.proofs.lemmas.Clients.{honest_is_taken_up, proofs_are_same, signatures_are_same}
+use Rattle.scram_ends.proofs.lemmas.client_messages.ClientFirst.{honest_is_taken_up}
+use Rattle.scram_ends.proofs.lemmas.client_messages.Expectations.{proofs_are_same, signatures_are_same}
 use Rattle.scram_ends.proofs.lemmas.Verdicts.{acceptance_is_due}
 use Rattle.scram_ends.proofs.lemmas.Written.{signature_can_be_written, signature_is_short}
 use Rattle.mac_core.proofs.lemmas.Lengths.{length-hmac_by}
@@ -32,19 +34,19 @@ digest_length_is_in_range ScramSha1 = (omega arith, omega arith)
 digest_length_is_in_range ScramSha256 = (omega arith, omega arith)
 
 -- the server-final message that accepts with a signature has this signature as its verifier
-due_text_is_authentic : (signature : List ℕ) → AreBytes signature → 1 ≤ length signature → length signature ≤ 64
-    → IsAuthentic (due_text (accept signature)) signature
+pub due_text_is_authentic : (signature : List ℕ)
+    → AreBytes signature → 1 ≤ length signature → length signature ≤ longest_tag → IsAuthentic (due_text (accept signature)) signature
 due_text_is_authentic signature fits some within = record {
   last = final_due (accept signature);
   is_last = written_is_server_final (verifier signature) [] (signature_is_text signature fits)
-      (signature_can_be_written signature (bytes_are_field 64 signature fits some within)) (signature_is_short signature within);
+      (signature_can_be_written signature (bytes_are_field longest_tag signature fits some within)) (signature_is_short signature within);
   not_mandatory = refl;
   is_verifier = refl;
 }
 
 -- the proof made from a password is a proof for the keys of this password
-password_proof_passes : (m : Mechanism) (password salt auth proof : List ℕ) (count : ℕ) → proof ≡ proof_of m password salt count auth
-    → IsProof m (password_keys m password salt count) auth proof
+password_proof_passes : (m : Mechanism) (password salt auth proof : List ℕ) (count : ℕ)
+    → proof ≡ proof_of m password salt count auth → IsProof m (password_keys m password salt count) auth proof
 password_proof_passes m password salt auth proof count is =
     let key = client_key_by m (hi_by m password salt count) in
     let signature = client_signature m (password_keys m password salt count) auth in
@@ -68,7 +70,7 @@ honest_login_opens e server_nonce l some challenge honest =
     let same = has_one_server_first l.server_first honest.challenge _ honest.is_challenge challenge.is_challenge in
     record {
       is_first = honest.is_first.is_first;
-      taken_up = honest_is_taken_up l.name l.authzid l.nonce l.client_first honest.first honest.is_first;
+      taken_up = honest_is_taken_up honest.is_first;
       is_challenge = honest.is_challenge;
       not_mandatory = ap (λ (p : ServerFirstParts). server_first_mandatory p) same;
       longer = (

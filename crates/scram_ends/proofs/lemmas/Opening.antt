@@ -21,8 +21,8 @@ pub one_name_per_saslname : (one other part also : List ℕ) → part ≡ also �
 one_name_per_saslname one other part also same is is_also = one_name_per_spelling one other (sym is.spelled ∙ (same ∙ is_also.spelled))
 
 -- the saslname of a name to act as, if there is one, spells at most one plain name
-pub one_authzid_per_saslname : (one other part also : Option (List ℕ)) → part ≡ also → IsAuthzidOf one part → IsAuthzidOf other also
-    → one ≡ other
+pub one_authzid_per_saslname : (one other part also : Option (List ℕ))
+    → part ≡ also → IsAuthzidOf one part → IsAuthzidOf other also → one ≡ other
 one_authzid_per_saslname None None part also same is is_also = refl
 one_authzid_per_saslname (Some one) (Some other) (Some part) (Some also) same is is_also =
     ap (λ (name : List ℕ). Some name) (one_name_per_saslname one other part also (same_Some part also same) is is_also)
@@ -45,8 +45,8 @@ openings_are_same : (a b : ClientFirstParts) (name other : List ℕ) (authzid al
 openings_are_same a b name other authzid also x y e f g h = cc
 
 -- two texts are at most one opening of an account
-pub one_opening : (e : Entry) (client_first server_first : List ℕ) (o other : Opening) → IsOpening e client_first server_first o
-    → IsOpening e client_first server_first other → o ≡ other
+pub one_opening : (e : Entry) (client_first server_first : List ℕ) (o other : Opening)
+    → IsOpening e client_first server_first o → IsOpening e client_first server_first other → o ≡ other
 one_opening e client_first server_first o other is also =
     let first : o.first ≡ other.first = has_one_client_first client_first o.first other.first is.is_first also.is_first in
     openings_are_same o.first other.first o.name other.name o.authzid other.authzid o.challenge other.challenge first
@@ -57,8 +57,8 @@ one_opening e client_first server_first o other is also =
     (has_one_server_first server_first o.challenge other.challenge is.is_challenge also.is_challenge)
 
 -- parts with which a server takes up a login meet every row
-taken_up_meets_rows : (first : ClientFirstParts) (name : List ℕ) (authzid : Option (List ℕ)) → IsTakenUp first name authzid
-    → AllByRecursion (λ row. AsksOfFirst row first) first_faults_in_order
+taken_up_meets_rows : (first : ClientFirstParts) (name : List ℕ) (authzid : Option (List ℕ))
+    → IsTakenUp first name authzid → AllByRecursion (λ row. AsksOfFirst row first) first_faults_in_order
 taken_up_meets_rows first name authzid taken =
     (taken.not_mandatory, (taken.unbound, ((name, authzid, taken.is_name, taken.is_authzid), tt)))
 

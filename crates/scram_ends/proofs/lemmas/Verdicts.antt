@@ -1,29 +1,27 @@
 -- At most one verdict is due, and acceptance is due if and only if the login is valid.
-use Rattle.std.proofs.Common.{◌≡◌, ◌↔◌, ℕ, inl, inr, List, sym, ◌∙◌, ap, subst, refl}
+use Rattle.std.proofs.Common.{◌≡◌, ℕ, inl, inr, List, sym, ◌∙◌, ap, subst, refl}
 use Rattle.std.proofs.lemmas.Option.{same_Some}
-use Rattle.scram_text.specs.Messages.{ClientFinalParts, IsClientFinal, IsServerFinal}
+use Rattle.scram_text.specs.Messages.{ClientFinalParts, IsClientFinal}
 use Rattle.scram_text.proofs.lemmas.ClientFinal.{has_one_client_final}
 use Rattle.scram_ends.specs.Entry.{Keys}
 use Rattle.scram_ends.specs.Stages.{Challenged}
 use Rattle.scram_ends.specs.Auth.{auth_message, server_signature}
 use Rattle.scram_ends.specs.Opening.{Opening, IsOpening}
-use Rattle.scram_ends.specs.Verdict.{refusals_in_order, AsksOfFinal, Due, accept, refuse, IsVerdictOn, IsDueToParts, IsDue, final_due}
-use Rattle.scram_ends.specs.Verdict.{due_text, verdict_of}
+use Rattle.scram_ends.specs.Verdict.{refusals_in_order, AsksOfFinal, Due, accept, refuse, IsVerdictOn, IsDueToParts, IsDue}
 use Rattle.scram_ends.specs.Login.{IsAuthentic, IsValidLogin}
 use Rattle.scram_ends.specs.Laws.{AtMostOneVerdictIsDue, AcceptsExactlyValid}
 use Rattle.scram_ends.specs.declared.verdict.Refusal.{Refusal}
 use Rattle.scram_ends.specs.declared.verdict.Refusal.TheVariants.{InvalidEncoding}
-use Rattle.scram_ends.specs.declared.verdict.Verdict.TheVariants as verdict
 use Rattle.scram_ends.proofs.lemmas.Opening.{one_opening}
 use Rattle.scram_text.proofs.lemmas.FirstUnmet.{met_rows_have_no_first_unmet, one_first_unmet}
 
 -- a refusal is no acceptance
-refusal_is_not_acceptance : (r : Refusal) (signature : List ℕ) → refuse r ≡ accept signature → ⊥
+pub refusal_is_not_acceptance : (r : Refusal) (signature : List ℕ) → refuse r ≡ accept signature → ⊥
 refusal_is_not_acceptance r signature same = cc
 
 -- at most one verdict is due to the parts
-one_verdict_on_parts : (l : Challenged) (o : Opening) (p : ClientFinalParts) (d other : Due) → IsVerdictOn l o p d → IsVerdictOn l o p other
-    → d ≡ other
+one_verdict_on_parts : (l : Challenged) (o : Opening) (p : ClientFinalParts) (d other : Due)
+    → IsVerdictOn l o p d → IsVerdictOn l o p other → d ≡ other
 one_verdict_on_parts l o p (accept one) (accept other) is also =
     let signed : Keys → List ℕ = λ keys. server_signature l.mechanism keys (auth_message o.first l.server_first p) in
     let keys : is.1.0 ≡ also.1.0 = same_Some is.1.0 also.1.0 (sym is.1.1 ∙ also.1.1) in
@@ -67,8 +65,8 @@ acceptance_is_due l client_final server_final v = inr (record {
 })
 
 -- if acceptance is due, its signature is the server's
-pub due_signature_is_servers : (l : Challenged) (client_final signature : List ℕ) → IsDue l client_final (accept signature)
-    → (keys : Keys) × (auth : List ℕ) × (signature ≡ server_signature l.mechanism keys auth)
+pub due_signature_is_servers : (l : Challenged) (client_final signature : List ℕ)
+    → IsDue l client_final (accept signature) → (keys : Keys) × (auth : List ℕ) × (signature ≡ server_signature l.mechanism keys auth)
 due_signature_is_servers l client_final signature (inl none) = absurd (refusal_is_not_acceptance InvalidEncoding signature (sym none.1))
 due_signature_is_servers l client_final signature (inr due) =
     let signed = due.is_verdict.1 in
@@ -109,23 +107,4 @@ accepts_exactly_valid l client_final server_final = (
     acceptance_is_due l client_final server_final v,
     v.authentic,
   ),
-)
-
--- a verdict that refuses is not the one that accepts
-refused_is_not_accepted : (r : Refusal) → verdict.Refused r ≡ verdict.Accepted → ⊥
-refused_is_not_accepted r same = cc
-
--- acceptance with the message due makes a valid login, and a refusal makes none
-pub accepted_iff_valid : (l : Challenged) (client_final : List ℕ) (d : Due) → IsDue l client_final d
-    → IsServerFinal (due_text d) (final_due d)
-    → (verdict_of d ≡ verdict.Accepted) ↔ IsValidLogin l client_final (due_text d)
-accepted_iff_valid l client_final (accept signature) due is_last =
-    let authentic : IsAuthentic (due_text (accept signature)) signature =
-    record { last = final_due (accept signature); is_last = is_last; not_mandatory = refl; is_verifier = refl } in
-    ((λ _. (accepts_exactly_valid l client_final (due_text (accept signature))).0 (signature, due, authentic)), λ _. refl)
-accepted_iff_valid l client_final (refuse r) due is_last = (
-  (λ same. absurd (refused_is_not_accepted r same)),
-  λ valid. let accepted = (accepts_exactly_valid l client_final (due_text (refuse r))).1 valid in
-      absurd (refusal_is_not_acceptance r accepted.0
-      (at_most_one_verdict_is_due l client_final (refuse r) (accept accepted.0) due accepted.1)),
 )

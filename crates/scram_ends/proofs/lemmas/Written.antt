@@ -3,24 +3,23 @@ use Rattle.std.proofs.Common.{◌≡◌, ◌≤◌, ◌<◌, ◌^◌, ◌-◌, �
 use Rattle.std.specs.Prelude.{decimal}
 use Rattle.std.proofs.lemmas.Fmt.{length-decimal-le}
 use Rattle.std.proofs.lemmas.Grind.{common_steps}
-use Rattle.scram_text.specs.Limits.{longest_message, longest_nonce}
+use Rattle.scram_text.specs.Limits.{longest_message, longest_nonce, longest_salt, longest_tag}
 use Rattle.scram_text.specs.Class.{IsNonce}
 use Rattle.scram_text.specs.Base64Field.{IsField}
 use Rattle.scram_text.specs.Messages.{server_first_text, verifier, server_error, server_final_text}
-use Rattle.scram_text.specs.Written.{server_first_of, server_final_of, IsExtensionText, CanBeVerifierOrError, CanBeServerFirst}
-use Rattle.scram_text.specs.Written.{CanBeServerFinal}
+use Rattle.scram_text.specs.Written.{server_first_of, server_final_of, IsExtensionText, CanBeVerifierOrError, CanBeServerFirst, CanBeServerFinal}
 use Rattle.scram_text.proofs.lemmas.Base64.{length-base64}
 use Rattle.scram_text.proofs.lemmas.Texts.{empty_is_text, plain_is_text}
 use Rattle.scram_text.proofs.lemmas.messages_composed.ServerFirst.{pieces_compose_server_first}
 use Rattle.scram_text.proofs.lemmas.messages_composed.ServerFinal.{pieces_compose_server_final}
 use Rattle.scram_ends.specs.Verdict.{error_value}
 use Rattle.scram_ends.specs.declared.verdict.Refusal.{Refusal}
-use Rattle.scram_ends.specs.declared.verdict.Refusal.TheVariants.{InvalidEncoding, ExtensionsNotSupported, OtherNonce, Channel}
-use Rattle.scram_ends.specs.declared.verdict.Refusal.TheVariants.{InvalidProof, NotAuthorised}
+use Rattle.scram_ends.specs.declared.verdict.Refusal.TheVariants.{InvalidEncoding, ExtensionsNotSupported, OtherNonce, Channel, InvalidProof}
+use Rattle.scram_ends.specs.declared.verdict.Refusal.TheVariants.{NotAuthorised}
 
 -- if a buffer is a front followed by a text, its slice from the front's end on is that text
-pub slice_after_front_is_text : (items front text : List ℕ) (start : ℕ) → items ≡ front ++ text → start ≡ length front
-    → take (length items - start) (drop start items) ≡ text
+pub slice_after_front_is_text : (items front text : List ℕ) (start : ℕ)
+    → items ≡ front ++ text → start ≡ length front → take (length items - start) (drop start items) ≡ text
 slice_after_front_is_text items front text start same at = rw (same, at) (grind (arith, common_steps))
 
 -- the empty text is a text of extensions: of none
@@ -28,9 +27,8 @@ pub empty_is_extension_text : IsExtensionText []
 empty_is_extension_text = record { utf8_text = empty_is_text; each = tt }
 
 -- a nonce, a salt and a count within their bounds can be written as server-first, and are within the limit:
-pub challenge_can_be_written : (nonce salt : List ℕ) (count : ℕ) → IsNonce longest_nonce nonce → IsField 64 salt → 1 ≤ count
-    → count < 2 ^ 32
-    → CanBeServerFirst nonce salt count []
+pub challenge_can_be_written : (nonce salt : List ℕ) (count : ℕ)
+    → IsNonce longest_nonce nonce → IsField longest_salt salt → 1 ≤ count → count < 2 ^ 32 → CanBeServerFirst nonce salt count []
 challenge_can_be_written nonce salt count is_nonce is_salt least most =
     record {
       nonce_class = is_nonce;
@@ -39,24 +37,26 @@ challenge_can_be_written nonce salt count is_nonce is_salt least most =
       extensions_class = empty_is_extension_text;
     }
 
-pub challenge_fits : (nonce salt : List ℕ) (count : ℕ) → IsNonce longest_nonce nonce → IsField 64 salt → count < 2 ^ 32
-    → longest_message < length (server_first_text (server_first_of nonce salt count [])) → ⊥
+pub challenge_fits : (nonce salt : List ℕ) (count : ℕ)
+    → IsNonce longest_nonce nonce → IsField longest_salt salt → count < 2 ^ 32
+    → longest_message < length (server_first_text (server_first_of nonce salt count []))
+    → ⊥
 challenge_fits nonce salt count is_nonce is_salt most over =
     let composed = simp length-append at (ap length (pieces_compose_server_first nonce salt count [])) in
     let digits : length (decimal count) ≤ 10 = length-decimal-le 10 count (omega arith) (omega arith) (omega arith) in
     omega (arith, composed, digits, over, is_nonce.at_most, is_salt.at_most, length-base64 salt)
 
--- a signature of 1 to 64 bytes can be written as server-final, and is within the limit:
-pub signature_can_be_written : (signature : List ℕ) → IsField 64 signature → CanBeServerFinal (verifier signature) []
+-- a signature within its bounds can be written as server-final, and is within the limit:
+pub signature_can_be_written : (signature : List ℕ) → IsField longest_tag signature → CanBeServerFinal (verifier signature) []
 signature_can_be_written signature is_field = record { outcome_class = is_field; extensions_class = empty_is_extension_text }
 
-pub signature_is_short : (signature : List ℕ) → length signature ≤ 64
-    → length (server_final_text (server_final_of (verifier signature) [])) ≤ longest_message
+pub signature_is_short : (signature : List ℕ)
+    → length signature ≤ longest_tag → length (server_final_text (server_final_of (verifier signature) [])) ≤ longest_message
 unfolding server_final_text
 signature_is_short signature most = omega (arith, most, length-base64 signature)
 
-pub signature_fits : (signature : List ℕ) → length signature ≤ 64
-    → longest_message < length (server_final_text (server_final_of (verifier signature) [])) → ⊥
+pub signature_fits : (signature : List ℕ)
+    → length signature ≤ longest_tag → longest_message < length (server_final_text (server_final_of (verifier signature) [])) → ⊥
 signature_fits signature most over = omega (arith, over, signature_is_short signature most)
 
 -- a refusal's value can be the outcome of server-final

@@ -4,16 +4,15 @@ ghost use Rattle.std.specs.Prelude.{◌≡◌, ◌≤◌, ◌<◌, ◌+◌, ℕ,
 ghost use Rattle.mac_core.specs.Mechanism.{hmac_by, length_by};
 ghost use Rattle.scram_text.specs.Messages.{ClientFirstParts, client_first_bare, ServerFirstParts, IsServerFirst};
 ghost use Rattle.scram_text.specs.Shown.{ShowsServerFirst};
-ghost use Rattle.scram_text.specs.Appended.{UnchangedOnErr, KeepsRoom, LacksRoom};
+ghost use Rattle.scram_text.specs.Appended.{IsUnchangedOnErr, KeepsRoom, LacksRoom};
 ghost use Rattle.scram_ends.specs.Stages.{Started, answered_login};
 ghost use Rattle.scram_ends.specs.Auth.{auth_to_challenge, proof_of, expected_signature};
 ghost use Rattle.scram_ends.specs.Honest.{IsHonest};
-ghost use Rattle.scram_ends.specs.Client.{IsStarted, IsAnswerable, IsExpecting, IsChallengeFault, IsUnspent, IfSpent, IfBack};
+ghost use Rattle.scram_ends.specs.Client.{StandsForStarted, IsAnswerable, StandsForAnswered, IsChallengeFault, IsUnspent, IfSpent, IfBack};
 
-use crate::bytes::are_bytes;
 use crate::client::{ClientFault, ClientOne, ClientTwo, OneRefused};
 use crate::signing::running_mac;
-use mac_core::{Tag, xor};
+use mac_core::{Tag, law_of_bytes, xor};
 use scram_text::{ClientFinalWithoutProof, Password, ServerFirst, WriteFault, read_server_first};
 use std::alloc::Allocator;
 
@@ -23,11 +22,11 @@ impl ClientOne {
     /// iteration count.
     ///
     /// Errors: Back has 99 NoMemory, only if `out` had no room reserved for the message. Spent has the first of these that applies:
-    /// - 24 if the text is not a server-first message;
-    /// - 25 if it asks for a mandatory extension;
-    /// - 26 if its nonce does not begin with the client's;
-    /// - 27 if its nonce is the client's with nothing added;
-    /// - 28 if its count is outside the limits.
+    /// - 24 Text: the text is not a server-first message;
+    /// - 25 Mandatory: it asks for a mandatory extension;
+    /// - 26 NonceNotMine: its nonce does not begin with the client's;
+    /// - 27 NonceNotLonger: its nonce is the client's with nothing added;
+    /// - 28 CountOutside: its count is outside the limits.
     ///
     /// After an error `out` is unchanged.
     pub fn first<A: Allocator>(
@@ -36,22 +35,22 @@ impl ClientOne {
         server_first: &[u8],
         out: &mut Vec<u8, A>,
     ) -> Result<ClientTwo, OneRefused>
-        ensures ok { IfOk result (λ two. (l : Started) → IsStarted self l
+        ensures ok { IfOk result (λ two. (l : Started) → StandsForStarted self l
             → (client_final : List ℕ) × (out.new.items ≡ out.old.items ++ client_final)
-            × IsExpecting two (answered_login l password.now server_first.now client_final)) }
-        ensures unchanged { UnchangedOnErr result out.old out.new }
+            × StandsForAnswered two (answered_login l password.now server_first.now client_final)) }
+        ensures unchanged { IsUnchangedOnErr result out.old out.new }
         ensures room { KeepsRoom out.old out.new }
         // If it is answered, or its answer could not be written, it is a challenge to this client with nothing wrong.
-        ensures answerable { IsUnspent result → (l : Started) → IsStarted self l
+        ensures answerable { IsUnspent result → (l : Started) → StandsForStarted self l
             → (challenge : ServerFirstParts) × IsAnswerable l.limits l.nonce server_first.now challenge }
         // Each challenge with nothing wrong is answered, or its answer could not be written.
-        ensures every { (l : Started) (challenge : ServerFirstParts) → IsStarted self l
+        ensures every { (l : Started) (challenge : ServerFirstParts) → StandsForStarted self l
             → IsAnswerable l.limits l.nonce server_first.now challenge → IsUnspent result }
-        ensures spent { IfSpent result (λ fault. (l : Started) → IsStarted self l
+        ensures spent { IfSpent result (λ fault. (l : Started) → StandsForStarted self l
             → IsChallengeFault l.limits l.nonce server_first.now fault) }
         // If there was no room, the client is handed back unchanged.
         ensures back { IfBack result (λ client _. client ≡ self) }
-        ensures no_memory { IfBack result (λ _ fault. (l : Started) → IsStarted self l
+        ensures no_memory { IfBack result (λ _ fault. (l : Started) → StandsForStarted self l
             → (fault ≡ WriteFault.NoMemory) × ((client_final : List ℕ)
             × IsHonest (answered_login l password.now server_first.now client_final)
             × LacksRoom out.old client_final)) }
@@ -99,20 +98,20 @@ impl ClientOne {
         out: &mut Vec<u8, A>,
     ) -> Result<ClientTwo, WriteFault>
         requires { 1 ≤ challenge.now.count }
-        ensures ok { IfOk result (λ two. (l : Started) (p : ServerFirstParts) → IsStarted self.now l
+        ensures ok { IfOk result (λ two. (l : Started) (p : ServerFirstParts) → StandsForStarted self.now l
             → IsServerFirst server_first.now p → ShowsServerFirst challenge.now p
             → (client_final : List ℕ) × (out.new.items ≡ out.old.items ++ client_final)
-            × IsExpecting two (answered_login l password.now server_first.now client_final)) }
-        ensures unchanged { UnchangedOnErr result out.old out.new }
+            × StandsForAnswered two (answered_login l password.now server_first.now client_final)) }
+        ensures unchanged { IsUnchangedOnErr result out.old out.new }
         ensures room { KeepsRoom out.old out.new }
-        ensures no_memory { IfErr result (λ fault. (l : Started) (p : ServerFirstParts) → IsStarted self.now l
+        ensures no_memory { IfErr result (λ fault. (l : Started) (p : ServerFirstParts) → StandsForStarted self.now l
             → IsServerFirst server_first.now p → ShowsServerFirst challenge.now p
             → (fault ≡ WriteFault.NoMemory) × ((client_final : List ℕ)
             × IsHonest (answered_login l password.now server_first.now client_final)
             × LacksRoom out.old client_final)) }
     {
         let header = self.header.as_slice();
-        are_bytes(header);
+        law_of_bytes(header);
         let without_proof = ClientFinalWithoutProof::new(header, challenge.nonce, b"")?;
         let answer = self.prove(password, server_first, challenge, without_proof.as_slice());
         without_proof.write_with_proof(&answer.proof, out)?;
@@ -145,7 +144,7 @@ impl ClientOne {
         let stored_key = mechanism.stored_key(&client_key);
         let signature = self.sign(&stored_key, server_first, client_final_without_proof);
         let proof = xor(&client_key, &signature);
-        are_bytes(proof.as_slice());
+        law_of_bytes(proof.as_slice());
         let server_key = mechanism.server_key(&salted);
         Answer {
             proof,

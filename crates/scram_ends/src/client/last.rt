@@ -2,7 +2,7 @@
 ghost use Rattle.std.specs.Prelude.{◌≡◌, ◌↔◌, IsTrue, IfErr, OnOk, IsOk};
 ghost use Rattle.scram_ends.specs.Stages.{Answered};
 ghost use Rattle.scram_ends.specs.Login.{IsAuthentic};
-ghost use Rattle.scram_ends.specs.Client.{IsExpecting, IsLastFault};
+ghost use Rattle.scram_ends.specs.Client.{StandsForAnswered, IsLastFault};
 
 use crate::client::{Authenticated, ClientFault, ClientTwo};
 use mac_core::Tag;
@@ -12,19 +12,19 @@ impl ClientTwo {
     /// Checks that `server_final` shows that the server has the keys of the client's password (RFC 5802, section 5): it is a
     /// server-final message, which may have extensions, and its verifier is the server signature of the three messages before it.
     /// Errors: the first of these that applies:
-    /// - 24 if the text is not a server-final message;
-    /// - 25 if it asks for a mandatory extension;
-    /// - 29 if it is an error;
-    /// - 30 if it has another verifier.
+    /// - 24 Text: the text is not a server-final message;
+    /// - 25 Mandatory: it asks for a mandatory extension;
+    /// - 29 ServerRefused: it is an error;
+    /// - 30 WrongSignature: it has another verifier.
     #[tactic(auto, using(scram_text::proofs::lemmas::FirstUnmet::found_is_first))]
     pub fn last(self, server_final: &[u8]) -> Result<Authenticated, ClientFault>
         // On Ok, the verifier is the signature that the client expects.
-        ensures ok { OnOk result ((l : Answered) (x : IsExpecting self l)
+        ensures ok { OnOk result ((l : Answered) (x : StandsForAnswered self l)
             → IsAuthentic server_final.now x.signature) }
         // Each message with this verifier and no mandatory extension gives Ok.
-        ensures every { (l : Answered) (x : IsExpecting self l)
+        ensures every { (l : Answered) (x : StandsForAnswered self l)
             → IsAuthentic server_final.now x.signature → IsOk result }
-        ensures err { IfErr result (λ fault. (l : Answered) (x : IsExpecting self l)
+        ensures err { IfErr result (λ fault. (l : Answered) (x : StandsForAnswered self l)
             → IsLastFault x.signature server_final.now fault) }
     {
         let last = read_server_final(server_final)?;

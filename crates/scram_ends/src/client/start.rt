@@ -3,10 +3,10 @@ ghost use Rattle.std.specs.Prelude.{◌≡◌, ◌≤◌, ◌<◌, ◌+◌, ℕ,
 ghost use Rattle.std.specs.Option.{option_copied};
 ghost use Rattle.scram_text.specs.Class.{IsPlainName, IsNoncePart};
 ghost use Rattle.scram_text.specs.Messages.{ClientFirstParts};
-ghost use Rattle.scram_text.specs.Appended.{UnchangedOnErr, KeepsRoom, LacksRoom};
+ghost use Rattle.scram_text.specs.Appended.{IsUnchangedOnErr, KeepsRoom, LacksRoom};
 ghost use Rattle.scram_ends.specs.Stages.{started_login};
 ghost use Rattle.scram_ends.specs.Honest.{IsHonestFirst};
-ghost use Rattle.scram_ends.specs.Client.{IsStarted};
+ghost use Rattle.scram_ends.specs.Client.{StandsForStarted};
 
 use crate::client::{Client, ClientOne, Limits};
 use mac_core::{Mechanism, copy_of};
@@ -28,9 +28,9 @@ impl Client {
         requires { 1 ≤ limits.least }
         ensures ok { IfOk result (λ client. (client_first : List ℕ)
             × (out.new.items ≡ out.old.items ++ client_first)
-            × IsStarted client (started_login mechanism limits name.now (option_copied authzid.entry)
+            × StandsForStarted client (started_login mechanism limits name.now (option_copied authzid.entry)
             nonce.now client_first)) }
-        ensures unchanged { UnchangedOnErr result out.old out.new }
+        ensures unchanged { IsUnchangedOnErr result out.old out.new }
         ensures room { KeepsRoom out.old out.new }
         ensures no_memory { IfErr result (λ fault. (fault ≡ WriteFault.NoMemory)
             × ((client_first : List ℕ) × (first : ClientFirstParts)
@@ -38,7 +38,7 @@ impl Client {
             × LacksRoom out.old client_first)) }
     {
         let start = out.len();
-        are_in_class(name, authzid, nonce);
+        law_of_names(name, authzid, nonce);
         write_client_first(Flag::NoBinding, authzid, name, nonce, b"", out)?;
         let Ok(message) = read_client_first(&out[start..]) else {
             unreachable!()
@@ -54,7 +54,7 @@ impl Client {
 }
 
 // A law: names and nonces are in their classes by their types. Only the proof needs it.
-fn are_in_class(name: &PlainName, authzid: Option<&PlainName>, nonce: &NoncePart)
+fn law_of_names(name: &PlainName, authzid: Option<&PlainName>, nonce: &NoncePart)
     ensures name { IsPlainName name.now }
     ensures authzid { IfSome (option_copied authzid.entry) IsPlainName }
     ensures nonce { IsNoncePart nonce.now }

@@ -45,6 +45,7 @@ fn check_both(
     Ok(())
 }
 
+/// The server's parts of the nonces are those of RFC 5802, section 5, and RFC 7677, section 3.
 #[test]
 fn published_logins(rt: HostRuntime) -> Result<(), Fail> {
     let [sha1, sha256] = &PUBLISHED;

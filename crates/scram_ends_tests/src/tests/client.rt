@@ -67,6 +67,7 @@ fn sends_the_messages(rt: &impl Abort, alloc: Global, exchange: &Exchange) {
     }
 }
 
+/// The client sends the messages of RFC 5802, section 5, and RFC 7677, section 3, and accepts the server's signature.
 #[test]
 fn published_logins(rt: HostRuntime) {
     for exchange in &PUBLISHED {
@@ -74,6 +75,7 @@ fn published_logins(rt: HostRuntime) {
     }
 }
 
+/// The client sends what the clients of Cyrus SASL and GNU SASL sent when they were given the same.
 #[test]
 fn logins_of_other_software(rt: HostRuntime) {
     for exchange in &OTHERS {
@@ -106,6 +108,7 @@ fn refused(
     }
 }
 
+/// Challenges with one fault or two, of which the first counts in the order of text, extension, nonce and count.
 #[test]
 fn faults_of_a_challenge(rt: HostRuntime) {
     let missing = TextFault {
@@ -137,6 +140,7 @@ fn faults_of_a_challenge(rt: HostRuntime) {
     }
 }
 
+/// The usual limits are 4096 and 1000000. The client answers counts at its limits, and none outside them.
 #[test]
 fn counts_at_the_limits(rt: HostRuntime) {
     let narrow = Limits { least: 2, most: 3 };
@@ -158,6 +162,7 @@ fn counts_at_the_limits(rt: HostRuntime) {
     }
 }
 
+/// The server's last message in RFC 5802, section 5, with an extension or another signature, and messages that refuse the login.
 #[test]
 fn outcomes_at_the_client(rt: HostRuntime) {
     let verifier = TextFault {
@@ -190,7 +195,7 @@ fn outcomes_at_the_client(rt: HostRuntime) {
     }
 }
 
-// The name to act as is in the gs2-header, and so in the channel field.
+/// The name to act as is in the gs2-header, and so in the channel field.
 #[test]
 fn authorisation_name(rt: HostRuntime) {
     let exchange = &PUBLISHED[0];
@@ -212,6 +217,7 @@ fn authorisation_name(rt: HostRuntime) {
     assert!(rt; out.starts_with(b"c=bixhPXJvb3Qs,r=fyko+d2lbbFgONRv9qkxdawL3rfcNHYJY1ZVvWVs7j,p="));
 }
 
+/// A heap of 16 bytes has no room for a first message, so nothing is written.
 #[test]
 fn refused_growth_of_a_first_message(rt: HostRuntime) -> Result<(), Fail> {
     let heap = LocalHeap::new(rt.alloc(), 16)?;
@@ -222,6 +228,7 @@ fn refused_growth_of_a_first_message(rt: HostRuntime) -> Result<(), Fail> {
     Ok(())
 }
 
+/// A heap of 16 bytes has no room for an answer. The client is handed back, and goes on once there is room.
 #[test]
 fn refused_growth_of_an_answer(rt: HostRuntime) -> Result<(), Fail> {
     let exchange = &PUBLISHED[0];

@@ -10,6 +10,7 @@ fn no_name() -> TextFault {
     }
 }
 
+/// The faults of a client-first message, alone, as a refused challenge, and of a record, have the same text.
 #[test]
 fn texts_of_first_faults(rt: HostRuntime) -> Result<(), Fail> {
     let alloc = rt.alloc();
@@ -54,6 +55,7 @@ fn check_client_fault(
     check_words(rt, rt.alloc(), &fault, text)
 }
 
+/// The faults with which a client ends a login at the server's challenge.
 #[test]
 fn texts_of_faults_of_a_challenge(rt: HostRuntime) -> Result<(), Fail> {
     for (fault, number, text) in [
@@ -88,6 +90,7 @@ fn texts_of_faults_of_a_challenge(rt: HostRuntime) -> Result<(), Fail> {
     Ok(())
 }
 
+/// The faults with which a client ends a login at the server's last message.
 #[test]
 fn texts_of_faults_of_the_last_message(rt: HostRuntime) -> Result<(), Fail> {
     for (fault, number, text) in [

@@ -1,6 +1,7 @@
 //! The name in a client-first message, why a message is refused, and the numbers of the server's faults.
 use super::*;
 
+/// The account's name has its escapes undone, and is not the name to act as (RFC 5802, section 5.1).
 #[test]
 fn names_of_client_first(rt: HostRuntime) -> Result<(), Fail> {
     let name = first_name(b"n,,n=a=2Cb=3Dc,r=x").ok().ok_or("a name")?;
@@ -10,6 +11,7 @@ fn names_of_client_first(rt: HostRuntime) -> Result<(), Fail> {
     Ok(())
 }
 
+/// Each reason for which a client-first message is refused.
 #[test]
 fn refused_client_first(rt: HostRuntime) {
     let no_name = FirstFault::Text(TextFault {
@@ -31,6 +33,7 @@ fn refused_client_first(rt: HostRuntime) {
     }
 }
 
+/// The numbers of the server's faults, as in docs/REFUSALS.md.
 #[test]
 fn numbers_of_faults(rt: HostRuntime) {
     let name = FirstFault::Text(TextFault {

@@ -13,6 +13,7 @@ fn check_login(rt: &impl Abort, alloc: Global, login: &[&str; 6]) -> Result<(), 
     Ok(())
 }
 
+/// The verdict on each login is the one that the other software gave.
 #[test]
 fn logins_of_other_software(rt: HostRuntime) -> Result<(), Fail> {
     for login in &EXCHANGES {
@@ -21,6 +22,8 @@ fn logins_of_other_software(rt: HostRuntime) -> Result<(), Fail> {
     Ok(())
 }
 
+/// Texts that the server of this account can't have sent: other forms, nonces, salts and counts. A fault of client-first counts before
+/// them.
 #[test]
 fn refused_records(rt: HostRuntime) -> Result<(), Fail> {
     let view = pencil(&[]).ok_or("an account")?;
@@ -79,7 +82,7 @@ fn due_after(alloc: Global, challenge: &str) -> Result<Option<Refusal>, Fail> {
     })
 }
 
-// Challenges that `server_first` does not write: with an extension, and with a longer part of the nonce.
+/// Challenges that `server_first` does not write: with an extension, and with a longer part of the nonce.
 #[test]
 fn other_challenges(rt: HostRuntime) -> Result<(), Fail> {
     let alloc = rt.alloc();

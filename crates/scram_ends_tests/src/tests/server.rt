@@ -41,6 +41,7 @@ fn check_published(
     check_login(rt, alloc, mechanism, &view, server_nonce, messages)
 }
 
+/// The server sends the messages of RFC 5802, section 5, and RFC 7677, section 3, and accepts the client's proof.
 #[test]
 fn published_logins(rt: HostRuntime) -> Result<(), Fail> {
     let alloc = rt.alloc();
@@ -144,6 +145,7 @@ fn check_finish(
     Ok(())
 }
 
+/// `judge` and `finish` give the same refusal for each row, which `finish` appends to what was there.
 #[test]
 fn each_refusal(rt: HostRuntime) -> Result<(), Fail> {
     let alloc = rt.alloc();
@@ -156,7 +158,7 @@ fn each_refusal(rt: HostRuntime) -> Result<(), Fail> {
     Ok(())
 }
 
-// A decoy treats every proof as wrong, even the right proof of another account.
+/// A decoy treats every proof as wrong, even the right proof of another account.
 #[test]
 fn decoy(rt: HostRuntime) -> Result<(), Fail> {
     let alloc = rt.alloc();
@@ -219,6 +221,7 @@ fn due_acting_as(
     }
 }
 
+/// An account may act as itself and as the names it was given, and as no other (RFC 5802, section 5.1).
 #[test]
 fn headers_and_authorisation_names(rt: HostRuntime) -> Result<(), Fail> {
     let refused = Some(Refusal::NotAuthorised);
@@ -240,6 +243,7 @@ fn headers_and_authorisation_names(rt: HostRuntime) -> Result<(), Fail> {
     Ok(())
 }
 
+/// An extension of client-first is a part of AuthMessage (RFC 5802, section 3), so that a proof without it is wrong.
 #[test]
 fn the_proof_covers_extensions(rt: HostRuntime) -> Result<(), Fail> {
     let extended = "n=user,r=fyko+d2lbbFgONRv9qkxdawL,x=1";
@@ -250,8 +254,8 @@ fn the_proof_covers_extensions(rt: HostRuntime) -> Result<(), Fail> {
     Ok(())
 }
 
-// Computed with Python: hashlib.pbkdf2_hmac("sha256", b"open sesame", b"salt", 4096), and then each key and signature with
-// hmac.digest(key, text, "sha256"). The second proof leaves `,x=1` out of AuthMessage.
+/// Computed with Python: hashlib.pbkdf2_hmac("sha256", b"open sesame", b"salt", 4096), and then each key and signature with
+/// hmac.digest(key, text, "sha256"). The second proof leaves `,x=1` out of AuthMessage.
 #[test]
 fn an_extension_is_signed(rt: HostRuntime) -> Result<(), Fail> {
     let sha256 = Mechanism::ScramSha256;
@@ -273,9 +277,9 @@ fn an_extension_is_signed(rt: HostRuntime) -> Result<(), Fail> {
     Ok(())
 }
 
-// A client's `a` and the server's `bb` give the nonce `abb`, and so do `ab` and `b`: the challenges are equal, but each
-// proof is right only in its own login. Computed with Python as above, with "sha1", b"pencil", b"A" and 1: as many rounds
-// as the challenge says would take hours.
+/// A client's `a` and the server's `bb` give the nonce `abb`, and so do `ab` and `b`: the challenges are equal, but each
+/// proof is right only in its own login. Computed with Python as above, with "sha1", b"pencil", b"A" and 1: as many rounds
+/// as the challenge says would take hours.
 #[test]
 fn nonces_that_join_alike(rt: HostRuntime) -> Result<(), Fail> {
     let sha1 = Mechanism::ScramSha1;
@@ -304,6 +308,7 @@ fn nonces_that_join_alike(rt: HostRuntime) -> Result<(), Fail> {
     Ok(())
 }
 
+/// A heap of 16 bytes has no room for a challenge, so nothing is written.
 #[test]
 fn refused_memory_for_a_challenge(rt: HostRuntime) -> Result<(), Fail> {
     let view = pencil(&[]).ok_or("an account")?;
@@ -318,6 +323,7 @@ fn refused_memory_for_a_challenge(rt: HostRuntime) -> Result<(), Fail> {
     Ok(())
 }
 
+/// A heap of 16 bytes has no room for an outcome. The server is handed back, and ends the login once there is room.
 #[test]
 fn refused_memory_for_an_outcome(rt: HostRuntime) -> Result<(), Fail> {
     let view = pencil(&[]).ok_or("an account")?;

@@ -20,7 +20,8 @@ attribute_is_extension (a ∷ b ∷ c ∷ value) lacks h =
     let (letter, equals) = and_parts (is_letter a) (b == byte "=") h in
     let (first, others) = and_parts (not (is_comma a)) (list_all (λ x. not (is_comma x)) (b ∷ c ∷ value)) lacks in
     let (second, rest) = and_parts (not (is_comma b)) (list_all (λ x. not (is_comma x)) (c ∷ value)) others in
-    (a, letter, (c ∷ value, ap (λ (n : ℕ). a ∷ n ∷ c ∷ value) (eqb-true b 61 equals), record { at_least = omega arith; no_comma = rest }))
+    let spelled = ap (λ (n : ℕ). a ∷ n ∷ c ∷ value) (eqb-true b (byte "=") equals) in
+    (a, letter, (c ∷ value, spelled, record { at_least = omega arith; no_comma = rest }))
 
 -- an extension passes the code's test
 extension_is_attribute : (part : List ℕ) → IsExtension part → IsTrue (is_attribute part)
@@ -28,12 +29,12 @@ extension_is_attribute [] (letter, is_one, (value, spelled, is)) = absurd (cc sp
 extension_is_attribute (a ∷ []) (letter, is_one, (value, spelled, is)) =
     let none = (same_head_and_tail a letter [] (byte "=" ∷ value) spelled).1 in absurd (cc none)
 extension_is_attribute (a ∷ b ∷ []) (letter, is_one, (value, spelled, is)) =
-    let second = same_head_and_tail b 61 [] value (same_head_and_tail a letter (b ∷ []) (byte "=" ∷ value) spelled).1 in
+    let second = same_head_and_tail b (byte "=") [] value (same_head_and_tail a letter (b ∷ []) (byte "=" ∷ value) spelled).1 in
     let none : 0 ≡ length value = ap length second.1 in
     absurd (omega (arith, none, is.at_least))
 extension_is_attribute (a ∷ b ∷ c ∷ rest) (letter, is_one, (value, spelled, is)) =
     let first = same_head_and_tail a letter (b ∷ c ∷ rest) (byte "=" ∷ value) spelled in
-    let second = same_head_and_tail b 61 (c ∷ rest) value first.1 in
+    let second = same_head_and_tail b (byte "=") (c ∷ rest) value first.1 in
     both_true (subst (λ (n : ℕ). is_letter n ≡ true) (sym first.0) is_one)
     (subst (λ (n : ℕ). (n == byte "=") ≡ true) (sym second.0) refl)
 
@@ -44,6 +45,6 @@ attribute_iff_extension part lacks = (attribute_is_extension part lacks, extensi
 -- an extension has no comma
 pub extension_lacks_comma : (part : List ℕ) → IsExtension part → LacksComma part
 extension_lacks_comma part (letter, is_one, (value, spelled, is)) = elim (cases_Bool (is_comma letter)) [
-  | inl hit ↦ absurd (both_ways (is_letter 44) refl (rw (eqb-true letter 44 hit) at is_one))
+  | inl hit ↦ absurd (both_ways (is_letter (byte ",")) refl (rw (eqb-true letter (byte ",") hit) at is_one))
   | inr miss ↦ subst LacksComma (sym spelled) (rw miss is.no_comma)
 ]

@@ -1,7 +1,7 @@
 -- The texts of the STANDARD engine have their usual form: no comma, and four characters for each three bytes or part of three. Each
 -- decodes to the bytes of which it is the base64, and no other text does.
-use Rattle.std.proofs.Common.{◌≡◌, ℕ, ◌+◌, ◌*◌, ◌/◌, ◌≤◌, ◌<◌, not, List, length, take, drop, replicate, refl, sym, ◌∙◌, ap}
-use Rattle.std.proofs.Common.{arith, length-append, subst}
+use Rattle.std.proofs.Common.{◌≡◌, ℕ, ◌+◌, ◌*◌, ◌/◌, ◌≤◌, ◌<◌, not, List, length, take, drop, replicate, refl, sym, ◌∙◌, ap, arith, length-append}
+use Rattle.std.proofs.Common.{subst}
 use Rattle.std.specs.declared.result.Result.TheVariants.{Ok, Err}
 use Rattle.std.proofs.lemmas.List.{length-replicate, length-take-le, take-append-drop}
 use Rattle.base64.specs.declared.decode.DecodeError.{DecodeError}
@@ -74,7 +74,7 @@ spelled_field_is_decoded most text bytes read (spelt, spelled, field) =
     let same : spelt ≡ bytes = cc (also, read) in
     subst (λ (b : List ℕ). (text ≡ base64 b) × IsField most b) same (spelled, field)
 
--- a text that does not decode is no field
+-- a text that does not decode is not a field
 pub undecoded_spells_no_field : (most : ℕ) (text : List ℕ) (e : DecodeError) → decode_of standard text ≡ Err e → SpellsField most text → ⊥
 unfolding base64_decoded
 undecoded_spells_no_field most text e read (spelt, spelled, field) =

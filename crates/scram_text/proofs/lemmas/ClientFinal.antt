@@ -5,7 +5,7 @@ use Rattle.std.specs.declared.result.Result.{Result}
 use Rattle.std.proofs.lemmas.List.Splits.{join_with_byte-slice_split}
 use Rattle.std.proofs.lemmas.List.{same_from_push}
 use Rattle.std.specs.Str.{byte}
-use Rattle.scram_text.specs.Limits.{longest_channel, longest_message, longest_nonce}
+use Rattle.scram_text.specs.Limits.{longest_channel, longest_message, longest_nonce, longest_tag}
 use Rattle.scram_text.specs.Class.{IsNonce, IsUtf8Text}
 use Rattle.scram_text.specs.Base64Field.{base64, IsField}
 use Rattle.scram_text.specs.Parts.{parts, joined, AreExtensions}
@@ -19,8 +19,9 @@ use Rattle.scram_text.specs.declared.fault.TextFault.{TextFault}
 use Rattle.scram_text.specs.declared.fault.TextWhy.TheVariants.{Channel, Nonce, Extension, Proof}
 use Rattle.scram_text.proofs.lemmas.Base64.{base64_lacks_comma}
 use Rattle.scram_text.proofs.lemmas.Parts.{parts-append, text_without_comma_is_one_part, unfit_part_is_misfit, fitting_part_keeps_misfit}
-use Rattle.scram_text.proofs.lemmas.Places.{part_fault_is_fault, AllFit, AllFit-cons, AllFit-nil, places_unfold, later_parts_keep_misfit, extensions_keep_misfit, extensions_keep_fit, fitting_text_has_no_fault}
-use Rattle.scram_text.proofs.lemmas.Places.{nonce_lacks_comma, extensions_lack_comma, parts-joined, field_part_spells_field, one_field_per_base64}
+use Rattle.scram_text.proofs.lemmas.Places.{part_fault_is_fault, AllFit, AllFit-cons, AllFit-nil, places_unfold, later_parts_keep_misfit}
+use Rattle.scram_text.proofs.lemmas.Places.{extensions_keep_misfit, extensions_keep_fit, fitting_text_has_no_fault, nonce_lacks_comma}
+use Rattle.scram_text.proofs.lemmas.Places.{extensions_lack_comma, parts-joined, field_part_spells_field, one_field_per_base64}
 use Rattle.scram_text.proofs.lemmas.ReadMessages.{message_is_read}
 
 -- the parts, with their letters, of the client-final message that has these values
@@ -65,7 +66,7 @@ has_one_client_final text p q is also =
     let ends = same_from_push p.extensions q.extensions _ _ rest in
     let proofs : base64 p.proof ≡ base64 q.proof = cc (ends.1) in
     let channel = one_field_per_base64 longest_channel p.channel q.channel is.channel also.channel channels in
-    let proof = one_field_per_base64 64 p.proof q.proof is.proof also.proof proofs in
+    let proof = one_field_per_base64 longest_tag p.proof q.proof is.proof also.proof proofs in
     same_fields_make_same_parts p q channel nonces ends.0 proof
 
 -- the places of client-final's parts are Channel, Nonce, one Extension for each extension, and Proof
@@ -88,12 +89,12 @@ channel_nonce_proof_fit channel nonce proof extensions is_channel is_nonce are i
 
 -- the parts of a client-final message fit their places
 pub client_final_parts_fit : (p : ClientFinalParts) → IsField longest_channel p.channel → IsNonce longest_nonce p.nonce
-    → AreExtensions p.extensions → IsField 64 p.proof
+    → AreExtensions p.extensions → IsField longest_tag p.proof
     → AllFit longest_nonce (places (Channel ∷ Nonce ∷ []) (Proof ∷ []) (length (client_final_parts p))) (client_final_parts p)
 client_final_parts_fit p channel nonce extensions proof =
     channel_nonce_proof_fit _ _ _ p.extensions (field_part_spells_field 99 longest_channel _ p.channel refl channel)
     (p.nonce, refl, nonce) extensions
-    (field_part_spells_field 112 64 _ p.proof refl proof)
+    (field_part_spells_field (byte "p") longest_tag _ p.proof refl proof)
 
 -- a client-final message has no fault
 client_final_has_no_fault : (text : List ℕ) (p : ClientFinalParts) (f : TextFault) → IsClientFinal text p → IsClientFinalFault text f → ⊥
@@ -112,7 +113,7 @@ unfolding client_final_without_proof client_final_text
 pieces_spell_client_final text front last channel_part nonce_part p whole cut is_channel is_nonce is_proof =
     let pieces : channel_part ∷ nonce_part ∷ p.extensions ≡ (codes "c=" ++ base64 p.channel) ∷ (codes "r=" ++ p.nonce)
     ∷ p.extensions = cc (is_channel, is_nonce) in
-    let front_is : front ≡ client_final_without_proof p = sym (join_with_byte-slice_split 44 front) ∙ ap joined (cut ∙ pieces) in
+    let front_is : front ≡ client_final_without_proof p = sym (join_with_byte-slice_split (byte ",") front) ∙ ap joined (cut ∙ pieces) in
     (front_is, rw (whole, front_is, is_proof) refl)
 
 -- a text that is client-final is read, and what is read shows its parts

@@ -1,6 +1,6 @@
 -- The parts of client-first: they are read in only one way, and a text that has them has no fault.
-use Rattle.std.proofs.Common.{◌≡◌, inl, inr, ℕ, suc, ◌+◌, ◌≤◌, true, false, ◌&&◌, ◌||◌, List, [], ◌∷◌, ◌++◌, length, replicate, refl, sym}
-use Rattle.std.proofs.Common.{◌∙◌, ap, arith, subst, append_assoc}
+use Rattle.std.proofs.Common.{◌≡◌, inl, inr, ℕ, suc, ◌+◌, ◌≤◌, true, false, ◌&&◌, ◌||◌, List, [], ◌∷◌, ◌++◌, length, replicate, refl, sym, ◌∙◌, ap}
+use Rattle.std.proofs.Common.{arith, subst, append_assoc}
 use Rattle.std.specs.Prelude.{codes, IfOk, IfErr, IfSome, IsOkAnd, ◌==◌, nat_le}
 use Rattle.std.specs.List.{list_all}
 use Rattle.std.specs.declared.option.Option.{Option}
@@ -15,11 +15,10 @@ use Rattle.scram_text.specs.Name.{LacksComma, IsSaslName}
 use Rattle.scram_text.specs.Parts.{parts, joined, is_flag, is_cb_name, authzid_text, mext_parts, is_named, IsValue, AreExtensions}
 use Rattle.scram_text.specs.Messages.{ClientFirstParts, gs2_header, bare_parts, client_first_bare, client_first_text, IsClientFirst}
 use Rattle.scram_text.specs.Laws.{HasOneClientFirst}
-use Rattle.scram_text.specs.Faults.{Fits, fault, places, IsAuthzid, IsFirstMisfit, places_with_mext, first_of}
-use Rattle.scram_text.specs.Pieces.{IsExtensionMisfit}
-use Rattle.scram_text.specs.Faults.{client_first_places, IsClientFirstFault}
+use Rattle.scram_text.specs.Faults.{Fits, fault, places, IsAuthzid, IsFirstMisfit, places_with_mext, first_of, client_first_places}
+use Rattle.scram_text.specs.Faults.{IsClientFirstFault}
+use Rattle.scram_text.specs.Pieces.{IsExtensionMisfit, IsMextAndRest, IsBareMisfit}
 use Rattle.scram_text.specs.Shown.{ShowsClientFirst}
-use Rattle.scram_text.specs.Pieces.{IsMextAndRest, IsBareMisfit}
 use Rattle.scram_text.specs.declared.client_first.ClientFirst.{ClientFirst}
 use Rattle.scram_text.specs.declared.fault.TextFault.{TextFault}
 use Rattle.scram_text.specs.declared.fault.TextWhy.{TextWhy}
@@ -27,8 +26,9 @@ use Rattle.scram_text.specs.declared.fault.TextWhy.TheVariants.{Flag, Authzid, N
 use Rattle.scram_text.proofs.lemmas.Parts.{first_part_precedes_comma, unfit_part_is_misfit, fitting_part_keeps_misfit, equal_index_keeps_misfit}
 use Rattle.scram_text.proofs.lemmas.Places.{AllFit, AllFit-cons, extensions_fit, part_fault_is_fault, fitting_text_has_no_fault, nonce_lacks_comma}
 use Rattle.scram_text.proofs.lemmas.Places.{extensions_lack_comma, parts-joined_list}
-use Rattle.scram_text.proofs.lemmas.MextAndRest.{places-cons, front_places_unfold, joined_are_mext_and_rest, mext_and_rest_lack_comma, mext_and_rest_are_nonempty, one_mext_and_rest, mext_and_rest_fit}
-use Rattle.scram_text.proofs.lemmas.MextAndRest.{rest_misfit_is_of_all_parts, mext_and_rest_lengths_add_up}
+use Rattle.scram_text.proofs.lemmas.MextAndRest.{places-cons, front_places_unfold, joined_are_mext_and_rest, mext_and_rest_lack_comma}
+use Rattle.scram_text.proofs.lemmas.MextAndRest.{mext_and_rest_are_nonempty, one_mext_and_rest, mext_and_rest_fit, rest_misfit_is_of_all_parts}
+use Rattle.scram_text.proofs.lemmas.MextAndRest.{mext_and_rest_lengths_add_up}
 use Rattle.scram_text.proofs.lemmas.WithoutByte.{class_lacks_byte}
 use Rattle.scram_text.proofs.lemmas.ReadMessages.{message_is_read}
 
@@ -38,15 +38,16 @@ client_first_rest p = (codes "n=" ++ p.name) ∷ (codes "r=" ++ p.nonce) ∷ p.e
 
 -- the name of a channel binding, the flag and the part of the name to act as have no comma:
 cb_name_lacks_comma : (name : List ℕ) → is_cb_name name ≡ true → LacksComma name
-cb_name_lacks_comma name is = class_lacks_byte 44 is_cb_char name refl (and_parts (nat_le 1 (length name)) (list_all is_cb_char name) is).1
+cb_name_lacks_comma name is =
+    class_lacks_byte (byte ",") is_cb_char name refl (and_parts (nat_le 1 (length name)) (list_all is_cb_char name) is).1
 
 flag_lacks_comma : (flag : List ℕ) → is_flag flag ≡ true → LacksComma flag
 flag_lacks_comma [] is = refl
-flag_lacks_comma (c ∷ []) is = class_lacks_byte 44 (λ b. (b == byte "n") || (b == byte "y")) (c ∷ []) refl (rw is refl)
+flag_lacks_comma (c ∷ []) is = class_lacks_byte (byte ",") (λ b. (b == byte "n") || (b == byte "y")) (c ∷ []) refl (rw is refl)
 flag_lacks_comma (a ∷ b ∷ name) is =
     let front = and_parts ((a == byte "p") && (b == byte "=")) (is_cb_name name) is in
     let letters = and_parts (a == byte "p") (b == byte "=") front.0 in
-    rw (eqb-true a 112 letters.0, eqb-true b 61 letters.1) (cb_name_lacks_comma name front.1)
+    rw (eqb-true a (byte "p") letters.0, eqb-true b (byte "=") letters.1) (cb_name_lacks_comma name front.1)
 
 authzid_lacks_comma : (authzid : Option (List ℕ)) → IfSome authzid IsSaslName → LacksComma (authzid_text authzid)
 authzid_lacks_comma None is = refl
@@ -265,5 +266,5 @@ pub pieces_spell_client_first : (text header flag authzid bare : List ℕ) (p : 
 unfolding gs2_header client_first_bare client_first_text
 pieces_spell_client_first text header flag authzid bare p whole header_is is_flag is_authzid cut =
     let the_header : header ≡ gs2_header p = header_is ∙ rw (is_flag, is_authzid) refl in
-    let the_bare : bare ≡ client_first_bare p = sym (join_with_byte-slice_split 44 bare) ∙ ap joined cut in
+    let the_bare : bare ≡ client_first_bare p = sym (join_with_byte-slice_split (byte ",") bare) ∙ ap joined cut in
     (the_header, the_bare, rw (whole, the_header, the_bare) refl)

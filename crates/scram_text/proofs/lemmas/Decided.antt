@@ -9,10 +9,11 @@ use Rattle.std.specs.declared.result.Result.{Result}
 use Rattle.std.specs.declared.result.Result.TheVariants.{Ok, Err}
 use Rattle.std.proofs.lemmas.Fmt.{decimal_is_IsNumeral}
 use Rattle.std.proofs.lemmas.Str.{IsUtf8-from_is_utf8, is_utf8-from_IsUtf8}
-use Rattle.mac_core.proofs.lemmas.Decided.{Decided, decided_equivalent, decided_both, decided_test, decided_le, decided_same_number, decided_same_text}
+use Rattle.mac_core.proofs.lemmas.Decided.{Decided, decided_equivalent, decided_both, decided_test, decided_le, decided_same_number}
+use Rattle.mac_core.proofs.lemmas.Decided.{decided_same_text}
 use Rattle.base64.specs.GeneralPurpose.{IsBytes}
 use Rattle.base64.specs.declared.decode.DecodeError.{DecodeError}
-use Rattle.scram_text.specs.Limits.{longest_channel, longest_salt, longest_tag}
+use Rattle.scram_text.specs.Limits.{longest_channel, longest_salt, longest_tag, most_count}
 use Rattle.scram_text.specs.Class.{is_printable, IsRunOf, IsNonce, IsUtf8Text}
 use Rattle.scram_text.specs.Name.{LacksComma, is_escaped, IsSaslName}
 use Rattle.scram_text.specs.Base64Field.{base64, base64_decoded, IsField}
@@ -20,8 +21,8 @@ use Rattle.scram_text.specs.Parts.{is_flag, IsAttrVal, IsValue, IsCount, SpellsC
 use Rattle.scram_text.specs.Pieces.{is_attribute}
 use Rattle.scram_text.specs.Faults.{Fits, IsAuthzid}
 use Rattle.scram_text.specs.declared.fault.TextWhy.{TextWhy}
-use Rattle.scram_text.specs.declared.fault.TextWhy.TheVariants.{TooLong, NotText, Missing, Flag, Authzid, Mandatory, Name, Nonce, Salt}
-use Rattle.scram_text.specs.declared.fault.TextWhy.TheVariants.{Count, Channel, Extension, Proof, Verifier, ErrorValue}
+use Rattle.scram_text.specs.declared.fault.TextWhy.TheVariants.{TooLong, NotText, Missing, Flag, Authzid, Mandatory, Name, Nonce, Salt, Count}
+use Rattle.scram_text.specs.declared.fault.TextWhy.TheVariants.{Channel, Extension, Proof, Verifier, ErrorValue}
 use Rattle.scram_text.proofs.lemmas.Base64.{spelled_field_is_decoded, undecoded_spells_no_field}
 use Rattle.scram_text.proofs.lemmas.AttrVals.{attribute_iff_extension, extension_lacks_comma}
 use Rattle.scram_text.proofs.lemmas.Counts.{count_is_below_2_64}
@@ -64,9 +65,9 @@ decided_extension part =
 
 decided_count : (count : ℕ) → Decided (IsCount count)
 decided_count count =
-    decided_equivalent ((1 ≤ count) × (count ≤ 4294967295)) (IsCount count)
+    decided_equivalent ((1 ≤ count) × (count ≤ most_count)) (IsCount count)
     (λ h. record { at_least = h.0; at_most = h.1 }) (λ r. (r.at_least, r.at_most))
-    (decided_both _ _ (decided_le 1 count) (decided_le count 4294967295))
+    (decided_both _ _ (decided_le 1 count) (decided_le count most_count))
 
 -- it is decidable whether a value spells a count: it can only be the decimal of its digits' number
 decided_spells_count : (value : List ℕ) → Decided (SpellsCount value)
@@ -119,12 +120,12 @@ decided_attr_val letter class (a ∷ []) each =
     inr (λ (value, spelled, is). let none = (same_head_and_tail a letter [] (byte "=" ∷ value) spelled).1 in cc none)
 decided_attr_val letter class (a ∷ b ∷ value) each =
     decided_equivalent ((a ≡ letter) × ((b ≡ byte "=") × class value)) (IsAttrVal letter class (a ∷ b ∷ value))
-    (λ h. (value, same_cons a letter (b ∷ value) (byte "=" ∷ value) h.0 (same_cons b 61 value value h.1.0 refl), h.1.1))
+    (λ h. (value, same_cons a letter (b ∷ value) (byte "=" ∷ value) h.0 (same_cons b (byte "=") value value h.1.0 refl), h.1.1))
     (λ (v, spelled, is).
     let first = same_head_and_tail a letter (b ∷ value) (byte "=" ∷ v) spelled in
-    let second = same_head_and_tail b 61 value v first.1 in
+    let second = same_head_and_tail b (byte "=") value v first.1 in
     (first.0, (second.0, subst class (sym second.1) is)))
-    (decided_both _ _ (decided_same_number a letter) (decided_both _ _ (decided_same_number b 61) (each value)))
+    (decided_both _ _ (decided_same_number a letter) (decided_both _ _ (decided_same_number b (byte "=")) (each value)))
 
 -- a name to act as that is not empty is `a=` and a saslname, and it is decidable whether a part is one:
 authzid_is_attr_val : (a : ℕ) (part : List ℕ) → IsAuthzid (a ∷ part) → IsAttrVal (byte "a") IsSaslName (a ∷ part)

@@ -15,7 +15,7 @@ pub record RestShowsAll (first : ℕ) (all : List (List ℕ)) (index : ℕ) (man
   pub extensions : AreExtensions left → AreExtensions all
   -- one of all is mandatory if and only if `mandatory` says so or one that is left is
   pub is_mandatory : (mandatory || have_mandatory left) ≡ have_mandatory all
-  -- if one that is left is no extension, the first such one is the first of all
+  -- if one that is left is not an extension, the first such one is the first of all
   pub misfit : (f : TextFault) → IsExtensionMisfit index left f → IsExtensionMisfit first all f
   -- those that are left end where all end
   pub room : index + length left ≡ first + length all
@@ -31,7 +31,7 @@ RestShowsAll-next first all index mandatory part left leads fits = record {
   room = omega (arith, leads.room);
 }
 
--- if the part at the index is no extension, it is the first of all that is none
+-- if the part at the index is not an extension, it is the first of all that is none
 pub unfit_extension_is_misfit : (first : ℕ) (all : List (List ℕ)) (index : ℕ) (mandatory : Bool) (part : List ℕ) (left : List (List ℕ))
     → RestShowsAll first all index mandatory (part ∷ left) → (IsExtension part → ⊥) → IsExtensionMisfit first all (fault index Extension)
 unfit_extension_is_misfit first all index mandatory part left leads no_fit =

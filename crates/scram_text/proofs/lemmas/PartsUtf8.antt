@@ -1,6 +1,6 @@
 -- The parts of a text of UTF-8 are UTF-8.
-use Rattle.std.proofs.Common.{◌≡◌, ℕ, zero, suc, ◌+◌, ◌≤◌, ◌<◌, List, ◌∷◌, ◌++◌, length, take, drop, get_or, refl, sym, ◌∙◌, ap, arith}
-use Rattle.std.proofs.Common.{subst, length-append}
+use Rattle.std.proofs.Common.{◌≡◌, ℕ, zero, suc, ◌+◌, ◌≤◌, ◌<◌, List, ◌∷◌, ◌++◌, length, take, drop, get_or, refl, sym, ◌∙◌, ap, arith, subst}
+use Rattle.std.proofs.Common.{length-append}
 use Rattle.std.specs.Prelude.{position}
 use Rattle.std.specs.List.{AllByRecursion}
 use Rattle.std.specs.Str.{byte, IsUtf8}

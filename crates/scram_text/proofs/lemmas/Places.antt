@@ -13,7 +13,8 @@ use Rattle.scram_text.specs.declared.fault.TextFault.{TextFault}
 use Rattle.scram_text.specs.declared.fault.TextWhy.{TextWhy}
 use Rattle.scram_text.specs.declared.fault.TextWhy.TheVariants.{Extension}
 use Rattle.scram_text.proofs.lemmas.Base64.{base64_decodes_back}
-use Rattle.scram_text.proofs.lemmas.Parts.{text_without_comma_is_one_part, first_part_precedes_comma, fitting_part_keeps_misfit, equal_index_keeps_misfit}
+use Rattle.scram_text.proofs.lemmas.Parts.{text_without_comma_is_one_part, first_part_precedes_comma, fitting_part_keeps_misfit}
+use Rattle.scram_text.proofs.lemmas.Parts.{equal_index_keeps_misfit}
 use Rattle.scram_text.proofs.lemmas.AttrVals.{extension_lacks_comma}
 use Rattle.scram_text.proofs.lemmas.FirstUnmet.{met_rows_have_no_first_unmet}
 use Rattle.scram_text.proofs.lemmas.WithoutByte.{class_lacks_byte}
@@ -143,7 +144,7 @@ fitting_text_has_no_fault most front back text pieces f short utf8_text cut enou
 
 -- a nonce has no comma, and no extension does:
 pub nonce_lacks_comma : (most : ℕ) (nonce : List ℕ) → IsNonce most nonce → LacksComma nonce
-nonce_lacks_comma most nonce class = class_lacks_byte 44 is_printable nonce refl class.each
+nonce_lacks_comma most nonce class = class_lacks_byte (byte ",") is_printable nonce refl class.each
 
 pub extensions_lack_comma : (extensions : List (List ℕ)) → AreExtensions extensions → AllByRecursion LacksComma extensions
 extensions_lack_comma [] are = tt

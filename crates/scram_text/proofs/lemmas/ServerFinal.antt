@@ -3,7 +3,8 @@ use Rattle.std.proofs.Common.{◌≡◌, inr, ℕ, ◌≤◌, List, [], ◌∷�
 use Rattle.std.specs.Prelude.{IfOk, IfErr, IsOkAnd}
 use Rattle.std.specs.declared.result.Result.{Result}
 use Rattle.std.proofs.lemmas.List.Splits.{join_with_byte-slice_split}
-use Rattle.scram_text.specs.Limits.{longest_message, longest_nonce}
+use Rattle.std.specs.Str.{byte}
+use Rattle.scram_text.specs.Limits.{longest_message, longest_nonce, longest_tag}
 use Rattle.scram_text.specs.Class.{IsUtf8Text}
 use Rattle.scram_text.specs.Name.{LacksComma}
 use Rattle.scram_text.specs.Base64Field.{base64}
@@ -20,8 +21,8 @@ use Rattle.scram_text.specs.declared.fault.TextWhy.TheVariants.{Extension}
 use Rattle.scram_text.proofs.lemmas.ListEnds.{same_head_and_tail}
 use Rattle.scram_text.proofs.lemmas.Base64.{base64_lacks_comma}
 use Rattle.scram_text.proofs.lemmas.Parts.{unfit_part_is_misfit, fitting_part_keeps_misfit}
-use Rattle.scram_text.proofs.lemmas.Places.{AllFit, AllFit-cons, extensions_fit, part_fault_is_fault, fitting_text_has_no_fault, extensions_lack_comma, parts-joined}
-use Rattle.scram_text.proofs.lemmas.Places.{field_part_spells_field, one_field_per_base64}
+use Rattle.scram_text.proofs.lemmas.Places.{AllFit, AllFit-cons, extensions_fit, part_fault_is_fault, fitting_text_has_no_fault}
+use Rattle.scram_text.proofs.lemmas.Places.{extensions_lack_comma, parts-joined, field_part_spells_field, one_field_per_base64}
 use Rattle.scram_text.proofs.lemmas.MextAndRest.{front_places_unfold}
 use Rattle.scram_text.proofs.lemmas.ReadMessages.{message_is_read}
 
@@ -42,7 +43,7 @@ parts-server_final text p is =
 one_outcome_per_text : (one other : VerifierOrError) → IsVerifierOrError one → IsVerifierOrError other
     → verifier_or_error_text one ≡ verifier_or_error_text other → one ≡ other
 one_outcome_per_text (verifier one) (verifier other) is also same =
-    let texts : base64 one ≡ base64 other = cc same in ap verifier (one_field_per_base64 64 one other is also texts)
+    let texts : base64 one ≡ base64 other = cc same in ap verifier (one_field_per_base64 longest_tag one other is also texts)
 one_outcome_per_text (verifier one) (server_error other) is also same = absurd (omega (arith, (same_head_and_tail 118 101 _ _ same).0))
 one_outcome_per_text (server_error one) (verifier other) is also same = absurd (omega (arith, (same_head_and_tail 101 118 _ _ same).0))
 one_outcome_per_text (server_error one) (server_error other) is also same = let values : one ≡ other = cc same in ap server_error values
@@ -66,7 +67,7 @@ server_final_places_unfold first extensions =
 -- an outcome's text fits its place
 pub outcome_fits : (outcome : VerifierOrError) → IsVerifierOrError outcome
     → Fits longest_nonce (outcome_place (verifier_or_error_text outcome)) (verifier_or_error_text outcome)
-outcome_fits (verifier signature) is = field_part_spells_field 118 64 _ signature refl is
+outcome_fits (verifier signature) is = field_part_spells_field (byte "v") longest_tag _ signature refl is
 outcome_fits (server_error value) is = (value, refl, is)
 
 -- if the first part of server-final fits its place, and the others are extensions, all parts fit their places
@@ -132,4 +133,4 @@ pub pieces_spell_server_final : (text first : List ℕ) (p : ServerFinalParts) �
 unfolding server_final_text
 pieces_spell_server_final text first p cut spelled =
     let pieces : first ∷ p.extensions ≡ verifier_or_error_text p.outcome ∷ p.extensions = cc spelled in
-    sym (join_with_byte-slice_split 44 text) ∙ ap joined (cut ∙ pieces)
+    sym (join_with_byte-slice_split (byte ",") text) ∙ ap joined (cut ∙ pieces)

@@ -5,16 +5,16 @@ use Rattle.std.specs.declared.option.Option.{Option}
 use Rattle.std.specs.declared.result.Result.{Result}
 use Rattle.std.proofs.lemmas.Fmt.{decimal_injective}
 use Rattle.std.proofs.lemmas.List.Splits.{join_with_byte-slice_split}
-use Rattle.scram_text.specs.Limits.{longest_message, longest_nonce}
+use Rattle.std.specs.Str.{byte}
+use Rattle.scram_text.specs.Limits.{longest_message, longest_nonce, longest_salt}
 use Rattle.scram_text.specs.Class.{IsUtf8Text}
 use Rattle.scram_text.specs.Base64Field.{base64}
 use Rattle.scram_text.specs.Parts.{parts, joined, mext_parts, AreExtensions}
 use Rattle.scram_text.specs.Messages.{ServerFirstParts, server_first_text, IsServerFirst}
 use Rattle.scram_text.specs.Laws.{HasOneServerFirst}
 use Rattle.scram_text.specs.Faults.{Fits, fault, places, IsFirstMisfit, IsServerFirstFault, server_first_places}
-use Rattle.scram_text.specs.Pieces.{IsExtensionMisfit}
+use Rattle.scram_text.specs.Pieces.{IsExtensionMisfit, IsMextAndRest}
 use Rattle.scram_text.specs.Shown.{ShowsServerFirst}
-use Rattle.scram_text.specs.Pieces.{IsMextAndRest}
 use Rattle.scram_text.specs.declared.server_first.ServerFirst.{ServerFirst}
 use Rattle.scram_text.specs.declared.fault.TextFault.{TextFault}
 use Rattle.scram_text.specs.declared.fault.TextWhy.TheVariants.{Nonce, Salt, Count, Extension}
@@ -22,8 +22,8 @@ use Rattle.scram_text.proofs.lemmas.Base64.{base64_lacks_comma}
 use Rattle.scram_text.proofs.lemmas.Parts.{unfit_part_is_misfit, fitting_part_keeps_misfit, equal_index_keeps_misfit}
 use Rattle.scram_text.proofs.lemmas.Places.{AllFit, AllFit-cons, extensions_fit, fitting_text_has_no_fault, nonce_lacks_comma, extensions_lack_comma}
 use Rattle.scram_text.proofs.lemmas.Places.{parts-joined_list, field_part_spells_field, one_field_per_base64}
-use Rattle.scram_text.proofs.lemmas.MextAndRest.{front_places_unfold, joined_are_mext_and_rest, mext_and_rest_lack_comma, mext_and_rest_are_nonempty, one_mext_and_rest, mext_and_rest_fit, rest_misfit_is_part_fault}
-use Rattle.scram_text.proofs.lemmas.MextAndRest.{mext_and_rest_lengths_add_up}
+use Rattle.scram_text.proofs.lemmas.MextAndRest.{front_places_unfold, joined_are_mext_and_rest, mext_and_rest_lack_comma, mext_and_rest_are_nonempty}
+use Rattle.scram_text.proofs.lemmas.MextAndRest.{one_mext_and_rest, mext_and_rest_fit, rest_misfit_is_part_fault, mext_and_rest_lengths_add_up}
 use Rattle.scram_text.proofs.lemmas.Counts.{decimal_lacks_comma, count_is_below_2_64}
 use Rattle.scram_text.proofs.lemmas.ReadMessages.{message_is_read}
 
@@ -69,7 +69,7 @@ has_one_server_first text p q is also =
     let salts : base64 p.salt ≡ base64 q.salt = cc rest in
     let counts : decimal p.count ≡ decimal q.count = cc rest in
     let extensions : p.extensions ≡ q.extensions = cc rest in
-    same_fields_make_same_parts p q same.0 nonces (one_field_per_base64 64 p.salt q.salt is.salt also.salt salts)
+    same_fields_make_same_parts p q same.0 nonces (one_field_per_base64 longest_salt p.salt q.salt is.salt also.salt salts)
     (decimal_injective p.count q.count (count_is_below_2_64 p.count is.count) (count_is_below_2_64 q.count also.count) counts) extensions
 
 -- the places of the parts after the mandatory extension are Nonce, Salt, Count and one Extension for each extension
@@ -96,8 +96,8 @@ pub server_first_parts_fit : (text : List ℕ) (p : ServerFirstParts) → IsServ
 server_first_parts_fit text p is =
     mext_and_rest_fit longest_nonce (Nonce ∷ Salt ∷ Count ∷ []) (parts text) (server_first_rest p) p.mext
     (server_first_has_mext_and_rest text p is)
-    (nonce_salt_count_fit _ _ _ p.extensions (p.nonce, refl, is.nonce) (field_part_spells_field 115 64 _ p.salt refl is.salt)
-    (decimal p.count, refl, (p.count, refl, is.count)) is.extensions)
+    (nonce_salt_count_fit _ _ _ p.extensions (p.nonce, refl, is.nonce)
+    (field_part_spells_field (byte "s") longest_salt _ p.salt refl is.salt) (decimal p.count, refl, (p.count, refl, is.count)) is.extensions)
 
 -- a server-first message has no fault
 server_first_has_no_fault : (text : List ℕ) (p : ServerFirstParts) (f : TextFault) → IsServerFirst text p → IsServerFirstFault text f → ⊥
@@ -172,4 +172,4 @@ pub pieces_spell_server_first : (text nonce salt count : List ℕ) (p : ServerFi
 unfolding server_first_text
 pieces_spell_server_first text nonce salt count p marked is_nonce is_salt is_count =
     let later : nonce ∷ salt ∷ count ∷ p.extensions ≡ server_first_rest p = cc (is_nonce, is_salt, is_count) in
-    sym (join_with_byte-slice_split 44 text) ∙ ap joined (marked.cut ∙ ap (λ (ps : List (List ℕ)). mext_parts p.mext ++ ps) later)
+    sym (join_with_byte-slice_split (byte ",") text) ∙ ap joined (marked.cut ∙ ap (λ (ps : List (List ℕ)). mext_parts p.mext ++ ps) later)

@@ -76,6 +76,7 @@ const TEXTS: [(TextWhy, u16, &str); 15] = [
     (TextWhy::ErrorValue, 15, "the error value is empty"),
 ];
 
+/// Each fault of a message has the number and the text in TEXTS.
 #[test]
 fn texts_of_faults(rt: HostRuntime) -> Result<(), Fail> {
     for (why, number, want) in TEXTS {
@@ -85,7 +86,7 @@ fn texts_of_faults(rt: HostRuntime) -> Result<(), Fail> {
     Ok(())
 }
 
-// The text names the part before what is wrong there.
+/// The text names the part before what is wrong there.
 #[test]
 fn text_of_a_part_at_fault(rt: HostRuntime) -> Result<(), Fail> {
     let fault = read_client_first(b"n,,n=user,r=x,").err().ok_or("a fault")?;
@@ -93,6 +94,7 @@ fn text_of_a_part_at_fault(rt: HostRuntime) -> Result<(), Fail> {
     check_words(&rt, rt.alloc(), &fault, want)
 }
 
+/// The number of each refusal to write, as in docs/REFUSALS.md, and its text.
 #[test]
 fn texts_of_refusals_to_write(rt: HostRuntime) -> Result<(), Fail> {
     let rows = [

@@ -12,6 +12,7 @@ fn is_before(one: &PlainName, other: &PlainName) -> bool {
         && other.cmp(one) == Ordering::Greater
 }
 
+/// Each name is before all that follow it in ASCENDING, and equal to itself.
 #[test]
 fn names_are_in_order_of_their_bytes(rt: HostRuntime) -> Result<(), Fail> {
     for (i, one) in ASCENDING.iter().enumerate() {
@@ -25,6 +26,7 @@ fn names_are_in_order_of_their_bytes(rt: HostRuntime) -> Result<(), Fail> {
     Ok(())
 }
 
+/// The text of a name, and copies of names and of a salt, have the bytes that these were made of.
 #[test]
 fn copies_and_texts(rt: HostRuntime) -> Result<(), Fail> {
     for text in ASCENDING {
@@ -39,6 +41,7 @@ fn copies_and_texts(rt: HostRuntime) -> Result<(), Fail> {
     Ok(())
 }
 
+/// A number up to 2^64 - 1 has one spelling, without a sign, a space or a zero in front, and with no digits but those of ASCII.
 #[test]
 fn decimals(rt: HostRuntime) {
     for (text, number) in [

@@ -1,5 +1,5 @@
 //! How a client's line is read: by its LF, by its length, by the end of the input, or by a read that fails.
-use desk_in_memory::{Memory, Service, Ticking};
+use desk_in_memory::{MemoryStore, Service, TickingClock};
 use sasl_desk::{Phase, ServeFault};
 use sasl_log::{Clean, Got, OverRead, Source};
 use std::alloc::Global;
@@ -28,9 +28,9 @@ fn one_turn<C: Source>(
     rt: &(impl Abort + AllocGlobal),
     client: &mut C,
 ) -> Result<(Service, Result<Phase, ServeFault>), Fail> {
-    let mut service = Service::begin(rt.alloc(), Memory::sound(rt.alloc()))?;
+    let mut service = Service::begin(rt.alloc(), MemoryStore::sound(rt.alloc()))?;
     assert_eq!(rt; service.greet()?, Ok(Phase::WaitAuth));
-    let end = service.take_turn(rt.alloc(), client, &mut Ticking::after(0)?)?;
+    let end = service.take_turn(rt.alloc(), client, &mut TickingClock::after(0)?)?;
     Ok((service, end))
 }
 
@@ -53,7 +53,7 @@ fn check_end<C: Source>(
     service.check_log(rt.alloc(), log.as_str(), counts)
 }
 
-// A line of 6200 bytes is heard as it is. Its message is no client-first message.
+/// A line of 6200 bytes is heard as it is. Its message is no client-first message.
 #[test]
 fn the_longest_line_is_heard(rt: HostRuntime) -> Result<(), Fail> {
     let line = long_line(rt.alloc(), 6182)?;
@@ -67,7 +67,7 @@ fn the_longest_line_is_heard(rt: HostRuntime) -> Result<(), Fail> {
     )
 }
 
-// A line is bad once 6201 bytes of it are read. What follows them, be it an LF, more bytes or the end, is not read.
+/// A line is bad once 6201 bytes of it are read. What follows them, be it an LF, more bytes or the end, is not read.
 #[test]
 fn a_longer_line_is_bad(rt: HostRuntime) -> Result<(), Fail> {
     let line = long_line(rt.alloc(), 6183)?;
@@ -82,14 +82,14 @@ fn a_longer_line_is_bad(rt: HostRuntime) -> Result<(), Fail> {
     Ok(())
 }
 
-// An empty line is a bad line; if there is no line at all, the client has gone.
+/// An empty line is a bad line; if there is no line at all, the client has gone.
 #[test]
 fn an_empty_line_is_bad(rt: HostRuntime) -> Result<(), Fail> {
     check_end(&rt, &mut OverRead::new(b"\n".as_slice()), BAD, Got::End)?;
     check_end(&rt, &mut OverRead::new(b"".as_slice()), GONE, Got::End)
 }
 
-// A line without its LF is not heard, whether it is a line of the protocol or the longest that there may be.
+/// A line without its LF is not heard, whether it is a line of the protocol or the longest that there may be.
 #[test]
 fn a_line_cut_off_is_gone(rt: HostRuntime) -> Result<(), Fail> {
     let longest = long_line(rt.alloc(), 6182)?;
@@ -114,7 +114,7 @@ impl Read for Torn<'_> {
     }
 }
 
-// If a read fails in a line, the client has gone; after a line, or after 6201 bytes of it, the failure comes too late.
+/// If a read fails in a line, the client has gone; after a line, or after 6201 bytes of it, the failure comes too late.
 #[test]
 fn a_failed_read_is_gone(rt: HostRuntime) -> Result<(), Fail> {
     let longest = long_line(rt.alloc(), 6182)?;

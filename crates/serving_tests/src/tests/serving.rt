@@ -1,16 +1,16 @@
 //! Clients that are served: what is read from them, what they are sent, and the log.
 use super::check_halted;
-use desk_in_memory::{AMPLE, Memory, Service, Ticking, When, login_and};
+use desk_in_memory::{AMPLE, FailurePoint, MemoryStore, Service, TickingClock, login_and};
 use sasl_desk::{Event, Phase};
 use sasl_log::{Clean, Got, OverRead, Source};
 use std::process::Abort;
 use std::test::Fail;
 
-// The published login, and published codes after it, each at the moment of its own turn. Then the input ends.
+/// The published login, and published codes after it, each at the moment of its own turn. Then the input ends.
 #[test]
 fn a_login_and_codes_are_served(rt: HostRuntime) -> Result<(), Fail> {
     let alloc = rt.alloc();
-    let mut service = Service::begin(alloc, Memory::sound(alloc))?;
+    let mut service = Service::begin(alloc, MemoryStore::sound(alloc))?;
     let sent = login_and(alloc, "CODE 755224\nCODE 755224\nSYNC 969429 338314\n")?;
     let mut client = OverRead::new(sent.as_bytes());
     let end = service.serve(alloc, &mut client, AMPLE, AMPLE)?;
@@ -30,7 +30,7 @@ fn check_turns<C: Source>(
     service: &mut Service,
     client: &mut C,
 ) -> Result<(), Fail> {
-    let mut clock = Ticking::after(56)?;
+    let mut clock = TickingClock::after(56)?;
     for phase in [Phase::WaitFinal, Phase::WaitCode, Phase::WaitCode] {
         let turn = service.take_turn(rt.alloc(), client, &mut clock)?;
         assert_eq!(rt; turn, Ok(phase));
@@ -39,12 +39,12 @@ fn check_turns<C: Source>(
     Ok(())
 }
 
-// A turn reads its line and not a byte more, and asks the clock once. Then the client goes away, since a log with an open
-// session is not clean.
+/// A turn reads its line and not a byte more, and asks the clock once. Then the client goes away, since a log with an open
+/// session is not clean.
 #[test]
 fn a_turn_takes_one_line(rt: HostRuntime) -> Result<(), Fail> {
     let alloc = rt.alloc();
-    let mut service = Service::begin(alloc, Memory::sound(alloc))?;
+    let mut service = Service::begin(alloc, MemoryStore::sound(alloc))?;
     assert_eq!(rt; service.greet()?, Ok(Phase::WaitAuth));
     let sent = login_and(alloc, "CODE 755224\nABORT\n")?;
     let mut client = OverRead::new(sent.as_bytes());
@@ -59,11 +59,11 @@ fn a_turn_takes_one_line(rt: HostRuntime) -> Result<(), Fail> {
     )
 }
 
-// When a session ends, the lines after it are left for the next one.
+/// When a session ends, the lines after it are left for the next one.
 #[test]
 fn clients_follow_each_other(rt: HostRuntime) -> Result<(), Fail> {
     let alloc = rt.alloc();
-    let mut service = Service::begin(alloc, Memory::sound(alloc))?;
+    let mut service = Service::begin(alloc, MemoryStore::sound(alloc))?;
     let mut client = OverRead::new(b"ABORT\nAUTH PLAIN\n".as_slice());
     for _ in 0..2 {
         let end = service.serve(alloc, &mut client, AMPLE, AMPLE)?;
@@ -84,9 +84,9 @@ fn clients_follow_each_other(rt: HostRuntime) -> Result<(), Fail> {
 
 // The store fails at the first code, before or after the new text is in its place: the client is sent `HALT`, and neither it
 // nor anyone else is served after that.
-fn check_failed_save(rt: &(impl Abort + AllocGlobal), when: When) -> Result<(), Fail> {
+fn check_failed_save(rt: &(impl Abort + AllocGlobal), when: FailurePoint) -> Result<(), Fail> {
     let alloc = rt.alloc();
-    let mut service = Service::begin(alloc, Memory::failing_at(alloc, 2, when))?;
+    let mut service = Service::begin(alloc, MemoryStore::failing_at(alloc, 2, when))?;
     let sent = login_and(alloc, "CODE 755224\nABORT\n")?;
     let mut client = OverRead::new(sent.as_bytes());
     let end = service.serve(alloc, &mut client, AMPLE, AMPLE)?;
@@ -95,8 +95,9 @@ fn check_failed_save(rt: &(impl Abort + AllocGlobal), when: When) -> Result<(), 
     service.check_after_login(alloc, "HALT\n", "C CODE 755224\nS HALT\n", 0)
 }
 
+/// The same end, whether the store then holds the old text or the new one.
 #[test]
 fn a_failed_save_ends_serving(rt: HostRuntime) -> Result<(), Fail> {
-    check_failed_save(&rt, When::Before)?;
-    check_failed_save(&rt, When::After)
+    check_failed_save(&rt, FailurePoint::Before)?;
+    check_failed_save(&rt, FailurePoint::After)
 }

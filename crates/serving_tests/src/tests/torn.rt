@@ -1,6 +1,6 @@
 //! A wire and a log that fail at each of their writes in turn.
 use super::check_halted;
-use desk_in_memory::{ACCEPTANCE, AMPLE, CHALLENGE, Memory, Room, Service, login_and};
+use desk_in_memory::{ACCEPTANCE, AMPLE, CHALLENGE, MemoryStore, Room, Service, login_and};
 use sasl_desk::{Event, Phase, ServeFault};
 use sasl_log::{Clean, OverRead};
 use std::alloc::Global;
@@ -82,7 +82,7 @@ fn served(
     wire_room: Room,
     log_room: Room,
 ) -> Result<(Service, Result<Phase, ServeFault>), Fail> {
-    let mut service = Service::begin(alloc, Memory::sound(alloc))?;
+    let mut service = Service::begin(alloc, MemoryStore::sound(alloc))?;
     let sent = login_and(alloc, "CODE 755224\nABORT\n")?;
     let mut client = OverRead::new(sent.as_bytes());
     let end = service.serve(alloc, &mut client, wire_room, log_room)?;
@@ -149,6 +149,7 @@ fn check_unsent(
     check_gone(rt, service, here, logged)
 }
 
+/// Each write fails before its first byte, and after three.
 #[test]
 fn the_wire_fails_at_each_write(rt: HostRuntime) -> Result<(), Fail> {
     let mut told = String::new(rt.alloc());
@@ -182,6 +183,7 @@ fn check_unlogged(
     check_left(rt, &service, Phase::Halted, told.as_bytes(), log.as_slice())
 }
 
+/// Each write fails before its first byte, and after three.
 #[test]
 fn the_log_fails_at_each_write(rt: HostRuntime) -> Result<(), Fail> {
     let mut told = String::new(rt.alloc());

@@ -1,5 +1,5 @@
 //! Clients that would never end: they are given 10000 turns.
-use desk_in_memory::{AMPLE, Memory, Service, login_and};
+use desk_in_memory::{AMPLE, MemoryStore, Service, login_and};
 use sasl_desk::Phase;
 use sasl_log::{Got, OverRead, Source};
 use std::alloc::Global;
@@ -43,7 +43,7 @@ fn check_end(
     codes.sent.push_str("ABORT\n")?;
     codes.told.push_str(told)?;
     codes.logged.push_str(ends)?;
-    let mut service = Service::begin(rt.alloc(), Memory::sound(rt.alloc()))?;
+    let mut service = Service::begin(rt.alloc(), MemoryStore::sound(rt.alloc()))?;
     let mut client = OverRead::new(codes.sent.as_bytes());
     let end = service.serve(rt.alloc(), &mut client, AMPLE, AMPLE)?;
     assert_eq!(rt; end, Ok(Phase::Closed));
@@ -51,14 +51,14 @@ fn check_end(
     service.check_after_login(rt.alloc(), codes.told.as_str(), codes.logged.as_str(), 0)
 }
 
-// Two turns of a login, and one at each moment from 3 to 10000: then the client is treated as gone, and its next line is not
-// read.
+/// Two turns of a login, and one at each moment from 3 to 10000: then the client is treated as gone, and its next line is not
+/// read.
 #[test]
 fn an_endless_client_is_gone(rt: HostRuntime) -> Result<(), Fail> {
     check_end(&rt, 10_001, "C GONE\nE\n", "", Got::Byte(b'A'))
 }
 
-// With one code less, the ABORT comes in the last turn: it ends the session, and the client is not treated as gone.
+/// With one code less, the ABORT comes in the last turn: it ends the session, and the client is not treated as gone.
 #[test]
 fn the_last_turn_is_taken(rt: HostRuntime) -> Result<(), Fail> {
     check_end(&rt, 10_000, "C ABORT\nS NO :\nE\n", "NO :\n", Got::End)

@@ -1,7 +1,8 @@
 use Rattle.std.proofs.Common.{inl, inr, option_map}
 use Rattle.toml.specs.View.{table_view}
 use Rattle.book_format.specs.Tables.{TopFields}
-use Rattle.book_format.proofs.lemmas.BookTexts.{tree_fault_is_fault_of_book, top_fault_is_fault_of_book, accounts_fault_is_fault_of_book, parts_are_read_as_book, read_book_is_in_range}
+use Rattle.book_format.proofs.lemmas.BookTexts.{tree_fault_is_fault_of_book, top_fault_is_fault_of_book, accounts_fault_is_fault_of_book}
+use Rattle.book_format.proofs.lemmas.BookTexts.{parts_are_read_as_book, read_book_is_in_range}
 use Rattle.book_format.proofs.read.contents_of.Goals as goal
 
 pub returns-in-Err : goal.returns-in-Err

@@ -4,7 +4,7 @@ ghost use Rattle.toml.specs.View.{table_view};
 ghost use Rattle.otp_core.specs.TokenRanges.{IsHotpInRange};
 ghost use Rattle.otp_core.specs.declared.token.kinds.TokenFields.TheVariants.{Hotp};
 ghost use Rattle.book_format.specs.reading.Rows.{read_table};
-ghost use Rattle.book_format.specs.Tokens.{hotp};
+ghost use Rattle.book_format.specs.Tokens.{hotp_table};
 
 use crate::fault::BookWhy;
 use crate::read::field::{bytes_at, check_keys, number_at, number_or_zero};
@@ -20,7 +20,7 @@ use toml::Table;
 /// missing or its value has the wrong type, else `Token` if the value is out of its range.
 #[tactic(auto, unfolding(crate::specs::reading::Rows::read_table))]
 pub(crate) fn hotp_of(table: &Table) -> Result<HotpFields, BookWhy>
-    ensures value { result ≡ read_table hotp (table_view table.now) }
+    ensures value { result ≡ read_table hotp_table (table_view table.now) }
     ensures range { IfOk result IsHotpInRange }
 {
     check_keys(

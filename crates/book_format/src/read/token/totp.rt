@@ -7,11 +7,11 @@ ghost use Rattle.otp_core.specs.Ranges.{most_counter};
 ghost use Rattle.otp_core.specs.TokenRanges.{IsTotpInRange};
 ghost use Rattle.otp_core.specs.declared.token.kinds.TokenFields.TheVariants.{Totp};
 ghost use Rattle.book_format.specs.Keys.{is_among, has_only};
-ghost use Rattle.book_format.specs.ValueTypes.{number, signed, hash};
+ghost use Rattle.book_format.specs.ValueTypes.{number_type, signed_type, hash_type};
 ghost use Rattle.book_format.specs.reading.Steps.{pass_or};
 ghost use Rattle.book_format.specs.reading.Rows.{read_at, read_some, read_table};
 ghost use Rattle.book_format.specs.Rows.{table_keys};
-ghost use Rattle.book_format.specs.Tokens.{totp};
+ghost use Rattle.book_format.specs.Tokens.{totp_table};
 ghost use Rattle.book_format.specs.declared.fault.BookWhy.TheVariants as why;
 
 use crate::fault::BookWhy;
@@ -28,7 +28,7 @@ use toml::Table;
 /// or its value has the wrong type, else `Token` if the value is out of its range.
 #[tactic(auto, unfolding(crate::specs::reading::Rows::read_table))]
 pub(crate) fn totp_of(table: &Table) -> Result<TotpFields, BookWhy>
-    ensures value { result ≡ read_table totp (table_view table.now) }
+    ensures value { result ≡ read_table totp_table (table_view table.now) }
     ensures range { IfOk result IsTotpInRange }
 {
     check_totp_keys(table)?;
@@ -68,7 +68,7 @@ pub(crate) fn totp_of(table: &Table) -> Result<TotpFields, BookWhy>
 
 // Checks the keys of a table. Errors: `Key` if it has a key that a TOTP token does not have.
 fn check_totp_keys(table: &Table) -> Result<(), BookWhy>
-    ensures { result ≡ pass_or (has_only (is_among (table_keys totp)) (table_view table.now)) why.Key }
+    ensures { result ≡ pass_or (has_only (is_among (table_keys totp_table)) (table_view table.now)) why.Key }
 {
     check_keys(
         table,
@@ -105,7 +105,7 @@ pub(crate) fn totp_token(fields: TotpFields) -> Token
 // name.
 #[tactic(auto, unfolding(crate::specs::reading::Values::hash_in))]
 fn hash_at(table: &Table, key: &str) -> Result<OtpHash, BookWhy>
-    ensures { result ≡ read_at key.now hash (table_view table.now) }
+    ensures { result ≡ read_at key.now hash_type (table_view table.now) }
 {
     let name = text_at(table, key)?;
     OtpHash::of_name(name).ok_or(BookWhy::Token)
@@ -113,7 +113,7 @@ fn hash_at(table: &Table, key: &str) -> Result<OtpHash, BookWhy>
 
 // The last step, or None if there is no key `last`. Errors: `Key` if it has the wrong type; `Token` if it is out of its range.
 fn last_if_any(table: &Table) -> Result<Option<u64>, BookWhy>
-    ensures value { result ≡ read_some (codes "last") (number why.Token 0 most_counter) (table_view table.now) }
+    ensures value { result ≡ read_some (codes "last") (number_type why.Token 0 most_counter) (table_view table.now) }
     ensures range { IfOk result (λ last. ForSome last (λ l. l ≤ most_counter)) }
 {
     match at(table, "last") {
@@ -126,7 +126,7 @@ fn last_if_any(table: &Table) -> Result<Option<u64>, BookWhy>
 // `Token` if the drift is greater.
 #[tactic(auto, unfolding(crate::specs::reading::Values::signed_in))]
 fn drift_at(table: &Table, key: &str, most: u64) -> Result<i64, BookWhy>
-    ensures value { result ≡ read_at key.now (signed why.Token most) (table_view table.now) }
+    ensures value { result ≡ read_at key.now (signed_type why.Token most) (table_view table.now) }
     ensures range { IfOk result (λ drift. nat_abs drift ≤ most) }
 {
     let drift = required(table, key)?.as_integer().ok_or(BookWhy::Key)?;

@@ -1,6 +1,6 @@
 use Rattle.std.proofs.Common.{rules, [], ap, codes}
 use Rattle.std.proofs.lemmas.Result.{IfOk-weaker}
-use Rattle.command_words.specs.Commands.{one_value, with_default, required, HasOptions}
+use Rattle.command_words.specs.Commands.{one_value, with_default, required_value, HasOptions}
 use Rattle.command_line.specs.declared.option_name.OptionName.TheVariants.{Secret, Digits, Counter, Moment, Hash, T0, Step}
 use Rattle.clap.specs.Simple.{app_of_fields}
 use Rattle.clap.specs.declared.builder.command.Command.{Command}
@@ -13,7 +13,7 @@ returns c =
     let none : HasOptions (codes "code") [] c.after_help.result = new_command_has_no_options _ _ _ _ c.new.ensures.app c.new.ensures.local
     (ap app_of_fields c.about.ensures) (ap (λ (f : Command-F Command). f.has_globals) c.about.ensures)
     (ap app_of_fields c.after_help.ensures) (ap (λ (f : Command-F Command). f.has_globals) c.after_help.ensures) in
-    let one = command_has_added_option _ _ (required Secret) _ _ _ c.in_ok-arg.ensures (search rules) c.required.ensures.local none in
+    let one = command_has_added_option _ _ (required_value Secret) _ _ _ c.in_ok-arg.ensures (search rules) c.required.ensures.local none in
     let two = command_has_added_option _ _ (with_default Digits (codes "6")) _ _ _ c.in_ok-arg-2.ensures
     (search rules) c.with_default.ensures.local one in
     let three = command_has_added_option _ _ (one_value Counter) _ _ _ c.in_ok-arg-3.ensures (search rules) c.one_value.ensures.local two in

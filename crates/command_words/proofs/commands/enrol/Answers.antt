@@ -1,6 +1,6 @@
 use Rattle.std.proofs.Common.{rules, [], ap, codes}
 use Rattle.std.proofs.lemmas.Result.{IfOk-weaker}
-use Rattle.command_words.specs.Commands.{with_default, required, HasOptions}
+use Rattle.command_words.specs.Commands.{with_default, required_value, HasOptions}
 use Rattle.command_line.specs.declared.option_name.OptionName.TheVariants.{Book, Name, Random, Count}
 use Rattle.clap.specs.Simple.{app_of_fields}
 use Rattle.clap.specs.declared.builder.command.Command.{Command}
@@ -13,8 +13,8 @@ returns c =
     let none : HasOptions (codes "enrol") [] c.after_help.result = new_command_has_no_options _ _ _ _ c.new.ensures.app c.new.ensures.local
     (ap app_of_fields c.about.ensures) (ap (λ (f : Command-F Command). f.has_globals) c.about.ensures)
     (ap app_of_fields c.after_help.ensures) (ap (λ (f : Command-F Command). f.has_globals) c.after_help.ensures) in
-    let one = command_has_added_option _ _ (required Book) _ _ _ c.in_ok-arg.ensures (search rules) c.book.ensures.local none in
-    let two = command_has_added_option _ _ (required Name) _ _ _ c.in_ok-arg-2.ensures (search rules) c.name.ensures.local one in
+    let one = command_has_added_option _ _ (required_value Book) _ _ _ c.in_ok-arg.ensures (search rules) c.book.ensures.local none in
+    let two = command_has_added_option _ _ (required_value Name) _ _ _ c.in_ok-arg-2.ensures (search rules) c.name.ensures.local one in
     let three = command_has_added_option _ _ (with_default Count (codes "4096")) _ _ _ c.in_ok-arg-3.ensures
     (search rules) c.with_default.ensures.local two in
     IfOk-weaker c.arg-4.result _ _ (λ command added. command_has_added_option _ _ (with_default Random (codes "/dev/urandom")) _ _ _ added

@@ -1,7 +1,8 @@
 use Rattle.std.proofs.Common.{rules, [], ap, codes}
 use Rattle.std.proofs.lemmas.Result.{IfOk-weaker}
-use Rattle.command_words.specs.Commands.{one_value, with_default, required, HasOptions}
-use Rattle.command_line.specs.declared.option_name.OptionName.TheVariants.{Book, Name, As, Socket, Random, ClientNonce, ServerNonce, Mechanism, Moment}
+use Rattle.command_words.specs.Commands.{one_value, with_default, required_value, HasOptions}
+use Rattle.command_line.specs.declared.option_name.OptionName.TheVariants.{Book, Name, As, Socket, Random, ClientNonce, ServerNonce, Mechanism}
+use Rattle.command_line.specs.declared.option_name.OptionName.TheVariants.{Moment}
 use Rattle.clap.specs.Simple.{app_of_fields}
 use Rattle.clap.specs.declared.builder.command.Command.{Command}
 use Rattle.clap.specs.declared.builder.command.Command.TheOpen.{Command-F}
@@ -13,12 +14,12 @@ returns c =
     let none : HasOptions (codes "login") [] c.after_help.result = new_command_has_no_options _ _ _ _ c.new.ensures.app c.new.ensures.local
     (ap app_of_fields c.about.ensures) (ap (λ (f : Command-F Command). f.has_globals) c.about.ensures)
     (ap app_of_fields c.after_help.ensures) (ap (λ (f : Command-F Command). f.has_globals) c.after_help.ensures) in
-    let one = command_has_added_option _ _ (required Book) _ _ _ c.in_ok-arg.ensures (search rules) c.book.ensures.local none in
-    let two = command_has_added_option _ _ (required Name) _ _ _ c.in_ok-arg-2.ensures (search rules) c.name.ensures.local one in
+    let one = command_has_added_option _ _ (required_value Book) _ _ _ c.in_ok-arg.ensures (search rules) c.book.ensures.local none in
+    let two = command_has_added_option _ _ (required_value Name) _ _ _ c.in_ok-arg-2.ensures (search rules) c.name.ensures.local one in
     let three = command_has_added_option _ _ (one_value Mechanism) _ _ _ c.in_ok-arg-3.ensures (search rules) c.one_value.ensures.local
     two in
     let four = command_has_added_option _ _ (one_value As) _ _ _ c.in_ok-arg-4.ensures (search rules) c.one_value-2.ensures.local three in
-    let five = command_has_added_option _ _ (required Socket) _ _ _ c.in_ok-arg-5.ensures (search rules) c.required.ensures.local four in
+    let five = command_has_added_option _ _ (required_value Socket) _ _ _ c.in_ok-arg-5.ensures (search rules) c.required.ensures.local four in
     let six = command_has_added_option _ _ (with_default Random (codes "/dev/urandom")) _ _ _ c.in_ok-arg-6.ensures
     (search rules) c.random.ensures.local five in
     let seven = command_has_added_option _ _ (one_value ClientNonce) _ _ _ c.in_ok-arg-7.ensures (search rules) c.one_value-3.ensures.local

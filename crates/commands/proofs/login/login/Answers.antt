@@ -1,38 +1,56 @@
 use Rattle.std.proofs.Common.{inl, inr}
-use Rattle.std.proofs.lemmas.Result.{IfErr-weaker, on_ok_weaker}
+use Rattle.std.proofs.lemmas.Result.{IfErr-weaker, IfOk-weaker}
+use Rattle.command_io.proofs.lemmas.Results.{if_ok_and_if_true}
 use Rattle.commands.proofs.lemmas.Cases.{second_case_weakens}
 use Rattle.commands.proofs.login.login.Goals as goal
 
 pub returns-in-Ok-open-clause-ok : goal.returns-in-Ok-open-clause-ok
 returns-in-Ok-open-clause-ok g c =
-    on_ok_weaker c.talk_over.result.0
-    (λ printed. record {
-      text = _;
-      book = _;
-      is_read = c.in-Ok.ensures.book;
-      nonce = _;
-      server_nonce = _;
-      are_nonces = c.in-Ok.ensures.nonces;
-      moment = _;
-      is_moment = c.in-Ok.ensures.moment;
-      printed = printed;
-    })
-    c.talk_over.ensures.ok
+    IfOk-weaker c.talk_over.result.0 _ _
+    (λ passed did. (
+      _,
+      _,
+      c.in-Ok.ensures.nonces,
+      record {
+        text = _;
+        book = _;
+        is_read = c.in-Ok.ensures.book;
+        moment = _;
+        is_moment = c.in-Ok.ensures.moment.0;
+        moment_range = c.in-Ok.ensures.moment.1;
+        printed = did.0;
+      },
+      λ is.
+          let (has_lf, first) = c.in-Ok.ensures.password in record {
+            user = _;
+            is_user = c.in-Ok.ensures.user;
+            password = _;
+            has_lf = has_lf;
+            rest = _;
+            is_first_line = first;
+            is_password = c.in-Ok.ensures.is_password;
+            passes = did.1 is;
+          },
+    ))
+    (if_ok_and_if_true _ c.talk_over.result.0 c.talk_over.ensures.ok c.talk_over.ensures.passes)
 
 pub returns-in-Ok-open-clause-err : goal.returns-in-Ok-open-clause-err
 returns-in-Ok-open-clause-err g c =
     IfErr-weaker c.talk_over.result.0 _ _
-    (λ fault. second_case_weakens (λ printed. record {
-      text = _;
-      book = _;
-      is_read = c.in-Ok.ensures.book;
-      nonce = _;
-      server_nonce = _;
-      are_nonces = c.in-Ok.ensures.nonces;
-      moment = _;
-      is_moment = c.in-Ok.ensures.moment;
-      printed = printed;
-    }))
+    (λ fault. second_case_weakens (λ printed. (
+      _,
+      _,
+      c.in-Ok.ensures.nonces,
+      record {
+        text = _;
+        book = _;
+        is_read = c.in-Ok.ensures.book;
+        moment = _;
+        is_moment = c.in-Ok.ensures.moment.0;
+        moment_range = c.in-Ok.ensures.moment.1;
+        printed = printed;
+      },
+    )))
     c.talk_over.ensures.err
 
 pub returns-in-Err-clause-why : goal.returns-in-Err-clause-why
@@ -41,18 +59,3 @@ returns-in-Err-clause-why g c = inl c.in-Err.ensures.err
 pub returns-in-Ok-open-clause-why : goal.returns-in-Ok-open-clause-why
 returns-in-Ok-open-clause-why g c =
     IfErr-weaker c.talk_over.result.0 _ _ (λ fault stops. inr (rw c.in-Ok.ensures.path at stops)) c.talk_over.ensures.why
-
-pub returns-in-Ok-open-clause-passes : goal.returns-in-Ok-open-clause-passes
-returns-in-Ok-open-clause-passes g c = λ is.
-    let (has_lf, first) = c.in-Ok.ensures.password in record {
-      user = _;
-      is_user = c.in-Ok.ensures.user;
-      nonce = _;
-      server_nonce = _;
-      are_nonces = c.in-Ok.ensures.nonces;
-      password = _;
-      has_lf = has_lf;
-      rest = _;
-      is_first_line = first;
-      passes = c.talk_over.ensures.passes is;
-    }

@@ -1,6 +1,7 @@
 use Rattle.std.proofs.Common.{inl, inr, map, refl}
 use Rattle.clap.specs.declared.error.kind.ErrorKind.TheVariants.{OutOfMemory}
-use Rattle.commands.proofs.lemmas.Runs.{parse_error_is_words_error, parse_agrees_with_line, ended_command_ends_run, parsed_line_names_command, parsed_line_has_no_fault}
+use Rattle.commands.proofs.lemmas.Runs.{parse_error_is_words_error, parse_agrees_with_line, ended_command_ends_run, parsed_line_names_command}
+use Rattle.commands.proofs.lemmas.Runs.{parsed_line_has_no_fault}
 use Rattle.commands.proofs.program.run.Goals as goal
 
 pub returns-in_default-clause-ends : goal.returns-in_default-clause-ends

@@ -1,8 +1,9 @@
 use Rattle.std.proofs.Common.{rules, refl}
 use Rattle.command_words.specs.Commands.CommandName.{Keys, Enrol, Code, Verify, Unlock, Login, Hall, Audit, Upgrade}
 use Rattle.commands.specs.Program.{answer_status}
-use Rattle.command_io.proofs.lemmas.Results.{if_err_all_three, if_err_both, if_ok_and_if_true}
-use Rattle.commands.proofs.lemmas.Runs.{command_ends_as_known, computed_status_ends_as_known, parse_finds_named_command, found_command_is_known, found_command_has_name, done_command_has_run, stopped_command_has_run}
+use Rattle.command_io.proofs.lemmas.Results.{if_err_all_three, if_err_both}
+use Rattle.commands.proofs.lemmas.Runs.{command_ends_as_known, computed_status_ends_as_known, parse_finds_named_command, found_command_is_known}
+use Rattle.commands.proofs.lemmas.Runs.{found_command_has_name, done_command_has_run, stopped_command_has_run}
 use Rattle.commands.proofs.program.run_command.Goals as goal
 use Rattle.commands.proofs.program.run_command.Goals.{in_default-via-in-Some+in_default, in_default-via-in_default}
 
@@ -55,7 +56,7 @@ returns-in-Some-login-default-clause-ends g c =
     c.in-Some-login-default.is-login in
     computed_status_ends_as_known _ _ answer_status c.login-passed.result.0 c.answered-in-Some-login-default.result
     c.answered-in-Some-login-default.ensures
-    (if_ok_and_if_true _ c.login-passed.result.0 c.login-passed.ensures.ok c.login-passed.ensures.passes)
+    c.login-passed.ensures.ok
     (if_err_both _ _ c.login-passed.result.0 c.login-passed.ensures.err c.login-passed.ensures.why)
     (λ passed did. done_command_has_run Login _ is (passed, refl, did)) (λ _ stopped. stopped_command_has_run Login _ is stopped)
 

@@ -10,11 +10,13 @@ returns-clause-ok g c =
       first = _;
       last = _;
       begins = record {
-        is_moment = sym c.given-2.ensures ∙ c.in_ok-moment.ensures.ok;
+        name_range = rw c.given.ensures at c.in_ok-name.ensures.ok.1;
+        is_moment = sym c.given-2.ensures ∙ c.in_ok-moment.ensures.ok.0;
+        moment_range = c.in_ok-moment.ensures.ok.1;
         is_book = c.in_ok-held.ensures.read;
         is_printed = refl;
       };
-      answers = rw (c.in_ok-name.ensures.ok, c.given.ensures) at answers;
+      answers = rw (c.in_ok-name.ensures.ok.0, c.given.ensures) at answers;
       printed = refl;
     })
     c.answer_lines.ensures.ok
@@ -27,11 +29,13 @@ returns-clause-err g c =
       first = _;
       last = _;
       begins = record {
-        is_moment = sym c.given-2.ensures ∙ c.in_ok-moment.ensures.ok;
+        name_range = rw c.given.ensures at c.in_ok-name.ensures.ok.1;
+        is_moment = sym c.given-2.ensures ∙ c.in_ok-moment.ensures.ok.0;
+        moment_range = c.in_ok-moment.ensures.ok.1;
         is_book = c.in_ok-held.ensures.read;
         is_printed = refl;
       };
-      answers = rw (c.in_ok-name.ensures.ok, c.given.ensures, c.in_ok-held.ensures.path, c.given-3.ensures) at answers;
+      answers = rw (c.in_ok-name.ensures.ok.0, c.given.ensures, c.in_ok-held.ensures.path, c.given-3.ensures) at answers;
       printed = refl;
     }))
     c.answer_lines.ensures.err

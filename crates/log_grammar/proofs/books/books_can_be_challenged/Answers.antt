@@ -1,5 +1,5 @@
-use Rattle.log_grammar.proofs.lemmas.demands.FitBooks.{book_can_be_challenged}
+use Rattle.log_grammar.proofs.lemmas.demands.FitBooks.{books_can_be_challenged}
 use Rattle.log_grammar.proofs.books.books_can_be_challenged.Goals as goal
 
 pub returns : goal.returns
-returns c = book_can_be_challenged
+returns c = books_can_be_challenged

@@ -1,5 +1,5 @@
-use Rattle.log_grammar.proofs.lemmas.login_laws.CodesOfLogin.{code_has_login}
+use Rattle.log_grammar.proofs.lemmas.login_laws.CodesOfLogin.{each_reply_due_follows_its_login}
 use Rattle.log_grammar.proofs.by_sessions.each_reply_due_follows_its_login.Goals as goal
 
 pub returns : goal.returns
-returns c = code_has_login
+returns c = each_reply_due_follows_its_login

@@ -1,6 +1,7 @@
 use Rattle.log_grammar.proofs.lemmas.small_logs.CutLogs.{empty_is_cut, offer_is_cut, aborted_is_cut, aborted_refusal_is_cut, gone_is_cut, auth_is_cut}
-use Rattle.log_grammar.proofs.lemmas.small_logs.CutLogs.{invited_is_cut, bad_is_cut, bad_refusal_is_cut, not_offered_is_cut, not_offered_refusal_is_cut}
-use Rattle.log_grammar.proofs.lemmas.small_logs.CutLogs.{empty_first_is_cut, empty_first_refusal_is_cut, invited_gone_is_cut}
+use Rattle.log_grammar.proofs.lemmas.small_logs.CutLogs.{invited_is_cut, bad_is_cut, bad_refusal_is_cut, not_offered_is_cut}
+use Rattle.log_grammar.proofs.lemmas.small_logs.CutLogs.{not_offered_refusal_is_cut, empty_first_is_cut, empty_first_refusal_is_cut}
+use Rattle.log_grammar.proofs.lemmas.small_logs.CutLogs.{invited_gone_is_cut}
 use Rattle.log_grammar.proofs.examples.cut_logs.Goals as goal
 
 pub returns-clause-empty : goal.returns-clause-empty

@@ -1,6 +1,6 @@
 use Rattle.log_grammar.proofs.lemmas.small_logs.FaultyLogs.{end_is_no_line, end_is_missing, abort_is_early, halt_is_early, other_offer_is_at_fault}
-use Rattle.log_grammar.proofs.lemmas.small_logs.FaultyLogs.{invited_plain_is_at_fault, refused_auth_is_at_fault, header_again_is_early, accepted_abort_is_at_fault, refusal_message_is_at_fault}
-use Rattle.log_grammar.proofs.lemmas.small_logs.FaultyLogs.{challenged_empty_is_at_fault}
+use Rattle.log_grammar.proofs.lemmas.small_logs.FaultyLogs.{invited_plain_is_at_fault, refused_auth_is_at_fault, header_again_is_early}
+use Rattle.log_grammar.proofs.lemmas.small_logs.FaultyLogs.{accepted_abort_is_at_fault, refusal_message_is_at_fault, challenged_empty_is_at_fault}
 use Rattle.log_grammar.proofs.examples.faulty_logs.Goals as goal
 
 pub returns-clause-first : goal.returns-clause-first

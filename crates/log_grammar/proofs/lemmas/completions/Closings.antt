@@ -3,14 +3,15 @@ use Rattle.std.proofs.Common.{◌≡◌, ◌⊎◌, inl, inr, ℕ, List, [], ◌
 use Rattle.otp_core.specs.Attempt.{CodeTexts}
 use Rattle.scram_ends.specs.Verdict.{Due, accept, refuse, due_text}
 use Rattle.log_grammar.specs.Lines.{LogLine, said, gone, ended, cont, accepts, refuses, IsWritable}
-use Rattle.log_grammar.specs.Places.{Place, before_all, between, offered, asks_bare, waits_first, got_first, waits_final, got_final}
-use Rattle.log_grammar.specs.Places.{waits_code, got_code, leaving, over, halted}
+use Rattle.log_grammar.specs.Places.{Place, before_all, between, offered, asks_bare, waits_first, got_first, waits_final, got_final, waits_code}
+use Rattle.log_grammar.specs.Places.{got_code, leaving, over, halted}
 use Rattle.log_grammar.specs.Demands.{Accounts, AllCanBeChallenged, IsVerdictDue, demands}
 use Rattle.log_grammar.specs.state_machine.Steps.{IsTransition, told_at}
 use Rattle.log_grammar.specs.Numbered.{Numbered, MayBeNumbered, MayFollow}
 use Rattle.log_grammar.specs.NumberedLines.{IsNoFirstLine}
 use Rattle.log_grammar.proofs.lemmas.completions.Verdicts.{CompletionLaws, due_refusal_is_writable, due_acceptance_is_writable, some_verdict}
-use Rattle.log_grammar.proofs.lemmas.lines.Written.{gone_is_writable, end_is_writable, cont_is_writable, bare_refusal_is_writable, bare_cont_is_writable}
+use Rattle.log_grammar.proofs.lemmas.lines.Written.{gone_is_writable, end_is_writable, cont_is_writable, bare_refusal_is_writable}
+use Rattle.log_grammar.proofs.lemmas.lines.Written.{bare_cont_is_writable}
 use Rattle.log_grammar.proofs.lemmas.demands.StillChallenged.{ChallengeMeetsDemand}
 use Rattle.log_grammar.proofs.lemmas.demands.Challenges.{decided_offered, decided_first_message, some_challenge}
 use Rattle.log_grammar.proofs.lemmas.lines.TextBytes.{utf8_is_message}
@@ -36,14 +37,15 @@ end_is_plain = record { writable = end_is_writable; room = λ limit before n. tt
 gone_is_plain : IsPlain gone
 gone_is_plain = record { writable = gone_is_writable; room = λ limit before n. tt; follow = λ n m next. tt; has_number = tt }
 
-refusal_is_plain : (message : List ℕ) → IsWritable (said (refuses message)) → IsPlain (said (refuses message))
-refusal_is_plain message writable = record { writable = writable; room = λ limit before n. tt; follow = λ n m next. tt; has_number = tt }
+module _ (message : List ℕ) where
+  refusal_is_plain : IsWritable (said (refuses message)) → IsPlain (said (refuses message))
+  refusal_is_plain writable = record { writable = writable; room = λ limit before n. tt; follow = λ n m next. tt; has_number = tt }
 
-cont_is_plain : (message : List ℕ) → IsWritable (said (cont message)) → IsPlain (said (cont message))
-cont_is_plain message writable = record { writable = writable; room = λ limit before n. tt; follow = λ n m next. tt; has_number = tt }
+  cont_is_plain : IsWritable (said (cont message)) → IsPlain (said (cont message))
+  cont_is_plain writable = record { writable = writable; room = λ limit before n. tt; follow = λ n m next. tt; has_number = tt }
 
-ok_is_plain : (message : List ℕ) → IsWritable (said (accepts message)) → IsPlain (said (accepts message))
-ok_is_plain message writable = record { writable = writable; room = λ limit before n. tt; follow = λ n m next. tt; has_number = tt }
+  ok_is_plain : IsWritable (said (accepts message)) → IsPlain (said (accepts message))
+  ok_is_plain writable = record { writable = writable; room = λ limit before n. tt; follow = λ n m next. tt; has_number = tt }
 
 -- there are lines that close a session at this place
 abbrev pub IsClosable : Accounts → Place → Type 0
@@ -93,8 +95,7 @@ got_first_is_closable laws accounts fit m first = elim (decided_first_message la
 
 -- a session can be closed while a client-final message waits for the verdict that is due
 got_final_is_closable : (accounts : Accounts) (m account first challenge last : List ℕ) (due : Due)
-    → IsVerdictDue accounts m account first challenge last due
-    → IsClosable accounts (got_final m account first challenge last)
+    → IsVerdictDue accounts m account first challenge last due → IsClosable accounts (got_final m account first challenge last)
 got_final_is_closable accounts m account first challenge last (refuse why) is =
     refused_place_is_closable accounts (got_final m account first challenge last) (due_text (refuse why)) (due_refusal_is_writable why) refl
     ((why, is, refl), refl)
@@ -112,8 +113,7 @@ Exit accounts place =
 -- if a challenge can be written for each name, and the place's own challenge meets its demand, each place has an `Exit`: lines that close
 -- its session, unless it is before all lines, a code waits for its reply, or it is halted
 pub place_has_exit : CompletionLaws → (accounts : Accounts) → AllCanBeChallenged accounts → (place : Place)
-    → ChallengeMeetsDemand (demands accounts) place
-    → Exit accounts place
+    → ChallengeMeetsDemand (demands accounts) place → Exit accounts place
 place_has_exit laws accounts fit before_all opened = inr (inl refl)
 place_has_exit laws accounts fit between opened = inl ([], refl)
 place_has_exit laws accounts fit offered opened = inl (client_turn_is_closable accounts offered refl refl)

@@ -4,9 +4,9 @@ use Rattle.std.specs.Prelude.{codes}
 use Rattle.std.specs.List.{AllZip}
 use Rattle.log_grammar.specs.Lines.{LogLine, said, ended, busy}
 use Rattle.log_grammar.specs.Bytes.{ended_by_lf, IsSplit}
-use Rattle.log_grammar.specs.LoggedReply.{LoggedReply}
+use Rattle.log_grammar.specs.LoggedAttempt.{LoggedAttempt}
 use Rattle.log_grammar.specs.Places.{Place, between, over, is_closed}
-use Rattle.log_grammar.specs.Demands.{Accounts, AllCanBeChallenged, demands, AreReplies}
+use Rattle.log_grammar.specs.Demands.{Accounts, AllCanBeChallenged, demands, HaveDueReplies}
 use Rattle.log_grammar.specs.state_machine.Steps.{IsTransition, told_at}
 use Rattle.log_grammar.specs.Numbered.{Numbered, numbered, visit_place, visit_lines, given_in, MayFollow, SpellsNumbered}
 use Rattle.log_grammar.specs.NumberedLines.{IsSessionNumber, IsNumberedLine}
@@ -17,80 +17,20 @@ use Rattle.log_grammar.proofs.lemmas.completions.Verdicts.{CompletionLaws}
 use Rattle.log_grammar.proofs.lemmas.lines.Written.{end_is_writable}
 use Rattle.log_grammar.proofs.lemmas.lines.Cuts.{joined_lines_are_split}
 use Rattle.log_grammar.proofs.lemmas.kinds.FaultLines.{FrontsBeginCleanOf}
-use Rattle.log_grammar.proofs.lemmas.completions.OpenSessions.{IsNumberedCompletable, ended_numbered_log_is_completable, shorter_numbered_log_is_completable, Free, log_is_free_after, OpenInRange, closing_all_completes_log}
+use Rattle.log_grammar.proofs.lemmas.completions.OpenSessions.{IsNumberedCompletable, ended_numbered_log_is_completable}
+use Rattle.log_grammar.proofs.lemmas.completions.OpenSessions.{shorter_numbered_log_is_completable, Free, log_is_free_after, OpenInRange}
+use Rattle.log_grammar.proofs.lemmas.completions.OpenSessions.{closing_all_completes_log}
 use Rattle.log_grammar.proofs.lemmas.many_sessions.WithoutLast.{numbered_log_has_last_transition}
-use Rattle.log_grammar.proofs.lemmas.many_sessions.HaltAndBusy.{visit_halt_leads_to_halted, visit_busy_leads_to_over, halt_busy_or_followed}
+use Rattle.log_grammar.proofs.lemmas.many_sessions.HaltAndBusy.{visit_halt_leads_to_halted, visit_busy_leads_to_over}
+use Rattle.log_grammar.proofs.lemmas.many_sessions.HaltAndBusy.{line_is_halt_or_busy_or_followed}
 use Rattle.log_grammar.proofs.lemmas.many_sessions.Ends.{ungiven_number_is_between}
 use Rattle.log_grammar.proofs.lemmas.many_sessions.LogSteps.{given_visit_has_first_line, numbered_log_goes_on, empty_log_is_spelled}
 use Rattle.log_grammar.proofs.lemmas.many_sessions.Standings.{line_follows_last}
-use Rattle.log_grammar.proofs.lemmas.many_sessions.OpenCounts.{given_or_not}
-use Rattle.log_grammar.proofs.lemmas.many_sessions.LinesOfNumber.{one_and_others_cover_each, put_sets_own, put_keeps_others, first_of_number_stands}
+use Rattle.log_grammar.proofs.lemmas.many_sessions.OpenCounts.{number_is_given_or_not}
+use Rattle.log_grammar.proofs.lemmas.many_sessions.LinesOfNumber.{one_and_others_cover_each, put_sets_own, put_keeps_others}
+use Rattle.log_grammar.proofs.lemmas.many_sessions.LinesOfNumber.{first_line_of_number_stands}
 use Rattle.scram_text.proofs.lemmas.ListEnds.{nonempty_has_last}
 use Rattle.log_grammar.proofs.lemmas.ListEnds.{empty_has_no_element, related_lists-append}
-
--- a log after whose last line any line may follow can be completed by closing the open numbers
-free_log_is_completable : CompletionLaws → (limit : ℕ) (accounts : Accounts) → AllCanBeChallenged accounts
-    → (log : List (Numbered LogLine)) (places : ℕ → Place) (told : List LoggedReply)
-    → SpellsNumbered limit (demands accounts) log places told → Free log → OpenInRange places → IsNumberedCompletable limit accounts log
-free_log_is_completable laws limit accounts fit log places told s free ranged =
-    closing_all_completes_log laws limit accounts fit (given_in log + 1) log places told s free ranged
-    (λ n most. ungiven_number_is_between limit (demands accounts) log places told s n (omega (arith, most)))
-
--- a log whose last line is BUSY can be completed, beginning with the `E` of that number
-busy_log_is_completable : CompletionLaws → (limit : ℕ) (accounts : Accounts) → AllCanBeChallenged accounts
-    → (front : List (Numbered LogLine)) (last : Numbered LogLine) (places : ℕ → Place) (told : List LoggedReply)
-    → SpellsNumbered limit (demands accounts) (front ++ last ∷ []) places told → OpenInRange places → last.value ≡ said busy
-    → places last.number ≡ over
-    → IsNumberedCompletable limit accounts (front ++ last ∷ [])
-busy_log_is_completable laws limit accounts fit front last places told s ranged is at =
-    let log = front ++ last ∷ [] in
-    let n = last.number in
-    let s' = numbered_log_goes_on limit (demands accounts) log places told n ended between s (record {
-      room = tt;
-      next = line_follows_last front last n ended (subst (λ (l : LogLine). MayFollow n l n ended) (sym is) (refl, refl));
-      goes = inl (subst (λ (p : Place). IsTransition (demands accounts) p ended between) (sym at) refl);
-      due = subst (λ (p : Place). AreReplies (demands accounts) (reverse told) (told_at p ended)) (sym at) tt;
-    }) in
-    let ranged_on : OpenInRange (put n between places) =
-    one_and_others_cover_each (λ (m : ℕ). is_closed (put n between places m) ≡ false → IsSessionNumber m) n
-    (λ open_is. let wrong = sym (ap is_closed (put_sets_own n between places)) ∙ open_is in cc wrong)
-    (λ m other open_is. ranged m (sym (ap is_closed (put_keeps_others n between places m other)) ∙ open_is)) in
-    shorter_numbered_log_is_completable limit accounts log n ended (ranged n (ap is_closed at)) tt end_is_writable
-    (free_log_is_completable laws limit accounts fit (log ++ numbered n ended ∷ []) (put n between places)
-    (told ++ told_at (places n) ended) s'
-    (log_is_free_after log n ended (λ m next. tt)) ranged_on)
-
--- a log with a last line can be completed, whatever that line is
-nonempty_log_is_completable : CompletionLaws → (limit : ℕ) (accounts : Accounts) → AllCanBeChallenged accounts
-    → (front : List (Numbered LogLine)) (last : Numbered LogLine) (places : ℕ → Place) (told : List LoggedReply)
-    → SpellsNumbered limit (demands accounts) (front ++ last ∷ []) places told → OpenInRange places
-    → IsNumberedCompletable limit accounts (front ++ last ∷ [])
-nonempty_log_is_completable laws limit accounts fit front last places told s ranged =
-    let n = last.number in
-    let b = numbered_log_has_last_transition limit (demands accounts) front n last.value places told s in
-    elim (halt_busy_or_followed last.value) [
-      | inl is ↦
-          ended_numbered_log_is_completable limit accounts (front ++ last ∷ []) places told s
-          (inr (n, visit_halt_leads_to_halted (demands accounts) (b.before n) last.value (places n) is b.goes.goes))
-      | inr (inl is) ↦
-          busy_log_is_completable laws limit accounts fit front last places told s ranged is
-          (visit_busy_leads_to_over (demands accounts) (b.before n) last.value (places n) is b.goes.goes)
-      | inr (inr follow) ↦
-          free_log_is_completable laws limit accounts fit (front ++ last ∷ []) places told s
-          (log_is_free_after front n last.value (follow n)) ranged
-    ]
-
--- a log of version 2 can be completed if each open number is in its range
-numbered_log_is_completable : CompletionLaws → (limit : ℕ) (accounts : Accounts) → AllCanBeChallenged accounts
-    → (log : List (Numbered LogLine)) (places : ℕ → Place) (told : List LoggedReply)
-    → SpellsNumbered limit (demands accounts) log places told → OpenInRange places → IsNumberedCompletable limit accounts log
-numbered_log_is_completable laws limit accounts fit [] places told s ranged =
-    free_log_is_completable laws limit accounts fit [] places told s (λ before x e. absurd (empty_has_no_element before x [] e)) ranged
-numbered_log_is_completable laws limit accounts fit (x ∷ log) places told s ranged =
-    let last = nonempty_has_last x log in
-    subst (IsNumberedCompletable limit accounts) (sym last.2)
-    (nonempty_log_is_completable laws limit accounts fit last.0 last.1 places told
-    (subst (λ (l : List (Numbered LogLine)). SpellsNumbered limit (demands accounts) l places told) last.2 s) ranged)
 
 -- each of the lines that were read has its text
 read_line_has_text : (texts : List (List ℕ)) (before : List (Numbered LogLine)) (x : Numbered LogLine) (rest : List (Numbered LogLine))
@@ -102,13 +42,13 @@ read_line_has_text (t ∷ texts) (y ∷ before) x rest are = read_line_has_text 
 
 -- the open numbers in lines that were read are in their range
 open_numbers_are_in_range : (limit : ℕ) (accounts : Accounts) (texts : List (List ℕ)) (log : List (Numbered LogLine)) (places : ℕ → Place)
-    (told : List LoggedReply)
+    (told : List LoggedAttempt)
     → AllZip IsNumberedLine texts log → SpellsNumbered limit (demands accounts) log places told → OpenInRange places
-open_numbers_are_in_range limit accounts texts log places told are s n is = elim (given_or_not (s.visit n)) [
+open_numbers_are_in_range limit accounts texts log places told are s n is = elim (number_is_given_or_not (s.visit n)) [
   | inl none ↦ let wrong = sym (ap is_closed (s.after n ∙ ap visit_place none)) ∙ is in absurd (cc wrong)
   | inr given ↦
       let first = given_visit_has_first_line given.0 in
-      let found = first_of_number_stands n log first.0 first.1 (s.sessions.lines n ∙ ap visit_lines given.1 ∙ first.2) in
+      let found = first_line_of_number_stands n log first.0 first.1 (s.sessions.lines n ∙ ap visit_lines given.1 ∙ first.2) in
       let text = read_line_has_text texts found.0 (numbered n first.0) found.1
       (subst (λ (l : List (Numbered LogLine)). AllZip IsNumberedLine texts l) found.2 are) in
       text.1.number
@@ -127,17 +67,84 @@ empty_front_begins_clean limit accounts bytes cut =
       ),
     )
 
--- each front of version 2 begins a clean log
-pub version_two_fronts_begin_clean : CompletionLaws → (limit : ℕ) (accounts : Accounts) → AllCanBeChallenged accounts
-    → FrontsBeginCleanOf (version_two limit accounts)
-version_two_fronts_begin_clean laws limit accounts fit bytes ([], cut, stands) = empty_front_begins_clean limit accounts bytes cut
-version_two_fronts_begin_clean laws limit accounts fit bytes (first ∷ texts, cut, (is, lines, places, told, are, s)) =
-    let c = numbered_log_is_completable laws limit accounts fit lines places told s
-    (open_numbers_are_in_range limit accounts texts lines places told are s) in (
-      ended_by_lf c.texts,
-      (
-        first ∷ texts ++ c.texts,
-        joined_lines_are_split bytes (first ∷ texts) c.texts cut c.lack,
-        (is, lines ++ c.more, c.places, c.told, related_lists-append IsNumberedLine texts c.texts lines c.more are c.are, c.spells, c.ends),
-      ),
-    )
+module _ (laws : CompletionLaws) (limit : ℕ) (accounts : Accounts) (fit : AllCanBeChallenged accounts) where
+  -- a log after whose last line any line may follow can be completed by closing the open numbers
+  free_log_is_completable : (log : List (Numbered LogLine)) (places : ℕ → Place) (told : List LoggedAttempt)
+      → SpellsNumbered limit (demands accounts) log places told → Free log → OpenInRange places → IsNumberedCompletable limit accounts log
+  free_log_is_completable log places told s free ranged =
+      closing_all_completes_log laws limit accounts fit (given_in log + 1) log places told s free ranged
+      (λ n most. ungiven_number_is_between limit (demands accounts) log places told s n (omega (arith, most)))
+
+  -- a log whose last line is BUSY can be completed, beginning with the `E` of that number
+  busy_log_is_completable : (front : List (Numbered LogLine)) (last : Numbered LogLine) (places : ℕ → Place) (told : List LoggedAttempt)
+      → SpellsNumbered limit (demands accounts) (front ++ last ∷ []) places told → OpenInRange places → last.value ≡ said busy
+      → places last.number ≡ over → IsNumberedCompletable limit accounts (front ++ last ∷ [])
+  busy_log_is_completable front last places told s ranged is at =
+      let log = front ++ last ∷ [] in
+      let n = last.number in
+      let s' = numbered_log_goes_on limit (demands accounts) log places told n ended between s (record {
+        room = tt;
+        next = line_follows_last front last n ended (subst (λ (l : LogLine). MayFollow n l n ended) (sym is) (refl, refl));
+        goes = inl (subst (λ (p : Place). IsTransition (demands accounts) p ended between) (sym at) refl);
+        due = subst (λ (p : Place). HaveDueReplies (demands accounts) (reverse told) (told_at p ended)) (sym at) tt;
+      }) in
+      let ranged_on : OpenInRange (put n between places) =
+      one_and_others_cover_each (λ (m : ℕ). is_closed (put n between places m) ≡ false → IsSessionNumber m) n
+      (λ open_is. let wrong = sym (ap is_closed (put_sets_own n between places)) ∙ open_is in cc wrong)
+      (λ m other open_is. ranged m (sym (ap is_closed (put_keeps_others n between places m other)) ∙ open_is)) in
+      shorter_numbered_log_is_completable limit accounts log n ended (ranged n (ap is_closed at)) tt end_is_writable
+      (free_log_is_completable (log ++ numbered n ended ∷ []) (put n between places)
+      (told ++ told_at (places n) ended) s'
+      (log_is_free_after log n ended (λ m next. tt)) ranged_on)
+
+  -- a log with a last line can be completed, whatever that line is
+  nonempty_log_is_completable : (front : List (Numbered LogLine)) (last : Numbered LogLine) (places : ℕ → Place) (told : List LoggedAttempt)
+      → SpellsNumbered limit (demands accounts) (front ++ last ∷ []) places told → OpenInRange places
+      → IsNumberedCompletable limit accounts (front ++ last ∷ [])
+  nonempty_log_is_completable front last places told s ranged =
+      let n = last.number in
+      let b = numbered_log_has_last_transition limit (demands accounts) front n last.value places told s in
+      elim (line_is_halt_or_busy_or_followed last.value) [
+        | inl is ↦
+            ended_numbered_log_is_completable limit accounts (front ++ last ∷ []) places told s
+            (inr (n, visit_halt_leads_to_halted (demands accounts) (b.before n) last.value (places n) is b.goes.goes))
+        | inr (inl is) ↦
+            busy_log_is_completable front last places told s ranged is
+            (visit_busy_leads_to_over (demands accounts) (b.before n) last.value (places n) is b.goes.goes)
+        | inr (inr follow) ↦
+            free_log_is_completable (front ++ last ∷ []) places told s
+            (log_is_free_after front n last.value (follow n)) ranged
+      ]
+
+  -- a log of version 2 can be completed if each open number is in its range
+  numbered_log_is_completable : (log : List (Numbered LogLine)) (places : ℕ → Place) (told : List LoggedAttempt)
+      → SpellsNumbered limit (demands accounts) log places told → OpenInRange places → IsNumberedCompletable limit accounts log
+  numbered_log_is_completable [] places told s ranged =
+      free_log_is_completable [] places told s (λ before x e. absurd (empty_has_no_element before x [] e)) ranged
+  numbered_log_is_completable (x ∷ log) places told s ranged =
+      let last = nonempty_has_last x log in
+      subst (IsNumberedCompletable limit accounts) (sym last.2)
+      (nonempty_log_is_completable last.0 last.1 places told
+      (subst (λ (l : List (Numbered LogLine)). SpellsNumbered limit (demands accounts) l places told) last.2 s) ranged)
+
+  -- each front of version 2 begins a clean log
+  pub version_two_fronts_begin_clean : FrontsBeginCleanOf (version_two limit accounts)
+  version_two_fronts_begin_clean bytes ([], cut, stands) = empty_front_begins_clean limit accounts bytes cut
+  version_two_fronts_begin_clean bytes (first ∷ texts, cut, (is, lines, places, told, are, s)) =
+      let c = numbered_log_is_completable lines places told s
+      (open_numbers_are_in_range limit accounts texts lines places told are s) in (
+        ended_by_lf c.texts,
+        (
+          first ∷ texts ++ c.texts,
+          joined_lines_are_split bytes (first ∷ texts) c.texts cut c.lack,
+          (
+            is,
+            lines ++ c.more,
+            c.places,
+            c.told,
+            related_lists-append IsNumberedLine texts c.texts lines c.more are c.are,
+            c.spells,
+            c.ends,
+          ),
+        ),
+      )

@@ -1,16 +1,16 @@
 -- A log of version 2 after whose last line any line may follow can be completed: its open sessions are closed one by one, or a halt ends
 -- them all.
-use Rattle.std.proofs.Common.{◌≡◌, inl, inr, ℕ, zero, suc, ◌≤◌, true, false, List, [], ◌∷◌, ◌++◌, reverse, refl, sym, ◌∙◌, ap}
-use Rattle.std.proofs.Common.{subst, arith, append_assoc, append-nil}
+use Rattle.std.proofs.Common.{◌≡◌, inl, inr, ℕ, zero, suc, ◌≤◌, true, false, List, [], ◌∷◌, ◌++◌, reverse, refl, sym, ◌∙◌, ap, subst, arith}
+use Rattle.std.proofs.Common.{append_assoc, append-nil}
 use Rattle.std.specs.List.{AllByRecursion, AllZip}
 use Rattle.std.proofs.lemmas.Bool.{cases_Bool}
 use Rattle.std.proofs.lemmas.Bool.Decides.{eqb_tells}
 use Rattle.std.proofs.lemmas.List.{same_from_push}
 use Rattle.log_grammar.specs.Lines.{LogLine, said, halt, IsWritable}
 use Rattle.log_grammar.specs.Bytes.{LacksLf}
-use Rattle.log_grammar.specs.LoggedReply.{LoggedReply}
+use Rattle.log_grammar.specs.LoggedAttempt.{LoggedAttempt}
 use Rattle.log_grammar.specs.Places.{Place, before_all, between, halted, is_closed}
-use Rattle.log_grammar.specs.Demands.{Accounts, AllCanBeChallenged, Demands, demands, AreReplies}
+use Rattle.log_grammar.specs.Demands.{Accounts, AllCanBeChallenged, Demands, demands, HaveDueReplies}
 use Rattle.log_grammar.specs.state_machine.Steps.{IsTransition, told_at}
 use Rattle.log_grammar.specs.Numbered.{Numbered, numbered, MayFollow, SpellsNumbered, MayEndNumbered}
 use Rattle.log_grammar.specs.NumberedLines.{IsSessionNumber, IsNoFirstLine, numbered_text, IsNumberedLine}
@@ -39,47 +39,11 @@ pub record IsNumberedCompletable (limit : ℕ) (accounts : Accounts) (log : List
   -- where each number stands after them
   pub places : ℕ → Place
   -- the replies recorded in all lines
-  pub told : List LoggedReply
+  pub told : List LoggedAttempt
   -- the log and these lines are a log of version 2, which may be cut short
   pub spells : SpellsNumbered limit (demands accounts) (log ++ more) places told
   -- it may end there
   pub ends : MayEndNumbered places
-
--- a log is complete if the places of its numbers let it end
-pub ended_numbered_log_is_completable : (limit : ℕ) (accounts : Accounts) (log : List (Numbered LogLine)) (places : ℕ → Place)
-    (told : List LoggedReply)
-    → SpellsNumbered limit (demands accounts) log places told → MayEndNumbered places → IsNumberedCompletable limit accounts log
-ended_numbered_log_is_completable limit accounts log places told s ends = record {
-  texts = [];
-  more = [];
-  are = tt;
-  lack = tt;
-  places = places;
-  told = told;
-  spells = subst (λ (l : List (Numbered LogLine)). SpellsNumbered limit (demands accounts) l places told) (sym (append-nil log)) s;
-  ends = ends;
-}
-
--- a log can be completed if one more line can be written and the log with it can be completed
-pub shorter_numbered_log_is_completable : (limit : ℕ) (accounts : Accounts) (log : List (Numbered LogLine)) (n : ℕ) (line : LogLine)
-    → IsSessionNumber n
-    → IsNoFirstLine line
-    → IsWritable line
-    → IsNumberedCompletable limit accounts (log ++ numbered n line ∷ []) → IsNumberedCompletable limit accounts log
-shorter_numbered_log_is_completable limit accounts log n line number has written c =
-    let x = numbered n line in
-    let is = numbered_line_is_writable x number has written in
-    record {
-      texts = numbered_text x ∷ c.texts;
-      more = x ∷ c.more;
-      are = (is, c.are);
-      lack = (numbered_line_lacks_lf (numbered_text x) x is, c.lack);
-      places = c.places;
-      told = c.told;
-      spells = subst (λ (l : List (Numbered LogLine)). SpellsNumbered limit (demands accounts) l c.places c.told)
-          (append_assoc log (x ∷ []) c.more) c.spells;
-      ends = c.ends;
-    }
 
 -- any line may follow the last line
 abbrev pub Free : List (Numbered LogLine) → Type 0
@@ -92,31 +56,6 @@ pub log_is_free_after : (log : List (Numbered LogLine)) (n : ℕ) (line : LogLin
 log_is_free_after log n line follow before x e m next =
     subst (λ (z : Numbered LogLine). MayFollow z.number z.value m next) (same_from_push log before (numbered n line) x e).1
     (follow m next)
-
--- a log can be completed if some lines close one number and the log after them can be completed
-closing_number_completes_log : (limit : ℕ) (accounts : Accounts) (n : ℕ) → IsSessionNumber n
-    → (lines : List LogLine) (log : List (Numbered LogLine)) (places : ℕ → Place) (told : List LoggedReply)
-    → SpellsNumbered limit (demands accounts) log places told → Free log → Closes accounts (places n) lines
-    → ((longer : List (Numbered LogLine)) (after : ℕ → Place) (all : List LoggedReply)
-    → SpellsNumbered limit (demands accounts) longer after all → Free longer
-    → after n ≡ between → ((m : ℕ) → (n ≡ m → ⊥) → after m ≡ places m) → IsNumberedCompletable limit accounts longer)
-    → IsNumberedCompletable limit accounts log
-closing_number_completes_log limit accounts n number [] log places told s free closed on =
-    on log places told s free closed (λ m other. refl)
-closing_number_completes_log limit accounts n number (line ∷ more) log places told s free (plain, quiet, next, goes, closes) on =
-    let longer = log ++ numbered n line ∷ [] in
-    let s' = numbered_log_goes_on limit (demands accounts) log places told n line next s (record {
-      room = plain.room limit log n;
-      next = λ before x e. free before x e n line;
-      goes = inl goes;
-      due = subst (AreReplies (demands accounts) (reverse told)) (sym quiet) tt;
-    }) in
-    shorter_numbered_log_is_completable limit accounts log n line number plain.has_number plain.writable
-    (closing_number_completes_log limit accounts n number more longer (put n next places) (told ++ told_at (places n) line) s'
-    (log_is_free_after log n line (plain.follow n)) (subst (λ (p : Place). Closes accounts p more) (sym (put_sets_own n next places))
-    closes)
-    (λ after_log after all r free' at others. on after_log after all r free' at
-    (λ m other. others m other ∙ put_keeps_others n next places m other)))
 
 -- a number at a closed place other than the one before all lines is between sessions
 closed_is_between : (p : Place) → is_closed p ≡ true → (p ≡ before_all → ⊥) → p ≡ between
@@ -136,10 +75,10 @@ no_line_leads_before_all d place line next goes never at = elim (visit_transitio
 ]
 
 -- no number of a log stands at the place before all lines
-no_number_is_before_all : (limit : ℕ) (d : Demands) (log : List (Numbered LogLine)) (p : ℕ → Place) (told : List LoggedReply)
+no_number_is_before_all : (limit : ℕ) (d : Demands) (log : List (Numbered LogLine)) (p : ℕ → Place) (told : List LoggedAttempt)
     → SpellsNumbered limit d log p told → (n : ℕ) → p n ≡ before_all → ⊥
 no_number_is_before_all limit d = holds_by_last
-    (λ log. (p : ℕ → Place) (told : List LoggedReply) → SpellsNumbered limit d log p told → (n : ℕ) → p n ≡ before_all → ⊥)
+    (λ log. (p : ℕ → Place) (told : List LoggedAttempt) → SpellsNumbered limit d log p told → (n : ℕ) → p n ≡ before_all → ⊥)
     (λ p told s n at. let wrong = sym ((empty_log_tells_nothing limit d p told s).0 n) ∙ at in cc wrong)
     (λ log x earlier p told s.
     let n = x.number in
@@ -153,63 +92,116 @@ no_number_is_before_all limit d = holds_by_last
 abbrev pub OpenInRange : (ℕ → Place) → Type 0
 OpenInRange places = (n : ℕ) → is_closed (places n) ≡ false → IsSessionNumber n
 
--- a log can be completed by a halt if the place of some number allows it
-halt_completes_log : (limit : ℕ) (accounts : Accounts) (log : List (Numbered LogLine)) (places : ℕ → Place) (told : List LoggedReply)
-    (n : ℕ)
-    → IsSessionNumber n
-    → SpellsNumbered limit (demands accounts) log places told → Free log → IsTransition (demands accounts) (places n) (said halt) halted
-    → told_at (places n) (said halt) ≡ [] → IsNumberedCompletable limit accounts log
-halt_completes_log limit accounts log places told n number s free goes quiet =
-    let s' = numbered_log_goes_on limit (demands accounts) log places told n (said halt) halted s (record {
-      room = tt;
-      next = λ before x e. free before x e n (said halt);
-      goes = inl goes;
-      due = subst (AreReplies (demands accounts) (reverse told)) (sym quiet) tt;
-    }) in
-    shorter_numbered_log_is_completable limit accounts log n (said halt) number tt halt_is_writable
-    (ended_numbered_log_is_completable limit accounts (log ++ numbered n (said halt) ∷ []) (put n halted places)
-    (told ++ told_at (places n) (said halt)) s'
-    (inr (n, put_sets_own n halted places)))
+module _ (limit : ℕ) (accounts : Accounts) where
+  -- a log is complete if the places of its numbers let it end
+  pub ended_numbered_log_is_completable : (log : List (Numbered LogLine)) (places : ℕ → Place) (told : List LoggedAttempt)
+      → SpellsNumbered limit (demands accounts) log places told → MayEndNumbered places → IsNumberedCompletable limit accounts log
+  ended_numbered_log_is_completable log places told s ends = record {
+    texts = [];
+    more = [];
+    are = tt;
+    lack = tt;
+    places = places;
+    told = told;
+    spells = subst (λ (l : List (Numbered LogLine)). SpellsNumbered limit (demands accounts) l places told) (sym (append-nil log)) s;
+    ends = ends;
+  }
 
--- if all numbers from k on are closed, the log is completed by closing those below k
-pub closing_all_completes_log : CompletionLaws → (limit : ℕ) (accounts : Accounts) → AllCanBeChallenged accounts
-    → (k : ℕ) (log : List (Numbered LogLine)) (places : ℕ → Place) (told : List LoggedReply)
-    → SpellsNumbered limit (demands accounts) log places told → Free log → OpenInRange places → ((n : ℕ) → k ≤ n → places n ≡ between)
-    → IsNumberedCompletable limit accounts log
-closing_all_completes_log laws limit accounts fit zero log places told s free ranged closed =
-    ended_numbered_log_is_completable limit accounts log places told s
-    (inl (λ n. closed n (omega arith)))
-closing_all_completes_log laws limit accounts fit (suc k) log places told s free ranged closed =
-    let below : (p : ℕ → Place) → p k ≡ between → ((m : ℕ) → (k ≡ m → ⊥) → p m ≡ places m) → (n : ℕ) → k ≤ n → p n ≡ between =
-    λ p at others n most. elim (eqb_tells k n) [
-      | inl same ↦ subst (λ (m : ℕ). p m ≡ between) same.1 at
-      | inr other ↦ others n other.1 ∙ closed n (omega (arith, most, other.1))
-    ]
-    in
-    let ranged_on : (p : ℕ → Place) → p k ≡ between → ((m : ℕ) → (k ≡ m → ⊥) → p m ≡ places m) → OpenInRange p =
-    λ p at others. one_and_others_cover_each (λ (m : ℕ). is_closed (p m) ≡ false → IsSessionNumber m) k
-    (λ is. let wrong = sym (ap is_closed at) ∙ is in cc wrong)
-    (λ m other is. ranged m (sym (ap is_closed (others m other)) ∙ is))
-    in
-    elim (cases_Bool (is_closed (places k))) [
-      | inl is ↦
-          let at = closed_is_between (places k) is
-          (no_number_is_before_all limit (demands accounts) log places told s k) in
-          closing_all_completes_log laws limit accounts fit k log places told s free ranged (below places at (λ m other. refl))
-      | inr opens ↦
-          let number = ranged k opens in
-          let opened = number_challenge_meets_demand limit (demands accounts) log places told s k in
-          elim (place_has_exit laws accounts fit (places k) opened) [
-            | inl closable ↦
-                closing_number_completes_log limit accounts k number closable.0 log places told s free closable.1
-                (λ longer after all r free' at others. closing_all_completes_log laws limit accounts fit k longer after all r free'
-                (ranged_on after at others) (below after at others))
-            | inr (inl start) ↦ absurd (no_number_is_before_all limit (demands accounts) log places told s k
-                start)
-            | inr (inr (inl waits)) ↦
-                halt_completes_log limit accounts log places told k number s free
-                (subst (λ (p : Place). IsTransition (demands accounts) p (said halt) halted) (sym waits.2) refl)
-                (ap (λ (p : Place). told_at p (said halt)) waits.2)
-            | inr (inr (inr halts)) ↦ ended_numbered_log_is_completable limit accounts log places told s (inr (k, halts))
-          ]
-    ]
+  -- a log can be completed if one more line can be written and the log with it can be completed
+  pub shorter_numbered_log_is_completable : (log : List (Numbered LogLine)) (n : ℕ) (line : LogLine)
+      → IsSessionNumber n → IsNoFirstLine line → IsWritable line
+      → IsNumberedCompletable limit accounts (log ++ numbered n line ∷ []) → IsNumberedCompletable limit accounts log
+  shorter_numbered_log_is_completable log n line number has written c =
+      let x = numbered n line in
+      let is = numbered_line_is_writable x number has written in
+      record {
+        texts = numbered_text x ∷ c.texts;
+        more = x ∷ c.more;
+        are = (is, c.are);
+        lack = (numbered_line_lacks_lf (numbered_text x) x is, c.lack);
+        places = c.places;
+        told = c.told;
+        spells = subst (λ (l : List (Numbered LogLine)). SpellsNumbered limit (demands accounts) l c.places c.told)
+            (append_assoc log (x ∷ []) c.more) c.spells;
+        ends = c.ends;
+      }
+
+  -- a log can be completed if some lines close one number and the log after them can be completed
+  closing_number_completes_log : (n : ℕ) → IsSessionNumber n
+      → (lines : List LogLine) (log : List (Numbered LogLine)) (places : ℕ → Place) (told : List LoggedAttempt)
+      → SpellsNumbered limit (demands accounts) log places told → Free log → Closes accounts (places n) lines
+      → ((longer : List (Numbered LogLine)) (after : ℕ → Place) (all : List LoggedAttempt)
+      → SpellsNumbered limit (demands accounts) longer after all → Free longer
+      → after n ≡ between → ((m : ℕ) → (n ≡ m → ⊥) → after m ≡ places m) → IsNumberedCompletable limit accounts longer)
+      → IsNumberedCompletable limit accounts log
+  closing_number_completes_log n number [] log places told s free closed on =
+      on log places told s free closed (λ m other. refl)
+  closing_number_completes_log n number (line ∷ more) log places told s free (plain, quiet, next, goes, closes) on =
+      let longer = log ++ numbered n line ∷ [] in
+      let s' = numbered_log_goes_on limit (demands accounts) log places told n line next s (record {
+        room = plain.room limit log n;
+        next = λ before x e. free before x e n line;
+        goes = inl goes;
+        due = subst (HaveDueReplies (demands accounts) (reverse told)) (sym quiet) tt;
+      }) in
+      shorter_numbered_log_is_completable log n line number plain.has_number plain.writable
+      (closing_number_completes_log n number more longer (put n next places) (told ++ told_at (places n) line) s'
+      (log_is_free_after log n line (plain.follow n))
+      (subst (λ (p : Place). Closes accounts p more) (sym (put_sets_own n next places)) closes)
+      (λ after_log after all r free' at others. on after_log after all r free' at
+      (λ m other. others m other ∙ put_keeps_others n next places m other)))
+
+  -- a log can be completed by a halt if the place of some number allows it
+  halt_completes_log : (log : List (Numbered LogLine)) (places : ℕ → Place) (told : List LoggedAttempt) (n : ℕ) → IsSessionNumber n
+      → SpellsNumbered limit (demands accounts) log places told → Free log → IsTransition (demands accounts) (places n) (said halt) halted
+      → told_at (places n) (said halt) ≡ [] → IsNumberedCompletable limit accounts log
+  halt_completes_log log places told n number s free goes quiet =
+      let s' = numbered_log_goes_on limit (demands accounts) log places told n (said halt) halted s (record {
+        room = tt;
+        next = λ before x e. free before x e n (said halt);
+        goes = inl goes;
+        due = subst (HaveDueReplies (demands accounts) (reverse told)) (sym quiet) tt;
+      }) in
+      shorter_numbered_log_is_completable log n (said halt) number tt halt_is_writable
+      (ended_numbered_log_is_completable (log ++ numbered n (said halt) ∷ []) (put n halted places)
+      (told ++ told_at (places n) (said halt)) s' (inr (n, put_sets_own n halted places)))
+
+module _ (laws : CompletionLaws) (limit : ℕ) (accounts : Accounts) (fit : AllCanBeChallenged accounts) where
+  -- if all numbers from k on are closed, the log is completed by closing those below k
+  pub closing_all_completes_log : (k : ℕ) (log : List (Numbered LogLine)) (places : ℕ → Place) (told : List LoggedAttempt)
+      → SpellsNumbered limit (demands accounts) log places told → Free log → OpenInRange places → ((n : ℕ) → k ≤ n → places n ≡ between)
+      → IsNumberedCompletable limit accounts log
+  closing_all_completes_log zero log places told s free ranged closed =
+      ended_numbered_log_is_completable limit accounts log places told s (inl (λ n. closed n (omega arith)))
+  closing_all_completes_log (suc k) log places told s free ranged closed =
+      let below : (p : ℕ → Place) → p k ≡ between → ((m : ℕ) → (k ≡ m → ⊥) → p m ≡ places m) → (n : ℕ) → k ≤ n → p n ≡ between =
+      λ p at others n most. elim (eqb_tells k n) [
+        | inl same ↦ subst (λ (m : ℕ). p m ≡ between) same.1 at
+        | inr other ↦ others n other.1 ∙ closed n (omega (arith, most, other.1))
+      ]
+      in
+      let ranged_on : (p : ℕ → Place) → p k ≡ between → ((m : ℕ) → (k ≡ m → ⊥) → p m ≡ places m) → OpenInRange p =
+      λ p at others. one_and_others_cover_each (λ (m : ℕ). is_closed (p m) ≡ false → IsSessionNumber m) k
+      (λ is. let wrong = sym (ap is_closed at) ∙ is in cc wrong)
+      (λ m other is. ranged m (sym (ap is_closed (others m other)) ∙ is))
+      in
+      elim (cases_Bool (is_closed (places k))) [
+        | inl is ↦
+            let at = closed_is_between (places k) is (no_number_is_before_all limit (demands accounts) log places told s k) in
+            closing_all_completes_log k log places told s free ranged (below places at (λ m other. refl))
+        | inr opens ↦
+            let number = ranged k opens in
+            let opened = number_challenge_meets_demand limit (demands accounts) log places told s k in
+            elim (place_has_exit laws accounts fit (places k) opened) [
+              | inl closable ↦
+                  closing_number_completes_log limit accounts k number closable.0 log places told s free closable.1
+                  (λ longer after all r free' at others. closing_all_completes_log k longer after all r free'
+                  (ranged_on after at others) (below after at others))
+              | inr (inl start) ↦ absurd (no_number_is_before_all limit (demands accounts) log places told s k start)
+              | inr (inr (inl waits)) ↦
+                  halt_completes_log limit accounts log places told k number s free
+                  (subst (λ (p : Place). IsTransition (demands accounts) p (said halt) halted) (sym waits.2) refl)
+                  (ap (λ (p : Place). told_at p (said halt)) waits.2)
+              | inr (inr (inr halts)) ↦ ended_numbered_log_is_completable limit accounts log places told s (inr (k, halts))
+            ]
+      ]

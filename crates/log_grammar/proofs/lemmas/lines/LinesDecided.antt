@@ -10,10 +10,10 @@ use Rattle.otp_core.specs.declared.token.reply.Reply.{Reply}
 use Rattle.otp_core.specs.declared.token.reply.Reply.TheVariants.{Pass, Fail, Locked}
 use Rattle.log_grammar.specs.Payload.{IsMessage}
 use Rattle.log_grammar.specs.Words.{is_mech_char, is_code_char, is_space, longest_mech_name, longest_code, IsMechName}
-use Rattle.log_grammar.specs.Lines.{ServerLine, mechs, cont, accepts, refuses, replies, halt, busy, ClientLine, auth, auth_with, resp}
-use Rattle.log_grammar.specs.Lines.{abort, code, sync, Line, from_server, from_client, LogLine, header, header_two, said, heard, bad}
-use Rattle.log_grammar.specs.Lines.{gone, ended, line_text, log_line_text, IsReplyInRange, IsServerLineInRange, IsClientLineInRange, IsLineInRange}
-use Rattle.log_grammar.specs.Lines.{IsLogLineInRange, IsLine, IsLogLine, IsNoLogLine, longest_line, longest_log_line}
+use Rattle.log_grammar.specs.Lines.{ServerLine, mechs, cont, accepts, refuses, replies, halt, busy, ClientLine, auth, auth_with, resp, abort, code}
+use Rattle.log_grammar.specs.Lines.{sync, Line, from_server, from_client, LogLine, header, header_two, said, heard, bad, gone, ended, line_text}
+use Rattle.log_grammar.specs.Lines.{log_line_text, IsReplyInRange, IsServerLineInRange, IsClientLineInRange, IsLineInRange, IsLogLineInRange, IsLine}
+use Rattle.log_grammar.specs.Lines.{IsLogLine, IsNoLogLine, longest_line, longest_log_line}
 use Rattle.log_grammar.proofs.lemmas.lines.ReadBack.{line_in, line_is_read_back, log_line_in, log_line_is_read_back}
 use Rattle.log_grammar.proofs.lemmas.DecidedFacts.{decided_each}
 
@@ -86,16 +86,16 @@ decided_this_log_line text line =
     (decided_both _ _ (decided_same_text text (log_line_text line))
     (decided_both _ _ (decided_log_line_range line) (decided_le (length text) longest_log_line)))
 
--- it is decidable whether a text is a line of the protocol, and which one
-pub decided_line : (text : List ℕ) → ((line : Line) × IsLine text line) ⊎ ((line : Line) → IsLine text line → ⊥)
-decided_line text = elim (decided_this_line text (line_in text)) [
+-- the law: it is decidable whether a text is a line of the protocol, and which one
+pub line_is_decided : (text : List ℕ) → ((line : Line) × IsLine text line) ⊎ ((line : Line) → IsLine text line → ⊥)
+line_is_decided text = elim (decided_this_line text (line_in text)) [
   | inl is ↦ inl (line_in text, is)
   | inr none ↦ inr (λ line is. none (read_line_fits_text text line is))
 ]
 
--- it is decidable whether a text is a line of a log, and which one
-pub decided_log_line : (text : List ℕ) → ((line : LogLine) × IsLogLine text line) ⊎ IsNoLogLine text
-decided_log_line text = elim (decided_this_log_line text (log_line_in text)) [
+-- the law: it is decidable whether a text is a line of a log, and which one
+pub log_line_is_decided : (text : List ℕ) → ((line : LogLine) × IsLogLine text line) ⊎ IsNoLogLine text
+log_line_is_decided text = elim (decided_this_log_line text (log_line_in text)) [
   | inl is ↦ inl (log_line_in text, is)
   | inr none ↦ inr (λ line is. none (read_log_line_fits_text text line is))
 ]

@@ -4,19 +4,19 @@ use Rattle.std.specs.Prelude.{flat_map}
 use Rattle.std.specs.List.{AllByRecursion}
 use Rattle.otp_core.specs.Attempt.{CodeTexts}
 use Rattle.log_grammar.specs.Lines.{LogLine, header, said, heard, mechs, cont, auth, auth_with, resp}
-use Rattle.log_grammar.specs.LoggedReply.{LoggedReply}
+use Rattle.log_grammar.specs.LoggedAttempt.{LoggedAttempt}
 use Rattle.log_grammar.specs.Places.{Place, MayEnd, offered, asks_bare, waits_first, got_first, got_code}
 use Rattle.log_grammar.specs.Demands.{Demands, Accounts, demands}
 use Rattle.log_grammar.specs.Sessions.{Part, rests, refusal, session_part, Quit, quitting, AfterFirst, after_first, Session, session_lines}
-use Rattle.log_grammar.specs.Sessions.{SessionMeets, no_answer, refused, challenged, no_first, quits_first, sends_first, no_invitation}
-use Rattle.log_grammar.specs.Sessions.{unoffered, invited, no_login, quits_login, with_first, without_first, session}
+use Rattle.log_grammar.specs.Sessions.{SessionMeets, no_answer, refused, challenged, no_first, quits_first, sends_first, no_invitation, unoffered}
+use Rattle.log_grammar.specs.Sessions.{invited, no_login, quits_login, with_first, without_first, session}
 use Rattle.log_grammar.specs.Begins.{place_after}
 use Rattle.log_grammar.specs.laws.BySessions.{HasFirst, IsLoginOf, EachCodeIsOfItsLogin, EndsInLoginOf, EachReplyDueFollowsItsLogin}
 use Rattle.log_grammar.proofs.lemmas.session_laws.LaterLines.{CodeIsOf, HoldsFromTheLastOf, HoldsOf, quit_holds, refusal_holds, after_challenge_holds}
 use Rattle.log_grammar.proofs.lemmas.demands.Challenges.{challenged_first_is_of_name}
 
 -- the account of each recorded reply, and of a code that waits for its reply at the place, is one of these
-abbrev AreCodesOf : (IsAccount : List ℕ → Type 0) → List LogLine → Place → List LoggedReply → Type 0
+abbrev AreCodesOf : (IsAccount : List ℕ → Type 0) → List LogLine → Place → List LoggedAttempt → Type 0
 AreCodesOf IsAccount lines place told = AllByRecursion (λ t. IsAccount t.account) told
     × ((account : List ℕ) (sent : CodeTexts) → place ≡ got_code account sent → IsAccount account)
 
@@ -80,9 +80,9 @@ session_codes_are_of_login accounts (session names (without_first m (invited tex
     after_first_codes_are_of_login accounts (session names (without_first m (invited text (sends_first first a)))) m first a
     (names, start, (after_first m first a).lines, inr refl, ap lines meets.1.0.1) meets.1.1
 
--- each code of a session that meets its demands is for the account that its client-first message names
-pub each_code_is_of_login : EachCodeIsOfItsLogin
-each_code_is_of_login accounts s meets = (session_codes_are_of_login accounts s meets).0
+-- the law: each code of a session that meets its demands is for the account that its client-first message names
+pub each_code_is_of_its_login : EachCodeIsOfItsLogin
+each_code_is_of_its_login accounts s meets = (session_codes_are_of_login accounts s meets).0
 
 -- sessions whose last line is a code end in a login of that code's account
 last_session_code_has_login : (accounts : Accounts) (sessions : List Session) (account : List ℕ) (sent : CodeTexts)
@@ -102,9 +102,9 @@ last_session_code_has_login accounts (s ∷ t ∷ more) account sent good e =
       login,
     )
 
--- if the reply to a code is due, the last lines are those of a session whose client-first message names the account
-pub code_has_login : EachReplyDueFollowsItsLogin
-code_has_login accounts log account sent told (inl none) = absurd (cc none.1)
-code_has_login accounts log account sent told (inr s) =
+-- the law: if the reply to a code is due, the last lines are those of a session whose client-first message names the account
+pub each_reply_due_follows_its_login : EachReplyDueFollowsItsLogin
+each_reply_due_follows_its_login accounts log account sent told (inl none) = absurd (cc none.1)
+each_reply_due_follows_its_login accounts log account sent told (inr s) =
     let (last, (before, same), login) = last_session_code_has_login accounts s.sessions account sent s.good (sym s.after) in
     (last, (header ∷ before, s.lines ∙ ap (λ (l : List LogLine). header ∷ l) same), login)

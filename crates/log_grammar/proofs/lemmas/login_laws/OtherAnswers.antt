@@ -6,12 +6,11 @@ use Rattle.log_grammar.specs.Lines.{header, said, refuses, replies, log_line_tex
 use Rattle.log_grammar.specs.Places.{got_final, got_code}
 use Rattle.log_grammar.specs.Why.{other_outcome, other_reply, accepted, of_login_answers, of_replies}
 use Rattle.log_grammar.specs.Upgrades.{original_bytes}
-use Rattle.log_grammar.specs.laws.Logins.{RefusedLoginsAreAtFault}
-use Rattle.log_grammar.specs.laws.Logins.{OtherRepliesAreAtFault}
-use Rattle.log_grammar.proofs.lemmas.state_machine.DueClasses.{due_classes_follow_place}
+use Rattle.log_grammar.specs.laws.Logins.{RefusedLoginsAreAtFault, OtherRepliesAreAtFault}
+use Rattle.log_grammar.proofs.lemmas.state_machine.DueClasses.{classes_follow_the_place}
 use Rattle.log_grammar.proofs.lemmas.kinds.OneWhy.{UniquenessLaws, one_due_verdict, one_due_reply}
 use Rattle.log_grammar.proofs.lemmas.lines.LackLf.{lines_lack_lf, reply_is_writable}
-use Rattle.log_grammar.proofs.lemmas.kinds.ShownByLines.{last_line_at_fault}
+use Rattle.log_grammar.proofs.lemmas.kinds.ShownByLines.{last_line_is_at_fault}
 use Rattle.log_grammar.proofs.lemmas.login_laws.ValidLogins.{valid_login_is_granted}
 use Rattle.log_grammar.proofs.lemmas.login_laws.CleanLogins.{tried_login_was_read, login_with_code_was_read}
 
@@ -24,14 +23,14 @@ refused_logins_are_at_fault laws valid accounts mechanism name exchange message 
     let line = said (refuses message) in (
       signature,
       authentic,
-      last_line_at_fault laws.one_first laws.one_name accounts _ header _ at [] (log_line_text line) line
+      last_line_is_at_fault laws.one_first laws.one_name accounts _ header _ at [] (log_line_text line) line
           (other_outcome (accepted signature)) lead is
           (lines_lack_lf (log_line_text line) line is)
           (λ f.
           let wrong = one_due_verdict laws.one_verdict accounts mechanism name exchange.client_first exchange.server_first
           exchange.client_final (accept signature) (refuse f.goes.0.0) due f.goes.0.1 in cc wrong)
           (inr (
-            (due_classes_follow_place accounts _ at [] of_login_answers lead.begins).1 refl,
+            (classes_follow_the_place accounts _ at [] of_login_answers lead.begins).1 refl,
             at,
             [],
             lead.begins,
@@ -46,8 +45,8 @@ other_replies_are_at_fault laws valid accounts mechanism name exchange sent mome
     let place = got_code name sent in
     let line = said (replies moment reply) in
     let spelled = reply_is_writable moment reply at range in
-    last_line_at_fault laws.one_first laws.one_name accounts _ header _ place [] (log_line_text line) line (other_reply moment due) lead
+    last_line_is_at_fault laws.one_first laws.one_name accounts _ header _ place [] (log_line_text line) line (other_reply moment due) lead
     spelled
     (lines_lack_lf (log_line_text line) line spelled)
     (λ f. other (one_due_reply laws (accounts.token name) [] moment sent reply due f.due.0 by))
-    (inr ((due_classes_follow_place accounts _ place [] of_replies lead.begins).1 refl, place, [], lead.begins, (due, by, refl)))
+    (inr ((classes_follow_the_place accounts _ place [] of_replies lead.begins).1 refl, place, [], lead.begins, (due, by, refl)))

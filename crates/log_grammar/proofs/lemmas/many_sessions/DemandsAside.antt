@@ -5,11 +5,12 @@ use Rattle.std.specs.declared.option.Option.{Option}
 use Rattle.std.specs.declared.option.Option.TheVariants.{None, Some}
 use Rattle.std.proofs.lemmas.Bool.Decides.{eqb_tells}
 use Rattle.log_grammar.specs.Lines.{LogLine, said, busy}
-use Rattle.log_grammar.specs.LoggedReply.{LoggedReply}
+use Rattle.log_grammar.specs.LoggedAttempt.{LoggedAttempt}
 use Rattle.log_grammar.specs.Places.{Place}
 use Rattle.log_grammar.specs.Demands.{Demands, no_demands}
 use Rattle.log_grammar.specs.Numbered.{Numbered, numbered, of_number, Visit, let_in, turned_away, visit_part, SpellsNumbered}
-use Rattle.log_grammar.proofs.lemmas.state_machine.DemandsAside.{accountless_session, accountless_place, accountless_reply, IsAccountlessOf, next_line_is_same_aside, closing_is_same_aside, session_is_same_aside}
+use Rattle.log_grammar.proofs.lemmas.state_machine.DemandsAside.{accountless_session, accountless_place, accountless_reply, IsAccountlessOf}
+use Rattle.log_grammar.proofs.lemmas.state_machine.DemandsAside.{next_line_is_same_aside, closing_is_same_aside, session_is_same_aside}
 use Rattle.log_grammar.proofs.lemmas.state_machine.DemandsAside.{any_replies_are_due}
 use Rattle.log_grammar.proofs.lemmas.many_sessions.NumberedReplies.{numbers_of, values_of}
 
@@ -26,28 +27,28 @@ visit_is_same_aside (Some (let_in s)) = session_is_same_aside s
 visit_is_same_aside (Some (turned_away closed)) = next_line_is_same_aside (said busy) _ _ (closing_is_same_aside closed)
 
 -- numbered replies with no account named
-abbrev accountless_numbered_told : List (Numbered LoggedReply) → List (Numbered LoggedReply)
-accountless_numbered_told numbered_told = map (λ (t : Numbered LoggedReply). numbered t.number (accountless_reply t.value)) numbered_told
+abbrev accountless_numbered_told : List (Numbered LoggedAttempt) → List (Numbered LoggedAttempt)
+accountless_numbered_told numbered_told = map (λ (t : Numbered LoggedAttempt). numbered t.number (accountless_reply t.value)) numbered_told
 
 -- the replies of a number with no account named are its own replies with no account named
-of_number_accountless : (n : ℕ) (numbered_told : List (Numbered LoggedReply))
+of_number-accountless : (n : ℕ) (numbered_told : List (Numbered LoggedAttempt))
     → of_number n (accountless_numbered_told numbered_told) ≡ map accountless_reply (of_number n numbered_told)
-of_number_accountless n [] = refl
-of_number_accountless n (t ∷ numbered_told) = elim (eqb_tells n t.number) [
-  | inl same ↦ rw same.0 (ap (λ (l : List LoggedReply). accountless_reply t.value ∷ l) (of_number_accountless n numbered_told))
-  | inr other ↦ rw other.0 (of_number_accountless n numbered_told)
+of_number-accountless n [] = refl
+of_number-accountless n (t ∷ numbered_told) = elim (eqb_tells n t.number) [
+  | inl same ↦ rw same.0 (ap (λ (l : List LoggedAttempt). accountless_reply t.value ∷ l) (of_number-accountless n numbered_told))
+  | inr other ↦ rw other.0 (of_number-accountless n numbered_told)
 ]
 
 -- replies with no account named keep their numbers
-numbers_of_accountless : (numbered_told : List (Numbered LoggedReply))
+numbers_of-accountless : (numbered_told : List (Numbered LoggedAttempt))
     → numbers_of (accountless_numbered_told numbered_told) ≡ numbers_of numbered_told
-numbers_of_accountless [] = refl
-numbers_of_accountless (t ∷ numbered_told) = ap (λ (l : List ℕ). t.number ∷ l) (numbers_of_accountless numbered_told)
+numbers_of-accountless [] = refl
+numbers_of-accountless (t ∷ numbered_told) = ap (λ (l : List ℕ). t.number ∷ l) (numbers_of-accountless numbered_told)
 
 -- lines of a log of version 2 that meet the demands are also lines of a log without demands, at the same places but with no account named
-pub numbered_log_begins_aside : (limit : ℕ) (d : Demands) (log : List (Numbered LogLine)) (places : ℕ → Place) (told : List LoggedReply)
+pub numbered_log_begins_aside : (limit : ℕ) (d : Demands) (log : List (Numbered LogLine)) (places : ℕ → Place) (told : List LoggedAttempt)
     → SpellsNumbered limit d log places told
-    → (tells : List LoggedReply) × SpellsNumbered limit no_demands log (λ n. accountless_place (places n)) tells
+    → (tells : List LoggedAttempt) × SpellsNumbered limit no_demands log (λ n. accountless_place (places n)) tells
 numbered_log_begins_aside limit d log places told s = (
   values_of (accountless_numbered_told s.numbered_told),
   record {
@@ -58,9 +59,9 @@ numbered_log_begins_aside limit d log places told s = (
       good = λ n. (visit_is_same_aside (s.visit n)).meets;
       room = s.sessions.room;
       next = s.sessions.next;
-      told_of_each = λ n. of_number_accountless n s.numbered_told ∙ ap (map accountless_reply) (s.sessions.told_of_each n) ∙ sym
+      told_of_each = λ n. of_number-accountless n s.numbered_told ∙ ap (map accountless_reply) (s.sessions.told_of_each n) ∙ sym
           (visit_is_same_aside (s.visit n)).told;
-      order = numbers_of_accountless s.numbered_told ∙ s.sessions.order;
+      order = numbers_of-accountless s.numbered_told ∙ s.sessions.order;
     };
     tells = refl;
     replies = any_replies_are_due [] (values_of (accountless_numbered_told s.numbered_told));

@@ -13,29 +13,27 @@ halt_leads_to_halted d (got_code account sent) next h = h
 halt_leads_to_halted d place next h = absurd h
 
 -- BUSY may stand at no place of a session
-pub no_busy_in_session : (d : Demands) (place next : Place) → IsTransition d place (said busy) next → ⊥
-no_busy_in_session d before_all next h = h
-no_busy_in_session d place next h = absurd h
+pub busy_stands_in_no_session : (d : Demands) (place next : Place) → IsTransition d place (said busy) next → ⊥
+busy_stands_in_no_session d before_all next h = h
+busy_stands_in_no_session d place next h = absurd h
 
 -- HALT leads a number to the halted place
 pub visit_halt_leads_to_halted : (d : Demands) (place : Place) (line : LogLine) (next : Place) → line ≡ said halt
-    → IsVisitTransition d place line next
-    → next ≡ halted
+    → IsVisitTransition d place line next → next ≡ halted
 visit_halt_leads_to_halted d place line next is (inl h) =
     halt_leads_to_halted d place next (subst (λ (l : LogLine). IsTransition d place l next) is h)
 visit_halt_leads_to_halted d place line next is (inr b) = let wrong = sym is ∙ b.1 in absurd (cc wrong)
 
 -- BUSY leads a number to the place where its `E` is due
 pub visit_busy_leads_to_over : (d : Demands) (place : Place) (line : LogLine) (next : Place) → line ≡ said busy
-    → IsVisitTransition d place line next
-    → next ≡ over
+    → IsVisitTransition d place line next → next ≡ over
 visit_busy_leads_to_over d place line next is (inl h) =
-    absurd (no_busy_in_session d place next (subst (λ (l : LogLine). IsTransition d place l next) is h))
+    absurd (busy_stands_in_no_session d place next (subst (λ (l : LogLine). IsTransition d place l next) is h))
 visit_busy_leads_to_over d place line next is (inr b) = b.2
 
--- a line is HALT, or BUSY, or any line may follow it
-pub halt_busy_or_followed : (line : LogLine) → (line ≡ said halt) ⊎ ((line ≡ said busy)
+-- a line is HALT, or it is BUSY, or any line may follow it
+pub line_is_halt_or_busy_or_followed : (line : LogLine) → (line ≡ said halt) ⊎ ((line ≡ said busy)
     ⊎ ((n m : ℕ) (next : LogLine) → MayFollow n line m next))
-halt_busy_or_followed (said halt) = inl refl
-halt_busy_or_followed (said busy) = inr (inl refl)
-halt_busy_or_followed line = inr (inr (λ n m next. tt))
+line_is_halt_or_busy_or_followed (said halt) = inl refl
+line_is_halt_or_busy_or_followed (said busy) = inr (inl refl)
+line_is_halt_or_busy_or_followed line = inr (inr (λ n m next. tt))

@@ -33,8 +33,7 @@ turned_away_visit_goes_on d line next h = absurd h
 
 -- a number is closed, or its lines continue with a line that may stand at its place
 pub visit_goes_on : (d : Demands) (p : Option Visit) (line : LogLine) (next : Place) → VisitMeets d p
-    → IsVisitTransition d (visit_place p) line next
-    → IsGivenAndClosed p ⊎ Grown d visit_part p line next (told_at (visit_place p) line)
+    → IsVisitTransition d (visit_place p) line next → IsGivenAndClosed p ⊎ Grown d visit_part p line next (told_at (visit_place p) line)
 visit_goes_on d None line next meets (inl h) = inr (mechs_begins_visit d line next h)
 visit_goes_on d None line next meets (inr b) =
     inr (record { tree = Some (turned_away false); lines = ap (λ (l : LogLine). l ∷ []) (sym b.1); at = sym b.2; tells = refl; good = tt })
@@ -86,7 +85,7 @@ visit_shortens d (Some (turned_away true)) meets =
 visit_shortens d (Some (turned_away false)) meets =
     inr (record { tree = None; line = said busy; lines = refl; goes = inr (refl, refl, refl); tells = refl; good = tt })
 
--- a number without lines stands between sessions
+-- a number without lines is at the place between sessions
 pub empty_visit_is_between : (p : Option Visit) → visit_lines p ≡ [] → visit_place p ≡ between
 empty_visit_is_between None none = refl
 empty_visit_is_between (Some (let_in (session names l))) none = absurd (cc none)

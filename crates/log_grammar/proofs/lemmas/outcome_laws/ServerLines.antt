@@ -1,6 +1,5 @@
 -- Where each of the server's lines may stand: the places from which a log continues with it.
-use Rattle.std.proofs.Common.{◌≡◌, inl, inr, ℕ, List, [], ◌∷◌, ◌++◌, reverse, refl, sym, ◌∙◌, ap, subst}
-use Rattle.std.proofs.Common.{append_assoc, append-nil}
+use Rattle.std.proofs.Common.{◌≡◌, inl, inr, ℕ, List, [], ◌∷◌, ◌++◌, reverse, refl, sym, ◌∙◌, ap, subst, append_assoc, append-nil}
 use Rattle.std.specs.declared.option.Option.{Option}
 use Rattle.mac_core.specs.declared.mechanism.Mechanism.{Mechanism}
 use Rattle.scram_ends.specs.Stages.{challenged_login}
@@ -10,45 +9,27 @@ use Rattle.scram_ends.specs.declared.verdict.Refusal.{Refusal}
 use Rattle.otp_core.specs.Attempt.{CodeTexts}
 use Rattle.otp_core.specs.declared.token.reply.Reply.{Reply}
 use Rattle.log_grammar.specs.Lines.{LogLine, said, mechs, cont, refuses, replies, halt}
-use Rattle.log_grammar.specs.LoggedReply.{LoggedReply}
+use Rattle.log_grammar.specs.LoggedAttempt.{LoggedAttempt}
 use Rattle.log_grammar.specs.Places.{Place, between, offered, asks_bare, got_first, got_final, got_code, leaving, over, halted}
-use Rattle.log_grammar.specs.Demands.{Accounts, IsVerdictDue, demands, AreReplies}
+use Rattle.log_grammar.specs.Demands.{Accounts, IsVerdictDue, demands, HaveDueReplies}
 use Rattle.log_grammar.specs.state_machine.Steps.{IsTransition, told_at}
 use Rattle.log_grammar.specs.Begins.{Begins}
 use Rattle.log_grammar.specs.laws.Logins.{IsLoginTo, exchange_of}
-use Rattle.log_grammar.specs.laws.Outcomes.{FirstLinesBeginLogs, EachOfferIsDue, IsChallengeDue, EachChallengeIsDue, IsRefusalDue}
-use Rattle.log_grammar.specs.laws.Outcomes.{EachRefusalIsDue, IsReplied, EachReplyIsDue, EachHaltEndsACode}
+use Rattle.log_grammar.specs.laws.Outcomes.{FirstLinesBeginLogs, EachOfferIsDue, IsChallengeDue, EachChallengeIsDue, IsRefusalDue, EachRefusalIsDue}
+use Rattle.log_grammar.specs.laws.Outcomes.{IsReplied, EachReplyIsDue, EachHaltEndsACode}
 use Rattle.log_grammar.proofs.lemmas.state_machine.LogSteps.{log_goes_on, log_has_last_transition}
 use Rattle.log_grammar.proofs.lemmas.ListEnds.{holds_by_last}
 use Rattle.log_grammar.proofs.lemmas.kinds.OneWhy.{one_mechanism}
 
--- if no reply was added, the replies recorded in a log's lines are the same
-quiet_line_keeps_told : (accounts : Accounts) (log : List LogLine) (at : Place) (all told : List LoggedReply) → all ≡ told ++ []
-    → Begins (demands accounts) log at told
-    → Begins (demands accounts) log at all
-quiet_line_keeps_told accounts log at all told same begins = subst (λ (t : List LoggedReply). Begins (demands accounts) log at t)
-    (sym (same ∙ append-nil told)) begins
-
--- a log continues with a line that records no reply, and its replies stay the same
-log_goes_on_quietly : (accounts : Accounts) (log : List LogLine) (at : Place) (told : List LoggedReply) (line : LogLine) (next : Place)
-    → told_at at line ≡ []
-    → Begins (demands accounts) log at told → IsTransition (demands accounts) at line next
-    → Begins (demands accounts) (log ++ line ∷ []) next told
-log_goes_on_quietly accounts log at told line next none begins goes =
-    let due = subst (λ (t : List LoggedReply). AreReplies (demands accounts) (reverse told) t) (sym none) tt in
-    let same = subst (λ (t : List LoggedReply). told ++ t ≡ told) (sym none) (append-nil told) in
-    subst (λ (t : List LoggedReply). Begins (demands accounts) (log ++ line ∷ []) next t) same
-    (log_goes_on (demands accounts) log at told line next begins goes due)
-
 -- replies that come first still do when more are added at the end
-told_first_stays_first : (told before rest tells : List LoggedReply) → before ≡ told ++ rest → before ++ tells ≡ told ++ (rest ++ tells)
-told_first_stays_first told before rest tells same = ap (λ (l : List LoggedReply). l ++ tells) same ∙ append_assoc told rest tells
+told_first_stays_first : (told before rest tells : List LoggedAttempt) → before ≡ told ++ rest → before ++ tells ≡ told ++ (rest ++ tells)
+told_first_stays_first told before rest tells same = ap (λ (l : List LoggedAttempt). l ++ tells) same ∙ append_assoc told rest tells
 
--- the first lines of what a log may begin with also begin a log, and their replies come first
+-- the law: the first lines of what a log may begin with also begin a log, and their replies come first
 pub first_lines_begin_logs : FirstLinesBeginLogs
 first_lines_begin_logs accounts log = holds_by_last
-    (λ more. (place : Place) (told : List LoggedReply) → Begins (demands accounts) (log ++ more) place told
-    → (at : Place) × (before : List LoggedReply) × (rest : List LoggedReply) × Begins (demands accounts) log at before
+    (λ more. (place : Place) (told : List LoggedAttempt) → Begins (demands accounts) (log ++ more) place told
+    → (at : Place) × (before : List LoggedAttempt) × (rest : List LoggedAttempt) × Begins (demands accounts) log at before
     × (told ≡ before ++ rest))
     (λ place told begins. (
       place,
@@ -64,16 +45,70 @@ first_lines_begin_logs accounts log = holds_by_last
     let tells = told_at s.place line in
     (at, before, rest ++ tells, front, s.tells ∙ told_first_stays_first before s.told rest tells same))
 
--- `S MECHS` may stand only between sessions, with the names that are demanded, and leads to the place after an offer
-offer_is_due : (accounts : Accounts) (log : List LogLine) (names : List ℕ) (next at : Place) (all told : List LoggedReply)
-    → all ≡ told ++ told_at at (said (mechs names)) → Begins (demands accounts) log at told
-    → IsTransition (demands accounts) at (said (mechs names)) next
-    → Begins (demands accounts) log between all × (demands accounts).mechs names × (next ≡ offered)
-offer_is_due accounts log names next between all told same b goes =
-    (quiet_line_keeps_told accounts log between all told same b, goes.0, goes.1)
-offer_is_due accounts log names next at all told same b goes = absurd goes
+module _ (accounts : Accounts) (log : List LogLine) where
+  -- if no reply was added, the replies recorded in a log's lines are the same
+  quiet_line_keeps_told : (at : Place) (all told : List LoggedAttempt) → all ≡ told ++ [] → Begins (demands accounts) log at told
+      → Begins (demands accounts) log at all
+  quiet_line_keeps_told at all told same begins =
+      subst (λ (t : List LoggedAttempt). Begins (demands accounts) log at t) (sym (same ∙ append-nil told)) begins
 
--- `S MECHS` may stand if and only if it is between sessions and has the names of the two mechanisms
+  -- a log continues with a line that records no reply, and its replies stay the same
+  log_goes_on_quietly : (at : Place) (told : List LoggedAttempt) (line : LogLine) (next : Place) → told_at at line ≡ []
+      → Begins (demands accounts) log at told → IsTransition (demands accounts) at line next
+      → Begins (demands accounts) (log ++ line ∷ []) next told
+  log_goes_on_quietly at told line next none begins goes =
+      let due = subst (λ (t : List LoggedAttempt). HaveDueReplies (demands accounts) (reverse told) t) (sym none) tt in
+      let same = subst (λ (t : List LoggedAttempt). told ++ t ≡ told) (sym none) (append-nil told) in
+      subst (λ (t : List LoggedAttempt). Begins (demands accounts) (log ++ line ∷ []) next t) same
+      (log_goes_on (demands accounts) log at told line next begins goes due)
+
+  -- `S MECHS` may stand only between sessions, with the names that are demanded, and leads to the place after an offer
+  offer_is_due : (names : List ℕ) (next at : Place) (all told : List LoggedAttempt) → all ≡ told ++ told_at at (said (mechs names))
+      → Begins (demands accounts) log at told → IsTransition (demands accounts) at (said (mechs names)) next
+      → Begins (demands accounts) log between all × (demands accounts).mechs names × (next ≡ offered)
+  offer_is_due names next between all told same b goes = (quiet_line_keeps_told between all told same b, goes.0, goes.1)
+  offer_is_due names next at all told same b goes = absurd goes
+
+  -- `S CONT` may stand only with a challenge that is due
+  challenge_is_due : (text : List ℕ) (next at : Place) (all told : List LoggedAttempt) → all ≡ told ++ told_at at (said (cont text))
+      → Begins (demands accounts) log at told → IsTransition (demands accounts) at (said (cont text)) next
+      → IsChallengeDue accounts log text next all
+  challenge_is_due text next (asks_bare m) all told same b goes =
+      inl (m, quiet_line_keeps_told (asks_bare m) all told same b, goes.0.0, goes.0.1, goes.1)
+  challenge_is_due text next (got_first m first) all told same b goes =
+      inr (m, first, goes.0, quiet_line_keeps_told (got_first m first) all told same b, goes.1, goes.2)
+  challenge_is_due text next at all told same b goes = absurd goes
+
+  -- `S CONT` may stand with a challenge that is due
+  due_challenge_may_stand : (text : List ℕ) (next : Place) (told : List LoggedAttempt) → IsChallengeDue accounts log text next told
+      → Begins (demands accounts) (log ++ said (cont text) ∷ []) next told
+  due_challenge_may_stand text next told (inl (m, begins, is, none, at)) =
+      log_goes_on_quietly (asks_bare m) told (said (cont text)) next refl begins ((is, none), at)
+  due_challenge_may_stand text next told (inr (m, first, name, begins, is, at)) =
+      log_goes_on_quietly (got_first m first) told (said (cont text)) next refl begins (name, is, at)
+
+  -- `S NO` may stand if it is the refusal that is due
+  due_refusal_may_stand : (text : List ℕ) (next : Place) (told : List LoggedAttempt) → IsRefusalDue accounts log text told → next ≡ over
+      → Begins (demands accounts) (log ++ said (refuses text) ∷ []) next told
+  due_refusal_may_stand text next told (inl (m, begins, none, bare)) at =
+      log_goes_on_quietly (asks_bare m) told (said (refuses text)) next refl begins ((none, bare), at)
+  due_refusal_may_stand text next told (inr (inl (m, first, begins, none, bare))) at =
+      log_goes_on_quietly (got_first m first) told (said (refuses text)) next refl begins ((none, bare), at)
+  due_refusal_may_stand text next told (inr (inr (inl (m, name, client_first, server_first, client_final, begins, is, invalid)))) at =
+      log_goes_on_quietly (got_final m name client_first server_first client_final) told (said (refuses text)) next refl begins (is, at)
+  due_refusal_may_stand text next told (inr (inr (inr (begins, bare)))) at =
+      log_goes_on_quietly leaving told (said (refuses text)) next refl begins (bare, at)
+
+  -- a reply to a code may stand only if it is the one due
+  reply_is_due : (moment : ℕ) (reply : Option Reply) (next at : Place) (all told : List LoggedAttempt)
+      → all ≡ told ++ told_at at (said (replies moment reply))
+      → HaveDueReplies (demands accounts) (reverse told) (told_at at (said (replies moment reply))) → Begins (demands accounts) log at told
+      → IsTransition (demands accounts) at (said (replies moment reply)) next → IsReplied accounts log moment reply next all
+  reply_is_due moment reply next (got_code account sent) all told same due b goes =
+      record { account = account; sent = sent; told = told; after = b; due = due.0; tells = same; is_next = goes }
+  reply_is_due moment reply next at all told same due b goes = absurd goes
+
+-- the law: `S MECHS` may stand if and only if it is between sessions and has the names of the two mechanisms
 pub each_offer_is_due : EachOfferIsDue
 each_offer_is_due accounts log names next told = (
   λ begins.
@@ -82,28 +117,8 @@ each_offer_is_due accounts log names next told = (
   λ is. log_goes_on_quietly accounts log between told (said (mechs names)) next refl is.0 (is.1, is.2),
 )
 
--- `S CONT` may stand only with a challenge that is due
-challenge_is_due : (accounts : Accounts) (log : List LogLine) (text : List ℕ) (next at : Place) (all told : List LoggedReply)
-    → all ≡ told ++ told_at at (said (cont text)) → Begins (demands accounts) log at told
-    → IsTransition (demands accounts) at (said (cont text)) next
-    → IsChallengeDue accounts log text next all
-challenge_is_due accounts log text next (asks_bare m) all told same b goes =
-    inl (m, quiet_line_keeps_told accounts log (asks_bare m) all told same b, goes.0.0, goes.0.1, goes.1)
-challenge_is_due accounts log text next (got_first m first) all told same b goes =
-    inr (m, first, goes.0, quiet_line_keeps_told accounts log (got_first m first) all told same b, goes.1, goes.2)
-challenge_is_due accounts log text next at all told same b goes = absurd goes
-
--- `S CONT` may stand with a challenge that is due
-due_challenge_may_stand : (accounts : Accounts) (log : List LogLine) (text : List ℕ) (next : Place) (told : List LoggedReply)
-    → IsChallengeDue accounts log text next told
-    → Begins (demands accounts) (log ++ said (cont text) ∷ []) next told
-due_challenge_may_stand accounts log text next told (inl (m, begins, is, none, at)) =
-    log_goes_on_quietly accounts log (asks_bare m) told (said (cont text)) next refl begins ((is, none), at)
-due_challenge_may_stand accounts log text next told (inr (m, first, name, begins, is, at)) =
-    log_goes_on_quietly accounts log (got_first m first) told (said (cont text)) next refl begins (name, is, at)
-
--- `S CONT` may stand if and only if it is the empty challenge of an offered mechanism, or a challenge that is due to the client-first
--- message
+-- the law: `S CONT` may stand if and only if it is the empty challenge of an offered mechanism, or a challenge that is due to the
+-- client-first message
 pub each_challenge_is_due : EachChallengeIsDue
 each_challenge_is_due accounts log text next told = (
   λ begins.
@@ -127,10 +142,9 @@ refused_login_is_invalid once valid accounts mechanism name client_first server_
 
 -- `S NO` may stand only if it is the refusal that is due
 refusal_is_due : AtMostOneVerdictIsDue → AcceptsExactlyValid
-    → (accounts : Accounts) (log : List LogLine) (text : List ℕ) (next at : Place) (all told : List LoggedReply)
+    → (accounts : Accounts) (log : List LogLine) (text : List ℕ) (next at : Place) (all told : List LoggedAttempt)
     → all ≡ told ++ told_at at (said (refuses text)) → Begins (demands accounts) log at told
-    → IsTransition (demands accounts) at (said (refuses text)) next
-    → IsRefusalDue accounts log text all × (next ≡ over)
+    → IsTransition (demands accounts) at (said (refuses text)) next → IsRefusalDue accounts log text all × (next ≡ over)
 refusal_is_due once valid accounts log text next (asks_bare m) all told same b goes =
     (inl (m, quiet_line_keeps_told accounts log (asks_bare m) all told same b, goes.0.0, goes.0.1), goes.1)
 refusal_is_due once valid accounts log text next (got_first m first) all told same b goes =
@@ -154,23 +168,8 @@ refusal_is_due once valid accounts log text next leaving all told same b goes =
     (inr (inr (inr (quiet_line_keeps_told accounts log leaving all told same b, goes.0))), goes.1)
 refusal_is_due once valid accounts log text next at all told same b goes = absurd goes
 
--- `S NO` may stand if it is the refusal that is due
-due_refusal_may_stand : (accounts : Accounts) (log : List LogLine) (text : List ℕ) (next : Place) (told : List LoggedReply)
-    → IsRefusalDue accounts log text told → next ≡ over
-    → Begins (demands accounts) (log ++ said (refuses text) ∷ []) next told
-due_refusal_may_stand accounts log text next told (inl (m, begins, none, bare)) at =
-    log_goes_on_quietly accounts log (asks_bare m) told (said (refuses text)) next refl begins ((none, bare), at)
-due_refusal_may_stand accounts log text next told (inr (inl (m, first, begins, none, bare))) at =
-    log_goes_on_quietly accounts log (got_first m first) told (said (refuses text)) next refl begins ((none, bare), at)
-due_refusal_may_stand accounts log text next told (inr (inr (inl (m, name, client_first, server_first, client_final, begins, is, invalid))))
-    at =
-    log_goes_on_quietly accounts log (got_final m name client_first server_first client_final) told (said (refuses text)) next refl begins
-    (is, at)
-due_refusal_may_stand accounts log text next told (inr (inr (inr (begins, bare)))) at =
-    log_goes_on_quietly accounts log leaving told (said (refuses text)) next refl begins (bare, at)
-
--- `S NO` may stand if and only if it is the refusal that is due, which no valid login gets. This needs that at most one verdict is due to a
--- text, and that acceptance is due only to valid logins
+-- the law: `S NO` may stand if and only if it is the refusal that is due, which no valid login gets. This needs that at most one verdict is
+-- due to a text, and that acceptance is due only to valid logins
 pub each_refusal_is_due : AtMostOneVerdictIsDue → AcceptsExactlyValid → EachRefusalIsDue
 each_refusal_is_due once valid accounts log text next told = (
   λ begins.
@@ -179,43 +178,32 @@ each_refusal_is_due once valid accounts log text next told = (
   λ is. due_refusal_may_stand accounts log text next told is.0 is.1,
 )
 
--- a reply to a code may stand only if it is the one due
-reply_is_due : (accounts : Accounts) (log : List LogLine) (moment : ℕ) (reply : Option Reply) (next at : Place)
-    (all told : List LoggedReply)
-    → all ≡ told ++ told_at at (said (replies moment reply))
-    → AreReplies (demands accounts) (reverse told) (told_at at (said (replies moment reply)))
-    → Begins (demands accounts) log at told → IsTransition (demands accounts) at (said (replies moment reply)) next
-    → IsReplied accounts log moment reply next all
-reply_is_due accounts log moment reply next (got_code account sent) all told same due b goes =
-    record { account = account; sent = sent; told = told; after = b; due = due.0; tells = same; is_next = goes }
-reply_is_due accounts log moment reply next at all told same due b goes = absurd goes
-
--- a reply may stand if and only if it is the one due to one or two codes, after the earlier replies to its account
+-- the law: a reply may stand if and only if it is the one due to one or two codes, after the earlier replies to its account
 pub each_reply_is_due : EachReplyIsDue
 each_reply_is_due accounts log moment reply next all = (
   λ begins.
       let s = log_has_last_transition (demands accounts) log (said (replies moment reply)) next all begins in
       reply_is_due accounts log moment reply next s.place all s.told s.tells s.due s.begins s.goes,
   λ r.
-      subst (λ (t : List LoggedReply). Begins (demands accounts) (log ++ said (replies moment reply) ∷ []) next t) (sym r.tells)
+      subst (λ (t : List LoggedAttempt). Begins (demands accounts) (log ++ said (replies moment reply) ∷ []) next t) (sym r.tells)
       (log_goes_on (demands accounts) log (got_code r.account r.sent) r.told (said (replies moment reply)) next r.after r.is_next
       (r.due, tt)),
 )
 
 -- the log ends in a line with one or two codes that waits for its reply, and the next place is the halt
-abbrev EndsCode : Accounts → List LogLine → Place → List LoggedReply → Type 0
+abbrev EndsCode : Accounts → List LogLine → Place → List LoggedAttempt → Type 0
 EndsCode accounts log next told =
     (account : List ℕ) × (sent : CodeTexts) × Begins (demands accounts) log (got_code account sent) told × (next ≡ halted)
 
 -- `S HALT` may stand only while a code waits for its reply, and leads to the halt
-halt_ends_code : (accounts : Accounts) (log : List LogLine) (next at : Place) (all told : List LoggedReply)
+halt_ends_code : (accounts : Accounts) (log : List LogLine) (next at : Place) (all told : List LoggedAttempt)
     → all ≡ told ++ told_at at (said halt)
     → Begins (demands accounts) log at told → IsTransition (demands accounts) at (said halt) next → EndsCode accounts log next all
 halt_ends_code accounts log next (got_code account sent) all told same b goes =
     (account, sent, quiet_line_keeps_told accounts log (got_code account sent) all told same b, goes)
 halt_ends_code accounts log next at all told same b goes = absurd goes
 
--- `S HALT` may stand if and only if it follows one or two codes, instead of their reply
+-- the law: `S HALT` may stand if and only if it follows one or two codes, instead of their reply
 pub each_halt_ends_a_code : EachHaltEndsACode
 each_halt_ends_a_code accounts log next told = (
   λ begins.

@@ -3,17 +3,17 @@ use Rattle.std.proofs.Common.{◌≡◌, inl, inr, ℕ, List, [], reverse, refl,
 use Rattle.scram_ends.specs.Verdict.{accept, refuse}
 use Rattle.scram_ends.specs.Login.{IsAuthentic}
 use Rattle.log_grammar.specs.Lines.{LogLine, said, mechs, cont, accepts, refuses, replies, IsLogLine, IsLogLineInRange, IsWritable}
-use Rattle.log_grammar.specs.LoggedReply.{LoggedReply}
+use Rattle.log_grammar.specs.LoggedAttempt.{LoggedAttempt}
 use Rattle.log_grammar.specs.Places.{Place, asks_bare, got_first, got_final, waits_code, got_code, leaving}
-use Rattle.log_grammar.specs.Demands.{Accounts, AllCanBeChallenged, demands, AreReplies}
+use Rattle.log_grammar.specs.Demands.{Accounts, AllCanBeChallenged, demands, HaveDueReplies}
 use Rattle.log_grammar.specs.state_machine.Steps.{IsTransition, told_at}
 use Rattle.log_grammar.specs.state_machine.DueClasses.{IsDueAt}
 use Rattle.log_grammar.specs.Why.{Why, is_cut, no_line, out_of_order, other_mechs, other_challenge, other_outcome, other_reply, accepted}
 use Rattle.log_grammar.specs.Why.{refused_with, IsReasonForAnswer, IsReasonForReply, IsReasonForLine, class_of}
-use Rattle.log_grammar.specs.laws.LogLaws.{FrontsBeginClean}
+use Rattle.log_grammar.specs.laws.LogLaws.{FrontsAreWhatBeginsCleanLogs}
 use Rattle.log_grammar.specs.laws.Reasons.{SaysWhatIsDue, NamesWhatIsDue, EachLineThatIsDueMayStand}
 use Rattle.log_grammar.proofs.lemmas.kinds.ShownByLines.{fault_follows_read_lines}
-use Rattle.log_grammar.proofs.lemmas.reason_laws.Mended.{some_line_mends_line, named_fault_is_wrong_line, following_line_begins_clean}
+use Rattle.log_grammar.proofs.lemmas.reason_laws.Mended.{some_line_mends_line, named_reason_is_of_line, following_line_begins_clean}
 use Rattle.log_grammar.proofs.lemmas.state_machine.Standings.{Follows}
 
 -- the reason names neither a challenge nor an acceptance as due, so that only one line says what is due
@@ -45,9 +45,8 @@ said_due_is_named (other_reply moment due) line says writable = (subst IsLogLine
 
 -- an acceptance with the signature that is due may stand where it is due, and records no reply
 due_ok_may_stand : (accounts : Accounts) (place : Place) (signature text : List ℕ)
-    → IsReasonForAnswer accounts place (other_outcome (accepted signature))
-    → IsAuthentic text signature → (next : Place) × IsTransition (demands accounts) place (said (accepts text)) next
-    × (told_at place (said (accepts text)) ≡ [])
+    → IsReasonForAnswer accounts place (other_outcome (accepted signature)) → IsAuthentic text signature
+    → (next : Place) × IsTransition (demands accounts) place (said (accepts text)) next × (told_at place (said (accepts text)) ≡ [])
 due_ok_may_stand accounts (asks_bare m) signature text (inl (is, same)) bears = absurd (cc same)
 due_ok_may_stand accounts (asks_bare m) signature text (inr (none, same)) bears = absurd (cc same)
 due_ok_may_stand accounts (got_first m first) signature text (inl (is, same)) bears = absurd (cc same)
@@ -60,13 +59,13 @@ due_ok_may_stand accounts leaving signature text same bears = absurd (cc same)
 due_ok_may_stand accounts place signature text wrong bears = absurd wrong
 
 -- a reply other than the one due is never wrong for the reason that an acceptance is due
-wrong_reply_names_no_outcome : (accounts : Accounts) (place : Place) (told : List LoggedReply) (moment : ℕ) (signature : List ℕ)
+wrong_reply_names_no_outcome : (accounts : Accounts) (place : Place) (told : List LoggedAttempt) (moment : ℕ) (signature : List ℕ)
     → IsReasonForReply accounts place told moment (other_outcome (accepted signature)) → ⊥
 wrong_reply_names_no_outcome accounts (got_code account sent) told moment signature (due, is, same) = cc same
 wrong_reply_names_no_outcome accounts place told moment signature wrong = wrong
 
 -- if the reason names an acceptance as due, a CONT, OK or NO is due at the place, whatever line is at fault there
-due_ok_shows_answer : (accounts : Accounts) (place : Place) (told : List LoggedReply) (line : LogLine) (signature : List ℕ)
+due_ok_shows_answer : (accounts : Accounts) (place : Place) (told : List LoggedAttempt) (line : LogLine) (signature : List ℕ)
     → IsReasonForLine accounts place told line (other_outcome (accepted signature))
     → IsReasonForAnswer accounts place (other_outcome (accepted signature))
 due_ok_shows_answer accounts place told (said (mechs names)) signature wrong = absurd (cc wrong)
@@ -79,7 +78,7 @@ due_ok_shows_answer accounts place told line signature wrong = absurd wrong
 
 -- the only line that says what is due may stand at the place
 only_due_line_follows : (accounts : Accounts) → AllCanBeChallenged accounts
-    → (place : Place) (told : List LoggedReply) (text : List ℕ) (x : LogLine) (why : Why) (line : LogLine) → IsLogLine text x
+    → (place : Place) (told : List LoggedAttempt) (text : List ℕ) (x : LogLine) (why : Why) (line : LogLine) → IsLogLine text x
     → IsDueAt place (class_of x) → IsReasonForLine accounts place told x why → NamesOneLine why → SaysWhatIsDue why line → IsWritable line
     → Follows accounts place told line
 only_due_line_follows accounts fit place told text x why line is due wrong single says writable =
@@ -89,10 +88,9 @@ only_due_line_follows accounts fit place told text x why line is due wrong singl
 
 -- each line that says what is due, except a challenge, may stand at the place
 pub each_due_line_follows : (accounts : Accounts) → AllCanBeChallenged accounts
-    → (place : Place) (told : List LoggedReply) (text : List ℕ) (x : LogLine) (why : Why) (line : LogLine) → IsLogLine text x
+    → (place : Place) (told : List LoggedAttempt) (text : List ℕ) (x : LogLine) (why : Why) (line : LogLine) → IsLogLine text x
     → IsDueAt place (class_of x) → IsReasonForLine accounts place told x why → (why ≡ other_challenge → ⊥) → SaysWhatIsDue why line
-    → IsWritable line
-    → Follows accounts place told line
+    → IsWritable line → Follows accounts place told line
 each_due_line_follows accounts fit place told text x is_cut line is due wrong other says writable = absurd says
 each_due_line_follows accounts fit place told text x no_line line is due wrong other says writable = absurd says
 each_due_line_follows accounts fit place told text x out_of_order line is due wrong other says writable = absurd says
@@ -107,19 +105,19 @@ each_due_line_follows accounts fit place told text x (other_outcome (accepted si
     (record {
       next = next;
       goes = goes;
-      due = subst (λ (t : List LoggedReply). AreReplies (demands accounts) (reverse told) t) (sym no_farewell) tt;
+      due = subst (λ (t : List LoggedAttempt). HaveDueReplies (demands accounts) (reverse told) t) (sym no_farewell) tt;
     })
 each_due_line_follows accounts fit place told text x (other_outcome (refused_with message)) line is due wrong other says writable =
     only_due_line_follows accounts fit place told text x (other_outcome (refused_with message)) line is due wrong tt says writable
 each_due_line_follows accounts fit place told text x (other_reply moment reply) line is due wrong other says writable =
     only_due_line_follows accounts fit place told text x (other_reply moment reply) line is due wrong tt says writable
 
--- if each front begins a clean log, each line that can be written and says what is due, except a challenge, may replace the line at fault
--- in a log of version 1
-pub each_due_line_may_stand : FrontsBeginClean → EachLineThatIsDueMayStand
-each_due_line_may_stand completes accounts fit bytes before text after rest why line cut w other says writable =
+-- the law: if fronts are what begins clean logs, each line that can be written and says what is due, except a challenge, may replace
+-- the line at fault in a log of version 1
+pub each_line_that_is_due_may_stand : FrontsAreWhatBeginsCleanLogs → EachLineThatIsDueMayStand
+each_line_that_is_due_may_stand completes accounts fit bytes before text after rest why line cut w other says writable =
     let f = fault_follows_read_lines accounts bytes before text after rest why cut w in
-    let x = named_fault_is_wrong_line accounts f.lines text why (said_due_is_named why line says writable) f.wrong in
+    let x = named_reason_is_of_line accounts f.lines text why (said_due_is_named why line says writable) f.wrong in
     let l = each_due_line_follows accounts fit x.place x.told text x.line why line x.is x.due x.wrong other says writable in
     following_line_begins_clean completes accounts fit before f.lines f.place f.told x.place x.told line l.next f.lead x.begins writable
     l.goes l.due

@@ -1,9 +1,10 @@
 -- Codes that passed in a log.
-use Rattle.std.proofs.Common.{All, le-leb, get_or, arith, ◌≡◌, inl, inr, ℕ, ◌+◌, ◌<◌, true, List, [], ◌∷◌, ◌++◌, reverse, refl, sym}
-use Rattle.std.proofs.Common.{◌∙◌, ap, subst, append_assoc}
+use Rattle.std.proofs.Common.{All, le-leb, get_or, arith, ◌≡◌, inl, inr, ℕ, ◌+◌, ◌<◌, true, List, [], ◌∷◌, ◌++◌, reverse, refl, sym, ◌∙◌, ap, subst}
+use Rattle.std.proofs.Common.{append_assoc}
 use Rattle.std.proofs.lemmas.List.{reverse-append}
 use Rattle.std.specs.declared.option.Option.{Option}
 use Rattle.std.specs.declared.option.Option.TheVariants.{None, Some}
+use Rattle.std.specs.Str.{byte}
 use Rattle.std.specs.Char.{IsAsciiDigit}
 use Rattle.std.specs.List.{list_all}
 use Rattle.std.proofs.lemmas.List.Elements.{All-get_or}
@@ -16,7 +17,7 @@ use Rattle.otp_core.specs.declared.token.kinds.HotpFields.{HotpFields}
 use Rattle.log_grammar.specs.Words.{is_code_char, IsCodeWord, IsCounter}
 use Rattle.log_grammar.specs.Upgrades.{original_bytes}
 use Rattle.log_grammar.specs.laws.Logins.{LoginsAreAnswered}
-use Rattle.otp_core.specs.Attempt.{Attempt, CodeTexts, OneText, TwoTexts, counters_of, used_in}
+use Rattle.otp_core.specs.Attempt.{Attempt, CodeTexts, one_text, two_texts, counters_of, used_in}
 use Rattle.otp_core.specs.Window.{IsAbove, IsInHotpWindow}
 use Rattle.otp_core.specs.Reply.{IsDueReply, IsFitting, code_text}
 use Rattle.otp_core.specs.Laws.{CandidatesAreNew}
@@ -25,7 +26,7 @@ use Rattle.otp_core.specs.declared.token.reply.Reply.TheVariants.{Pass, Fail, Lo
 use Rattle.otp_core.specs.declared.token.kinds.TokenFields.{TokenFields}
 use Rattle.scram_text.specs.Laws.{SpellsOneName, HasOneClientFirst}
 use Rattle.log_grammar.specs.Lines.{LogLine}
-use Rattle.log_grammar.specs.LoggedReply.{LoggedReply, logged_reply_of}
+use Rattle.log_grammar.specs.LoggedAttempt.{LoggedAttempt, logged_attempt_of}
 use Rattle.log_grammar.specs.Places.{Place, waits_code, got_code}
 use Rattle.log_grammar.specs.Demands.{Accounts, attempts_by, attempts_of, IsReplyDueBy, demands}
 use Rattle.log_grammar.specs.Begins.{Begins}
@@ -33,8 +34,8 @@ use Rattle.log_grammar.specs.laws.Outcomes.{IsReplied, EachReplyIsDue}
 use Rattle.log_grammar.specs.laws.Replies.{pass_line, IsCodeOf, EachPassIsACode, CountersRise, NextHotpCodePasses, NextTwoHotpCodesPass}
 use Rattle.log_grammar.proofs.lemmas.demands.RepliesDue.{first_reply_stands_last}
 use Rattle.log_grammar.proofs.lemmas.outcome_laws.ServerLines.{first_lines_begin_logs}
-use Rattle.log_grammar.proofs.lemmas.state_machine.PlaceBefore.{log_has_one_reading}
-use Rattle.log_grammar.proofs.lemmas.demands.EachAccount.{same_or_other_account}
+use Rattle.log_grammar.proofs.lemmas.state_machine.PlaceBefore.{logs_have_one_reading}
+use Rattle.log_grammar.proofs.lemmas.demands.EachAccount.{account_is_same_or_other}
 
 -- if a PASS is due, there is a token, which a code of its counter fits
 pub due_pass_fits_token : (o : Option TokenFields) (attempts : List Attempt) (moment counter : ℕ) (sent : CodeTexts)
@@ -46,7 +47,7 @@ due_pass_fits_token (Some token) attempts moment counter sent (reply, is, due) =
     (token, refl, (subst (λ (r : Reply). IsDueReply token attempts moment sent r) same due).1)
 
 -- a PASS that may stand is for a code that could pass then
-replied_pass_is_code : (accounts : Accounts) (log : List LogLine) (moment counter : ℕ) (next : Place) (told : List LoggedReply)
+replied_pass_is_code : (accounts : Accounts) (log : List LogLine) (moment counter : ℕ) (next : Place) (told : List LoggedAttempt)
     → IsReplied accounts log moment (Some (Pass counter)) next told → IsCodeOf accounts log moment counter next
 replied_pass_is_code accounts log moment counter next told r =
     let (token, has, fits) =
@@ -62,8 +63,8 @@ replied_pass_is_code accounts log moment counter next told r =
       is_next = r.is_next;
     }
 
--- if replies may stand exactly when they are due, PASS stands only after the code of its counter, which could pass then, or after two codes
--- in a row of which the second is its counter's
+-- the law: if replies may stand exactly when they are due, PASS stands only after the code of its counter, which could pass then, or after
+-- two codes in a row of which the second is its counter's
 pub each_pass_is_a_code : EachReplyIsDue → EachPassIsACode
 each_pass_is_a_code replied accounts log moment counter next told begins =
     replied_pass_is_code accounts log moment counter next told ((replied accounts log moment (Some (Pass counter)) next told).0 begins)
@@ -76,46 +77,42 @@ next_number_is_above (p ∷ counters) w c next above = (omega (arith, next, abov
 -- a counter that fits one code, or the second of two, is above all that passed
 pub fitting_counter_is_above : CandidatesAreNew → (token : TokenFields) (attempts : List Attempt) (moment : ℕ) (sent : CodeTexts) (c : ℕ)
     → IsFitting token attempts moment sent c → IsAbove (used_in attempts) c
-fitting_counter_is_above new token attempts moment (OneText text) c fits = new token attempts moment c (inl fits.0)
-fitting_counter_is_above new token attempts moment (TwoTexts first second) c fits =
+fitting_counter_is_above new token attempts moment (one_text text) c fits = new token attempts moment c (inl fits.0)
+fitting_counter_is_above new token attempts moment (two_texts first second) c fits =
     next_number_is_above (used_in attempts) fits.0 c fits.1 (new token attempts moment fits.0 (inr fits.2))
 
 -- a number above the counters that a pass uses and those that passed before is above the pass's own counter and above those before
 number_is_above_used : (sent : CodeTexts) (c : ℕ) (counters : List ℕ) (d : ℕ) → IsAbove (counters_of sent c ++ counters) d → (c < d)
     × IsAbove counters d
-number_is_above_used (OneText text) c counters d above = above
-number_is_above_used (TwoTexts first second) c counters d above = (above.0, above.1.1)
+number_is_above_used (one_text text) c counters d above = above
+number_is_above_used (two_texts first second) c counters d above = (above.0, above.1.1)
 
 -- a number above all counters that passed is above those that passed in fewer attempts
-number_is_above_fewer : (t : LoggedReply) (reply : Option Reply) (attempts : List Attempt) (d : ℕ)
-    → IsAbove (used_in (attempts_by t reply attempts)) d
-    → IsAbove (used_in attempts) d
+number_is_above_fewer : (t : LoggedAttempt) (reply : Option Reply) (attempts : List Attempt) (d : ℕ)
+    → IsAbove (used_in (attempts_by t reply attempts)) d → IsAbove (used_in attempts) d
 number_is_above_fewer t None attempts d above = above
 number_is_above_fewer t (Some (Pass c)) attempts d above = (number_is_above_used t.sent c (used_in attempts) d above).1
 number_is_above_fewer t (Some Fail) attempts d above = above
 number_is_above_fewer t (Some Locked) attempts d above = above
 
 -- a number above all counters that passed in some replies is above those that passed in the earlier ones:
-number_is_above_before : (account : List ℕ) (t : LoggedReply) (before : List LoggedReply) (d : ℕ)
-    → IsAbove (used_in (attempts_of account (t ∷ before))) d
-    → IsAbove (used_in (attempts_of account before)) d
-number_is_above_before account t before d above = elim (same_or_other_account t account) [
+number_is_above_before : (account : List ℕ) (t : LoggedAttempt) (before : List LoggedAttempt) (d : ℕ)
+    → IsAbove (used_in (attempts_of account (t ∷ before))) d → IsAbove (used_in (attempts_of account before)) d
+number_is_above_before account t before d above = elim (account_is_same_or_other t account) [
   | inl is ↦ number_is_above_fewer t t.reply (attempts_of account before) d (rw is.1 at above)
   | inr other ↦ rw other.0 at above
 ]
 
-number_is_above_earlier : (account : List ℕ) (late early : List LoggedReply) (d : ℕ)
-    → IsAbove (used_in (attempts_of account (late ++ early))) d
-    → IsAbove (used_in (attempts_of account early)) d
+number_is_above_earlier : (account : List ℕ) (late early : List LoggedAttempt) (d : ℕ)
+    → IsAbove (used_in (attempts_of account (late ++ early))) d → IsAbove (used_in (attempts_of account early)) d
 number_is_above_earlier account [] early d above = above
 number_is_above_earlier account (t ∷ late) early d above =
     number_is_above_earlier account late early d (number_is_above_before account t (late ++ early) d above)
 
 -- a number above all counters that passed in some replies is above the counter of each pass among them
-number_is_above_pass : (account : List ℕ) (t : LoggedReply) (before : List LoggedReply) (c d : ℕ) → t.account ≡ account
-    → t.reply ≡ Some (Pass c)
-    → IsAbove (used_in (attempts_of account (t ∷ before))) d → c < d
-number_is_above_pass account t before c d is passes above = elim (same_or_other_account t account) [
+number_is_above_pass : (account : List ℕ) (t : LoggedAttempt) (before : List LoggedAttempt) (c d : ℕ) → t.account ≡ account
+    → t.reply ≡ Some (Pass c) → IsAbove (used_in (attempts_of account (t ∷ before))) d → c < d
+number_is_above_pass account t before c d is passes above = elim (account_is_same_or_other t account) [
   | inl same ↦
       let taken : IsAbove (used_in (attempts_by t t.reply (attempts_of account before))) d = rw same.1 at above in
       let by = subst (λ (r : Option Reply). IsAbove (used_in (attempts_by t r (attempts_of account before))) d) passes taken in
@@ -124,29 +121,29 @@ number_is_above_pass account t before c d is passes above = elim (same_or_other_
 ]
 
 -- a list reversed is what followed one of its elements, reversed, then this element, then what preceded it, reversed
-reverse-append_element : (front middle : List LoggedReply) (t : LoggedReply)
+reverse-append_element : (front middle : List LoggedAttempt) (t : LoggedAttempt)
     → reverse (front ++ t ∷ middle) ≡ reverse middle ++ t ∷ reverse front
 reverse-append_element front middle t = reverse-append front (t ∷ middle) ∙ first_reply_stands_last t middle (reverse front)
 
 -- of two passes of one account the later has the greater counter
-pub later_pass_is_greater : CandidatesAreNew → (token : TokenFields) (account : List ℕ) (last : CodeTexts) (told : List LoggedReply)
+pub later_pass_is_greater : CandidatesAreNew → (token : TokenFields) (account : List ℕ) (last : CodeTexts) (told : List LoggedAttempt)
     (at d : ℕ)
     → IsFitting token (attempts_of account (reverse told)) at last d
-    → (mine : List ℕ) (moment counter : ℕ) (sent : CodeTexts) (before rest : List LoggedReply)
-    → mine ≡ account → told ≡ (before ++ logged_reply_of mine moment sent (Some (Pass counter)) ∷ []) ++ rest → counter < d
+    → (mine : List ℕ) (moment counter : ℕ) (sent : CodeTexts) (before rest : List LoggedAttempt)
+    → mine ≡ account → told ≡ (before ++ logged_attempt_of mine moment sent (Some (Pass counter)) ∷ []) ++ rest → counter < d
 later_pass_is_greater new token account last told at d fits mine moment counter sent before rest same tells =
-    let t = logged_reply_of mine moment sent (Some (Pass counter)) in
+    let t = logged_attempt_of mine moment sent (Some (Pass counter)) in
     let above = fitting_counter_is_above new token (attempts_of account (reverse told)) at last d fits in
     let split = tells ∙ append_assoc before (t ∷ []) rest in
-    let turned = subst (λ (l : List LoggedReply). IsAbove (used_in (attempts_of account (reverse l))) d) split above in
-    let here = subst (λ (l : List LoggedReply). IsAbove (used_in (attempts_of account l)) d) (reverse-append_element before rest t)
+    let turned = subst (λ (l : List LoggedAttempt). IsAbove (used_in (attempts_of account (reverse l))) d) split above in
+    let here = subst (λ (l : List LoggedAttempt). IsAbove (used_in (attempts_of account l)) d) (reverse-append_element before rest t)
     turned in
     number_is_above_pass account t (reverse before) counter d same refl (number_is_above_earlier account (reverse rest) (t ∷ reverse before)
     d here)
 
--- of two passes of one account in a log, in any sessions, the later has the greater counter. This needs that replies may stand exactly when
--- due, that a client-first message has one list of parts, that a saslname has one name, and that a counter that can pass is above those
--- that passed
+-- the law: of two passes of one account in a log, in any sessions, the later has the greater counter. This needs that replies may stand
+-- exactly when due, that a client-first message has one list of parts, that a saslname has one name, and that a counter that can pass is
+-- above those that passed
 pub counters_rise : HasOneClientFirst → SpellsOneName → CandidatesAreNew → EachReplyIsDue → CountersRise
 counters_rise one_first names new replied accounts log more account moment counter at greater told all begins both =
     let first = log ++ pass_line moment counter ∷ [] in
@@ -155,15 +152,15 @@ counters_rise one_first names new replied accounts log more account moment count
     let two = each_pass_is_a_code replied accounts (first ++ more) at greater (waits_code account) all
     (subst (λ (l : List LogLine). Begins (demands accounts) l (waits_code account) all) split both) in
     let front = first_lines_begin_logs accounts first more (got_code two.account two.sent) two.told two.after in
-    let same = (log_has_one_reading one_first names accounts first front.0 (waits_code account) front.1 told front.3 begins).1 in
-    let tells = front.4 ∙ ap (λ (l : List LoggedReply). l ++ front.2) (same ∙ one.tells) in
+    let same = (logs_have_one_reading one_first names accounts first front.0 (waits_code account) front.1 told front.3 begins).1 in
+    let tells = front.4 ∙ ap (λ (l : List LoggedAttempt). l ++ front.2) (same ∙ one.tells) in
     let mine : one.account ≡ two.account = cc (sym one.is_next ∙ two.is_next) in
     later_pass_is_greater new two.token two.account two.sent two.told at greater two.fits one.account moment counter one.sent one.told
     front.2 mine tells
 
 -- a digit, and a text of digits, can be sent as a code:
 digit_is_code_char : (c : ℕ) → IsAsciiDigit c → is_code_char c ≡ true
-digit_is_code_char c is = rw (le-leb 33 c (omega (arith, is)), le-leb c 126 (omega (arith, is))) refl
+digit_is_code_char c is = rw (le-leb (byte "!") c (omega (arith, is)), le-leb c (byte "~") (omega (arith, is))) refl
 
 digits_are_code_chars : (text : List ℕ) → All IsAsciiDigit text → list_all is_code_char text ≡ true
 digits_are_code_chars text all = list_all-from_AllPass is_code_char text
@@ -179,26 +176,26 @@ code_text_is_code_word text is = record {
 
 -- the code of a HOTP token's next counter passes, if failures do not lock the token and the counter can pass
 pass_is_due_to_next : (t : HotpFields) (moment : ℕ) → t.failures < t.limit → IsCounter t.next
-    → IsDueReply (Hotp t) [] moment (OneText (code_text (Hotp t) t.next)) (Pass t.next)
+    → IsDueReply (Hotp t) [] moment (one_text (code_text (Hotp t) t.next)) (Pass t.next)
 pass_is_due_to_next t moment unlocked counter =
     let due : IsInHotpWindow t.next t.look_ahead t.next =
     record { not_before = omega arith; within = omega arith; most = omega (arith, counter) } in
     (unlocked, (due, refl), λ k fits. fits.0.not_before)
 
--- after a valid login, the code of a HOTP token's next counter passes, if failures do not lock the token and the counter is not used up.
--- This needs that a log of version 1 is clean if a code after a valid login gets the reply due
+-- the law: after a valid login, the code of a HOTP token's next counter passes, if failures do not lock the token and the counter is not
+-- used up. This needs that a log of version 1 is clean if a code after a valid login gets the reply due
 pub next_hotp_code_passes : LoginsAreAnswered original_bytes → NextHotpCodePasses
 next_hotp_code_passes answered accounts mechanism name exchange moment t login at has unlocked digits counter =
     let text = code_text (Hotp t) t.next in
     let due = pass_is_due_to_next t moment unlocked counter in
-    let by = subst (λ (o : Option TokenFields). IsReplyDueBy o [] moment (OneText text) (Some (Pass t.next))) (sym has)
+    let by = subst (λ (o : Option TokenFields). IsReplyDueBy o [] moment (one_text text) (Some (Pass t.next))) (sym has)
     (Pass t.next, refl, due) in
-    answered accounts mechanism name exchange (OneText text) moment (Some (Pass t.next)) login
+    answered accounts mechanism name exchange (one_text text) moment (Some (Pass t.next)) login
     (code_text_is_code_word text (IsCodeText-last_digits t.digits _ digits)) at counter by
 
 -- the codes of a HOTP token's next two counters, sent in a row, pass if failures do not lock the token and the counters can pass
 pub pass_is_due_to_two : (t : HotpFields) (moment : ℕ) → t.failures < t.limit → IsCounter (t.next + 1)
-    → IsDueReply (Hotp t) [] moment (TwoTexts (code_text (Hotp t) t.next) (code_text (Hotp t) (t.next + 1))) (Pass (t.next + 1))
+    → IsDueReply (Hotp t) [] moment (two_texts (code_text (Hotp t) t.next) (code_text (Hotp t) (t.next + 1))) (Pass (t.next + 1))
 pass_is_due_to_two t moment unlocked counter =
     let due : IsInHotpWindow t.next t.sync_ahead t.next =
     record { not_before = omega arith; within = omega arith; most = omega (arith, counter) } in
@@ -212,11 +209,11 @@ next_two_are_code_words t digits = (
   code_text_is_code_word (code_text (Hotp t) (t.next + 1)) (IsCodeText-last_digits t.digits _ digits),
 )
 
--- after a valid login, the codes of a HOTP token's next two counters, sent in a row, pass with the second counter, if failures do not lock
--- the token and neither is used up. This needs that a log of version 1 is clean if codes after a valid login get the reply due
+-- the law: after a valid login, the codes of a HOTP token's next two counters, sent in a row, pass with the second counter, if failures do
+-- not lock the token and neither is used up. This needs that a log of version 1 is clean if codes after a valid login get the reply due
 pub next_two_hotp_codes_pass : LoginsAreAnswered original_bytes → NextTwoHotpCodesPass
 next_two_hotp_codes_pass answered accounts mechanism name exchange moment t login at has unlocked digits counter =
-    let sent = TwoTexts (code_text (Hotp t) t.next) (code_text (Hotp t) (t.next + 1)) in
+    let sent = two_texts (code_text (Hotp t) t.next) (code_text (Hotp t) (t.next + 1)) in
     let by = subst (λ (o : Option TokenFields). IsReplyDueBy o [] moment sent (Some (Pass (t.next + 1)))) (sym has)
     (Pass (t.next + 1), refl, pass_is_due_to_two t moment unlocked counter) in
     answered accounts mechanism name exchange sent moment (Some (Pass (t.next + 1))) login (next_two_are_code_words t digits) at counter by

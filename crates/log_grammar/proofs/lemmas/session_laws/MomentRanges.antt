@@ -4,20 +4,20 @@ use Rattle.std.specs.Prelude.{flat_map}
 use Rattle.std.specs.List.{AllByRecursion, AllZip}
 use Rattle.otp_core.specs.Ranges.{IsMoment}
 use Rattle.log_grammar.specs.Lines.{LogLine, IsLogLineInRange, IsLogLine}
-use Rattle.log_grammar.specs.LoggedReply.{LoggedReply}
+use Rattle.log_grammar.specs.LoggedAttempt.{LoggedAttempt}
 use Rattle.log_grammar.specs.Places.{Place}
 use Rattle.log_grammar.specs.Demands.{Accounts, demands}
 use Rattle.log_grammar.specs.Sessions.{Part, closing, Session, session_part, session_lines, session_told, session}
 use Rattle.log_grammar.specs.Begins.{Begins, AreLines}
 use Rattle.log_grammar.proofs.lemmas.session_laws.LaterLines.{HoldsFromTheLast, later_lines_hold}
-use Rattle.log_grammar.proofs.lemmas.ListEnds.{all_append, all_front, all_back}
+use Rattle.log_grammar.proofs.lemmas.ListEnds.{appended_lists_keep_all, front_keeps_all, back_keeps_all}
 
 -- all lines are in their ranges
 abbrev pub Ranged : List LogLine → Type 0
 Ranged lines = AllByRecursion IsLogLineInRange lines
 
 -- the moments of all replies are in their range
-abbrev pub Timed : List LoggedReply → Type 0
+abbrev pub Timed : List LoggedAttempt → Type 0
 Timed told = AllByRecursion (λ t. IsMoment t.moment) told
 
 -- if the lines are in their ranges, so are the moments of the replies that they record
@@ -48,9 +48,9 @@ session_tells_in_time (session names l) h =
 pub sessions_tell_in_time : (sessions : List Session) → Ranged (flat_map session_lines sessions) → Timed (flat_map session_told sessions)
 sessions_tell_in_time [] h = tt
 sessions_tell_in_time (s ∷ sessions) h =
-    let own = all_front IsLogLineInRange (session_lines s) (flat_map session_lines sessions) h in
-    let others = all_back IsLogLineInRange (session_lines s) (flat_map session_lines sessions) h in
-    all_append (λ t. IsMoment t.moment) (session_told s) (flat_map session_told sessions) (session_tells_in_time s own)
+    let own = front_keeps_all IsLogLineInRange (session_lines s) (flat_map session_lines sessions) h in
+    let others = back_keeps_all IsLogLineInRange (session_lines s) (flat_map session_lines sessions) h in
+    appended_lists_keep_all (λ t. IsMoment t.moment) (session_told s) (flat_map session_told sessions) (session_tells_in_time s own)
     (sessions_tell_in_time sessions others)
 
 -- lines that were read are in their ranges
@@ -60,11 +60,11 @@ read_lines_are_in_range [] (line ∷ lines) h = absurd h
 read_lines_are_in_range (text ∷ texts) [] h = absurd h
 read_lines_are_in_range (text ∷ texts) (line ∷ lines) h = (h.0.ranges, read_lines_are_in_range texts lines h.1)
 
--- the moment of each reply in a log that was read is in its range
-pub log_tells_in_time : (accounts : Accounts) (bytes : List ℕ) (lines : List LogLine) (rest : List ℕ) (place : Place)
-    (told : List LoggedReply)
+-- the law: the moment of each reply in a log that was read is in its range
+pub moments_are_in_range : (accounts : Accounts) (bytes : List ℕ) (lines : List LogLine) (rest : List ℕ) (place : Place)
+    (told : List LoggedAttempt)
     → AreLines bytes lines rest → Begins (demands accounts) lines place told → AllByRecursion (λ t. IsMoment t.moment) told
-log_tells_in_time accounts bytes lines rest place told are (inl none) = subst Timed (sym none.2) tt
-log_tells_in_time accounts bytes lines rest place told are (inr s) =
+moments_are_in_range accounts bytes lines rest place told are (inl none) = subst Timed (sym none.2) tt
+moments_are_in_range accounts bytes lines rest place told are (inr s) =
     let all = subst Ranged s.lines (read_lines_are_in_range are.0 lines are.2) in
     subst Timed (sym s.tells) (sessions_tell_in_time s.sessions all.1)

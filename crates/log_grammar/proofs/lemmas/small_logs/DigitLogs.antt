@@ -3,8 +3,8 @@ use Rattle.std.proofs.Common.{◌≡◌, ℕ, ◌+◌, ◌≤◌, List, [], ◌�
 use Rattle.std.specs.Prelude.{decimal, if◌then◌else◌}
 use Rattle.std.proofs.lemmas.Fmt.{decimal_digit}
 use Rattle.std.specs.List.{AllByRecursion}
-use Rattle.log_grammar.specs.Lines.{LogLine, header, header_two, log_line_text, said, mechs}
-use Rattle.log_grammar.specs.Lines.{IsWritable, log_bytes}
+use Rattle.std.specs.Str.{byte}
+use Rattle.log_grammar.specs.Lines.{LogLine, header, header_two, log_line_text, said, mechs, IsWritable, log_bytes}
 use Rattle.log_grammar.specs.Bytes.{ended_by_lf}
 use Rattle.log_grammar.specs.Demands.{Accounts}
 use Rattle.log_grammar.specs.Why.{Why}
@@ -13,7 +13,7 @@ use Rattle.log_grammar.specs.NumberedLines.{IsNoFirstLine, numbered_text}
 use Rattle.log_grammar.specs.Upgrades.{with_numbers, upgraded_bytes, CanBeUpgraded}
 use Rattle.log_grammar.proofs.lemmas.lines.Written.{offer_is_writable}
 use Rattle.scram_text.proofs.lemmas.ListEnds.{same_cons}
-use Rattle.log_grammar.proofs.lemmas.upgraded_logs.SameClean.{upgraded_log_clean_iff_old}
+use Rattle.log_grammar.proofs.lemmas.upgraded_logs.SameClean.{upgraded_logs_are_clean}
 use Rattle.log_grammar.proofs.lemmas.upgraded_logs.SameFault.{upgraded_log_has_same_fault}
 use Rattle.log_grammar.proofs.lemmas.upgraded_logs.Texts.{next_number_stays_or_rises}
 use Rattle.log_grammar.specs.Numbered.{is_end as closes}
@@ -22,7 +22,7 @@ use Rattle.log_grammar.specs.Words.{offered_names}
 -- the texts of lines under numbers of one digit, from this one on
 abbrev pub digit_texts : ℕ → List LogLine → List (List ℕ)
 digit_texts n [] = []
-digit_texts n (line ∷ lines) = ((48 + n) ∷ 32 ∷ log_line_text line) ∷ digit_texts (if closes line then n + 1 else n) lines
+digit_texts n (line ∷ lines) = ((byte "0" + n) ∷ byte " " ∷ log_line_text line) ∷ digit_texts (if closes line then n + 1 else n) lines
 
 -- numbered lines are written with one digit each, if there are few enough
 few_lines_have_digits : (n : ℕ) (lines : List LogLine) → n + length lines ≤ 9
@@ -31,9 +31,10 @@ few_lines_have_digits n [] few = refl
 few_lines_have_digits n (line ∷ lines) few =
     let next = if closes line then n + 1 else n in
     let less = next_number_stays_or_rises n line in
-    same_cons (decimal n ++ (32 ∷ log_line_text line)) ((48 + n) ∷ 32 ∷ log_line_text line) (map numbered_text (with_numbers next lines))
+    same_cons (decimal n ++ (byte " " ∷ log_line_text line)) ((byte "0" + n) ∷ byte " " ∷ log_line_text line)
+    (map numbered_text (with_numbers next lines))
     (digit_texts next lines)
-    (ap (λ (d : List ℕ). d ++ (32 ∷ log_line_text line)) (decimal_digit n (omega (arith, few))))
+    (ap (λ (d : List ℕ). d ++ (byte " " ∷ log_line_text line)) (decimal_digit n (omega (arith, few))))
     (few_lines_have_digits next lines (omega (arith, few, less.1)))
 
 -- the log of version 2 of a few lines of version 1
@@ -51,10 +52,9 @@ few_lines_can_be_numbered lines each few = record { each = each; few = (omega ar
 
 -- the log of version 2 of a few lines is clean if that of version 1 is, and at fault if it is, in the same line and for the same reason:
 pub digit_log_is_clean : (accounts : Accounts) (lines : List LogLine) → AllByRecursion IsWritable lines → 1 + length lines ≤ 9
-    → IsClean accounts (log_bytes (header ∷ lines))
-    → IsClean accounts (digit_log lines)
+    → IsClean accounts (log_bytes (header ∷ lines)) → IsClean accounts (digit_log lines)
 digit_log_is_clean accounts lines each few clean =
-    subst (IsClean accounts) (upgraded_bytes_are_digit_log lines few) ((upgraded_log_clean_iff_old accounts lines
+    subst (IsClean accounts) (upgraded_bytes_are_digit_log lines few) ((upgraded_logs_are_clean accounts lines
     (few_lines_can_be_numbered lines each few)).0 clean)
 
 pub digit_log_is_at_fault : (accounts : Accounts) (lines : List LogLine) (k : ℕ) (why : Why) → AllByRecursion IsWritable lines

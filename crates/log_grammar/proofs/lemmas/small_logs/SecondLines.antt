@@ -2,79 +2,78 @@
 use Rattle.std.proofs.Common.{◌≡◌, inl, inr, ℕ, List, [], ◌∷◌, ◌++◌, get_or, refl, sym, ◌∙◌, ap, subst, arith}
 use Rattle.std.specs.Prelude.{codes, decimal}
 use Rattle.std.proofs.lemmas.Fmt.{decimal_digit}
-use Rattle.log_grammar.specs.Lines.{header, header_two, log_line_text, heard}
-use Rattle.log_grammar.specs.Lines.{abort, IsLogLine}
+use Rattle.std.specs.Str.{byte}
+use Rattle.log_grammar.specs.Lines.{header, header_two, log_line_text, heard, abort, IsLogLine}
 use Rattle.log_grammar.specs.Bytes.{LacksLf, ended_by_lf}
 use Rattle.log_grammar.specs.Demands.{Accounts}
 use Rattle.log_grammar.specs.Why.{Why, no_line, out_of_order}
-use Rattle.log_grammar.specs.VersionTwo.{IsFirstText, IsWrongAfterFirst}
+use Rattle.log_grammar.specs.VersionTwo.{IsFirstText, IsReasonAfterFirst}
 use Rattle.log_grammar.specs.Versions.{most_open, any_version, IsWhy}
 use Rattle.log_grammar.specs.NumberedLines.{IsNoFirstLine, numbered_text, IsNoNumberedLine}
 use Rattle.log_grammar.specs.laws.Examples.{header_one_text}
 use Rattle.log_grammar.specs.laws.UpgradedExamples.{header_two_text}
 use Rattle.log_grammar.proofs.lemmas.lines.Cuts.{whole_lines_are_split}
 use Rattle.log_grammar.proofs.lemmas.lines.Written.{header_is_writable}
-use Rattle.log_grammar.proofs.lemmas.kinds.AtFault.{text_at_fault}
+use Rattle.log_grammar.proofs.lemmas.kinds.AtFault.{text_is_at_fault}
 use Rattle.log_grammar.proofs.lemmas.kinds.VersionTwo.{version_two_is_headed, last_is_numbered}
-use Rattle.log_grammar.proofs.lemmas.lines.ReadBack.{one_log_line}
-use Rattle.log_grammar.proofs.lemmas.lines.NumberedReadBack.{unnumbered_is_none}
+use Rattle.log_grammar.proofs.lemmas.lines.ReadBack.{each_text_is_at_most_one_log_line}
+use Rattle.log_grammar.proofs.lemmas.lines.NumberedReadBack.{line_text_is_unnumbered}
 use Rattle.log_grammar.proofs.lemmas.kinds.AllVersions.{any_version_can_be_shortened, header_two_shows_version_two}
 use Rattle.log_grammar.proofs.lemmas.lines.Words.{after_space, after_space-word, number_is_spaceless}
 
--- a text after the first line of version 2, which is no numbered line, is at fault in line 2, for the reason for which it is wrong
-text_after_header_is_at_fault : (accounts : Accounts) (text : List ℕ) (why : Why) → LacksLf text → IsNoNumberedLine text
-    → IsWrongAfterFirst most_open accounts [] text why
-    → IsWhy accounts (ended_by_lf (header_two_text ∷ text ∷ [])) 2 why
-text_after_header_is_at_fault accounts text why lacks none wrong =
-    text_at_fault (any_version accounts) (any_version_can_be_shortened accounts) (ended_by_lf (header_two_text ∷ text ∷ []))
-    (header_two_text ∷ [])
-    text [] [] why
-    (whole_lines_are_split (header_two_text ∷ text ∷ []) (refl, (lacks, tt))) (inr (version_two_is_headed most_open accounts).begins)
-    (λ stands. let last = last_is_numbered most_open accounts header_two_text [] text
-    (header_two_shows_version_two accounts (text ∷ []) stands) in none last.0 last.1)
-    (inr (refl, ([], tt, wrong)))
-
--- the first line of version 2 again, after itself, is out of order: line 2 is at fault
-pub header_two_again_is_early : (accounts : Accounts) → IsWhy accounts (ended_by_lf (header_two_text ∷ header_two_text ∷ [])) 2 out_of_order
-header_two_again_is_early accounts =
-    text_after_header_is_at_fault accounts header_two_text out_of_order refl (unnumbered_is_none header_two) (inl (inr refl, refl))
-
--- the first line of version 1 after that of version 2 is out of order: line 2 is at fault
-pub header_one_is_early : (accounts : Accounts) → IsWhy accounts (ended_by_lf (header_two_text ∷ header_one_text ∷ [])) 2 out_of_order
-header_one_is_early accounts =
-    text_after_header_is_at_fault accounts header_one_text out_of_order refl (unnumbered_is_none header) (inl (inl refl, refl))
-
 -- `C ABORT` is no first line of a log
 abort_is_no_header : IsFirstText (codes "C ABORT") → ⊥
-abort_is_no_header (inl is) = let wrong : 67 ≡ 83 = ap (λ (l : List ℕ). get_or l 0 0) is in omega (arith, wrong)
-abort_is_no_header (inr is) = let wrong : 67 ≡ 83 = ap (λ (l : List ℕ). get_or l 0 0) is in omega (arith, wrong)
-
--- `C ABORT` without a number is no line in a log of version 2: line 2 is at fault
-pub unnumbered_abort_is_no_line : (accounts : Accounts) → IsWhy accounts (ended_by_lf (header_two_text ∷ codes "C ABORT" ∷ [])) 2 no_line
-unnumbered_abort_is_no_line accounts =
-    text_after_header_is_at_fault accounts (codes "C ABORT") no_line refl (unnumbered_is_none (heard abort))
-    (inr (inl (abort_is_no_header, unnumbered_is_none (heard abort), refl)))
+abort_is_no_header (inl is) = let wrong : byte "C" ≡ byte "S" = ap (λ (l : List ℕ). get_or l 0 0) is in omega (arith, wrong)
+abort_is_no_header (inr is) = let wrong : byte "C" ≡ byte "S" = ap (λ (l : List ℕ). get_or l 0 0) is in omega (arith, wrong)
 
 -- the first line of version 1 under a number is no numbered line, and no first line either:
 header_bears_no_number : IsNoNumberedLine (codes "1 SCRAMLOG 1")
 header_bears_no_number x is =
-    let spelled : decimal 1 ++ (32 ∷ log_line_text header)
-    ≡ numbered_text x = ap (λ (d : List ℕ). d ++ (32 ∷ log_line_text header)) (decimal_digit 1 (omega arith)) ∙ is.spelled in
+    let spelled : decimal 1 ++ (byte " " ∷ log_line_text header)
+    ≡ numbered_text x = ap (λ (d : List ℕ). d ++ (byte " " ∷ log_line_text header)) (decimal_digit 1 (omega arith)) ∙ is.spelled in
     let word = number_is_spaceless 1 (omega arith) in
     let also = number_is_spaceless x.number (omega (arith, is.number.1)) in
     let same : log_line_text header ≡ log_line_text x.value =
     sym (after_space-word (decimal 1) (log_line_text header) word) ∙ ap after_space spelled ∙ after_space-word (decimal x.number)
     (log_line_text x.value) also in
-    let value = one_log_line (log_line_text header) x.value header (subst (λ (t : List ℕ). IsLogLine t x.value) (sym same) is.line)
+    let value = each_text_is_at_most_one_log_line (log_line_text header) x.value header (subst (λ (t : List ℕ). IsLogLine t x.value) (sym same) is.line)
     header_is_writable in
     subst IsNoFirstLine value is.has_number
 
 numbered_header_is_no_header : IsFirstText (codes "1 SCRAMLOG 1") → ⊥
-numbered_header_is_no_header (inl is) = let wrong : 49 ≡ 83 = ap (λ (l : List ℕ). get_or l 0 0) is in omega (arith, wrong)
-numbered_header_is_no_header (inr is) = let wrong : 49 ≡ 83 = ap (λ (l : List ℕ). get_or l 0 0) is in omega (arith, wrong)
+numbered_header_is_no_header (inl is) = let wrong : byte "1" ≡ byte "S" = ap (λ (l : List ℕ). get_or l 0 0) is in omega (arith, wrong)
+numbered_header_is_no_header (inr is) = let wrong : byte "1" ≡ byte "S" = ap (λ (l : List ℕ). get_or l 0 0) is in omega (arith, wrong)
 
--- the first line of version 1 under a number is no line in a log of version 2: line 2 is at fault
-pub numbered_header_is_no_line : (accounts : Accounts)
-    → IsWhy accounts (ended_by_lf (header_two_text ∷ codes "1 SCRAMLOG 1" ∷ [])) 2 no_line
-numbered_header_is_no_line accounts = text_after_header_is_at_fault accounts (codes "1 SCRAMLOG 1") no_line refl header_bears_no_number
-    (inr (inl (numbered_header_is_no_header, header_bears_no_number, refl)))
+module _ (accounts : Accounts) where
+  -- a text after the first line of version 2, which is no numbered line, is at fault in line 2, for the reason for which it is wrong
+  text_after_header_is_at_fault : (text : List ℕ) (why : Why) → LacksLf text → IsNoNumberedLine text
+      → IsReasonAfterFirst most_open accounts [] text why → IsWhy accounts (ended_by_lf (header_two_text ∷ text ∷ [])) 2 why
+  text_after_header_is_at_fault text why lacks none wrong =
+      text_is_at_fault (any_version accounts) (any_version_can_be_shortened accounts) (ended_by_lf (header_two_text ∷ text ∷ []))
+      (header_two_text ∷ [])
+      text [] [] why
+      (whole_lines_are_split (header_two_text ∷ text ∷ []) (refl, (lacks, tt))) (inr (version_two_is_headed most_open accounts).begins)
+      (λ stands. let last = last_is_numbered most_open accounts header_two_text [] text
+      (header_two_shows_version_two accounts (text ∷ []) stands) in none last.0 last.1)
+      (inr (refl, ([], tt, wrong)))
+
+  -- the first line of version 2 again, after itself, is out of order: line 2 is at fault
+  pub header_two_again_is_early : IsWhy accounts (ended_by_lf (header_two_text ∷ header_two_text ∷ [])) 2 out_of_order
+  header_two_again_is_early =
+      text_after_header_is_at_fault header_two_text out_of_order refl (line_text_is_unnumbered header_two) (inl (inr refl, refl))
+
+  -- the first line of version 1 after that of version 2 is out of order: line 2 is at fault
+  pub header_one_is_early : IsWhy accounts (ended_by_lf (header_two_text ∷ header_one_text ∷ [])) 2 out_of_order
+  header_one_is_early =
+      text_after_header_is_at_fault header_one_text out_of_order refl (line_text_is_unnumbered header) (inl (inl refl, refl))
+
+  -- `C ABORT` without a number is no line in a log of version 2: line 2 is at fault
+  pub unnumbered_abort_is_no_line : IsWhy accounts (ended_by_lf (header_two_text ∷ codes "C ABORT" ∷ [])) 2 no_line
+  unnumbered_abort_is_no_line =
+      text_after_header_is_at_fault (codes "C ABORT") no_line refl (line_text_is_unnumbered (heard abort))
+      (inr (inl (abort_is_no_header, line_text_is_unnumbered (heard abort), refl)))
+
+  -- the first line of version 1 under a number is no line in a log of version 2: line 2 is at fault
+  pub numbered_header_is_no_line : IsWhy accounts (ended_by_lf (header_two_text ∷ codes "1 SCRAMLOG 1" ∷ [])) 2 no_line
+  numbered_header_is_no_line = text_after_header_is_at_fault (codes "1 SCRAMLOG 1") no_line refl header_bears_no_number
+      (inr (inl (numbered_header_is_no_header, header_bears_no_number, refl)))

@@ -1,19 +1,21 @@
 -- The lines of the small logs of version 1, and the places to which they lead.
 use Rattle.std.proofs.Common.{◌≡◌, ℕ, List, [], ◌∷◌, ◌++◌, get_or, refl, sym, ap, subst, arith}
 use Rattle.std.specs.Prelude.{codes}
+use Rattle.std.specs.Str.{byte}
 use Rattle.mac_core.specs.declared.mechanism.Mechanism.{Mechanism}
 use Rattle.mac_core.specs.declared.mechanism.Mechanism.TheVariants.{ScramSha1, ScramSha256}
 use Rattle.scram_text.specs.Messages.{ClientFirstParts, gs2_header, client_first_text, client_first_bare}
 use Rattle.scram_text.specs.Parts.{authzid_text}
-use Rattle.log_grammar.specs.Lines.{LogLine, header, said, heard, bad, gone, mechs, cont, accepts, refuses, auth, auth_with}
-use Rattle.log_grammar.specs.Lines.{abort, IsLogLine}
-use Rattle.log_grammar.specs.LoggedReply.{LoggedReply}
+use Rattle.log_grammar.specs.Lines.{LogLine, header, said, heard, bad, gone, mechs, cont, accepts, refuses, auth, auth_with, abort, IsLogLine}
+use Rattle.log_grammar.specs.LoggedAttempt.{LoggedAttempt}
 use Rattle.log_grammar.specs.Places.{Place, before_all, between, offered, asks_bare, waits_first, got_first, leaving, over}
-use Rattle.log_grammar.specs.Demands.{Accounts, NamesMechanism, demands, AreReplies}
+use Rattle.log_grammar.specs.Words.{offered_names}
+use Rattle.log_grammar.specs.Demands.{Accounts, NamesMechanism, demands, HaveDueReplies}
 use Rattle.log_grammar.specs.state_machine.Steps.{IsTransition, told_at}
 use Rattle.log_grammar.specs.laws.Examples.{header_one_text, offer_text}
 use Rattle.log_grammar.proofs.lemmas.kinds.ShownByLines.{LinesWereRead, no_lines_were_read, next_line_was_read}
-use Rattle.log_grammar.proofs.lemmas.lines.Written.{abort_is_writable, bad_is_writable, bare_cont_is_writable, bare_refusal_is_writable, each_name_is_mech_name, gone_is_writable, header_is_writable, offer_is_writable}
+use Rattle.log_grammar.proofs.lemmas.lines.Written.{abort_is_writable, bad_is_writable, bare_cont_is_writable, bare_refusal_is_writable}
+use Rattle.log_grammar.proofs.lemmas.lines.Written.{each_name_is_mech_name, gone_is_writable, header_is_writable, offer_is_writable}
 
 -- each of these is the text of its line of a log, which is in its ranges and is not too long:
 pub other_offer_is_line : IsLogLine (codes "S MECHS SCRAM-SHA-1") (said (mechs (codes "SCRAM-SHA-1")))
@@ -63,12 +65,14 @@ error_is_line = record {
 }
 
 -- no mechanism that is offered has the name PLAIN
-pub plain_not_offered : (m : Mechanism) → NamesMechanism (codes "PLAIN") m → ⊥
-plain_not_offered ScramSha1 is = let wrong : 80 ≡ 83 = ap (λ (l : List ℕ). get_or l 0 0) is in absurd (omega (arith, wrong))
-plain_not_offered ScramSha256 is = let wrong : 80 ≡ 83 = ap (λ (l : List ℕ). get_or l 0 0) is in absurd (omega (arith, wrong))
+pub plain_is_not_offered : (m : Mechanism) → NamesMechanism (codes "PLAIN") m → ⊥
+plain_is_not_offered ScramSha1 is =
+    let wrong : byte "P" ≡ byte "S" = ap (λ (l : List ℕ). get_or l 0 0) is in absurd (omega (arith, wrong))
+plain_is_not_offered ScramSha256 is =
+    let wrong : byte "P" ≡ byte "S" = ap (λ (l : List ℕ). get_or l 0 0) is in absurd (omega (arith, wrong))
 
 -- a text with a comma, such as a client-first message, is not empty:
-text_with_comma_is_some : (flag after rest : List ℕ) → [] ≡ (flag ++ 44 ∷ after) ++ rest → ⊥
+text_with_comma_is_some : (flag after rest : List ℕ) → [] ≡ (flag ++ byte "," ∷ after) ++ rest → ⊥
 text_with_comma_is_some [] after rest e = cc e
 text_with_comma_is_some (c ∷ flag) after rest e = cc e
 
@@ -76,91 +80,82 @@ pub empty_is_no_client_first : (p : ClientFirstParts) → [] ≡ client_first_te
 unfolding client_first_text gs2_header
 empty_is_no_client_first p e = text_with_comma_is_some p.flag (authzid_text p.authzid ++ 44 ∷ []) (client_first_bare p) e
 
--- the first line leads to the place between sessions
-pub header_was_read : (accounts : Accounts) → LinesWereRead accounts (header_one_text ∷ []) (header ∷ []) between []
-header_was_read accounts =
-    next_line_was_read accounts [] [] before_all [] header_one_text header between (no_lines_were_read accounts) header_is_writable refl tt
+module _ (accounts : Accounts) where
+  -- the first line leads to the place between sessions
+  pub header_was_read : LinesWereRead accounts (header_one_text ∷ []) (header ∷ []) between []
+  header_was_read =
+      next_line_was_read accounts [] [] before_all [] header_one_text header between
+      (no_lines_were_read accounts) header_is_writable refl tt
 
--- the first line and a first `S MECHS` with all mechanisms are lines of a log, up to the place after `S MECHS`
-pub offer_was_read : (accounts : Accounts) → LinesWereRead accounts (header_one_text ∷ offer_text ∷ [])
-    (header ∷ said (mechs (codes "SCRAM-SHA-256 SCRAM-SHA-1")) ∷ []) offered []
-offer_was_read accounts =
-    next_line_was_read accounts _ _ between [] offer_text _ offered (header_was_read accounts) offer_is_writable (refl, refl) tt
+  -- the first line and a first `S MECHS` with all mechanisms are lines of a log, up to the place after `S MECHS`
+  pub offer_was_read : LinesWereRead accounts (header_one_text ∷ offer_text ∷ [])
+      (header ∷ said (mechs offered_names) ∷ []) offered []
+  offer_was_read = next_line_was_read accounts _ _ between [] offer_text _ offered (header_was_read) offer_is_writable (refl, refl) tt
 
--- after `C GONE` the session is over
-pub gone_was_read : (accounts : Accounts)
-    → LinesWereRead accounts (header_one_text ∷ offer_text ∷ codes "C GONE" ∷ [])
-    (header ∷ said (mechs (codes "SCRAM-SHA-256 SCRAM-SHA-1")) ∷ gone ∷ []) over []
-gone_was_read accounts =
-    next_line_was_read accounts _ _ offered [] (codes "C GONE") gone over (offer_was_read accounts) gone_is_writable refl tt
+  -- after `C GONE` the session is over
+  pub gone_was_read : LinesWereRead accounts (header_one_text ∷ offer_text ∷ codes "C GONE" ∷ [])
+      (header ∷ said (mechs offered_names) ∷ gone ∷ []) over []
+  gone_was_read = next_line_was_read accounts _ _ offered [] (codes "C GONE") gone over (offer_was_read) gone_is_writable refl tt
 
--- `C ABORT` leads to the place where a refusal is due
-pub abort_was_read : (accounts : Accounts)
-    → LinesWereRead accounts (header_one_text ∷ offer_text ∷ codes "C ABORT" ∷ [])
-    (header ∷ said (mechs (codes "SCRAM-SHA-256 SCRAM-SHA-1")) ∷ heard abort ∷ []) leaving []
-abort_was_read accounts =
-    next_line_was_read accounts _ _ offered [] (codes "C ABORT") (heard abort) leaving (offer_was_read accounts) abort_is_writable refl tt
+  -- `C ABORT` leads to the place where a refusal is due
+  pub abort_was_read : LinesWereRead accounts (header_one_text ∷ offer_text ∷ codes "C ABORT" ∷ [])
+      (header ∷ said (mechs offered_names) ∷ heard abort ∷ []) leaving []
+  abort_was_read =
+      next_line_was_read accounts _ _ offered [] (codes "C ABORT") (heard abort) leaving (offer_was_read) abort_is_writable refl tt
 
--- `C BAD` leads to the place where a refusal is due
-pub bad_was_read : (accounts : Accounts)
-    → LinesWereRead accounts (header_one_text ∷ offer_text ∷ codes "C BAD" ∷ [])
-    (header ∷ said (mechs (codes "SCRAM-SHA-256 SCRAM-SHA-1")) ∷ bad ∷ []) leaving []
-bad_was_read accounts =
-    next_line_was_read accounts _ _ offered [] (codes "C BAD") bad leaving (offer_was_read accounts) bad_is_writable refl tt
+  -- `C BAD` leads to the place where a refusal is due
+  pub bad_was_read : LinesWereRead accounts (header_one_text ∷ offer_text ∷ codes "C BAD" ∷ [])
+      (header ∷ said (mechs offered_names) ∷ bad ∷ []) leaving []
+  bad_was_read = next_line_was_read accounts _ _ offered [] (codes "C BAD") bad leaving (offer_was_read) bad_is_writable refl tt
 
--- `C AUTH` of PLAIN leads to the place where the server has to refuse it
-pub plain_auth_was_read : (accounts : Accounts)
-    → LinesWereRead accounts (header_one_text ∷ offer_text ∷ codes "C AUTH PLAIN" ∷ [])
-    (header ∷ said (mechs (codes "SCRAM-SHA-256 SCRAM-SHA-1")) ∷ heard (auth (codes "PLAIN")) ∷ []) (asks_bare (codes "PLAIN")) []
-plain_auth_was_read accounts =
-    next_line_was_read accounts _ _ offered [] (codes "C AUTH PLAIN") (heard (auth (codes "PLAIN"))) (asks_bare (codes "PLAIN"))
-    (offer_was_read accounts) plain_auth_is_line refl tt
+  -- `C AUTH` of PLAIN leads to the place where the server has to refuse it
+  pub plain_auth_was_read : LinesWereRead accounts (header_one_text ∷ offer_text ∷ codes "C AUTH PLAIN" ∷ [])
+      (header ∷ said (mechs offered_names) ∷ heard (auth (codes "PLAIN")) ∷ []) (asks_bare (codes "PLAIN")) []
+  plain_auth_was_read =
+      next_line_was_read accounts _ _ offered [] (codes "C AUTH PLAIN") (heard (auth (codes "PLAIN"))) (asks_bare (codes "PLAIN"))
+      (offer_was_read) plain_auth_is_line refl tt
 
--- an empty message instead of a client-first message leads to the place where it is answered
-pub empty_first_was_read : (accounts : Accounts)
-    → LinesWereRead accounts (header_one_text ∷ offer_text ∷ codes "C AUTH SCRAM-SHA-1 :" ∷ [])
-    (header ∷ said (mechs (codes "SCRAM-SHA-256 SCRAM-SHA-1")) ∷ heard (auth_with (codes "SCRAM-SHA-1") []) ∷ [])
-    (got_first (codes "SCRAM-SHA-1") []) []
-empty_first_was_read accounts =
-    next_line_was_read accounts _ _ offered [] (codes "C AUTH SCRAM-SHA-1 :") (heard (auth_with (codes "SCRAM-SHA-1") []))
-    (got_first (codes "SCRAM-SHA-1") [])
-    (offer_was_read accounts) auth_with_is_line refl tt
+  -- an empty message instead of a client-first message leads to the place where it is answered
+  pub empty_first_was_read : LinesWereRead accounts (header_one_text ∷ offer_text ∷ codes "C AUTH SCRAM-SHA-1 :" ∷ [])
+      (header ∷ said (mechs offered_names) ∷ heard (auth_with (codes "SCRAM-SHA-1") []) ∷ [])
+      (got_first (codes "SCRAM-SHA-1") []) []
+  empty_first_was_read =
+      next_line_was_read accounts _ _ offered [] (codes "C AUTH SCRAM-SHA-1 :") (heard (auth_with (codes "SCRAM-SHA-1") []))
+      (got_first (codes "SCRAM-SHA-1") [])
+      (offer_was_read) auth_with_is_line refl tt
 
--- `C AUTH` of an offered mechanism leads to the place where the empty challenge is due
-pub auth_was_read : (accounts : Accounts)
-    → LinesWereRead accounts (header_one_text ∷ offer_text ∷ codes "C AUTH SCRAM-SHA-1" ∷ [])
-    (header ∷ said (mechs (codes "SCRAM-SHA-256 SCRAM-SHA-1")) ∷ heard (auth (codes "SCRAM-SHA-1")) ∷ [])
-    (asks_bare (codes "SCRAM-SHA-1")) []
-auth_was_read accounts = next_line_was_read accounts _ _ offered [] (codes "C AUTH SCRAM-SHA-1") (heard (auth (codes "SCRAM-SHA-1")))
-    (asks_bare (codes "SCRAM-SHA-1")) (offer_was_read accounts) auth_is_line refl tt
+  -- `C AUTH` of an offered mechanism leads to the place where the empty challenge is due
+  pub auth_was_read : LinesWereRead accounts (header_one_text ∷ offer_text ∷ codes "C AUTH SCRAM-SHA-1" ∷ [])
+      (header ∷ said (mechs offered_names) ∷ heard (auth (codes "SCRAM-SHA-1")) ∷ [])
+      (asks_bare (codes "SCRAM-SHA-1")) []
+  auth_was_read = next_line_was_read accounts _ _ offered [] (codes "C AUTH SCRAM-SHA-1") (heard (auth (codes "SCRAM-SHA-1")))
+      (asks_bare (codes "SCRAM-SHA-1")) (offer_was_read) auth_is_line refl tt
 
--- the empty challenge leads to the place where a client-first message is due
-pub empty_challenge_was_read : (accounts : Accounts)
-    → LinesWereRead accounts (header_one_text ∷ offer_text ∷ codes "C AUTH SCRAM-SHA-1" ∷ codes "S CONT :" ∷ [])
-    (header ∷ said (mechs (codes "SCRAM-SHA-256 SCRAM-SHA-1")) ∷ heard (auth (codes "SCRAM-SHA-1")) ∷ said (cont []) ∷ [])
-    (waits_first (codes "SCRAM-SHA-1")) []
-empty_challenge_was_read accounts =
-    next_line_was_read accounts _ _ (asks_bare (codes "SCRAM-SHA-1")) [] (codes "S CONT :") (said (cont []))
-    (waits_first (codes "SCRAM-SHA-1"))
-    (auth_was_read accounts) bare_cont_is_writable (((ScramSha1, refl), refl), refl) tt
+  -- the empty challenge leads to the place where a client-first message is due
+  pub empty_challenge_was_read : LinesWereRead accounts (header_one_text ∷ offer_text ∷ codes "C AUTH SCRAM-SHA-1" ∷ codes "S CONT :" ∷ [])
+      (header ∷ said (mechs offered_names) ∷ heard (auth (codes "SCRAM-SHA-1")) ∷ said (cont []) ∷ [])
+      (waits_first (codes "SCRAM-SHA-1")) []
+  empty_challenge_was_read =
+      next_line_was_read accounts _ _ (asks_bare (codes "SCRAM-SHA-1")) [] (codes "S CONT :") (said (cont []))
+      (waits_first (codes "SCRAM-SHA-1"))
+      (auth_was_read) bare_cont_is_writable (((ScramSha1, refl), refl), refl) tt
 
--- after the empty challenge and then `C GONE` the session is over
-pub invited_gone_was_read : (accounts : Accounts)
-    → LinesWereRead accounts (header_one_text ∷ offer_text ∷ codes "C AUTH SCRAM-SHA-1" ∷ codes "S CONT :" ∷ codes "C GONE" ∷ [])
-    (header ∷ said (mechs (codes "SCRAM-SHA-256 SCRAM-SHA-1")) ∷ heard (auth (codes "SCRAM-SHA-1")) ∷ said (cont []) ∷ gone ∷ []) over []
-invited_gone_was_read accounts =
-    next_line_was_read accounts _ _ (waits_first (codes "SCRAM-SHA-1")) [] (codes "C GONE") gone over (empty_challenge_was_read accounts)
-    gone_is_writable refl tt
+  -- after the empty challenge and then `C GONE` the session is over
+  pub invited_gone_was_read : LinesWereRead accounts
+      (header_one_text ∷ offer_text ∷ codes "C AUTH SCRAM-SHA-1" ∷ codes "S CONT :" ∷ codes "C GONE" ∷ [])
+      (header ∷ said (mechs offered_names) ∷ heard (auth (codes "SCRAM-SHA-1")) ∷ said (cont []) ∷ gone ∷ []) over []
+  invited_gone_was_read =
+      next_line_was_read accounts _ _ (waits_first (codes "SCRAM-SHA-1")) [] (codes "C GONE") gone over (empty_challenge_was_read)
+      gone_is_writable refl tt
 
--- `S NO` leads from a place where the server may refuse to the place where the session is over
-pub refusal_was_read : (accounts : Accounts) (texts : List (List ℕ)) (lines : List LogLine) (place : Place)
-    → LinesWereRead accounts texts lines place []
-    → IsTransition (demands accounts) place (said (refuses [])) over → told_at place (said (refuses [])) ≡ []
-    → LinesWereRead accounts (texts ++ codes "S NO :" ∷ []) (lines ++ said (refuses []) ∷ []) over []
-refusal_was_read accounts texts lines place l goes no_farewell =
-    let due = subst (λ (t : List LoggedReply). AreReplies (demands accounts) [] t) (sym no_farewell) tt in
-    let refusal =
-    next_line_was_read accounts texts lines place [] (codes "S NO :") (said (refuses [])) over l bare_refusal_is_writable goes due in
-    subst (λ (t : List LoggedReply). LinesWereRead accounts (texts ++ codes "S NO :" ∷ []) (lines ++ said (refuses []) ∷ []) over t)
-    no_farewell
-    refusal
+  -- `S NO` leads from a place where the server may refuse to the place where the session is over
+  pub refusal_was_read : (texts : List (List ℕ)) (lines : List LogLine) (place : Place) → LinesWereRead accounts texts lines place []
+      → IsTransition (demands accounts) place (said (refuses [])) over → told_at place (said (refuses [])) ≡ []
+      → LinesWereRead accounts (texts ++ codes "S NO :" ∷ []) (lines ++ said (refuses []) ∷ []) over []
+  refusal_was_read texts lines place l goes no_farewell =
+      let due = subst (λ (t : List LoggedAttempt). HaveDueReplies (demands accounts) [] t) (sym no_farewell) tt in
+      let refusal =
+      next_line_was_read accounts texts lines place [] (codes "S NO :") (said (refuses [])) over l bare_refusal_is_writable goes due in
+      subst (λ (t : List LoggedAttempt). LinesWereRead accounts (texts ++ codes "S NO :" ∷ []) (lines ++ said (refuses []) ∷ []) over t)
+      no_farewell
+      refusal

@@ -2,7 +2,7 @@
 use Rattle.std.proofs.Common.{◌≡◌, ℕ, ◌+◌, ◌<◌, List, [], ◌∷◌, ◌++◌, refl, sym, subst, arith}
 use Rattle.std.specs.declared.option.Option.{Option}
 use Rattle.std.specs.declared.option.Option.TheVariants.{Some}
-use Rattle.otp_core.specs.Attempt.{TwoTexts}
+use Rattle.otp_core.specs.Attempt.{two_texts}
 use Rattle.otp_core.specs.Ranges.{IsDigitCount, IsMoment}
 use Rattle.otp_core.specs.Reply.{IsDueReply, code_text}
 use Rattle.otp_core.specs.declared.token.reply.Reply.TheVariants.{Pass, Fail}
@@ -28,7 +28,7 @@ pub first_counter_is_at_fault : OtherRepliesAreAtFault original_bytes
     → IsWhy accounts (original_bytes (login_session mechanism exchange ++ next_two t ∷ pass_line moment t.next ∷ [])) 8
     (other_reply moment (Some (Pass (t.next + 1))))
 first_counter_is_at_fault wrong accounts mechanism name exchange moment t login at has unlocked digits counter =
-    let sent = TwoTexts (code_text (Hotp t) t.next) (code_text (Hotp t) (t.next + 1)) in
+    let sent = two_texts (code_text (Hotp t) t.next) (code_text (Hotp t) (t.next + 1)) in
     let by = subst (λ (o : Option TokenFields). IsReplyDueBy o [] moment sent (Some (Pass (t.next + 1)))) (sym has)
     (Pass (t.next + 1), refl, pass_is_due_to_two t moment unlocked counter) in
     wrong accounts mechanism name exchange sent moment (Some (Pass t.next)) (Some (Pass (t.next + 1))) login
@@ -38,7 +38,7 @@ first_counter_is_at_fault wrong accounts mechanism name exchange moment t login 
 
 -- two codes in a row fail with a TOTP token that failures do not lock
 two_totp_codes_fail : (t : TotpFields) (moment : ℕ) (first second : List ℕ) → t.failures < t.limit
-    → IsDueReply (Totp t) [] moment (TwoTexts first second) Fail
+    → IsDueReply (Totp t) [] moment (two_texts first second) Fail
 two_totp_codes_fail t moment first second unlocked = (unlocked, λ k fits. fits.2)
 
 -- after a valid login, a pass of two codes in a row with a TOTP token that failures do not lock is at fault in line 8: FAIL is due
@@ -49,7 +49,7 @@ pub totp_pass_is_at_fault : OtherRepliesAreAtFault original_bytes
     → IsWhy accounts (original_bytes (login_session mechanism exchange ++ heard (sync first second) ∷ pass_line moment counter ∷ [])) 8
     (other_reply moment (Some Fail))
 totp_pass_is_at_fault wrong accounts mechanism name exchange first second moment counter t login at has unlocked one other range =
-    let sent = TwoTexts first second in
+    let sent = two_texts first second in
     let by = subst (λ (o : Option TokenFields). IsReplyDueBy o [] moment sent (Some Fail)) (sym has)
     (Fail, refl, two_totp_codes_fail t moment first second unlocked) in
     wrong accounts mechanism name exchange sent moment (Some (Pass counter)) (Some Fail) login (one, other) at range by (λ same. cc same)

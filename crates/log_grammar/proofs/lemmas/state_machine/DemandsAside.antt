@@ -2,19 +2,18 @@
 use Rattle.std.proofs.Common.{◌≡◌, inl, inr, ℕ, Bool, true, false, List, [], ◌∷◌, ◌++◌, refl, sym, ◌∙◌, ap}
 use Rattle.std.specs.Prelude.{flat_map, map}
 use Rattle.std.specs.List.{AllByRecursion}
-use Rattle.log_grammar.specs.Lines.{LogLine, header, said, heard, bad, gone, cont, accepts, replies, resp, auth, auth_with, mechs, abort}
-use Rattle.log_grammar.specs.Lines.{code_line}
-use Rattle.log_grammar.specs.LoggedReply.{LoggedReply, logged_reply_of}
-use Rattle.log_grammar.specs.Places.{Place, before_all, between, offered, asks_bare, waits_first, got_first, waits_final, got_final}
-use Rattle.log_grammar.specs.Places.{waits_code, got_code, leaving, over, halted}
-use Rattle.log_grammar.specs.Demands.{Demands, no_demands, AreReplies}
-use Rattle.log_grammar.specs.Sessions.{Part, next_line, due_line, telling_line, closing, refusal, Farewell, parting, Quit, quitting}
-use Rattle.log_grammar.specs.Sessions.{AfterOk, after_ok, AfterFinal, after_final, AfterChallenge, after_challenge, AfterFirst, after_first}
-use Rattle.log_grammar.specs.Sessions.{AfterEmpty, after_empty, AfterAuth, after_auth, AfterMechs, after_mechs, Session, session_part}
-use Rattle.log_grammar.specs.Sessions.{session_lines, session_told, SessionMeets, no_farewell, farewell, goes_away, aborts, sends_bad}
-use Rattle.log_grammar.specs.Sessions.{no_code, quits_codes, unreplied, replied, halted_at, no_verdict, denied, granted, no_final}
-use Rattle.log_grammar.specs.Sessions.{quits_final, sends_final, no_answer, refused, challenged, no_first, quits_first, sends_first}
-use Rattle.log_grammar.specs.Sessions.{no_invitation, unoffered, invited, no_login, quits_login, with_first, without_first, session}
+use Rattle.log_grammar.specs.Lines.{LogLine, header, said, heard, bad, gone, cont, accepts, replies, resp, auth, auth_with, mechs, abort, code_line}
+use Rattle.log_grammar.specs.LoggedAttempt.{LoggedAttempt, logged_attempt_of}
+use Rattle.log_grammar.specs.Places.{Place, before_all, between, offered, asks_bare, waits_first, got_first, waits_final, got_final, waits_code}
+use Rattle.log_grammar.specs.Places.{got_code, leaving, over, halted}
+use Rattle.log_grammar.specs.Demands.{Demands, no_demands, HaveDueReplies}
+use Rattle.log_grammar.specs.Sessions.{Part, next_line, due_line, telling_line, closing, refusal, Farewell, parting, Quit, quitting, AfterOk}
+use Rattle.log_grammar.specs.Sessions.{after_ok, AfterFinal, after_final, AfterChallenge, after_challenge, AfterFirst, after_first, AfterEmpty}
+use Rattle.log_grammar.specs.Sessions.{after_empty, AfterAuth, after_auth, AfterMechs, after_mechs, Session, session_part, session_lines}
+use Rattle.log_grammar.specs.Sessions.{session_told, SessionMeets, no_farewell, farewell, goes_away, aborts, sends_bad, no_code, quits_codes}
+use Rattle.log_grammar.specs.Sessions.{unreplied, replied, halted_at, no_verdict, denied, granted, no_final, quits_final, sends_final, no_answer}
+use Rattle.log_grammar.specs.Sessions.{refused, challenged, no_first, quits_first, sends_first, no_invitation, unoffered, invited, no_login}
+use Rattle.log_grammar.specs.Sessions.{quits_login, with_first, without_first, session}
 use Rattle.log_grammar.specs.Begins.{OnlyLastOpen, place_after, Begins}
 
 -- a place with no account named
@@ -59,8 +58,8 @@ abbrev pub accountless_session : Session → Session
 accountless_session (session names l) = session names (accountless_after_mechs l)
 
 -- a recorded reply with no account named
-abbrev pub accountless_reply : LoggedReply → LoggedReply
-accountless_reply t = logged_reply_of [] t.moment t.sent t.reply
+abbrev pub accountless_reply : LoggedAttempt → LoggedAttempt
+accountless_reply t = logged_attempt_of [] t.moment t.sent t.reply
 
 -- `bare` is the part `own` with no account named
 pub record IsAccountlessOf (bare own : Part) : Type 0 where
@@ -84,13 +83,13 @@ due_line_is_same_aside : (B Own : Demands → Type 0) (l : LogLine) (b own : Par
 due_line_is_same_aside B Own l b own due is =
     record { lines = ap (λ (t : List LogLine). l ∷ t) is.lines; place = is.place; told = is.told; meets = (due, is.meets) }
 
-telling_line_is_same_aside : (t : LoggedReply) (l : LogLine) (b own : Part) → IsAccountlessOf b own
+telling_line_is_same_aside : (t : LoggedAttempt) (l : LogLine) (b own : Part) → IsAccountlessOf b own
     → IsAccountlessOf (telling_line (accountless_reply t) l b) (telling_line t l own)
 telling_line_is_same_aside t l b own is =
     record {
       lines = ap (λ (ls : List LogLine). l ∷ ls) is.lines;
       place = is.place;
-      told = ap (λ (ts : List LoggedReply). accountless_reply t ∷ ts) is.told;
+      told = ap (λ (ts : List LoggedAttempt). accountless_reply t ∷ ts) is.told;
       meets = is.meets;
     }
 
@@ -119,7 +118,7 @@ after_ok_is_same_aside account no_code = record { lines = refl; place = refl; to
 after_ok_is_same_aside account (quits_codes q) = quit_is_same_aside q
 after_ok_is_same_aside account (unreplied sent) = record { lines = refl; place = refl; told = refl; meets = tt }
 after_ok_is_same_aside account (replied sent moment reply more) =
-    next_line_is_same_aside (heard (code_line sent)) _ _ (telling_line_is_same_aside (logged_reply_of account moment sent reply)
+    next_line_is_same_aside (heard (code_line sent)) _ _ (telling_line_is_same_aside (logged_attempt_of account moment sent reply)
     (said (replies moment reply)) _ _
     (after_ok_is_same_aside account more))
 after_ok_is_same_aside account (halted_at sent) = record { lines = refl; place = refl; told = refl; meets = tt }
@@ -188,36 +187,36 @@ sessions_meet_no_demands : (sessions : List Session) → AllByRecursion (Session
 sessions_meet_no_demands [] = tt
 sessions_meet_no_demands (s ∷ sessions) = ((session_is_same_aside s).meets, sessions_meet_no_demands sessions)
 
-only_last_open_aside : (sessions : List Session) → OnlyLastOpen sessions → OnlyLastOpen (map accountless_session sessions)
-only_last_open_aside [] closed = tt
-only_last_open_aside (s ∷ []) closed = tt
-only_last_open_aside (s ∷ t ∷ more) closed =
-    ((session_is_same_aside s).place ∙ ap accountless_place closed.0, only_last_open_aside (t ∷ more) closed.1)
+only_last_stays_open_aside : (sessions : List Session) → OnlyLastOpen sessions → OnlyLastOpen (map accountless_session sessions)
+only_last_stays_open_aside [] closed = tt
+only_last_stays_open_aside (s ∷ []) closed = tt
+only_last_stays_open_aside (s ∷ t ∷ more) closed =
+    ((session_is_same_aside s).place ∙ ap accountless_place closed.0, only_last_stays_open_aside (t ∷ more) closed.1)
 
-sessions_lead_same_aside : (sessions : List Session)
+sessions_lead_to_same_place_aside : (sessions : List Session)
     → place_after (map accountless_session sessions) ≡ accountless_place (place_after sessions)
-sessions_lead_same_aside [] = refl
-sessions_lead_same_aside (s ∷ []) = (session_is_same_aside s).place
-sessions_lead_same_aside (s ∷ t ∷ more) = sessions_lead_same_aside (t ∷ more)
+sessions_lead_to_same_place_aside [] = refl
+sessions_lead_to_same_place_aside (s ∷ []) = (session_is_same_aside s).place
+sessions_lead_to_same_place_aside (s ∷ t ∷ more) = sessions_lead_to_same_place_aside (t ∷ more)
 
 -- without demands any replies are due, whatever replies came before
-pub any_replies_are_due : (before told : List LoggedReply) → AreReplies no_demands before told
+pub any_replies_are_due : (before told : List LoggedAttempt) → HaveDueReplies no_demands before told
 any_replies_are_due before [] = tt
 any_replies_are_due before (t ∷ told) = (tt, any_replies_are_due (t ∷ before) told)
 
--- lines that a log may begin with are also such lines without demands, up to the same place with no account named
-pub log_begins_aside : (d : Demands) (log : List LogLine) (place : Place) (told : List LoggedReply) → Begins d log place told
-    → (tells : List LoggedReply) × Begins no_demands log (accountless_place place) tells
+-- if a log may begin with some lines, it may also begin with them without the demands, up to the same place with no account named
+pub log_begins_aside : (d : Demands) (log : List LogLine) (place : Place) (told : List LoggedAttempt) → Begins d log place told
+    → (tells : List LoggedAttempt) × Begins no_demands log (accountless_place place) tells
 log_begins_aside d log place told (inl nothing) = ([], inl (nothing.0, ap accountless_place nothing.1, refl))
 log_begins_aside d log place told (inr s) = (
   flat_map session_told (map accountless_session s.sessions),
   inr (record {
     sessions = map accountless_session s.sessions;
     lines = s.lines ∙ ap (λ (l : List LogLine). header ∷ l) (sym (sessions_have_same_lines s.sessions));
-    closed = only_last_open_aside s.sessions s.closed;
+    closed = only_last_stays_open_aside s.sessions s.closed;
     good = sessions_meet_no_demands s.sessions;
     tells = refl;
     replies = any_replies_are_due [] (flat_map session_told (map accountless_session s.sessions));
-    after = ap accountless_place s.after ∙ sym (sessions_lead_same_aside s.sessions);
+    after = ap accountless_place s.after ∙ sym (sessions_lead_to_same_place_aside s.sessions);
   }),
 )

@@ -1,13 +1,12 @@
 -- The texts of an upgraded log, and that they are read as the numbered lines of the old one.
-use Rattle.std.proofs.Common.{◌≡◌, inl, inr, ℕ, ◌+◌, ◌≤◌, List, [], ◌∷◌, ◌++◌, length, map, refl, length-append, sym}
-use Rattle.std.proofs.Common.{◌∙◌, ap, subst, arith}
+use Rattle.std.proofs.Common.{◌≡◌, inl, inr, ℕ, ◌+◌, ◌≤◌, List, [], ◌∷◌, ◌++◌, length, map, refl, length-append, sym, ◌∙◌, ap, subst, arith}
 use Rattle.std.specs.Prelude.{if◌then◌else◌, decimal, flat_map}
 use Rattle.std.specs.List.{AllByRecursion, AllZip}
 use Rattle.std.proofs.lemmas.Bool.{cases_Bool}
 use Rattle.std.specs.Str.{byte}
 use Rattle.log_grammar.specs.Lines.{LogLine, header, header_two, log_line_text, IsLogLine, IsWritable}
 use Rattle.log_grammar.specs.Bytes.{LacksLf}
-use Rattle.log_grammar.specs.LoggedReply.{LoggedReply}
+use Rattle.log_grammar.specs.LoggedAttempt.{LoggedAttempt}
 use Rattle.log_grammar.specs.Places.{Place}
 use Rattle.log_grammar.specs.Demands.{Demands}
 use Rattle.log_grammar.specs.Sessions.{Session, session_lines, session}
@@ -19,11 +18,11 @@ use Rattle.log_grammar.specs.Upgrades.{with_numbers, CanBeUpgraded}
 use Rattle.log_grammar.specs.laws.UpgradedLogs.{UpgradedLogsHaveTheSameCounts}
 use Rattle.log_grammar.proofs.lemmas.session_laws.LaterLines.{IsInnerLine, HoldsFromTheLast, later_lines_hold}
 use Rattle.log_grammar.proofs.lemmas.lines.LackLf.{number_lacks_lf, log_line_lacks_lf}
-use Rattle.log_grammar.proofs.lemmas.lines.ReadBack.{one_log_line}
+use Rattle.log_grammar.proofs.lemmas.lines.ReadBack.{each_text_is_at_most_one_log_line}
 use Rattle.log_grammar.proofs.lemmas.lines.NumberedReadBack.{numbered_line_is_writable, numbered_text_shows_number}
-use Rattle.log_grammar.proofs.lemmas.many_sessions.LinesOfNumber.{same_numbered}
+use Rattle.log_grammar.proofs.lemmas.many_sessions.LinesOfNumber.{equal_parts_are_same_numbered}
 use Rattle.scram_text.proofs.lemmas.ListEnds.{same_head_and_tail, same_cons}
-use Rattle.log_grammar.proofs.lemmas.ListEnds.{all_append, all_front}
+use Rattle.log_grammar.proofs.lemmas.ListEnds.{appended_lists_keep_all, front_keeps_all}
 use Rattle.log_grammar.proofs.lemmas.lines.TextBytes.{lacks_lf-append}
 use Rattle.log_grammar.proofs.lemmas.lines.Words.{after_space, after_space-word, number_is_spaceless}
 
@@ -56,13 +55,12 @@ session_may_have_numbers (session names l) =
 sessions_may_have_numbers : (sessions : List Session) → AllMayHaveNumber (flat_map session_lines sessions)
 sessions_may_have_numbers [] = tt
 sessions_may_have_numbers (s ∷ sessions) =
-    all_append IsNoFirstLine (session_lines s) (flat_map session_lines sessions) (session_may_have_numbers s)
+    appended_lists_keep_all IsNoFirstLine (session_lines s) (flat_map session_lines sessions) (session_may_have_numbers s)
     (sessions_may_have_numbers sessions)
 
 -- each line of a log of version 1 after its first may have a number: none is a first line again
-pub log_may_have_numbers : (d : Demands) (lines : List LogLine) (place : Place) (told : List LoggedReply)
-    → Spells d (header ∷ lines) place told
-    → AllMayHaveNumber lines
+pub log_may_have_numbers : (d : Demands) (lines : List LogLine) (place : Place) (told : List LoggedAttempt)
+    → Spells d (header ∷ lines) place told → AllMayHaveNumber lines
 log_may_have_numbers d lines place told s =
     subst AllMayHaveNumber (sym (same_head_and_tail header header lines (flat_map session_lines s.sessions) s.lines).1)
     (sessions_may_have_numbers s.sessions)
@@ -94,8 +92,7 @@ lines_fit_from_one lines can = (omega arith, omega (arith, can.few.1))
 
 -- the texts of lines with numbers that fit them are read as these numbered lines, if each can be written and none is a first line
 numbered_texts_are_read : (n : ℕ) (lines : List LogLine) → FitNumbers n lines → AllByRecursion IsWritable lines
-    → AllByRecursion IsNoFirstLine lines
-    → AllZip IsNumberedLine (map numbered_text (with_numbers n lines)) (with_numbers n lines)
+    → AllByRecursion IsNoFirstLine lines → AllZip IsNumberedLine (map numbered_text (with_numbers n lines)) (with_numbers n lines)
 numbered_texts_are_read n [] few each have = tt
 numbered_texts_are_read n (line ∷ lines) few each have = (
   numbered_line_is_writable (numbered n line) (first_number_fits n (line ∷ lines) few) have.0 each.0,
@@ -125,8 +122,7 @@ upgraded_texts_lack_lf lines can = (refl, numbered_texts_lack_lf 1 lines (lines_
 
 -- a text of an upgraded log is read as no other than its number and its line, and so are the texts of many lines:
 upgraded_text_has_one_line : (n : ℕ) (line : LogLine) (x : Numbered LogLine) → IsSessionNumber n → IsWritable line
-    → IsNumberedLine (numbered_text (numbered n line)) x
-    → x ≡ numbered n line
+    → IsNumberedLine (numbered_text (numbered n line)) x → x ≡ numbered n line
 upgraded_text_has_one_line n line x number is read =
     let same_number = numbered_text_shows_number n (log_line_text line) x number read in
     let word = number_is_spaceless n (omega (arith, number.1)) in
@@ -134,12 +130,11 @@ upgraded_text_has_one_line n line x number is read =
     let same : log_line_text line ≡ log_line_text x.value = sym
     (after_space-word (decimal n) (log_line_text line) word) ∙ ap after_space read.spelled ∙ after_space-word (decimal x.number)
     (log_line_text x.value) also in
-    let value = one_log_line (log_line_text line) x.value line (subst (λ (t : List ℕ). IsLogLine t x.value) (sym same) read.line) is in
-    same_numbered x.number n x.value line same_number value
+    let value = each_text_is_at_most_one_log_line (log_line_text line) x.value line (subst (λ (t : List ℕ). IsLogLine t x.value) (sym same) read.line) is in
+    equal_parts_are_same_numbered x.number n x.value line same_number value
 
 numbered_texts_have_one_reading : (n : ℕ) (lines : List LogLine) (log : List (Numbered LogLine)) → FitNumbers n lines
-    → AllByRecursion IsWritable lines
-    → AllZip IsNumberedLine (map numbered_text (with_numbers n lines)) log → log ≡ with_numbers n lines
+    → AllByRecursion IsWritable lines → AllZip IsNumberedLine (map numbered_text (with_numbers n lines)) log → log ≡ with_numbers n lines
 numbered_texts_have_one_reading n [] [] few each read = refl
 numbered_texts_have_one_reading n [] (x ∷ log) few each read = absurd read
 numbered_texts_have_one_reading n (line ∷ lines) [] few each read = absurd read
@@ -151,15 +146,14 @@ numbered_texts_have_one_reading n (line ∷ lines) (x ∷ log) few each read =
 
 -- the texts after the first of an upgraded log are read as no lines but the old ones with their numbers
 pub upgraded_texts_have_one_reading : (lines : List LogLine) (log : List (Numbered LogLine)) → CanBeUpgraded lines
-    → AllZip IsNumberedLine (map numbered_text (with_numbers 1 lines)) log
-    → log ≡ with_numbers 1 lines
+    → AllZip IsNumberedLine (map numbered_text (with_numbers 1 lines)) log → log ≡ with_numbers 1 lines
 upgraded_texts_have_one_reading lines log can read =
     numbered_texts_have_one_reading 1 lines log (lines_fit_from_one lines can) can.each read
 
 -- the first of lines that can be numbered can be
 pub first_lines_can_be_numbered : (front back : List LogLine) → CanBeUpgraded (front ++ back) → CanBeUpgraded front
 first_lines_can_be_numbered front back can = record {
-  each = all_front IsWritable front back can.each;
+  each = front_keeps_all IsWritable front back can.each;
   few = (omega arith, omega (arith, can.few.1, length-append front back));
 }
 
@@ -169,6 +163,6 @@ values_are_old_lines n [] = refl
 values_are_old_lines n (line ∷ lines) =
     ap (λ (ls : List LogLine). line ∷ ls) (values_are_old_lines (if is_end line then n + 1 else n) lines)
 
--- an upgraded log has the counts of the old one, since its lines without their numbers are the old ones
-pub upgraded_log_has_same_counts : UpgradedLogsHaveTheSameCounts
-upgraded_log_has_same_counts lines = ap counts_of (values_are_old_lines 1 lines)
+-- the law: an upgraded log has the counts of the old one, since its lines without their numbers are the old ones
+pub upgraded_logs_have_the_same_counts : UpgradedLogsHaveTheSameCounts
+upgraded_logs_have_the_same_counts lines = ap counts_of (values_are_old_lines 1 lines)

@@ -1,6 +1,6 @@
 use Rattle.std.specs.Prelude.{[], ◌∷◌, ◌++◌, codes}
 use Rattle.mac_core.specs.Mechanism.{name_of}
-use Rattle.otp_core.specs.Attempt.{OneText}
+use Rattle.otp_core.specs.Attempt.{one_text}
 use Rattle.log_grammar.specs.Lines.{header, heard, code}
 use Rattle.log_grammar.specs.laws.Logins.{login_session}
 use Rattle.log_grammar.proofs.lemmas.login_laws.PasswordLogins.{zero_is_code_word}
@@ -11,5 +11,5 @@ returns c = λ accounts m name password fit plain has.
     let (exchange, login) = c.passwords_log_in.ensures accounts m name password fit plain has in (
       header ∷ login_session (name_of m) exchange ++ heard (code (codes "0"))
           ∷ [],
-      c.logins_are_clean.ensures.halted accounts (name_of m) name exchange (OneText (codes "0")) login zero_is_code_word,
+      c.logins_are_clean.ensures.halted accounts (name_of m) name exchange (one_text (codes "0")) login zero_is_code_word,
     )

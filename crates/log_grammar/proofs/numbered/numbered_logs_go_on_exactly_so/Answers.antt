@@ -1,6 +1,6 @@
 use Rattle.std.proofs.Common.{◌≡◌, ℕ, List, ◌++◌, [], ◌∷◌, sym, ◌∙◌, ap, subst}
 use Rattle.log_grammar.specs.Lines.{LogLine}
-use Rattle.log_grammar.specs.LoggedReply.{LoggedReply}
+use Rattle.log_grammar.specs.LoggedAttempt.{LoggedAttempt}
 use Rattle.log_grammar.specs.Places.{Place}
 use Rattle.log_grammar.specs.Demands.{Accounts, Demands, demands}
 use Rattle.log_grammar.specs.state_machine.Steps.{told_at}
@@ -13,29 +13,29 @@ use Rattle.log_grammar.proofs.numbered.numbered_logs_go_on_exactly_so.Goals as g
 use Rattle.log_grammar.proofs.lemmas.many_sessions.LogSteps.{equal_places_spell_log}
 
 -- the line may stand at its number after the log and moves no other number, and `all` is `told` with the reply that the line records
-abbrev StandsAndTells : ℕ → Demands → List (Numbered LogLine) → (ℕ → Place) → List LoggedReply → ℕ → LogLine → (ℕ → Place)
-    → List LoggedReply
+abbrev StandsAndTells : ℕ → Demands → List (Numbered LogLine) → (ℕ → Place) → List LoggedAttempt → ℕ → LogLine → (ℕ → Place)
+    → List LoggedAttempt
     → Type 0
 StandsAndTells limit d log places told n line next all =
     IsNumberedTransition limit d log places told n line (next n) × ((m : ℕ) → (m ≡ n → ⊥) → next m ≡ places m)
     × (all ≡ told ++ told_at (places n) line)
 
 -- the last line of a log may stand after the lines before it
-last_line_stands : (limit : ℕ) (d : Demands) (log : List (Numbered LogLine)) (places : ℕ → Place) (told : List LoggedReply) (n : ℕ)
+last_line_stands : (limit : ℕ) (d : Demands) (log : List (Numbered LogLine)) (places : ℕ → Place) (told : List LoggedAttempt) (n : ℕ)
     (line : LogLine)
-    (next : ℕ → Place) (all : List LoggedReply)
+    (next : ℕ → Place) (all : List LoggedAttempt)
     → (s : HasLastNumberedTransition limit d log n line next all) → ((m : ℕ) → s.before m ≡ places m) → s.told ≡ told
     → StandsAndTells limit d log places told n line next all
 last_line_stands limit d log places told n line next all s same also = (
   own_place_decides_transition limit d log s.before places s.told told n line (next n) s.goes (same n) also,
   λ m other. s.others m (λ e. other (sym e)) ∙ same m,
-  s.tells ∙ ap (λ (t : List LoggedReply). t ++ told_at (s.before n) line) also ∙ ap (λ (p : Place). told ++ told_at p line) (same n),
+  s.tells ∙ ap (λ (t : List LoggedAttempt). t ++ told_at (s.before n) line) also ∙ ap (λ (p : Place). told ++ told_at p line) (same n),
 )
 
 -- a log continues with a line that may stand at its number
 standing_line_goes_on : GoesOnByANumberedLine → (limit : ℕ) (accounts : Accounts) (log : List (Numbered LogLine)) (places : ℕ → Place)
-    (told : List LoggedReply) (n : ℕ) (line : LogLine)
-    (next : ℕ → Place) (all : List LoggedReply) → SpellsNumbered limit (demands accounts) log places told
+    (told : List LoggedAttempt) (n : ℕ) (line : LogLine)
+    (next : ℕ → Place) (all : List LoggedAttempt) → SpellsNumbered limit (demands accounts) log places told
     → StandsAndTells limit (demands accounts) log places told n line next all
     → SpellsNumbered limit (demands accounts) (log ++ numbered n line ∷ []) next all
 standing_line_goes_on on limit accounts log places told n line next all s stands =
@@ -43,7 +43,7 @@ standing_line_goes_on on limit accounts log places told n line next all s stands
     let longer = on limit accounts log places told n line (next n) s stands.0 in
     let same = one_and_others_cover_each (λ (m : ℕ). put n (next n) places m ≡ next m) n (put_sets_own n (next n) places)
     (λ m other. put_keeps_others n (next n) places m other ∙ sym (stands.1 m (λ e. other (sym e)))) in
-    subst (λ (t : List LoggedReply). SpellsNumbered limit (demands accounts) more next t) (sym stands.2)
+    subst (λ (t : List LoggedAttempt). SpellsNumbered limit (demands accounts) more next t) (sym stands.2)
     (equal_places_spell_log limit (demands accounts) more (put n (next n) places) next (told ++ told_at (places n) line) same longer)
 
 pub returns : goal.returns

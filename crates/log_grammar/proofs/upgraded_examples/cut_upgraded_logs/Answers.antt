@@ -1,10 +1,13 @@
 use Rattle.std.proofs.Common.{[], ◌∷◌, arith}
 use Rattle.std.specs.Prelude.{codes}
 use Rattle.log_grammar.specs.Lines.{said, heard, bad, gone, cont, refuses, auth, auth_with, abort}
-use Rattle.log_grammar.proofs.lemmas.lines.Written.{abort_is_writable, bad_is_writable, bare_cont_is_writable, bare_refusal_is_writable, gone_is_writable}
+use Rattle.log_grammar.proofs.lemmas.lines.Written.{abort_is_writable, bad_is_writable, bare_cont_is_writable, bare_refusal_is_writable}
+use Rattle.log_grammar.proofs.lemmas.lines.Written.{gone_is_writable}
 use Rattle.log_grammar.proofs.lemmas.small_logs.SmallLines.{auth_is_line, auth_with_is_line, plain_auth_is_line}
-use Rattle.log_grammar.proofs.lemmas.small_logs.CutLogs.{offer_is_cut, aborted_is_cut, aborted_refusal_is_cut, gone_is_cut, auth_is_cut, invited_is_cut, bad_is_cut}
-use Rattle.log_grammar.proofs.lemmas.small_logs.CutLogs.{bad_refusal_is_cut, not_offered_is_cut, not_offered_refusal_is_cut, empty_first_is_cut, empty_first_refusal_is_cut, invited_gone_is_cut}
+use Rattle.log_grammar.proofs.lemmas.small_logs.CutLogs.{offer_is_cut, aborted_is_cut, aborted_refusal_is_cut, gone_is_cut, auth_is_cut}
+use Rattle.log_grammar.proofs.lemmas.small_logs.CutLogs.{invited_is_cut, bad_is_cut, bad_refusal_is_cut, not_offered_is_cut}
+use Rattle.log_grammar.proofs.lemmas.small_logs.CutLogs.{not_offered_refusal_is_cut, empty_first_is_cut, empty_first_refusal_is_cut}
+use Rattle.log_grammar.proofs.lemmas.small_logs.CutLogs.{invited_gone_is_cut}
 use Rattle.log_grammar.proofs.lemmas.small_logs.DigitLogs.{digit_session_is_at_fault}
 use Rattle.log_grammar.proofs.upgraded_examples.cut_upgraded_logs.Goals as goal
 

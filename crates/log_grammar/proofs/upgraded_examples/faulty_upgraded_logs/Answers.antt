@@ -2,12 +2,16 @@ use Rattle.std.proofs.Common.{[], ◌∷◌, arith}
 use Rattle.std.specs.Prelude.{codes}
 use Rattle.log_grammar.specs.Words.{offered_names}
 use Rattle.log_grammar.specs.Lines.{said, heard, bad, gone, mechs, cont, accepts, refuses, halt, auth, auth_with, abort}
-use Rattle.log_grammar.proofs.lemmas.lines.Written.{abort_is_writable, bad_is_writable, bare_cont_is_writable, bare_refusal_is_writable, gone_is_writable, halt_is_writable, offer_is_writable}
-use Rattle.log_grammar.proofs.lemmas.small_logs.SmallLines.{auth_is_line, auth_with_is_line, error_is_line, ok_is_line, other_offer_is_line, plain_auth_is_line}
-use Rattle.log_grammar.proofs.lemmas.small_logs.FaultyLogs.{abort_is_early, end_is_missing, halt_is_early, other_offer_is_at_fault, invited_plain_is_at_fault}
-use Rattle.log_grammar.proofs.lemmas.small_logs.FaultyLogs.{refused_auth_is_at_fault, accepted_abort_is_at_fault, refusal_message_is_at_fault, challenged_empty_is_at_fault}
+use Rattle.log_grammar.proofs.lemmas.lines.Written.{abort_is_writable, bad_is_writable, bare_cont_is_writable, bare_refusal_is_writable}
+use Rattle.log_grammar.proofs.lemmas.lines.Written.{gone_is_writable, halt_is_writable, offer_is_writable}
+use Rattle.log_grammar.proofs.lemmas.small_logs.SmallLines.{auth_is_line, auth_with_is_line, error_is_line, ok_is_line, other_offer_is_line}
+use Rattle.log_grammar.proofs.lemmas.small_logs.SmallLines.{plain_auth_is_line}
+use Rattle.log_grammar.proofs.lemmas.small_logs.FaultyLogs.{abort_is_early, end_is_missing, halt_is_early, other_offer_is_at_fault}
+use Rattle.log_grammar.proofs.lemmas.small_logs.FaultyLogs.{invited_plain_is_at_fault, refused_auth_is_at_fault, accepted_abort_is_at_fault}
+use Rattle.log_grammar.proofs.lemmas.small_logs.FaultyLogs.{refusal_message_is_at_fault, challenged_empty_is_at_fault}
 use Rattle.log_grammar.proofs.lemmas.small_logs.DigitLogs.{digit_session_is_at_fault, digit_log_is_at_fault}
-use Rattle.log_grammar.proofs.lemmas.small_logs.SecondLines.{header_two_again_is_early, header_one_is_early, unnumbered_abort_is_no_line, numbered_header_is_no_line}
+use Rattle.log_grammar.proofs.lemmas.small_logs.SecondLines.{header_two_again_is_early, header_one_is_early, unnumbered_abort_is_no_line}
+use Rattle.log_grammar.proofs.lemmas.small_logs.SecondLines.{numbered_header_is_no_line}
 use Rattle.log_grammar.proofs.upgraded_examples.faulty_upgraded_logs.Goals as goal
 
 pub returns-clause-order : goal.returns-clause-order

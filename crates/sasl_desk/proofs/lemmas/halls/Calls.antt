@@ -32,8 +32,8 @@ use Rattle.sasl_desk.specs.declared.session.phase.Phase.TheVariants as phase
 use Rattle.sasl_desk.specs.declared.turn.AfterTurn.{AfterTurn}
 use Rattle.sasl_desk.specs.declared.turn.AfterTurn.TheVariants.{Going, Over, Halted}
 use Rattle.sasl_desk.proofs.lemmas.turns.Saves.{halted_after, turn_counts_saves, turn_asks_for_save, turn_is_quiet, halting_turn_failed_saving}
-use Rattle.sasl_desk.proofs.lemmas.runs.Calls.{open_session_not_halted}
-use Rattle.sasl_desk.proofs.lemmas.halls.Seats.{LeavesAt, guests_after}
+use Rattle.sasl_desk.proofs.lemmas.runs.Calls.{open_session_is_not_halted}
+use Rattle.sasl_desk.proofs.lemmas.halls.Seats.{LeavesSession, guests_after}
 use Rattle.sasl_desk.proofs.lemmas.halls.Steps.{turn_is_hall_step}
 use Rattle.sasl_desk.proofs.lemmas.halls.Turns.{step_adds_hall_call}
 use Rattle.sasl_desk.proofs.lemmas.halls.Working.{working_hall_holds_book, reordered_hall_stands}
@@ -64,7 +64,7 @@ session_phase_fits_place accounts at (WaitFinal waiting) (first, challenge, is, 
 session_phase_fits_place accounts at (WaitCode name) is = (name, is)
 
 -- the phase that a turn leaves is that of the place at which it leaves its session
-left_phase_fits_place : (accounts : Accounts) (at : Place) (ends : ℕ) (left : AfterTurn) → LeavesAt accounts at ends left
+left_phase_fits_place : (accounts : Accounts) (at : Place) (ends : ℕ) (left : AfterTurn) → LeavesSession accounts at ends left
     → IsPhaseOf at (phase_left left)
 left_phase_fits_place accounts at ends (Going going) is = session_phase_fits_place accounts at going is.0
 left_phase_fits_place accounts at ends Over is = is.0
@@ -72,7 +72,7 @@ left_phase_fits_place accounts at ends (Halted going) is = tt
 
 -- the phase that a turn leaves is Halted if and only if the turn has halted the hall
 halted_phase_iff_halted : (left : AfterTurn) → (phase_left left ≡ phase.Halted) ↔ (halted_after left ≡ true)
-halted_phase_iff_halted (Going going) = (λ is. absurd (open_session_not_halted going is), λ is. absurd (cc is))
+halted_phase_iff_halted (Going going) = (λ is. absurd (open_session_is_not_halted going is), λ is. absurd (cc is))
 halted_phase_iff_halted Over = (λ is. absurd (cc is), λ is. absurd (cc is))
 halted_phase_iff_halted (Halted going) = (λ is. refl, λ is. refl)
 
@@ -80,7 +80,7 @@ halted_phase_iff_halted (Halted going) = (λ is. refl, λ is. refl)
 module _ (itself : BeginsWithItself) (stays : SpentStaysSpent) {S : Type 0} {facts : S → StoreFacts} {IsStored : List ℕ → Type 0}
     {old new : Keeper S} {n : ℕ} {going : Session} {server_nonce : List ℕ} (others : List Guest) (given : ℕ) {event : ClientEvent}
     {moment : ℕ} {left : AfterTurn} {wire wire' log log' : List ℕ} where
-  -- when the turn was taken and its lines were written, the hall has answered the call
+  -- a hall has answered a call when the session's turn was taken and its lines were written
   pub turn_answers_hall_call : IsTurnWritten facts IsStored old going server_nonce event moment (Some n) wire wire' log log' left new
       → AnswersIn facts IsStored (hall_of old (guest_of n going server_nonce ∷ others) given false) n (hears event moment)
       (phase_left left) wire wire' log log'
@@ -106,7 +106,7 @@ module _ (itself : BeginsWithItself) (stays : SpentStaysSpent) {S : Type 0} {fac
 -- a hall whose guests stand in this order or in that
 module _ {S : Type 0} {keeper : Keeper S} {guests others : List Guest} {given : ℕ} {is_halted : Bool} {new : HallFields S}
     (same : IsPermutation guests others) where
-  -- what a call of it did does not depend on the order of its guests
+  -- what a call of a hall did does not depend on the order of the hall's guests
   pub reordered_hall_answers : {facts : S → StoreFacts} {IsStored : List ℕ → Type 0} {m n : ℕ} {request : Request} {answered : Phase}
       {wire wire' log log' : List ℕ} → m ≡ n
       → AnswersIn facts IsStored (hall_of keeper others given is_halted) m request answered wire wire' log log' new
@@ -126,7 +126,7 @@ module _ {S : Type 0} {keeper : Keeper S} {guests others : List Guest} {given : 
         halts = a.halts;
       }
 
-  -- whether another hall is the same as it does not depend on the order of its guests
+  -- whether two halls are the same does not depend on the order of their guests
   pub reordered_hall_is_same : IsSameHall (hall_of keeper others given is_halted) new
       → IsSameHall (hall_of keeper guests given is_halted) new
   reordered_hall_is_same is = record {

@@ -17,9 +17,9 @@ own_guest_counts n guest guests same =
     (passing_counts_one (is_of n) guest (eq-eqb guest.number n same))
 
 -- a guest of another number does not count among those of this one
-pub other_guest_counts_not : (n : ℕ) (guest : Guest) (guests : List Guest) → (guest.number ≡ n → ⊥)
+pub other_guest_is_not_counted : (n : ℕ) (guest : Guest) (guests : List Guest) → (guest.number ≡ n → ⊥)
     → count_by (is_of n) (guest ∷ guests) ≡ count_by (is_of n) guests
-other_guest_counts_not n guest guests other = elim (eqb_tells guest.number n) [
+other_guest_is_not_counted n guest guests other = elim (eqb_tells guest.number n) [
   | inl same ↦ absurd (other same.1)
   | inr differ ↦
       omega (arith, failing_counts_none (is_of n) guest differ.0, first_adds_its_count (is_of n) guest guests)
@@ -32,18 +32,19 @@ last_guest_counts_one n guest guests same none =
     omega (arith, none, last_counts_as_first (is_of n) guests guest, own_guest_counts n guest guests same)
 
 -- a guest of another number at the end of a list does not count among those of this one
-pub other_last_guest_counts_not : (n : ℕ) (guest : Guest) (guests : List Guest) → (guest.number ≡ n → ⊥)
+pub other_last_guest_is_not_counted : (n : ℕ) (guest : Guest) (guests : List Guest) → (guest.number ≡ n → ⊥)
     → count_by (is_of n) (guests ++ guest ∷ []) ≡ count_by (is_of n) guests
-other_last_guest_counts_not n guest guests other =
-    last_counts_as_first (is_of n) guests guest ∙ other_guest_counts_not n guest guests other
+other_last_guest_is_not_counted n guest guests other =
+    last_counts_as_first (is_of n) guests guest ∙ other_guest_is_not_counted n guest guests other
 
 -- if a number has a guest, what is true of each guest is true of one with this number
-pub some_guest : (P : Guest → Type 0) (n : ℕ) (guests : List Guest) → AllByRecursion P guests → (count_by (is_of n) guests ≡ 0 → ⊥)
+pub some_guest_has_number : (P : Guest → Type 0) (n : ℕ) (guests : List Guest) → AllByRecursion P guests
+    → (count_by (is_of n) guests ≡ 0 → ⊥)
     → (guest : Guest) × P guest × (guest.number ≡ n)
-some_guest P n [] all some = absurd (some refl)
-some_guest P n (guest ∷ guests) all some = elim (eqb_tells guest.number n) [
+some_guest_has_number P n [] all some = absurd (some refl)
+some_guest_has_number P n (guest ∷ guests) all some = elim (eqb_tells guest.number n) [
   | inl same ↦ (guest, all.0, same.1)
-  | inr differ ↦ some_guest P n guests all.1 (λ none. some (other_guest_counts_not n guest guests differ.1 ∙ none))
+  | inr differ ↦ some_guest_has_number P n guests all.1 (λ none. some (other_guest_is_not_counted n guest guests differ.1 ∙ none))
 ]
 
 -- no guest is of a number that has none
@@ -52,5 +53,5 @@ pub guests_are_of_others : (n : ℕ) (guests : List Guest) → count_by (is_of n
 guests_are_of_others n [] none = tt
 guests_are_of_others n (guest ∷ guests) none = elim (eqb_tells guest.number n) [
   | inl same ↦ absurd (omega (arith, none, own_guest_counts n guest guests same.1))
-  | inr differ ↦ (differ.1, guests_are_of_others n guests (sym (other_guest_counts_not n guest guests differ.1) ∙ none))
+  | inr differ ↦ (differ.1, guests_are_of_others n guests (sym (other_guest_is_not_counted n guest guests differ.1) ∙ none))
 ]

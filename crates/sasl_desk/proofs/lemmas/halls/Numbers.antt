@@ -45,7 +45,7 @@ module _ (n : ℕ) (call : Call) (calls : List (Numbered Call)) (next : Place) (
       subst (λ (l : List Call). P l (put n next places m)) (sym (other_item_is_skipped n m call calls other))
       (subst (λ (p : Place). P (of_number m calls) p) (sym (put_keeps_others n next places m other)) is)
 
-  -- the session of each number has a run
+  -- after one call more, the session of each number has a run, if it had one and the call continues its own
   pub each_session_has_run : (accounts : Accounts) → IsSessionRun accounts (call ∷ of_number n calls) next
       → ((m : ℕ) → IsSessionRun accounts (of_number m calls) (places m))
       → (m : ℕ) → IsSessionRun accounts (of_number m (numbered n call ∷ calls)) (put n next places m)
@@ -53,13 +53,13 @@ module _ (n : ℕ) (call : Call) (calls : List (Numbered Call)) (next : Place) (
       one_and_others_cover_each (λ (m : ℕ). IsSessionRun accounts (of_number m (numbered n call ∷ calls)) (put n next places m)) n
       (own_calls_lead_on (IsSessionRun accounts) own) (λ m other. other_calls_stay (IsSessionRun accounts) m other (others m))
 
-  -- the store is as it has to be after the call
+  -- after one call more, a store that is as it has to be after that session's calls is so after all calls
   pub store_fits_next_call : (IsStored : List ℕ → Type 0) (accounts : Accounts) (book : BookFields) (store : StoreFacts)
       → IsStoredAt IsStored accounts (call ∷ of_number n calls) next book store
       → IsStoredAt IsStored accounts (of_number n (numbered n call ∷ calls)) (put n next places n) book store
   store_fits_next_call IsStored accounts book store = own_calls_lead_on (λ l p. IsStoredAt IsStored accounts l p book store)
 
-  -- guests of other numbers stand where they stood
+  -- after one call more, guests of other numbers stand where they stood
   pub other_guests_stay_seated : (accounts : Accounts) (others : List Guest) → AllByRecursion (IsSeated accounts calls places) others
       → AllByRecursion (λ guest. guest.number ≡ n → ⊥) others
       → AllByRecursion (IsSeated accounts (numbered n call ∷ calls) (put n next places)) others

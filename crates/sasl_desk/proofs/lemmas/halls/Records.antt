@@ -18,9 +18,9 @@ session_run_has_its_records accounts calls at (inl run) = inl
     (record { offers = run_has_its_offers accounts calls at run; records = run_has_its_records accounts calls at run })
 session_run_has_its_records accounts calls at (inr (turned, is)) = inr turned
 
--- the calls of each number have their records, as at a desk; or its session was turned away and asked nothing more
-pub session_has_its_records : {S : Type 0} {facts : S → StoreFacts} {IsStored : List ℕ → Type 0} {start : BookFields}
+-- the law: the calls of each number have their records, as at a desk; or its session was turned away and asked nothing more
+pub sessions_have_their_records : {S : Type 0} {facts : S → StoreFacts} {IsStored : List ℕ → Type 0} {start : BookFields}
     {calls : List (Numbered Call)} {hall : HallFields S} → IsHallAfter facts IsStored start calls hall
     → (n : ℕ) → HasSessionRecords (accounts_in start) (of_number n calls)
-session_has_its_records {start = start} {calls = calls} s n =
+sessions_have_their_records {start = start} {calls = calls} s n =
     session_run_has_its_records (accounts_in start) (of_number n calls) (s.places n) (s.session_runs n)

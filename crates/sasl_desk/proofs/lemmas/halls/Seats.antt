@@ -5,7 +5,7 @@ use Rattle.std.specs.List.{AllByRecursion}
 use Rattle.log_grammar.specs.Places.{Place, between, halted, open_at}
 use Rattle.log_grammar.specs.Demands.{Accounts}
 use Rattle.log_grammar.specs.Numbered.{Numbered, of_number}
-use Rattle.log_grammar.proofs.lemmas.ListEnds.{all_append}
+use Rattle.log_grammar.proofs.lemmas.ListEnds.{appended_lists_keep_all}
 use Rattle.sasl_desk.specs.Guests.{is_of, guest_of}
 use Rattle.sasl_desk.specs.Halls.{IsSeated}
 use Rattle.sasl_desk.specs.Runs.{Call, server_nonce_of}
@@ -15,14 +15,14 @@ use Rattle.sasl_desk.specs.declared.turn.AfterTurn.{AfterTurn}
 use Rattle.sasl_desk.specs.declared.turn.AfterTurn.TheVariants.{Going, Over, Halted}
 use Rattle.sasl_desk.proofs.lemmas.turns.Paths.{session_has_client_turn}
 use Rattle.sasl_desk.proofs.lemmas.turns.Saves.{halted_after}
-use Rattle.sasl_desk.proofs.lemmas.halls.Guests.{last_guest_counts_one, other_last_guest_counts_not}
+use Rattle.sasl_desk.proofs.lemmas.halls.Guests.{last_guest_counts_one, other_last_guest_is_not_counted}
 use Rattle.sasl_desk.proofs.lemmas.halls.Working.{open_place_counts_one, closed_place_counts_none, client_turn_is_open}
 
 -- a turn leaves its session at this place, with so many `E` lines
-abbrev pub LeavesAt : Accounts → Place → (ends : ℕ) → AfterTurn → Type 0
-LeavesAt accounts next ends (Going going) = IsSessionAt accounts next going × (ends ≡ 0)
-LeavesAt accounts next ends Over = (next ≡ between) × (ends ≡ 1)
-LeavesAt accounts next ends (Halted going) = (next ≡ halted) × (ends ≡ 0)
+abbrev pub LeavesSession : Accounts → Place → (ends : ℕ) → AfterTurn → Type 0
+LeavesSession accounts next ends (Going going) = IsSessionAt accounts next going × (ends ≡ 0)
+LeavesSession accounts next ends Over = (next ≡ between) × (ends ≡ 1)
+LeavesSession accounts next ends (Halted going) = (next ≡ halted) × (ends ≡ 0)
 
 -- the guests after a turn of the session of this number: it has a seat again unless it ended
 abbrev pub guests_after : (n : ℕ) (server_nonce : List ℕ) → AfterTurn → List Guest → List Guest
@@ -38,16 +38,16 @@ seats_of (Halted going) = 1
 
 -- a turn that leaves its session at a place
 module _ (accounts : Accounts) (next : Place) (ends : ℕ) where
-  -- the session takes a seat if and only if it is open there
-  pub seats_count_open : (left : AfterTurn) → LeavesAt accounts next ends left → open_at next ≡ seats_of left
+  -- a session takes a seat if and only if it is open at the place where the turn leaves it
+  pub seats_count_open : (left : AfterTurn) → LeavesSession accounts next ends left → open_at next ≡ seats_of left
   unfolding seats_of
   seats_count_open (Going going) is =
       open_place_counts_one next (client_turn_is_open next (session_has_client_turn accounts next going is.0))
   seats_count_open Over is = closed_place_counts_none next (rw is.0 refl)
   seats_count_open (Halted going) is = open_place_counts_one next (rw is.0 refl)
 
-  -- either the session takes a seat, or the turn has one `E` line
-  pub seat_or_end : (left : AfterTurn) → LeavesAt accounts next ends left → seats_of left + ends ≡ 1
+  -- either a session takes a seat after its turn, or the turn has one `E` line
+  pub seat_or_end : (left : AfterTurn) → LeavesSession accounts next ends left → seats_of left + ends ≡ 1
   unfolding seats_of
   seat_or_end (Going going) is = omega (arith, is.1)
   seat_or_end Over is = omega (arith, is.1)
@@ -55,7 +55,7 @@ module _ (accounts : Accounts) (next : Place) (ends : ℕ) where
 
 -- the guests after a turn of the session of this number, beside which there are these others
 module _ (n : ℕ) (server_nonce : List ℕ) (others : List Guest) where
-  -- they are the others, and one more if the session takes a seat
+  -- after a turn the guests are the others, and one more if the session takes a seat
   pub turn_adds_its_seats : (left : AfterTurn) → length (guests_after n server_nonce left others) ≡ length others + seats_of left
   unfolding seats_of
   turn_adds_its_seats (Going going) = length-append others (guest_of n going server_nonce ∷ [])
@@ -73,16 +73,16 @@ module _ (n : ℕ) (server_nonce : List ℕ) (others : List Guest) where
   -- the guests of another number are as many as among the others
   pub other_seats_stay : (m : ℕ) (left : AfterTurn) → (n ≡ m → ⊥)
       → count_by (is_of m) (guests_after n server_nonce left others) ≡ count_by (is_of m) others
-  other_seats_stay m (Going going) other = other_last_guest_counts_not m (guest_of n going server_nonce) others other
+  other_seats_stay m (Going going) other = other_last_guest_is_not_counted m (guest_of n going server_nonce) others other
   other_seats_stay m Over other = refl
-  other_seats_stay m (Halted going) other = other_last_guest_counts_not m (guest_of n going server_nonce) others other
+  other_seats_stay m (Halted going) other = other_last_guest_is_not_counted m (guest_of n going server_nonce) others other
 
-  -- if the others stand at their places, and the session where the turn left it, all do
+  -- if the other guests stand at their places, and the session stands where the turn left it, all guests stand at their places
   pub turn_leaves_guests_seated : (accounts : Accounts) (calls : List (Numbered Call)) (places : ℕ → Place) (ends : ℕ) (left : AfterTurn)
-      → LeavesAt accounts (places n) ends left → AllByRecursion (IsSeated accounts calls places) others
+      → LeavesSession accounts (places n) ends left → AllByRecursion (IsSeated accounts calls places) others
       → server_nonce ≡ server_nonce_of (of_number n calls) → halted_after left ≡ false
       → AllByRecursion (IsSeated accounts calls places) (guests_after n server_nonce left others)
   turn_leaves_guests_seated accounts calls places ends (Going going) is seated same working =
-      all_append (IsSeated accounts calls places) others (guest_of n going server_nonce ∷ []) seated ((is.0, same), tt)
+      appended_lists_keep_all (IsSeated accounts calls places) others (guest_of n going server_nonce ∷ []) seated ((is.0, same), tt)
   turn_leaves_guests_seated accounts calls places ends Over is seated same working = seated
   turn_leaves_guests_seated accounts calls places ends (Halted going) is seated same working = absurd (cc working)

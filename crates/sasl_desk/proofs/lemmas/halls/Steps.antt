@@ -9,7 +9,7 @@ use Rattle.account_book.specs.SavedBooks.{needs_save}
 use Rattle.account_book.specs.Store.{StoreFacts}
 use Rattle.log_grammar.specs.Books.{accounts_in}
 use Rattle.log_grammar.specs.Lines.{LogLine, heard, code_line, IsWritable}
-use Rattle.log_grammar.specs.LoggedReply.{logged_reply_of}
+use Rattle.log_grammar.specs.LoggedAttempt.{logged_attempt_of}
 use Rattle.log_grammar.specs.Places.{Place, waits_code, halted}
 use Rattle.log_grammar.specs.Demands.{Accounts, demands}
 use Rattle.log_grammar.specs.Numbered.{Numbered, of_number}
@@ -28,23 +28,24 @@ use Rattle.sasl_desk.specs.TurnResults.{after_turn_of, judged_lines, after_judge
 use Rattle.sasl_desk.specs.declared.hall.guest.Guest.{Guest}
 use Rattle.sasl_desk.specs.declared.keeper.Keeper.{Keeper}
 use Rattle.sasl_desk.specs.declared.keeper.CodeJudged.{CodeJudged}
-use Rattle.sasl_desk.specs.declared.keeper.CodeJudged.TheVariants.{Replied, Lost}
+use Rattle.sasl_desk.specs.declared.keeper.CodeJudged.TheVariants.{Replied, NotSaved}
 use Rattle.sasl_desk.specs.declared.session.Session.{Session}
 use Rattle.sasl_desk.specs.declared.turn.AfterTurn.{AfterTurn}
 use Rattle.sasl_desk.proofs.lemmas.turns.Keepers.{judged_reply_is_due}
-use Rattle.sasl_desk.proofs.lemmas.turns.Paths.{session_has_client_turn, left_place_not_halted, turn_has_no_reply}
+use Rattle.sasl_desk.proofs.lemmas.turns.Paths.{session_has_client_turn, left_place_is_not_halted, turn_has_no_reply}
 use Rattle.sasl_desk.proofs.lemmas.turns.Taken.{session_turn_is_taken, reply_turn_is_taken, halt_turn_is_taken}
 use Rattle.sasl_desk.proofs.lemmas.runs.HeldBooks.{held_book_fits_place, kept_store_holds_book, lost_save_fits_halt}
 use Rattle.sasl_desk.proofs.lemmas.runs.BooksAfterReplies.{book_after_told, reply_adds_to_book, reply_spends_counters}
-use Rattle.sasl_desk.proofs.lemmas.halls.Paths.{ends_of, turn_has_turn_lines, turn_closes_its_session, numbered_goes_on_by_path, numbered_goes_on_by_reply}
-use Rattle.sasl_desk.proofs.lemmas.halls.Seats.{LeavesAt}
+use Rattle.sasl_desk.proofs.lemmas.halls.Paths.{ends_of, turn_has_turn_lines, turn_closes_its_session, numbered_goes_on_by_path}
+use Rattle.sasl_desk.proofs.lemmas.halls.Paths.{numbered_goes_on_by_reply}
+use Rattle.sasl_desk.proofs.lemmas.halls.Seats.{LeavesSession}
 use Rattle.sasl_desk.proofs.lemmas.halls.Turns.{IsHallStep}
 use Rattle.sasl_desk.proofs.lemmas.halls.Working.{any_line_follows_log, working_hall_holds_book, client_turn_is_open, open_session_has_run}
 
 -- a turn that leaves its session at a place, or ends it, leaves it so in a hall
 left_session_leaves_place : (accounts : Accounts) (next : Place) (ends : ℕ) (going : Option Session) → IsLeftAt accounts next going
     → ends ≡ ends_of going
-    → LeavesAt accounts next ends (after_turn_of going)
+    → LeavesSession accounts next ends (after_turn_of going)
 left_session_leaves_place accounts next ends (Some going) is same = (is, same)
 left_session_leaves_place accounts next ends None is same = (is, same)
 
@@ -53,7 +54,7 @@ module _ (itself : BeginsWithItself) {S : Type 0} {facts : S → StoreFacts} {Is
     {calls : List (Numbered Call)} {old : Keeper S} {n : ℕ} {going : Session} {server_nonce : List ℕ} {others : List Guest} {given : ℕ}
     (s : IsHallAfter facts IsStored start calls (hall_of old (guest_of n going server_nonce ∷ others) given false)) (event : ClientEvent)
     (moment : ℕ) where
-  -- when the session has answered, the turn is a step of the hall
+  -- a turn that the session itself answers is a step of the hall
   answer_is_hall_step : (lines : List LogLine) (left : AfterTurn) (new : Keeper S)
       → SessionAnswers old going server_nonce event lines left new → IsHallStep s event moment lines left new
   answer_is_hall_step lines left new t =
@@ -78,19 +79,19 @@ module _ (itself : BeginsWithItself) {S : Type 0} {facts : S → StoreFacts} {Is
             (turn_closes_its_session n t.turn t.message);
         is_book = s.is_book;
         stored = held_book_fits_place IsStored accounts (call_of (hears event moment) lines ∷ of_number n calls) old.book
-            (facts old.store) next (left_place_not_halted accounts next t.turn.answer.session turn.is_answer.left)
+            (facts old.store) next (left_place_is_not_halted accounts next t.turn.answer.session turn.is_answer.left)
             (working_hall_holds_book s refl);
         spent = s.spent;
       })
 
-  -- when the keeper has judged a code, or two in a row, or has lost the save for it, the turn is a step of the hall
+  -- a turn in which the keeper judged a code, or two in a row, or lost the save for it, is a step of the hall
   code_is_hall_step : SpentStaysSpent → (name : List ℕ) (sent : CodeTexts) (new : Keeper S) → IsCodeDue event (s.places n) name sent
       → IsWritable (heard (code_line sent)) → (judged : CodeJudged)
       → IsJudged IsStored old.book (facts old.store) name moment sent judged new.book (facts new.store) → IsJudgedInRange judged
       → IsHallStep s event moment (judged_lines moment sent judged) (after_judged name judged) new
   code_is_hall_step stays name sent new due written (Replied reply) (one, kept) range =
       let accounts = accounts_in start in
-      let t = logged_reply_of name moment sent reply in
+      let t = logged_attempt_of name moment sent reply in
       record {
         next = waits_code name;
         told = s.told ++ t ∷ [];
@@ -105,9 +106,9 @@ module _ (itself : BeginsWithItself) {S : Type 0} {facts : S → StoreFacts} {Is
             (working_hall_holds_book s refl);
         spent = reply_spends_counters itself stays old.book new.book t one start s.told s.spent;
       }
-  code_is_hall_step stays name sent new due written Lost judged range =
+  code_is_hall_step stays name sent new due written NotSaved judged range =
       let accounts = accounts_in start in
-      let lines = judged_lines moment sent Lost in
+      let lines = judged_lines moment sent NotSaved in
       let taken = halt_turn_is_taken accounts (server_nonce_of (of_number n calls)) event moment (s.places n) name sent due in
       let is_open = client_turn_is_open (s.places n) (session_has_client_turn accounts (s.places n) going (s.seated refl).0.0) in
       let run = open_session_has_run accounts (of_number n calls) (s.places n) is_open (s.session_runs n) in
@@ -127,7 +128,7 @@ module _ (itself : BeginsWithItself) {S : Type 0} {facts : S → StoreFacts} {Is
             (s.spent ps spent);
       }
 
-  -- each turn is a step of the hall
+  -- each turn of a session is a step of its hall
   pub turn_is_hall_step : SpentStaysSpent → (lines : List LogLine) (left : AfterTurn) (new : Keeper S)
       → IsTurnOf facts IsStored old going server_nonce event moment lines left new → IsHallStep s event moment lines left new
   turn_is_hall_step stays lines left new (inl t) = answer_is_hall_step lines left new t

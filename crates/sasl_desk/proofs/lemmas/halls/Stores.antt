@@ -1,35 +1,35 @@
 -- What the store of a hall holds, wherever the hall stops: a book that its run may leave, in which all that was told is spent.
-use Rattle.std.proofs.Common.{inl, inr, ℕ, List, [], ◌∷◌, ◌++◌, reverse, refl}
+use Rattle.std.proofs.Common.{inr, ℕ, List, [], ◌∷◌, ◌++◌, reverse, refl}
 use Rattle.otp_core.specs.Laws.{BeginsWithItself}
 use Rattle.book_format.specs.Book.{BookFields}
 use Rattle.book_format.specs.Trees.{IsBookText}
 use Rattle.account_book.specs.SavedBooks.{HasStoredText}
 use Rattle.account_book.specs.Store.{StoreFacts}
 use Rattle.log_grammar.specs.Books.{accounts_in}
-use Rattle.log_grammar.specs.LoggedReply.{LoggedReply}
+use Rattle.log_grammar.specs.LoggedAttempt.{LoggedAttempt}
 use Rattle.log_grammar.specs.Places.{Place}
 use Rattle.log_grammar.specs.Demands.{Accounts}
 use Rattle.log_grammar.specs.Numbered.{Numbered, of_number}
-use Rattle.sasl_desk.specs.Desks.{spent_by_all}
+use Rattle.sasl_desk.specs.Desks.{MayHold, spent_by_all}
 use Rattle.sasl_desk.specs.Saved.{AreLinesSaved}
 use Rattle.sasl_desk.specs.Halls.{HallFields, hall_lines, IsStoredAfter, IsHallAfter}
 use Rattle.sasl_desk.specs.Keeper.{IsAttemptJudged}
 use Rattle.sasl_desk.specs.Restarts.{MayLeave, IsHallRunLeaving}
 use Rattle.sasl_desk.specs.Runs.{Call}
 use Rattle.sasl_desk.specs.Spent.{AreSpent, SpentStaysSpent}
-use Rattle.sasl_desk.proofs.lemmas.runs.Stores.{store_holds_left_book, book_was_saved}
+use Rattle.sasl_desk.proofs.lemmas.runs.Stores.{IsTextLeft, held_text_may_be_left, store_holds_left_book, book_was_saved}
 use Rattle.sasl_desk.proofs.lemmas.runs.Restarts.{left_book_keeps_spent_counters}
 
 -- a store that is as it has to be after calls
 module _ (IsStored : List ℕ → Type 0) (accounts : Accounts) (places : ℕ → Place) (book : BookFields) (store : StoreFacts) where
-  -- it holds the text of a book that a run may leave
+  -- each text that the store may hold after calls of a hall is that of a book that a run may leave
   store_after_calls_holds_left_book : (calls : List (Numbered Call)) → IsStoredAfter IsStored accounts calls places book store
-      → (left : BookFields) × MayLeave book left × IsBookText store.saved left
-  store_after_calls_holds_left_book [] held = (book, inl refl, held.saved)
+      → (text : List ℕ) → MayHold store text → IsTextLeft book text
+  store_after_calls_holds_left_book [] held = held_text_may_be_left IsStored book store held
   store_after_calls_holds_left_book (c ∷ calls) stored =
       store_holds_left_book IsStored accounts (of_number c.number (c ∷ calls)) book store (places c.number) stored
 
-  -- the book was saved
+  -- the book that a hall has after calls was saved
   hall_book_was_saved : (calls : List (Numbered Call)) → IsStoredAfter IsStored accounts calls places book store
       → HasStoredText IsStored book
   hall_book_was_saved [] held = (store.saved, held.saved, held.stored)
@@ -39,7 +39,7 @@ module _ (IsStored : List ℕ → Type 0) (accounts : Accounts) (places : ℕ �
 -- a hall that has answered these calls
 module _ {S : Type 0} {facts : S → StoreFacts} {IsStored : List ℕ → Type 0} {start : BookFields} {calls : List (Numbered Call)}
     {hall : HallFields S} (s : IsHallAfter facts IsStored start calls hall) where
-  -- the book to which all that its log tells leads was saved
+  -- the law: the book to which the replies in a hall's log lead was saved
   pub log_is_saved : AreLinesSaved IsStored start (hall_lines calls)
   log_is_saved = record {
     places = s.places;
@@ -52,12 +52,12 @@ module _ {S : Type 0} {facts : S → StoreFacts} {IsStored : List ℕ → Type 0
     };
   }
 
-  -- its store holds the text of the book, or of the book with one attempt more
-  hall_store_may_leave : (left : BookFields) × MayLeave hall.keeper.book left × IsBookText (facts hall.keeper.store).saved left
-  hall_store_may_leave =
+  -- each text that the store of a hall may hold is that of the hall's book, or of that book with one more attempt
+  hall_text_may_be_left : (text : List ℕ) → MayHold (facts hall.keeper.store) text → IsTextLeft hall.keeper.book text
+  hall_text_may_be_left =
       store_after_calls_holds_left_book IsStored (accounts_in start) s.places hall.keeper.book (facts hall.keeper.store) calls s.is_stored
 
-  -- its run may leave the book that it has, and that with one attempt more
+  -- the run of a hall may leave the hall's book, and that book with one more attempt
   hall_run_may_leave : (left : BookFields) → MayLeave hall.keeper.book left → IsHallRunLeaving facts IsStored start calls left
   hall_run_may_leave left leaves = (
     record { start = start; calls = calls; told = s.told; left = left },
@@ -67,30 +67,34 @@ module _ {S : Type 0} {facts : S → StoreFacts} {IsStored : List ℕ → Type 0
     refl,
   )
 
-  -- its store holds the text of a book that its run may leave
-  pub hall_store_holds_left_book : (left : BookFields) × IsHallRunLeaving facts IsStored start calls left
-      × IsBookText (facts hall.keeper.store).saved left
-  hall_store_holds_left_book = let (left, leaves, text) = hall_store_may_leave in (left, hall_run_may_leave left leaves, text)
+  -- the law: each text that the store of a hall may hold is that of a book that the hall's run may leave
+  pub store_holds_a_book : (text : List ℕ) → MayHold (facts hall.keeper.store) text
+      → (left : BookFields) × IsHallRunLeaving facts IsStored start calls left × IsBookText text left
+  store_holds_a_book text holds =
+      let (left, leaves, is_text) = hall_text_may_be_left text holds in (left, hall_run_may_leave left leaves, is_text)
 
-  -- a run that stops as the hall saves one more attempt may leave the book with that attempt
-  pub stopped_hall_leaves_attempt : (t : LoggedReply) (next : BookFields) → IsAttemptJudged hall.keeper.book t next
+  -- the law: a hall's run may leave its book with one more judged attempt
+  pub stops_leave_runs : (t : LoggedAttempt) (next : BookFields) → IsAttemptJudged hall.keeper.book t next
       → IsHallRunLeaving facts IsStored start calls next
-  stopped_hall_leaves_attempt t next one = hall_run_may_leave next (inr (t, one))
+  stops_leave_runs t next one = hall_run_may_leave next (inr (t, one))
 
-  -- in the book whose text its store holds, what was spent before is spent, and so is each counter that a reply used
-  pub hall_store_keeps_spent_counters : BeginsWithItself → SpentStaysSpent → (ps : List (List ℕ × ℕ)) → AreSpent ps start
-      → (saved : BookFields) × IsBookText (facts hall.keeper.store).saved saved × AreSpent (spent_by_all (reverse s.told) ++ ps) saved
-  hall_store_keeps_spent_counters itself stays ps spent =
-      let (left, leaves, text) = hall_store_may_leave in (
+  -- the law, after a call: in each book whose text the store may hold, what was spent before the run is spent, and so is each counter
+  -- that a reply used
+  pub told_counters_are_saved_ended : BeginsWithItself → SpentStaysSpent → (ps : List (List ℕ × ℕ)) (text : List ℕ) → AreSpent ps start
+      → MayHold (facts hall.keeper.store) text
+      → (saved : BookFields) × IsBookText text saved × AreSpent (spent_by_all (reverse s.told) ++ ps) saved
+  told_counters_are_saved_ended itself stays ps text spent holds =
+      let (left, leaves, is_text) = hall_text_may_be_left text holds in (
         left,
-        text,
+        is_text,
         left_book_keeps_spent_counters itself stays hall.keeper.book left (spent_by_all (reverse s.told) ++ ps) leaves (s.spent ps spent),
       )
 
-  -- in its book with one more attempt, what was spent before is spent, and so is each counter that a reply used
-  pub stopped_hall_keeps_spent_counters : BeginsWithItself → SpentStaysSpent → (ps : List (List ℕ × ℕ)) (t : LoggedReply)
+  -- the law, within a call: in the hall's book with one more attempt, what was spent before the run is spent, and so is each counter
+  -- that a reply used
+  pub told_counters_are_saved_within : BeginsWithItself → SpentStaysSpent → (ps : List (List ℕ × ℕ)) (t : LoggedAttempt)
       (next : BookFields) → AreSpent ps start → IsAttemptJudged hall.keeper.book t next
       → AreSpent (spent_by_all (reverse s.told) ++ ps) next
-  stopped_hall_keeps_spent_counters itself stays ps t next spent one =
+  told_counters_are_saved_within itself stays ps t next spent one =
       left_book_keeps_spent_counters itself stays hall.keeper.book next (spent_by_all (reverse s.told) ++ ps) (inr (t, one))
       (s.spent ps spent)

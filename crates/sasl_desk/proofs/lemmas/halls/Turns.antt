@@ -6,7 +6,7 @@ use Rattle.book_format.specs.Book.{BookFields}
 use Rattle.account_book.specs.Store.{StoreFacts}
 use Rattle.log_grammar.specs.Books.{accounts_in}
 use Rattle.log_grammar.specs.Lines.{LogLine}
-use Rattle.log_grammar.specs.LoggedReply.{LoggedReply}
+use Rattle.log_grammar.specs.LoggedAttempt.{LoggedAttempt}
 use Rattle.log_grammar.specs.Places.{Place, open_at}
 use Rattle.log_grammar.specs.Demands.{demands}
 use Rattle.log_grammar.specs.Numbered.{Numbered, numbered, of_number, closed_in, SpellsNumbered}
@@ -14,8 +14,9 @@ use Rattle.log_grammar.specs.NumberedLines.{IsSessionNumber, IsNumberedWritable}
 use Rattle.log_grammar.specs.Versions.{most_open}
 use Rattle.log_grammar.specs.state_machine.NumberedSteps.{put}
 use Rattle.log_grammar.proofs.lemmas.many_sessions.OpenCounts.{open_number_is_in_range}
-use Rattle.log_grammar.proofs.lemmas.many_sessions.LinesOfNumber.{one_and_others_cover_each, put_sets_own, put_keeps_others, given_append, closed_append}
-use Rattle.log_grammar.proofs.lemmas.ListEnds.{all_append}
+use Rattle.log_grammar.proofs.lemmas.many_sessions.LinesOfNumber.{one_and_others_cover_each, put_sets_own, put_keeps_others, given_in-append}
+use Rattle.log_grammar.proofs.lemmas.many_sessions.LinesOfNumber.{closed_in-append}
+use Rattle.log_grammar.proofs.lemmas.ListEnds.{appended_lists_keep_all}
 use Rattle.sasl_desk.specs.Desks.{IsStoredAt, IsBookAfterReplies, spent_by_all}
 use Rattle.sasl_desk.specs.Events.{ClientEvent}
 use Rattle.sasl_desk.specs.Guests.{is_of, guest_of}
@@ -29,9 +30,9 @@ use Rattle.sasl_desk.specs.declared.session.Session.{Session}
 use Rattle.sasl_desk.specs.declared.turn.AfterTurn.{AfterTurn}
 use Rattle.sasl_desk.proofs.lemmas.turns.Paths.{session_has_client_turn}
 use Rattle.sasl_desk.proofs.lemmas.turns.Saves.{halted_after}
-use Rattle.sasl_desk.proofs.lemmas.halls.Guests.{own_guest_counts, other_guest_counts_not, guests_are_of_others}
+use Rattle.sasl_desk.proofs.lemmas.halls.Guests.{own_guest_counts, other_guest_is_not_counted, guests_are_of_others}
 use Rattle.sasl_desk.proofs.lemmas.halls.Paths.{IsTurnLine, turn_line_may_have_number, turn_gives_no_number}
-use Rattle.sasl_desk.proofs.lemmas.halls.Seats.{LeavesAt, guests_after, seats_count_open, seat_or_end, turn_adds_its_seats, own_seats_count}
+use Rattle.sasl_desk.proofs.lemmas.halls.Seats.{LeavesSession, guests_after, seats_count_open, seat_or_end, turn_adds_its_seats, own_seats_count}
 use Rattle.sasl_desk.proofs.lemmas.halls.Seats.{other_seats_stay, turn_leaves_guests_seated}
 use Rattle.sasl_desk.proofs.lemmas.halls.Numbers.{own_item_comes_first, other_item_is_skipped, each_session_has_run, store_fits_next_call}
 use Rattle.sasl_desk.proofs.lemmas.halls.Numbers.{other_guests_stay_seated}
@@ -60,7 +61,7 @@ module _ {S : Type 0} {facts : S → StoreFacts} {IsStored : List ℕ → Type 0
     -- the place to which the turn leads
     pub next : Place
     -- the replies that the hall's log records, with those of the turn
-    pub told : List LoggedReply
+    pub told : List LoggedAttempt
     -- the lines are the turn that the session takes on the event
     pub taken : IsTurnTaken (accounts_in start) (server_nonce_of (of_number n calls)) event moment (s.places n) lines next
     -- the hall's log with these lines is one of version 2, which may be cut short, with the number at that place and the others as before
@@ -71,7 +72,7 @@ module _ {S : Type 0} {facts : S → StoreFacts} {IsStored : List ℕ → Type 0
     -- the lines can be written
     pub writable : CanBeWritten lines
     -- the session is left at that place
-    pub leaves : LeavesAt (accounts_in start) next (closed_in (map (numbered n) lines)) left
+    pub leaves : LeavesSession (accounts_in start) next (closed_in (map (numbered n) lines)) left
     -- the new book is the one after these replies
     pub is_book : IsBookAfterReplies start (reverse told) new.book
     -- the store holds what it has to hold when the session is at that place
@@ -99,9 +100,9 @@ module _ {S : Type 0} {facts : S → StoreFacts} {IsStored : List ℕ → Type 0
       let counted = own_guest_counts n guest others refl in
       let alone : count_by (is_of n) others ≡ 0 = omega (arith, counted, s.guests n, open_place_counts_one (s.places n) is_open) in
       let none = turn_gives_no_number n lines step.turns in
-      let all_begun = given_append (hall_lines calls) (map (numbered n) lines) in
-      let all_closed = closed_append (hall_lines calls) (map (numbered n) lines) in
-      let leaves = subst (λ (p : Place). LeavesAt accounts p (closed_in (map (numbered n) lines)) left) (sym here) step.leaves in (
+      let all_begun = given_in-append (hall_lines calls) (map (numbered n) lines) in
+      let all_closed = closed_in-append (hall_lines calls) (map (numbered n) lines) in
+      let leaves = subst (λ (p : Place). LeavesSession accounts p (closed_in (map (numbered n) lines)) left) (sym here) step.leaves in (
         record {
           places = places;
           told = step.told;
@@ -111,14 +112,14 @@ module _ {S : Type 0} {facts : S → StoreFacts} {IsStored : List ℕ → Type 0
           fresh = λ m more. other_item_is_skipped n m call calls (λ same. omega (arith, same, more, range.1, none, all_begun))
               ∙ s.fresh m (omega (arith, more, none, all_begun));
           spelled = step.spelled;
-          writable = all_append IsNumberedWritable (hall_lines calls) (map (numbered n) lines) s.writable
+          writable = appended_lists_keep_all IsNumberedWritable (hall_lines calls) (map (numbered n) lines) s.writable
               (numbered_turn_is_writable n number lines step.turns step.writable);
           given = omega (arith, s.given, none, all_begun);
           last_number = s.last_number;
           guests = one_and_others_cover_each
               (λ (m : ℕ). count_by (is_of m) (guests_after n server_nonce left others) ≡ open_at (places m)) n
               (own_seats_count n server_nonce others left alone ∙ sym (seats_count_open accounts (places n) _ left leaves))
-              (λ m other. other_seats_stay n server_nonce others m left other ∙ sym (other_guest_counts_not m guest others other)
+              (λ m other. other_seats_stay n server_nonce others m left other ∙ sym (other_guest_is_not_counted m guest others other)
               ∙ s.guests m ∙ ap open_at (sym (put_keeps_others n step.next s.places m other)));
           open_are = omega (
             arith,

@@ -22,7 +22,7 @@ use Rattle.sasl_desk.specs.Halls.{HallFields, hall_of, hall_lines, IsSessionRun,
 use Rattle.sasl_desk.specs.Runs.{Call, IsRun}
 use Rattle.sasl_desk.specs.declared.hall.guest.Guest.{Guest}
 use Rattle.sasl_desk.specs.declared.keeper.Keeper.{Keeper}
-use Rattle.sasl_desk.proofs.lemmas.halls.Guests.{some_guest}
+use Rattle.sasl_desk.proofs.lemmas.halls.Guests.{some_guest_has_number}
 use Rattle.sasl_desk.proofs.lemmas.turns.Paths.{session_has_client_turn}
 use Rattle.sasl_desk.proofs.lemmas.runs.HeldBooks.{unhalted_store_holds_book}
 
@@ -53,22 +53,22 @@ abbrev pub IsClosedOrClientTurn : Place → Type 0
 IsClosedOrClientTurn at = (is_closed at ≡ true) ⊎ (is_client_turn at ≡ true)
 
 -- a place where the log is halted, or where `E` is due, is neither:
-halted_place_is_neither : (at : Place) → at ≡ halted → IsClosedOrClientTurn at → ⊥
-halted_place_is_neither at is (inl closed) = false≢true (subst (λ (p : Place). is_closed p ≡ true) is closed)
-halted_place_is_neither at is (inr turn) = false≢true (subst (λ (p : Place). is_client_turn p ≡ true) is turn)
+halted_place_is_neither_closed_nor_turn : (at : Place) → at ≡ halted → IsClosedOrClientTurn at → ⊥
+halted_place_is_neither_closed_nor_turn at is (inl closed) = false≢true (subst (λ (p : Place). is_closed p ≡ true) is closed)
+halted_place_is_neither_closed_nor_turn at is (inr turn) = false≢true (subst (λ (p : Place). is_client_turn p ≡ true) is turn)
 
-over_place_is_neither : (at : Place) → at ≡ over → IsClosedOrClientTurn at → ⊥
-over_place_is_neither at is (inl closed) = false≢true (subst (λ (p : Place). is_closed p ≡ true) is closed)
-over_place_is_neither at is (inr turn) = false≢true (subst (λ (p : Place). is_client_turn p ≡ true) is turn)
+over_place_is_neither_closed_nor_turn : (at : Place) → at ≡ over → IsClosedOrClientTurn at → ⊥
+over_place_is_neither_closed_nor_turn at is (inl closed) = false≢true (subst (λ (p : Place). is_closed p ≡ true) is closed)
+over_place_is_neither_closed_nor_turn at is (inr turn) = false≢true (subst (λ (p : Place). is_client_turn p ≡ true) is turn)
 
 -- any line may follow one that leads to a place where nothing is left to be said
 any_line_may_follow : (d : Demands) (at next : Place) (n m : ℕ) (line more : LogLine) → IsVisitTransition d at line next
     → IsClosedOrClientTurn next
     → MayFollow n line m more
 any_line_may_follow d at next n m (said halt) more goes rests =
-    halted_place_is_neither next (visit_halt_leads_to_halted d at (said halt) next refl goes) rests
+    halted_place_is_neither_closed_nor_turn next (visit_halt_leads_to_halted d at (said halt) next refl goes) rests
 any_line_may_follow d at next n m (said busy) more goes rests =
-    absurd (over_place_is_neither next (visit_busy_leads_to_over d at (said busy) next refl goes) rests)
+    absurd (over_place_is_neither_closed_nor_turn next (visit_busy_leads_to_over d at (said busy) next refl goes) rests)
 any_line_may_follow d at next n m line more goes rests = tt
 
 -- after calls of which none halted, the store holds the book
@@ -82,16 +82,16 @@ unhalted_hall_holds_book IsStored accounts (c ∷ calls) places book store going
 -- a hall that has answered these calls and has not halted
 module _ {S : Type 0} {facts : S → StoreFacts} {IsStored : List ℕ → Type 0} {start : BookFields} {calls : List (Numbered Call)}
     {hall : HallFields S} (s : IsHallAfter facts IsStored start calls hall) (working : hall.is_halted ≡ false) where
-  -- each session that is open has a guest, who stands where its place is
+  -- in a hall that has not halted, each open session has a guest, who stands at the place of the session
   open_session_has_guest : (n : ℕ) → is_closed (s.places n) ≡ false
       → (guest : Guest) × IsSeated (accounts_in start) calls s.places guest × (guest.number ≡ n)
   open_session_has_guest n is_open =
-      some_guest (IsSeated (accounts_in start) calls s.places) n hall.guests (s.seated working)
+      some_guest_has_number (IsSeated (accounts_in start) calls s.places) n hall.guests (s.seated working)
       (λ none. absurd (omega (arith, none, s.guests n, open_place_counts_one (s.places n) is_open)))
 
-  -- at the place of each number no session is open, or it is its client's turn
-  closed_or_client_turn : (n : ℕ) → IsClosedOrClientTurn (s.places n)
-  closed_or_client_turn n = elim (cases_Bool (is_closed (s.places n))) [
+  -- in a hall that has not halted, the session of each number is not open, or it is its client's turn
+  each_place_is_closed_or_client_turn : (n : ℕ) → IsClosedOrClientTurn (s.places n)
+  each_place_is_closed_or_client_turn n = elim (cases_Bool (is_closed (s.places n))) [
     | inl closed ↦ inl closed
     | inr is_open ↦
         let found = open_session_has_guest n is_open in
@@ -99,19 +99,20 @@ module _ {S : Type 0} {facts : S → StoreFacts} {IsStored : List ℕ → Type 0
         inr (subst (λ (m : ℕ). is_client_turn (s.places m) ≡ true) found.2 turn)
   ]
 
-  -- any line of any number may follow the last of its log
+  -- in the log of a hall that has not halted, any line of any number may follow the last
   pub any_line_follows_log : (n : ℕ) (line : LogLine) → FollowsLast (hall_lines calls) n line
   any_line_follows_log n line before x same =
       let d = demands (accounts_in start) in
       let b = numbered_log_has_last_transition most_open d before x.number x.value s.places s.told
       (subst (λ (l : List (Numbered LogLine)). SpellsNumbered most_open d l s.places s.told) same s.spelled) in
-      any_line_may_follow d (b.before x.number) (s.places x.number) x.number n x.value line b.goes.goes (closed_or_client_turn x.number)
+      any_line_may_follow d (b.before x.number) (s.places x.number) x.number n x.value line b.goes.goes
+      (each_place_is_closed_or_client_turn x.number)
 
-  -- its store has not failed, and holds the text of its book
+  -- the store of a hall that has not halted has not failed, and holds the text of the hall's book
   pub working_hall_holds_book : HoldsBook IsStored hall.keeper.book (facts hall.keeper.store)
   working_hall_holds_book =
       unhalted_hall_holds_book IsStored (accounts_in start) calls s.places hall.keeper.book (facts hall.keeper.store)
-      (λ n is. halted_place_is_neither (s.places n) is (closed_or_client_turn n)) s.is_stored
+      (λ n is. halted_place_is_neither_closed_nor_turn (s.places n) is (each_place_is_closed_or_client_turn n)) s.is_stored
 
 -- a hall stands for the same calls with its guests in another order
 module _ {S : Type 0} {facts : S → StoreFacts} {IsStored : List ℕ → Type 0} {start : BookFields} {calls : List (Numbered Call)}

@@ -7,8 +7,7 @@ use Rattle.scram_ends.specs.Login.{IsAuthentic}
 use Rattle.scram_ends.specs.Verdict.{accept, refuse, due_text}
 use Rattle.scram_ends.specs.declared.verdict.Refusal.{Refusal}
 use Rattle.log_grammar.specs.Lines.{LogLine, header, header_two, said, heard, bad, gone, ended, mechs, cont, accepts, refuses}
-use Rattle.log_grammar.specs.Places.{Place, between, offered, asks_bare, waits_first, got_first, waits_final, got_final, waits_code}
-use Rattle.log_grammar.specs.Places.{leaving, over}
+use Rattle.log_grammar.specs.Places.{Place, between, offered, asks_bare, waits_first, got_first, waits_final, got_final, waits_code, leaving, over}
 use Rattle.log_grammar.specs.Demands.{Accounts, Demands, NamesMechanism, IsFirstOf, IsChallenged, IsVerdictDue, demands}
 use Rattle.log_grammar.specs.state_machine.Steps.{IsTransition}
 use Rattle.sasl_desk.specs.Runs.{IsAtRest, IsAnswerLine}
@@ -26,14 +25,14 @@ IsAnswerDue at = ⊥
 
 -- a path of lines of an answer, by what is demanded
 module _ (d : Demands) where
-  -- from between sessions it has no line
+  -- a path of lines of an answer that leads from between sessions has no line
   between_path_is_empty : (lines : List LogLine) (next : Place) → IsPath d between lines next → AllByRecursion IsAnswerLine lines
       → (lines ≡ []) × (next ≡ between)
   between_path_is_empty [] next path all = (refl, path)
   between_path_is_empty (said (mechs names) ∷ lines) next path all = absurd all.0
   between_path_is_empty (line ∷ lines) next (middle, goes, path) all = absurd goes
 
-  -- from where `E` is due it is `E` alone
+  -- a path of lines of an answer that leads from where `E` is due is `E` alone
   pub over_path_is_end : (lines : List LogLine) (next : Place) → IsPath d over lines next → AllByRecursion IsAnswerLine lines
       → IsAtRest next → (lines ≡ ended ∷ []) × (next ≡ between)
   over_path_is_end [] next path all rests = absurd (false≢true (subst IsAtRest path rests))
@@ -43,28 +42,28 @@ module _ (d : Demands) where
   over_path_is_end (line ∷ lines) next (middle, goes, path) all rests = absurd goes
 
   -- no line of an answer may stand at a client's turn, and a path of such lines from there has none:
-  no_answer_at_client_turn : (at next : Place) (line : LogLine) → is_client_turn at ≡ true → IsAnswerLine line
+  no_answer_stands_at_client_turn : (at next : Place) (line : LogLine) → is_client_turn at ≡ true → IsAnswerLine line
       → IsTransition d at line next → ⊥
-  no_answer_at_client_turn at next header turn is goes = is
-  no_answer_at_client_turn at next header_two turn is goes = is
-  no_answer_at_client_turn at next (heard line) turn is goes = is
-  no_answer_at_client_turn at next bad turn is goes = is
-  no_answer_at_client_turn at next gone turn is goes = is
-  no_answer_at_client_turn offered next (said line) turn is goes = goes
-  no_answer_at_client_turn offered next ended turn is goes = goes
-  no_answer_at_client_turn (waits_first mechanism) next (said line) turn is goes = goes
-  no_answer_at_client_turn (waits_first mechanism) next ended turn is goes = goes
-  no_answer_at_client_turn (waits_final mechanism account first challenge) next (said line) turn is goes = goes
-  no_answer_at_client_turn (waits_final mechanism account first challenge) next ended turn is goes = goes
-  no_answer_at_client_turn (waits_code account) next (said line) turn is goes = goes
-  no_answer_at_client_turn (waits_code account) next ended turn is goes = goes
-  no_answer_at_client_turn at next line turn is goes = absurd (cc turn)
+  no_answer_stands_at_client_turn at next header turn is goes = is
+  no_answer_stands_at_client_turn at next header_two turn is goes = is
+  no_answer_stands_at_client_turn at next (heard line) turn is goes = is
+  no_answer_stands_at_client_turn at next bad turn is goes = is
+  no_answer_stands_at_client_turn at next gone turn is goes = is
+  no_answer_stands_at_client_turn offered next (said line) turn is goes = goes
+  no_answer_stands_at_client_turn offered next ended turn is goes = goes
+  no_answer_stands_at_client_turn (waits_first mechanism) next (said line) turn is goes = goes
+  no_answer_stands_at_client_turn (waits_first mechanism) next ended turn is goes = goes
+  no_answer_stands_at_client_turn (waits_final mechanism account first challenge) next (said line) turn is goes = goes
+  no_answer_stands_at_client_turn (waits_final mechanism account first challenge) next ended turn is goes = goes
+  no_answer_stands_at_client_turn (waits_code account) next (said line) turn is goes = goes
+  no_answer_stands_at_client_turn (waits_code account) next ended turn is goes = goes
+  no_answer_stands_at_client_turn at next line turn is goes = absurd (cc turn)
 
   client_turn_path_is_empty : (at : Place) (lines : List LogLine) (next : Place) → is_client_turn at ≡ true → IsPath d at lines next
       → AllByRecursion IsAnswerLine lines → (lines ≡ []) × (next ≡ at)
   client_turn_path_is_empty at [] next turn path all = (refl, path)
   client_turn_path_is_empty at (line ∷ lines) next turn (middle, goes, path) all =
-      absurd (no_answer_at_client_turn at middle line turn all.0 goes)
+      absurd (no_answer_stands_at_client_turn at middle line turn all.0 goes)
 
 -- the lines are a refusal with this text, after which the session is over
 abbrev pub IsRefusal : (text : List ℕ) → List LogLine → Place → Type 0
@@ -116,7 +115,7 @@ ended_session_awaits_no_code next at account is = let wrong : between ≡ waits_
 
 -- the answers of a server of these accounts
 module _ (accounts : Accounts) where
-  -- each has the shape of its place
+  -- each answer that is due at a place has the shape of the place
   pub answer_has_shape : (at : Place) (lines : List LogLine) (next : Place) → IsPath (demands accounts) at lines next
       → AllByRecursion IsAnswerLine lines → IsAtRest next → HasShapeAt accounts at lines next
   answer_has_shape leaving [] next path all rests = absurd (false≢true (subst IsAtRest path rests))
@@ -165,7 +164,7 @@ module _ (accounts : Accounts) where
   answer_has_shape (got_final m account first challenge last) (line ∷ lines) next (middle, goes, path) all rests = absurd goes
   answer_has_shape at lines next path all rests = tt
 
-  -- each has an acceptance, or its session does not wait for codes
+  -- each answer that is due has an acceptance, or its session does not wait for codes
   pub acceptance_or_no_code : (at : Place) (lines : List LogLine) (next : Place) → IsAnswerDue at → HasShapeAt accounts at lines next
       → (has_acceptance lines ≡ true) ⊎ ((account : List ℕ) → next ≡ waits_code account → ⊥)
   unfolding has_acceptance

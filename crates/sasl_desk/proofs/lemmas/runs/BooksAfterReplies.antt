@@ -5,7 +5,7 @@ use Rattle.std.proofs.lemmas.List.{reverse-append, reverse-reverse}
 use Rattle.otp_core.specs.Laws.{BeginsWithItself}
 use Rattle.book_format.specs.Book.{BookFields}
 use Rattle.log_grammar.specs.Books.{accounts_in}
-use Rattle.log_grammar.specs.LoggedReply.{LoggedReply}
+use Rattle.log_grammar.specs.LoggedAttempt.{LoggedAttempt}
 use Rattle.sasl_log.specs.Tokens.{IsBookAfter}
 use Rattle.sasl_log.proofs.lemmas.audits.AuditedLineByLine.{book_follows_no_replies}
 use Rattle.sasl_desk.specs.Desks.{IsBookAfterReplies, spent_by_all}
@@ -15,29 +15,29 @@ use Rattle.sasl_desk.proofs.lemmas.turns.Keepers.{judged_reply_is_due, judged_bo
 
 module _ (itself : BeginsWithItself) (start : BookFields) where
   -- the book after replies, of which the latest is given first, is the one that is due after them
-  book_with_is_book_after : (before : List LoggedReply) (book : BookFields) → IsBookAfterReplies start before book
+  book_with_is_book_after : (before : List LoggedAttempt) (book : BookFields) → IsBookAfterReplies start before book
       → IsBookAfter (accounts_in start) (reverse before) book
   book_with_is_book_after [] book is = subst (λ (b : BookFields). IsBookAfter (accounts_in start) [] b) (sym is)
       (book_follows_no_replies itself start)
   book_with_is_book_after (t ∷ before) book (old, with_old, one) =
-      subst (λ (l : List LoggedReply). IsBookAfter (accounts_in start) l book) (sym (reverse_onto before t []))
+      subst (λ (l : List LoggedAttempt). IsBookAfter (accounts_in start) l book) (sym (reverse_onto before t []))
       (judged_book_is_after old book t one (accounts_in start) (reverse before) (book_with_is_book_after before old with_old))
 
   -- the book after replies, given in their order, is the one that is due after them
-  pub book_after_told : (told : List LoggedReply) (book : BookFields) → IsBookAfterReplies start (reverse told) book
+  pub book_after_told : (told : List LoggedAttempt) (book : BookFields) → IsBookAfterReplies start (reverse told) book
       → IsBookAfter (accounts_in start) told book
   book_after_told told book is =
-      subst (λ (l : List LoggedReply). IsBookAfter (accounts_in start) l book) (reverse-reverse told)
+      subst (λ (l : List LoggedAttempt). IsBookAfter (accounts_in start) l book) (reverse-reverse told)
       (book_with_is_book_after (reverse told) book is)
 
 -- the book after one reply more is the book after all of them
-pub reply_adds_to_book : (start old new : BookFields) (told : List LoggedReply) (t : LoggedReply)
+pub reply_adds_to_book : (start old new : BookFields) (told : List LoggedAttempt) (t : LoggedAttempt)
     → IsBookAfterReplies start (reverse told) old → IsAttemptJudged old t new → IsBookAfterReplies start (reverse (told ++ t ∷ [])) new
 reply_adds_to_book start old new told t before one =
-    subst (λ (l : List LoggedReply). IsBookAfterReplies start l new) (sym (reverse-append told (t ∷ []))) (old, before, one)
+    subst (λ (l : List LoggedAttempt). IsBookAfterReplies start l new) (sym (reverse-append told (t ∷ []))) (old, before, one)
 
 -- what an attempt spends
-module _ (itself : BeginsWithItself) (stays : SpentStaysSpent) (old new : BookFields) (t : LoggedReply)
+module _ (itself : BeginsWithItself) (stays : SpentStaysSpent) (old new : BookFields) (t : LoggedAttempt)
     (one : IsAttemptJudged old t new) where
   -- what was spent, and what an attempt used, is spent in the book after it
   pub attempt_spends_counters : (ps : List (List ℕ × ℕ)) → AreSpent ps old → AreSpent (spent_by t ++ ps) new
@@ -47,10 +47,10 @@ module _ (itself : BeginsWithItself) (stays : SpentStaysSpent) (old new : BookFi
       (judged_book_is_after old new t one (accounts_in old) [] self) spent
 
   -- with one reply more, what was spent at the start is still spent, and so is each counter that a reply used
-  pub reply_spends_counters : (start : BookFields) (told : List LoggedReply)
+  pub reply_spends_counters : (start : BookFields) (told : List LoggedAttempt)
       → ((ps : List (List ℕ × ℕ)) → AreSpent ps start → AreSpent (spent_by_all (reverse told) ++ ps) old)
       → (ps : List (List ℕ × ℕ)) → AreSpent ps start → AreSpent (spent_by_all (reverse (told ++ t ∷ [])) ++ ps) new
   reply_spends_counters start told before ps spent =
-      subst (λ (l : List LoggedReply). AreSpent (spent_by_all l ++ ps) new) (sym (reverse-append told (t ∷ [])))
+      subst (λ (l : List LoggedAttempt). AreSpent (spent_by_all l ++ ps) new) (sym (reverse-append told (t ∷ [])))
       (subst (λ (l : List (List ℕ × ℕ)). AreSpent l new) (sym (append_assoc (spent_by t) (spent_by_all (reverse told)) ps))
       (attempt_spends_counters (spent_by_all (reverse told) ++ ps) (before ps spent)))

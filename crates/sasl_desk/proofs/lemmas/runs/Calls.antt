@@ -24,17 +24,17 @@ use Rattle.sasl_desk.specs.declared.session.Session.TheVariants.{WaitAuth, WaitF
 use Rattle.sasl_desk.proofs.lemmas.turns.Saves.{halted_after, turn_counts_saves, turn_asks_for_save, turn_is_quiet, halting_turn_failed_saving}
 use Rattle.sasl_desk.proofs.lemmas.runs.IsDeskAfter.{open_desk_holds_book, greeting_adds_desk_call, turn_adds_desk_call}
 
--- an open session is no halt
-pub open_session_not_halted : (going : Session) → session_phase going ≡ phase.Halted → ⊥
-open_session_not_halted WaitAuth is = cc is
-open_session_not_halted (WaitFirst mechanism) is = cc is
-open_session_not_halted (WaitFinal waiting) is = cc is
-open_session_not_halted (WaitCode name) is = cc is
+-- the phase of an open session is not Halted
+pub open_session_is_not_halted : (going : Session) → session_phase going ≡ phase.Halted → ⊥
+open_session_is_not_halted WaitAuth is = cc is
+open_session_is_not_halted (WaitFirst mechanism) is = cc is
+open_session_is_not_halted (WaitFinal waiting) is = cc is
+open_session_is_not_halted (WaitCode name) is = cc is
 
 -- a desk whose phase after a turn is Halted was halted by that turn
 halted_phase_shows_halting_turn : (left : AfterTurn) (server_nonce : List ℕ) → phase_of (state_after left server_nonce) ≡ phase.Halted
     → halted_after left ≡ true
-halted_phase_shows_halting_turn (Going going) server_nonce is = absurd (open_session_not_halted going is)
+halted_phase_shows_halting_turn (Going going) server_nonce is = absurd (open_session_is_not_halted going is)
 halted_phase_shows_halting_turn Over server_nonce is = absurd (cc is)
 halted_phase_shows_halting_turn (Halted going) server_nonce is = refl
 

@@ -7,7 +7,7 @@ use Rattle.book_format.specs.Trees.{IsBookText}
 use Rattle.account_book.specs.SavedBooks.{SavesBook}
 use Rattle.account_book.specs.Store.{StoreFacts}
 use Rattle.log_grammar.specs.Lines.{said, halt}
-use Rattle.log_grammar.specs.LoggedReply.{logged_reply_of}
+use Rattle.log_grammar.specs.LoggedAttempt.{logged_attempt_of}
 use Rattle.log_grammar.specs.Places.{Place, waits_code, halted}
 use Rattle.log_grammar.specs.Demands.{Accounts}
 use Rattle.sasl_desk.specs.Desks.{HoldsBook, IsLostAfter, IsStoredAt}
@@ -16,8 +16,8 @@ use Rattle.sasl_desk.specs.Events.{ClientEvent}
 use Rattle.sasl_desk.specs.Keeper.{IsKept, IsJudged}
 use Rattle.sasl_desk.specs.Runs.{hears, Call, call_of, IsRun}
 use Rattle.sasl_desk.specs.TurnResults.{judged_lines}
-use Rattle.sasl_desk.specs.declared.keeper.CodeJudged.TheVariants.{Lost}
-use Rattle.sasl_desk.proofs.lemmas.turns.Keepers.{save_failed_now}
+use Rattle.sasl_desk.specs.declared.keeper.CodeJudged.TheVariants.{NotSaved}
+use Rattle.sasl_desk.proofs.lemmas.turns.Keepers.{store_failed_in_this_save}
 
 module _ (IsStored : List ℕ → Type 0) where
   -- a store that saved the book holds its text
@@ -49,7 +49,7 @@ module _ (IsStored : List ℕ → Type 0) where
     unhalted_store_holds_book halted going stored = absurd (going refl)
     unhalted_store_holds_book at going stored = stored
 
-    -- when it is the client's turn, the store holds the book
+    -- at a client's turn, the store holds the book
     pub client_turn_store_holds_book : (at : Place) → is_client_turn at ≡ true → IsStoredAt IsStored accounts calls at book store
         → HoldsBook IsStored book store
     client_turn_store_holds_book at turn stored =
@@ -61,22 +61,23 @@ module _ (IsStored : List ℕ → Type 0) where
     held_book_fits_place halted going held = absurd (going refl)
     held_book_fits_place at going held = held
 
-  -- after a save that failed, the store is as it has to be at the halt
+  -- after the save for a code failed, the store is as it has to be at the halt
   pub lost_save_fits_halt : (accounts : Accounts) (calls : List Call) (at : Place) (old new : BookFields) (was now : StoreFacts)
       (name : List ℕ) (event : ClientEvent) (moment : ℕ) (sent : CodeTexts)
       → IsRun accounts calls at → at ≡ waits_code name → HoldsBook IsStored old was
-      → IsJudged IsStored old was name moment sent Lost new now
-      → IsStoredAt IsStored accounts (call_of (hears event moment) (judged_lines moment sent Lost) ∷ calls) halted new now
+      → IsJudged IsStored old was name moment sent NotSaved new now
+      → IsStoredAt IsStored accounts (call_of (hears event moment) (judged_lines moment sent NotSaved) ∷ calls) halted new now
   lost_save_fits_halt accounts calls at old new was now name event moment sent run here held (same, (reply, next, needs, one, loses)) =
-      let lost = save_failed_now was now loses.text held.working loses.lost in
+      let lost = store_failed_in_this_save was now loses.text held.working loses.lost in
       let of_old : (IsBookText now.saved old × IsStored now.saved) ⊎ IsBookText now.saved next = elim lost.saved [
         | inl before ↦ inl (subst (λ (t : List ℕ). IsBookText t old) (sym before) held.saved, subst IsStored (sym before) held.stored)
         | inr after ↦ inr (subst (λ (t : List ℕ). IsBookText t next) (sym after) loses.is_text)
       ] in
-      subst (λ (b : BookFields). IsLostAfter IsStored accounts (call_of (hears event moment) (judged_lines moment sent Lost) ∷ calls) b now)
+      subst
+      (λ (b : BookFields). IsLostAfter IsStored accounts (call_of (hears event moment) (judged_lines moment sent NotSaved) ∷ calls) b now)
       (sym same) (record {
         failed = lost.failed;
-        t = logged_reply_of name moment sent reply;
+        attempt = logged_attempt_of name moment sent reply;
         next = next;
         is_latest = (
           at,
@@ -84,6 +85,7 @@ module _ (IsStored : List ℕ → Type 0) where
           record { event = event; answer = said halt; is_request = refl; place = here; lines_are = refl; to_save = needs },
         );
         is_judged = one;
+        asked = subst (λ (t : List ℕ). IsBookText t next) (sym lost.begun.asked) loses.is_text;
         saved = of_old;
         before = (was.saved, held.saved, held.stored);
       })

@@ -11,12 +11,12 @@ use Rattle.log_grammar.specs.Books.{accounts_in}
 use Rattle.log_grammar.specs.laws.LogLaws.{GoesOnByALine}
 use Rattle.log_grammar.specs.Lines.{LogLine, header, said, heard, mechs, code_line, IsWritable}
 use Rattle.log_grammar.specs.Words.{offered_names}
-use Rattle.log_grammar.specs.LoggedReply.{LoggedReply, logged_reply_of}
+use Rattle.log_grammar.specs.LoggedAttempt.{LoggedAttempt, logged_attempt_of}
 use Rattle.log_grammar.specs.Places.{Place, before_all, between, offered, waits_code, halted}
 use Rattle.log_grammar.specs.Demands.{Accounts, demands}
 use Rattle.log_grammar.specs.Begins.{Begins}
 use Rattle.log_grammar.proofs.lemmas.lines.LackLf.{reply_is_writable}
-use Rattle.log_grammar.proofs.lemmas.ListEnds.{all_append}
+use Rattle.log_grammar.proofs.lemmas.ListEnds.{appended_lists_keep_all}
 use Rattle.log_grammar.proofs.lemmas.lines.Written.{offer_is_writable, header_is_writable, halt_is_writable}
 use Rattle.sasl_desk.specs.Events.{ClientEvent}
 use Rattle.sasl_desk.specs.Keeper.{IsJudged, IsJudgedInRange}
@@ -27,17 +27,18 @@ use Rattle.sasl_desk.specs.TurnResults.{after_turn_of, judged_lines, after_judge
 use Rattle.sasl_desk.specs.Desks.{IsStateAt, HoldsBook, IsStoredAt, IsBookAfterReplies, spent_by_all, IsDeskAfter, desk_of, state_after}
 use Rattle.sasl_desk.specs.declared.keeper.Keeper.{Keeper}
 use Rattle.sasl_desk.specs.declared.keeper.CodeJudged.{CodeJudged}
-use Rattle.sasl_desk.specs.declared.keeper.CodeJudged.TheVariants.{Replied, Lost}
+use Rattle.sasl_desk.specs.declared.keeper.CodeJudged.TheVariants.{Replied, NotSaved}
 use Rattle.sasl_desk.specs.declared.desk.Desk.{Desk}
 use Rattle.sasl_desk.specs.declared.desk.state.State.TheVariants.{Closed, Open, Halted}
 use Rattle.sasl_desk.specs.declared.session.Session.{Session}
 use Rattle.sasl_desk.specs.declared.session.Session.TheVariants.{WaitAuth}
 use Rattle.sasl_desk.specs.declared.turn.AfterTurn.{AfterTurn}
 use Rattle.sasl_desk.proofs.lemmas.turns.Keepers.{judged_reply_is_due}
-use Rattle.sasl_desk.proofs.lemmas.turns.Paths.{session_has_client_turn, left_place_not_halted, turn_has_no_reply, log_goes_on_by_path, log_goes_on_by_reply}
+use Rattle.sasl_desk.proofs.lemmas.turns.Paths.{session_has_client_turn, left_place_is_not_halted, turn_has_no_reply, log_goes_on_by_path}
+use Rattle.sasl_desk.proofs.lemmas.turns.Paths.{log_goes_on_by_reply}
 use Rattle.sasl_desk.proofs.lemmas.turns.Taken.{session_turn_is_taken, reply_turn_is_taken, halt_turn_is_taken}
-use Rattle.sasl_desk.proofs.lemmas.runs.HeldBooks.{saved_store_holds_book, kept_store_holds_book, client_turn_store_holds_book}
-use Rattle.sasl_desk.proofs.lemmas.runs.HeldBooks.{held_book_fits_place, lost_save_fits_halt}
+use Rattle.sasl_desk.proofs.lemmas.runs.HeldBooks.{saved_store_holds_book, kept_store_holds_book, client_turn_store_holds_book, held_book_fits_place}
+use Rattle.sasl_desk.proofs.lemmas.runs.HeldBooks.{lost_save_fits_halt}
 use Rattle.sasl_desk.proofs.lemmas.runs.BooksAfterReplies.{book_after_told, reply_adds_to_book, reply_spends_counters}
 
 -- after a turn that leaves its session at a place, its desk is in the state that is due there
@@ -67,7 +68,7 @@ new_desk_stands_for_book law facts IsStored book keeper was same holds = record 
 -- a closed desk
 module _ (law : GoesOnByALine) {S : Type 0} {facts : S → StoreFacts} {IsStored : List ℕ → Type 0} {start : BookFields} {calls : List Call}
     {keeper : Keeper S} (server_nonce : List ℕ) (s : IsDeskAfter facts IsStored start calls (desk_of keeper Closed)) where
-  -- as it greets a client, it stands for one call more, and its session is offered the mechanisms
+  -- a closed desk that greets a client stands for one call more, and its session is offered the mechanisms
   pub greeting_adds_desk_call : IsDeskAfter facts IsStored start (call_of (greets server_nonce) (said (mechs offered_names) ∷ []) ∷ calls)
       (desk_of keeper (Open WaitAuth server_nonce))
   greeting_adds_desk_call =
@@ -79,9 +80,9 @@ module _ (law : GoesOnByALine) {S : Type 0} {facts : S → StoreFacts} {IsStored
         place = offered;
         told = s.told;
         is_run = (s.place, s.is_run, record { from = s.is_state; says = refl; waits = refl });
-        begins = subst (λ (t : List LoggedReply). Begins (demands accounts) (run_lines calls ++ line ∷ []) offered t) (append-nil s.told)
+        begins = subst (λ (t : List LoggedAttempt). Begins (demands accounts) (run_lines calls ++ line ∷ []) offered t) (append-nil s.told)
             on;
-        writable = all_append IsWritable (run_lines calls) (line ∷ []) s.writable (offer_is_writable, tt);
+        writable = appended_lists_keep_all IsWritable (run_lines calls) (line ∷ []) s.writable (offer_is_writable, tt);
         is_state = (refl, refl);
         is_book = s.is_book;
         is_stored = subst (λ (p : Place). IsStoredAt IsStored accounts calls p keeper.book (facts keeper.store)) s.is_state s.is_stored;
@@ -91,7 +92,7 @@ module _ (law : GoesOnByALine) {S : Type 0} {facts : S → StoreFacts} {IsStored
 -- a desk with an open session
 module _ {S : Type 0} {facts : S → StoreFacts} {IsStored : List ℕ → Type 0} {start : BookFields} {calls : List Call} {old : Keeper S}
     {going : Session} {server_nonce : List ℕ} (s : IsDeskAfter facts IsStored start calls (desk_of old (Open going server_nonce))) where
-  -- its store holds the book
+  -- the store of a desk with an open session holds the book
   pub open_desk_holds_book : HoldsBook IsStored old.book (facts old.store)
   open_desk_holds_book =
       client_turn_store_holds_book IsStored (accounts_in start) calls old.book (facts old.store) s.place
@@ -117,12 +118,12 @@ module _ {S : Type 0} {facts : S → StoreFacts} {IsStored : List ℕ → Type 0
           is_run = (s.place, s.is_run, taken);
           begins = log_goes_on_by_path law accounts (run_lines calls) s.place s.told lines next s.begins taken.path
               (turn_has_no_reply accounts server_nonce event s.place t.turn t.message turn);
-          writable = all_append IsWritable (run_lines calls) lines s.writable (rw t.lines_are at t.writable);
+          writable = appended_lists_keep_all IsWritable (run_lines calls) lines s.writable (rw t.lines_are at t.writable);
           is_state = left_desk_fits_place accounts (server_nonce_of calls) server_nonce next t.turn.answer.session same
               turn.is_answer.left;
           is_book = s.is_book;
           is_stored = held_book_fits_place IsStored accounts (call_of (hears event moment) lines ∷ calls) old.book (facts old.store) next
-              (left_place_not_halted accounts next t.turn.answer.session turn.is_answer.left) open_desk_holds_book;
+              (left_place_is_not_halted accounts next t.turn.answer.session turn.is_answer.left) open_desk_holds_book;
           spent = s.spent;
         })
 
@@ -134,7 +135,7 @@ module _ {S : Type 0} {facts : S → StoreFacts} {IsStored : List ℕ → Type 0
         (desk_of new (state_after (after_judged name judged) server_nonce))
     code_adds_desk_call stays name sent new due written (Replied reply) (one, kept) range =
         let accounts = accounts_in start in
-        let t = logged_reply_of name moment sent reply in
+        let t = logged_attempt_of name moment sent reply in
         record {
           place = waits_code name;
           told = s.told ++ t ∷ [];
@@ -142,7 +143,7 @@ module _ {S : Type 0} {facts : S → StoreFacts} {IsStored : List ℕ → Type 0
           begins = log_goes_on_by_reply law accounts (run_lines calls) name s.told moment sent reply
               (subst (λ (p : Place). Begins (demands accounts) (run_lines calls) p s.told) due.place s.begins)
               (judged_reply_is_due old.book new.book t one accounts s.told (book_after_told itself start s.told old.book s.is_book));
-          writable = all_append IsWritable (run_lines calls) (judged_lines moment sent (Replied reply)) s.writable
+          writable = appended_lists_keep_all IsWritable (run_lines calls) (judged_lines moment sent (Replied reply)) s.writable
               (written, (reply_is_writable moment reply one.is_moment range, tt));
           is_state = (refl, s.is_state.1);
           is_book = reply_adds_to_book start old.book new.book s.told t s.is_book one;
@@ -150,16 +151,16 @@ module _ {S : Type 0} {facts : S → StoreFacts} {IsStored : List ℕ → Type 0
               open_desk_holds_book;
           spent = reply_spends_counters itself stays old.book new.book t one start s.told s.spent;
         }
-    code_adds_desk_call stays name sent new due written Lost judged range =
+    code_adds_desk_call stays name sent new due written NotSaved judged range =
         let accounts = accounts_in start in
-        let lines = judged_lines moment sent Lost in
+        let lines = judged_lines moment sent NotSaved in
         let taken = halt_turn_is_taken accounts (server_nonce_of calls) event moment s.place name sent due in
         record {
           place = halted;
           told = s.told;
           is_run = (s.place, s.is_run, taken);
           begins = log_goes_on_by_path law accounts (run_lines calls) s.place s.told lines halted s.begins taken.path (tt, (tt, tt));
-          writable = all_append IsWritable (run_lines calls) lines s.writable (written, (halt_is_writable, tt));
+          writable = appended_lists_keep_all IsWritable (run_lines calls) lines s.writable (written, (halt_is_writable, tt));
           is_state = tt;
           is_book = subst (λ (b : BookFields). IsBookAfterReplies start (reverse s.told) b) (sym judged.0) s.is_book;
           is_stored = lost_save_fits_halt IsStored accounts calls s.place old.book new.book (facts old.store) (facts new.store) name event

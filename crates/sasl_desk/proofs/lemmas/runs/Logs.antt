@@ -8,7 +8,7 @@ use Rattle.log_grammar.specs.Lines.{LogLine, said, halt, log_line_text, IsLogLin
 use Rattle.log_grammar.specs.Places.{Place, MayEnd}
 use Rattle.log_grammar.specs.Demands.{demands}
 use Rattle.log_grammar.specs.Begins.{Begins, AreLines}
-use Rattle.log_grammar.specs.Versions.{IsFront, IsClean}
+use Rattle.log_grammar.specs.Versions.{IsLogFront, IsClean}
 use Rattle.log_grammar.proofs.lemmas.many_sessions.HaltAndBusy.{halt_leads_to_halted}
 use Rattle.log_grammar.proofs.lemmas.kinds.ShownByLines.{log_lines_are_front, log_lines_are_clean}
 use Rattle.log_grammar.proofs.lemmas.lines.LackLf.{lines_lack_lf}
@@ -36,12 +36,12 @@ bytes_are_lines lines written = (
   writable_lines_are_read IsLogLine log_line_text lines written,
 )
 
--- an open session is not Closed
-open_session_not_closed : (going : Session) → session_phase going ≡ phase.Closed → ⊥
-open_session_not_closed WaitAuth is = cc is
-open_session_not_closed (WaitFirst mechanism) is = cc is
-open_session_not_closed (WaitFinal waiting) is = cc is
-open_session_not_closed (WaitCode name) is = cc is
+-- the phase of an open session is not Closed
+open_session_is_not_closed : (going : Session) → session_phase going ≡ phase.Closed → ⊥
+open_session_is_not_closed WaitAuth is = cc is
+open_session_is_not_closed (WaitFirst mechanism) is = cc is
+open_session_is_not_closed (WaitFinal waiting) is = cc is
+open_session_is_not_closed (WaitCode name) is = cc is
 
 -- at a desk that is Closed a log may end
 closed_desk_may_end : (start : BookFields) (server_nonce : List ℕ) (place : Place) (state : State)
@@ -49,36 +49,36 @@ closed_desk_may_end : (start : BookFields) (server_nonce : List ℕ) (place : Pl
     → phase_of state ≡ phase.Closed
     → MayEnd place
 closed_desk_may_end start server_nonce place Closed at is = rw at tt
-closed_desk_may_end start server_nonce place (Open going kept) at is = absurd (open_session_not_closed going is)
+closed_desk_may_end start server_nonce place (Open going kept) at is = absurd (open_session_is_not_closed going is)
 closed_desk_may_end start server_nonce place Halted at is = absurd (cc is)
 
 -- a desk that has answered these calls
 module _ {S : Type 0} {facts : S → StoreFacts} {IsStored : List ℕ → Type 0} {start : BookFields} {calls : List Call} {desk : Desk S}
     (s : IsDeskAfter facts IsStored start calls desk) where
-  -- its log is a front
-  pub desk_log_is_front : IsFront (accounts_in start) (log_bytes (run_lines calls))
-  desk_log_is_front =
+  -- the law: the log of a desk is a front: a clean log may begin with it
+  pub log_is_a_front : IsLogFront (accounts_in start) (log_bytes (run_lines calls))
+  log_is_a_front =
       log_lines_are_front (accounts_in start) (log_bytes (run_lines calls)) (run_lines calls) s.place s.told
       (bytes_are_lines (run_lines calls) s.writable) s.begins
 
-  -- its log is clean if it may end at its place
+  -- the log of a desk is clean if a log may end at its place
   ended_desk_log_is_clean : MayEnd s.place → IsClean (accounts_in start) (log_bytes (run_lines calls))
   ended_desk_log_is_clean =
       log_lines_are_clean (accounts_in start) (log_bytes (run_lines calls)) (run_lines calls) s.place s.told
       (bytes_are_lines (run_lines calls) s.writable) s.begins
 
-  -- its log is clean when no session is open, or when the store has failed
-  pub log_is_clean : (phase_of desk.state ≡ phase.Closed) ⊎ ((facts desk.keeper.store).failed ≡ true)
+  -- the law: the log of a desk is clean when no session is open, or when the store has failed
+  pub log_is_clean_closed : (phase_of desk.state ≡ phase.Closed) ⊎ ((facts desk.keeper.store).failed ≡ true)
       → IsClean (accounts_in start) (log_bytes (run_lines calls))
-  log_is_clean (inl closed) = ended_desk_log_is_clean (closed_desk_may_end start _ s.place desk.state s.is_state closed)
-  log_is_clean (inr failed) =
+  log_is_clean_closed (inl closed) = ended_desk_log_is_clean (closed_desk_may_end start _ s.place desk.state s.is_state closed)
+  log_is_clean_closed (inr failed) =
       ended_desk_log_is_clean (subst MayEnd (sym (failed_store_means_halted IsStored (accounts_in start) calls desk.keeper.book
       (facts desk.keeper.store) s.place s.is_stored failed)) tt)
 
-  -- its log is clean when its last line is `S HALT`
-  pub halted_desk_log_is_clean : GoesOnByNoOther → (lines : List LogLine) → run_lines calls ≡ lines ++ said halt ∷ []
+  -- the law: the log of a desk is clean when its last line is `S HALT`
+  pub log_is_clean_halted : GoesOnByNoOther → (lines : List LogLine) → run_lines calls ≡ lines ++ said halt ∷ []
       → IsClean (accounts_in start) (log_bytes (run_lines calls))
-  halted_desk_log_is_clean law lines last =
+  log_is_clean_halted law lines last =
       let before = law (accounts_in start) lines (said halt) s.place s.told
       (subst (λ (l : List LogLine). Begins (demands (accounts_in start)) l s.place s.told) last s.begins) in
       ended_desk_log_is_clean (subst MayEnd (sym (halt_leads_to_halted (demands (accounts_in start)) before.place s.place before.goes)) tt)

@@ -1,5 +1,5 @@
--- There is one answer to an event: one record of it, one list of lines that is due after the record, and one place to which they lead.
-use Rattle.std.proofs.Common.{◌≡◌, ◌⊎◌, inl, inr, true, ℕ, List, [], ◌∷◌, ◌++◌, refl, sym, ◌∙◌, ap, subst}
+-- There is one answer to an event: one list of lines that is due after its record, and one place to which they lead.
+use Rattle.std.proofs.Common.{◌≡◌, ◌⊎◌, inl, inr, true, ℕ, List, [], ◌∷◌, ◌++◌, sym, ◌∙◌, ap, subst}
 use Rattle.std.specs.List.{AllByRecursion}
 use Rattle.mac_core.specs.declared.mechanism.Mechanism.{Mechanism}
 use Rattle.scram_text.specs.Laws.{SpellsOneName, HasOneClientFirst, HasOneServerFinal}
@@ -11,26 +11,22 @@ use Rattle.scram_ends.specs.Laws.{AtMostOneVerdictIsDue}
 use Rattle.scram_ends.specs.Login.{IsAuthentic}
 use Rattle.scram_ends.specs.Verdict.{Due, accept, refuse, due_text, final_due}
 use Rattle.log_grammar.specs.laws.LineLaws.{EachTextIsAtMostOneLine}
-use Rattle.log_grammar.specs.Lines.{LogLine, said, heard, bad, gone, ended, cont, accepts, refuses}
-use Rattle.log_grammar.specs.Lines.{ClientLine, auth, auth_with, resp, abort, code, sync, from_client}
-use Rattle.log_grammar.specs.Places.{Place, offered, asks_bare, waits_first, got_first, waits_final, got_final, waits_code}
-use Rattle.log_grammar.specs.Places.{leaving, over}
-use Rattle.log_grammar.specs.Demands.{Accounts, Demands, demands}
-use Rattle.log_grammar.specs.state_machine.Steps.{IsTransition}
+use Rattle.log_grammar.specs.Lines.{LogLine, said, ended, cont, accepts, refuses}
+use Rattle.log_grammar.specs.Places.{Place, offered, asks_bare, got_first, waits_final, got_final, waits_code, leaving, over}
+use Rattle.log_grammar.specs.Demands.{Accounts, demands}
 use Rattle.log_grammar.proofs.lemmas.demands.Challenges.{one_name, challenged_first_is_of_name}
 use Rattle.log_grammar.proofs.lemmas.kinds.OneWhy.{one_mechanism, one_due_verdict}
 use Rattle.sasl_desk.specs.Alone.{IsSameRequest}
-use Rattle.sasl_desk.specs.Events.{ClientEvent, sends, goes_away}
+use Rattle.sasl_desk.specs.Events.{ClientEvent}
 use Rattle.sasl_desk.specs.Runs.{Request, greets, hears, IsTurnTaken, IsAnsweredBy}
-use Rattle.sasl_desk.specs.Sessions.{IsRecord, IsChallengeWith, LacksExtensions}
-use Rattle.sasl_desk.specs.DueLines.{is_due, heard_place, record_place, IsPath}
-use Rattle.sasl_desk.proofs.lemmas.turns.HeardLines.{from_client_is_injective}
-use Rattle.sasl_desk.proofs.lemmas.turns.DueRecords.{standing_client_line_is_due, bad_stands_in_turn, gone_stands_in_turn}
+use Rattle.sasl_desk.specs.Sessions.{IsChallengeWith, LacksExtensions}
+use Rattle.sasl_desk.specs.DueLines.{place_after_record, IsPath}
 use Rattle.sasl_desk.proofs.lemmas.runs.Acceptances.{has_acceptance, rest_brings_acceptance}
 use Rattle.sasl_desk.proofs.lemmas.runs.AnswerShapes.{IsAnswerDue, HasShapeAt, answer_has_shape, acceptance_or_no_code}
+use Rattle.sasl_desk.proofs.lemmas.runs.OneRecord.{one_record, record_awaits_answer, record_leads_to_place}
 
 -- laws of the crates below: a reading or a verdict is the only one
-pub record UniquenessLaws : Type 0 where
+pub record AnswerUniquenessLaws : Type 0 where
   -- a text is client-first in at most one way
   pub one_first : HasOneClientFirst
   -- a text is server-final in at most one way
@@ -41,57 +37,6 @@ pub record UniquenessLaws : Type 0 where
   pub verdicts : AtMostOneVerdictIsDue
   -- a text is at most one line of the protocol
   pub lines : EachTextIsAtMostOneLine
-
--- what is recorded of an event at a place is one line
-one_record : EachTextIsAtMostOneLine → (event : ClientEvent) (at : Place) (one other : LogLine) → IsRecord event at one
-    → IsRecord event at other → one ≡ other
-one_record law (sends text) at (heard line) (heard other) a b = ap heard
-    (from_client_is_injective line other (law text (from_client line) (from_client other) a.0 b.0))
-one_record law (sends text) at (heard line) bad a b = let undue = sym a.1 ∙ b line a.0 in absurd (cc undue)
-one_record law (sends text) at bad (heard line) a b = let undue = sym b.1 ∙ a line b.0 in absurd (cc undue)
-one_record law (sends text) at bad bad a b = refl
-one_record law goes_away at gone gone a b = refl
-one_record law (sends text) at (heard line) other a b = absurd b
-one_record law (sends text) at bad other a b = absurd b
-one_record law (sends text) at one other a b = absurd a
-one_record law goes_away at gone other a b = absurd b
-one_record law goes_away at one other a b = absurd a
-
--- after a line of the client that was due, but for a code, an answer is due
-heard_line_awaits_answer : (at : Place) (line : ClientLine) → is_due at line ≡ true → ((account : List ℕ) → at ≡ waits_code account → ⊥)
-    → IsAnswerDue (heard_place at line)
-heard_line_awaits_answer at (auth mechanism) due apart = tt
-heard_line_awaits_answer at (auth_with mechanism message) due apart = tt
-heard_line_awaits_answer at abort due apart = tt
-heard_line_awaits_answer (waits_first mechanism) (resp message) due apart = tt
-heard_line_awaits_answer (waits_final mechanism account first challenge) (resp message) due apart = tt
-heard_line_awaits_answer at (resp message) due apart = absurd (cc due)
-heard_line_awaits_answer (waits_code account) (code text) due apart = absurd (apart account refl)
-heard_line_awaits_answer at (code text) due apart = absurd (cc due)
-heard_line_awaits_answer (waits_code account) (sync one two) due apart = absurd (apart account refl)
-heard_line_awaits_answer at (sync one two) due apart = absurd (cc due)
-
--- after the record of an event an answer is due, if the session waited for no code
-record_awaits_answer : (d : Demands) (event : ClientEvent) (at middle : Place) (kept : LogLine) → IsRecord event at kept
-    → IsTransition d at kept middle
-    → ((account : List ℕ) → at ≡ waits_code account → ⊥) → IsAnswerDue middle
-record_awaits_answer d (sends text) at middle (heard line) is goes apart =
-    let due = standing_client_line_is_due d line at middle goes in subst IsAnswerDue (sym due.1)
-    (heard_line_awaits_answer at line due.0 apart)
-record_awaits_answer d (sends text) at middle bad is goes apart = subst IsAnswerDue (sym (bad_stands_in_turn d at middle goes).1) tt
-record_awaits_answer d goes_away at middle gone is goes apart = subst IsAnswerDue (sym (gone_stands_in_turn d at middle goes).1) tt
-record_awaits_answer d (sends text) at middle kept is goes apart = absurd is
-record_awaits_answer d goes_away at middle kept is goes apart = absurd is
-
--- the record of an event leads to one place
-record_leads_to_place : (d : Demands) (event : ClientEvent) (at middle : Place) (kept : LogLine) → IsRecord event at kept
-    → IsTransition d at kept middle
-    → middle ≡ record_place at kept
-record_leads_to_place d (sends text) at middle (heard line) is goes = (standing_client_line_is_due d line at middle goes).1
-record_leads_to_place d (sends text) at middle bad is goes = (bad_stands_in_turn d at middle goes).1
-record_leads_to_place d goes_away at middle gone is goes = (gone_stands_in_turn d at middle goes).1
-record_leads_to_place d (sends text) at middle kept is goes = absurd is
-record_leads_to_place d goes_away at middle kept is goes = absurd is
 
 -- a server has one challenge to a client-first message, by its entry and its part of the nonce:
 one_challenge : HasOneClientFirst → (e : Entry) (first server_nonce text other : List ℕ) → IsChallengeTo e first server_nonce text
@@ -126,10 +71,10 @@ both_same : {X : Type 0} {one other same also : X} → one ≡ same → other �
 both_same a b e = a ∙ e ∙ sym b
 
 -- two answers of one server, with its part of the nonce and without extensions
-module _ (t : UniquenessLaws) (accounts : Accounts) (server_nonce : List ℕ) (lines others : List LogLine) (next also : Place)
+module _ (t : AnswerUniquenessLaws) (accounts : Accounts) (server_nonce : List ℕ) (lines others : List LogLine) (next also : Place)
     (mine : IsChallengeWith accounts server_nonce next) (yours : IsChallengeWith accounts server_nonce also)
     (plain : AllByRecursion LacksExtensions lines) (bare : AllByRecursion LacksExtensions others) where
-  -- they are one if they are due at one place
+  -- two answers of one server that are due at one place are one
   one_due_answer : (at : Place) → IsAnswerDue at → HasShapeAt accounts at lines next → HasShapeAt accounts at others also
       → (lines ≡ others) × (next ≡ also)
   one_due_answer leaving due a b = (a.0 ∙ sym b.0, a.1 ∙ sym b.1)
@@ -183,9 +128,9 @@ AreOneAnswer lines others next also =
     (lines ≡ others) × (next ≡ also) × ((has_acceptance lines ≡ true) ⊎ ((account : List ℕ) → next ≡ waits_code account → ⊥))
 
 -- two lists of lines that lead from a place where no code is awaited, one to this place and one to that
-module _ (t : UniquenessLaws) (accounts : Accounts) (at : Place) (apart : (account : List ℕ) → at ≡ waits_code account → ⊥)
+module _ (t : AnswerUniquenessLaws) (accounts : Accounts) (at : Place) (apart : (account : List ℕ) → at ≡ waits_code account → ⊥)
     (lines others : List LogLine) (next also : Place) where
-  -- the turns for one event are one answer
+  -- two turns for one event from one place are one answer
   one_turn : (server_nonce : List ℕ) (event : ClientEvent) (moment later : ℕ)
       → IsTurnTaken accounts server_nonce event moment at lines next → IsTurnTaken accounts server_nonce event later at others also
       → AreOneAnswer lines others next also
@@ -194,7 +139,7 @@ module _ (t : UniquenessLaws) (accounts : Accounts) (at : Place) (apart : (accou
       let (middle, goes, path) = subst (λ (l : List LogLine). IsPath d at l next) a.lines_are a.path in
       let (between_them, goes_too, other_path) = subst (λ (l : List LogLine). IsPath d at l also) b.lines_are b.path in
       let kept = one_record t.lines event at a.recorded b.recorded a.is_record b.is_record in
-      let same = record_leads_to_place d event at middle a.recorded a.is_record goes ∙ ap (λ (l : LogLine). record_place at l) kept
+      let same = record_leads_to_place d event at middle a.recorded a.is_record goes ∙ ap (λ (l : LogLine). place_after_record at l) kept
       ∙ sym (record_leads_to_place d event at between_them b.recorded b.is_record goes_too) in
       let due = record_awaits_answer d event at middle a.recorded a.is_record goes apart in
       let shape = answer_has_shape accounts middle a.answered next path a.answers a.rests in
@@ -212,7 +157,7 @@ module _ (t : UniquenessLaws) (accounts : Accounts) (at : Place) (apart : (accou
         ],
       )
 
-  -- the answers to one call are one answer
+  -- two answers to one call from one place are one answer
   pub one_answer_to_call : (server_nonce theirs : List ℕ) (request other : Request) → server_nonce ≡ theirs
       → IsSameRequest request other → IsAnsweredBy accounts server_nonce request at lines next
       → IsAnsweredBy accounts theirs other at others also → AreOneAnswer lines others next also

@@ -48,7 +48,7 @@ record_counts_as_record (sends text) at kept is = absurd is
 record_counts_as_record goes_away at gone is = refl
 record_counts_as_record goes_away at kept is = absurd is
 
--- the line that records an event is no offer
+-- the line that records an event is not an offer
 record_is_no_offer : (event : ClientEvent) (at : Place) (kept : LogLine) → IsRecord event at kept → is_offer kept ≡ false
 record_is_no_offer (sends text) at (heard line) is = refl
 record_is_no_offer (sends text) at bad is = refl
@@ -124,7 +124,7 @@ run_has_its_records accounts [] at run = refl
 run_has_its_records accounts (c ∷ before) at (place, run, answered) =
     call_adds_its_record accounts c.request place c.lines at before run answered (run_has_its_records accounts before place run)
 
--- the log of a desk has one offer for each greeting and one record for each thing that a client did, and no others
+-- the law: the log of a desk has one offer for each greeting and one record for each thing that a client did, and no others
 pub log_has_its_records : {S : Type 0} {facts : S → StoreFacts} {IsStored : List ℕ → Type 0} {start : BookFields} {calls : List Call}
     {desk : Desk S} → IsDeskAfter facts IsStored start calls desk → HasItsRecords (accounts_in start) calls
 log_has_its_records {start = start} {calls = calls} s = record {

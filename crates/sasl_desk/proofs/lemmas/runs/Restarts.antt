@@ -4,12 +4,12 @@ use Rattle.book_format.specs.Book.{BookFields}
 use Rattle.account_book.specs.Store.{StoreFacts}
 use Rattle.account_book.specs.Laws.{TokensAreApart, AddedIsApart}
 use Rattle.otp_core.specs.Laws.{BeginsWithItself, CandidatesAreNew}
-use Rattle.log_grammar.specs.LoggedReply.{LoggedReply}
-use Rattle.log_grammar.proofs.lemmas.ListEnds.{all_back}
+use Rattle.log_grammar.specs.LoggedAttempt.{LoggedAttempt}
+use Rattle.log_grammar.proofs.lemmas.ListEnds.{back_keeps_all}
 use Rattle.sasl_desk.specs.Spent.{AreDifferent, IsCounterSpent, AreSpent, spent_by, SpentStaysSpent}
 use Rattle.sasl_desk.specs.Desks.{spent_by_all}
-use Rattle.sasl_desk.specs.Restarts.{DeskRun, MayLeave, IsDeskRunOf, HallRun, IsHallRunOf, Change, desk_ran, hall_ran, judged}
-use Rattle.sasl_desk.specs.Restarts.{unlocked, added, IsChange, AreChanges, spent_by_change, spent_by_changes}
+use Rattle.sasl_desk.specs.Restarts.{DeskRun, MayLeave, IsDeskRunOf, HallRun, IsHallRunOf, Change, desk_ran, hall_ran, judged, unlocked, added}
+use Rattle.sasl_desk.specs.Restarts.{IsChange, AreChanges, spent_by_change, spent_by_changes}
 use Rattle.sasl_desk.proofs.lemmas.runs.BooksAfterReplies.{attempt_spends_counters}
 use Rattle.sasl_desk.proofs.lemmas.runs.Unlocks.{unlock_keeps_spent_counters, addition_keeps_spent_counters}
 
@@ -22,7 +22,7 @@ rest_is_different (p ∷ ps) qs all = rest_is_different ps qs all.1
 rest_is_spent : (book : BookFields) (ps qs : List (List ℕ × ℕ)) → AreSpent (ps ++ qs) book → AreSpent qs book
 rest_is_spent book ps qs spent = record {
   different = rest_is_different ps qs spent.different;
-  spent = all_back (λ (p : List ℕ × ℕ). IsCounterSpent book p.0 p.1) ps qs spent.spent;
+  spent = back_keeps_all (λ (p : List ℕ × ℕ). IsCounterSpent book p.0 p.1) ps qs spent.spent;
 }
 
 module _ (itself : BeginsWithItself) (stays : SpentStaysSpent) where
@@ -40,7 +40,7 @@ module _ (itself : BeginsWithItself) (stays : SpentStaysSpent) where
         → AreSpent (spent_by_all (reverse r.told) ++ ps) r.left
     desk_run_spends_counters r ps run spent =
         left_book_keeps_spent_counters run.desk.keeper.book r.left (spent_by_all (reverse r.told) ++ ps) run.leaves
-        (subst (λ (t : List LoggedReply). AreSpent (spent_by_all (reverse t) ++ ps) run.desk.keeper.book) (sym run.tells)
+        (subst (λ (t : List LoggedAttempt). AreSpent (spent_by_all (reverse t) ++ ps) run.desk.keeper.book) (sym run.tells)
         (run.stands.spent ps spent))
 
     -- what was spent before, and what the replies of a hall's run used, is spent in the book that it leaves
@@ -48,7 +48,7 @@ module _ (itself : BeginsWithItself) (stays : SpentStaysSpent) where
         → AreSpent (spent_by_all (reverse r.told) ++ ps) r.left
     hall_run_spends_counters r ps run spent =
         left_book_keeps_spent_counters run.hall.keeper.book r.left (spent_by_all (reverse r.told) ++ ps) run.leaves
-        (subst (λ (t : List LoggedReply). AreSpent (spent_by_all (reverse t) ++ ps) run.hall.keeper.book) (sym run.tells)
+        (subst (λ (t : List LoggedAttempt). AreSpent (spent_by_all (reverse t) ++ ps) run.hall.keeper.book) (sym run.tells)
         (run.stands.spent ps spent))
 
     module _ (apart : TokensAreApart) (fresh : CandidatesAreNew) (added_apart : AddedIsApart) where
@@ -67,11 +67,11 @@ module _ (itself : BeginsWithItself) (stays : SpentStaysSpent) where
       change_spends_counters (added name account) old new ps is spent =
           addition_keeps_spent_counters added_apart old new name account ps is spent
 
-      -- what was spent before, and what the replies of any number of changes used, is spent in the book after them
-      pub changes_spend_counters : (first : BookFields) (changes : List Change) (last : BookFields) (ps : List (List ℕ × ℕ))
+      -- the law: what was spent before, and what the replies of any number of changes used, is spent in the book after them
+      pub no_counter_passes_twice : (first : BookFields) (changes : List Change) (last : BookFields) (ps : List (List ℕ × ℕ))
           → AreChanges facts IsStored first changes last → AreSpent ps first → AreSpent (spent_by_changes changes ++ ps) last
-      changes_spend_counters first [] last ps same spent = subst (λ (b : BookFields). AreSpent ps b) (sym same) spent
-      changes_spend_counters first (c ∷ before) last ps (middle, earlier, change) spent =
-          let until = changes_spend_counters first before middle ps earlier spent in
+      no_counter_passes_twice first [] last ps same spent = subst (λ (b : BookFields). AreSpent ps b) (sym same) spent
+      no_counter_passes_twice first (c ∷ before) last ps (middle, earlier, change) spent =
+          let until = no_counter_passes_twice first before middle ps earlier spent in
           subst (λ (l : List (List ℕ × ℕ)). AreSpent l last) (sym (append_assoc (spent_by_change c) (spent_by_changes before) ps))
           (change_spends_counters c middle last (spent_by_changes before ++ ps) change until)

@@ -15,7 +15,7 @@ use Rattle.sasl_desk.specs.Serves.{call_lines}
 use Rattle.sasl_desk.specs.Sessions.{IsChallengeWith}
 use Rattle.sasl_desk.specs.DueLines.{IsPath}
 use Rattle.sasl_desk.proofs.lemmas.runs.Acceptances.{has_acceptance, front_brings_acceptance, rest_brings_acceptance, acceptance_cuts_rest}
-use Rattle.sasl_desk.proofs.lemmas.runs.OneAnswer.{UniquenessLaws, one_answer_to_call}
+use Rattle.sasl_desk.proofs.lemmas.runs.OneAnswer.{AnswerUniquenessLaws, one_answer_to_call}
 
 -- after calls that asked the same, sessions have the same part of the nonce:
 same_request_has_same_nonce : (request other : Request) (server_nonce theirs : List ℕ) → IsSameRequest request other → server_nonce ≡ theirs
@@ -39,12 +39,13 @@ AreSameOrAccepted calls others at also =
     ⊎ ((call_lines calls ≡ call_lines others) × (at ≡ also) × ((account : List ℕ) → at ≡ waits_code account → ⊥))
 
 -- two runs of a session that were asked the same are the same so far, or have both come to the same acceptance
-same_or_accepted : UniquenessLaws → (accounts : Accounts) (calls others : List Call) (at also : Place) → IsRun accounts calls at
+runs_are_same_or_accepted : AnswerUniquenessLaws → (accounts : Accounts) (calls others : List Call) (at also : Place)
+    → IsRun accounts calls at
     → IsRun accounts others also → HaveSameRequests calls others → AreSameOrAccepted calls others at also
-same_or_accepted t accounts [] [] at also run runs same =
+runs_are_same_or_accepted t accounts [] [] at also run runs same =
     inr (refl, run ∙ sym runs, λ account is. let wrong : between ≡ waits_code account = sym run ∙ is in cc wrong)
-same_or_accepted t accounts (c ∷ calls) (d ∷ others) at also (place, run, answered) (other, runs, answers) same =
-    elim (same_or_accepted t accounts calls others place other run runs same.1) [
+runs_are_same_or_accepted t accounts (c ∷ calls) (d ∷ others) at also (place, run, answered) (other, runs, answers) same =
+    elim (runs_are_same_or_accepted t accounts calls others place other run runs same.1) [
       | inl (one, two, told) ↦ inl (
         front_brings_acceptance (call_lines calls) c.lines one,
         front_brings_acceptance (call_lines others) d.lines two,
@@ -62,7 +63,7 @@ same_or_accepted t accounts (c ∷ calls) (d ∷ others) at also (place, run, an
             | inr apart_too ↦ inr (whole, once.1, apart_too)
           ]
     ]
-same_or_accepted t accounts calls others at also run runs same = absurd same
+runs_are_same_or_accepted t accounts calls others at also run runs same = absurd same
 
 -- accounts with the same entries: what is demanded of a session by the ones is demanded by the others, and its whole run is one
 module _ (one other : Accounts) (same : HaveSameEntries other one) where
@@ -130,11 +131,13 @@ module _ (one other : Accounts) (same : HaveSameEntries other one) where
   )
 
 -- two runs that were asked the same, over books with the same entries, tell the same up to the acceptance
-pub runs_tell_same : UniquenessLaws → (one other : Accounts) (calls others : List Call) (at also : Place) → HaveSameEntries one other
+pub same_requests_bring_same_lines : AnswerUniquenessLaws → (one other : Accounts) (calls others : List Call) (at also : Place)
+    → HaveSameEntries one other
     → IsRun one calls at
     → IsRun other others also → HaveSameRequests calls others → up_to_acceptance (call_lines calls) ≡ up_to_acceptance (call_lines others)
-runs_tell_same t one other calls others at also entries run runs same =
-    elim (same_or_accepted t one calls others at also run (entries_fix_run one other (λ m name. sym (entries m name)) others also runs)
+same_requests_bring_same_lines t one other calls others at also entries run runs same =
+    elim (runs_are_same_or_accepted t one calls others at also run
+    (entries_fix_run one other (λ m name. sym (entries m name)) others also runs)
     same) [
       | inl (accepted, too, told) ↦ told
       | inr (lines, here, apart) ↦ ap up_to_acceptance lines

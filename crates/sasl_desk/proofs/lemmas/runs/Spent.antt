@@ -4,7 +4,7 @@ use Rattle.std.specs.List.{AllByRecursion}
 use Rattle.std.specs.declared.option.Option.TheVariants.{None, Some}
 use Rattle.std.proofs.lemmas.Slice.Eq.{bytes_eq-Decides}
 use Rattle.std.proofs.lemmas.Option.{same_Some}
-use Rattle.otp_core.specs.Attempt.{Attempt, CodeTexts, OneText, TwoTexts, used_in, used_in_reply, attempt_of}
+use Rattle.otp_core.specs.Attempt.{Attempt, CodeTexts, one_text, two_texts, used_in, used_in_reply, attempt_of}
 use Rattle.otp_core.specs.Ranges.{IsMoment}
 use Rattle.otp_core.specs.Window.{IsAbove}
 use Rattle.otp_core.specs.Reply.{IsFitting, IsDueReply}
@@ -16,10 +16,10 @@ use Rattle.otp_core.specs.declared.token.kinds.TokenFields.{TokenFields}
 use Rattle.book_format.specs.Book.{BookFields}
 use Rattle.account_book.specs.Tokens.{token_at}
 use Rattle.log_grammar.specs.Books.{accounts_in}
-use Rattle.log_grammar.specs.LoggedReply.{LoggedReply, logged_reply_of}
+use Rattle.log_grammar.specs.LoggedAttempt.{LoggedAttempt, logged_attempt_of}
 use Rattle.log_grammar.specs.Demands.{attempts_of, IsReplyDueBy}
 use Rattle.sasl_log.specs.Tokens.{LeadsTo, IsBookAfter}
-use Rattle.log_grammar.proofs.lemmas.ListEnds.{all_front, all_back}
+use Rattle.log_grammar.proofs.lemmas.ListEnds.{front_keeps_all, back_keeps_all}
 use Rattle.sasl_desk.proofs.lemmas.Lists.{each_follows}
 use Rattle.sasl_desk.specs.Spent.{CanPass, IsBelow, IsCounterSpent, AreSpent, used_by_reply, of_account, SpentStaysSpent}
 
@@ -39,7 +39,7 @@ module _ (join : LegalHistoriesJoin) (start : TokenFields) (attempts : List Atte
       let joined = join start attempts token history after legal in
       (joined.0, elim can [ inl h ↦ inl ((joined.1.candidates moment c is).1 h) | inr h ↦ inr ((joined.1.pairs c).1 h) ])
 
-  -- a counter that was below each that can pass is so still
+  -- a counter that was below each that could pass is below each that can pass after attempts
   attempts_keep_below : (counter : ℕ) → IsBelow start counter → IsBelow token counter
   attempts_keep_below counter below history moment c is legal can =
       let before = later_candidate_was_candidate history moment c is legal can in
@@ -49,7 +49,7 @@ module _ (join : LegalHistoriesJoin) (start : TokenFields) (attempts : List Atte
 above_all_is_above_earlier : (later earlier : List Attempt) (c : ℕ) → IsAbove (used_in (later ++ earlier)) c → IsAbove (used_in earlier) c
 above_all_is_above_earlier [] earlier c above = above
 above_all_is_above_earlier (a ∷ later) earlier c above =
-    above_all_is_above_earlier later earlier c (all_back (λ (used : ℕ). used < c) (used_in_reply a.sent a.reply)
+    above_all_is_above_earlier later earlier c (back_keeps_all (λ (used : ℕ). used < c) (used_in_reply a.sent a.reply)
     (used_in (later ++ earlier)) above)
 
 -- what can pass after an attempt is above each counter that the attempt used
@@ -59,19 +59,21 @@ candidate_is_above_used : LegalHistoriesJoin → CandidatesAreNew → (start : T
     → CanPass token history moment c → IsAbove (used_in_reply a.sent a.reply) c
 candidate_is_above_used join fresh start a token after history moment c is legal can =
     let before = later_candidate_was_candidate join start (a ∷ []) token after history moment c is legal can in
-    all_front (λ (used : ℕ). used < c) (used_in_reply a.sent a.reply) []
+    front_keeps_all (λ (used : ℕ). used < c) (used_in_reply a.sent a.reply) []
     (above_all_is_above_earlier history (a ∷ []) c (fresh start (history ++ a ∷ []) moment c before.1))
 
 -- the attempts that an account's own reply adds are that one
-reply_is_one_attempt : (t : LoggedReply) (r : Reply) → t.reply ≡ Some r → attempts_of t.account (t ∷ []) ≡ attempt_of t.moment t.sent r ∷ []
+reply_is_one_attempt : (t : LoggedAttempt) (r : Reply) → t.reply ≡ Some r
+    → attempts_of t.account (t ∷ []) ≡ attempt_of t.moment t.sent r ∷ []
 reply_is_one_attempt t r is = rw ((bytes_eq-Decides t.account t.account).1 refl, is) refl
 
--- a counter that could pass is none of those that are spent
-candidate_is_not_spent : (old : BookFields) (name : List ℕ) (start : TokenFields) (counter c moment : ℕ) → token_at old name ≡ Some start
+-- a counter that is at least one that could pass is none of those that are spent
+counter_above_candidate_is_not_spent : (old : BookFields) (name : List ℕ) (start : TokenFields) (counter c moment : ℕ)
+    → token_at old name ≡ Some start
     → IsMoment moment
     → CanPass start [] moment c → c ≤ counter
     → (q : List ℕ × ℕ) → IsCounterSpent old q.0 q.1 → (name, counter) ≢ q
-candidate_is_not_spent old name start counter c moment has is can at (other, used) up same =
+counter_above_candidate_is_not_spent old name start counter c moment has is can at (other, used) up same =
     let names : name ≡ other = ap (λ (p : List ℕ × ℕ). p.0) same in
     let counters : counter ≡ used = ap (λ (p : List ℕ × ℕ). p.1) same in
     let tokens : start ≡ up.token = same_Some start up.token (sym has ∙ (ap (token_at old) names ∙ up.has)) in
@@ -80,8 +82,8 @@ candidate_is_not_spent old name start counter c moment has is can at (other, use
     omega (arith, apart, at, counters)
 
 -- a book before and after one more reply
-module _ (join : LegalHistoriesJoin) (old new : BookFields) (t : LoggedReply) (after : IsBookAfter (accounts_in old) (t ∷ []) new) where
-  -- a counter that is spent stays so, and so do all:
+module _ (join : LegalHistoriesJoin) (old new : BookFields) (t : LoggedAttempt) (after : IsBookAfter (accounts_in old) (t ∷ []) new) where
+  -- a counter that is spent stays so when one more reply is given, and so do all that are spent:
   reply_keeps_spent_counter : (name : List ℕ) (counter : ℕ) → IsCounterSpent old name counter → IsCounterSpent new name counter
   reply_keeps_spent_counter name counter used =
       let leads = subst (λ (o : Option TokenFields). LeadsTo o (attempts_of name (t ∷ [])) (token_at new name)) used.has
@@ -99,14 +101,14 @@ module _ (join : LegalHistoriesJoin) (old new : BookFields) (t : LoggedReply) (a
 -- a pass of an account that has a token: what was spent before it, and the counter
 module _ (join : LegalHistoriesJoin) (fresh : CandidatesAreNew) (old new : BookFields) (name : List ℕ) (moment : ℕ) (start : TokenFields)
     (has : token_at old name ≡ Some start) (is : IsMoment moment) (ps : List (List ℕ × ℕ)) (spent : AreSpent ps old) (c : ℕ) where
-  -- after it there is a token still, and what can pass with it is above the counters that the pass used
+  -- after a pass the account still has a token, and what can pass with it is above the counters that the pass used
   pass_leaves_higher_candidates : (sent : CodeTexts)
-      → IsBookAfter (accounts_in old) (logged_reply_of name moment sent (Some (Pass c)) ∷ []) new
+      → IsBookAfter (accounts_in old) (logged_attempt_of name moment sent (Some (Pass c)) ∷ []) new
       → (token : TokenFields) × (token_at new name ≡ Some token)
       × ((history : List Attempt) (later k : ℕ) → IsMoment later → IsLegal token history
       → CanPass token history later k → IsAbove (used_in_reply sent (Pass c)) k)
   pass_leaves_higher_candidates sent after =
-      let t = logged_reply_of name moment sent (Some (Pass c)) in
+      let t = logged_attempt_of name moment sent (Some (Pass c)) in
       let a = attempt_of moment sent (Pass c) in
       let leads = subst (λ (o : Option TokenFields). LeadsTo o (attempts_of name (t ∷ [])) (token_at new name)) has (after.tokens name) in
       let by_attempt = subst (λ (attempts : List Attempt). LeadsTo (Some start) attempts (token_at new name))
@@ -114,36 +116,36 @@ module _ (join : LegalHistoriesJoin) (fresh : CandidatesAreNew) (old new : BookF
       let later = attempts_lead_to_token start (a ∷ []) (token_at new name) by_attempt in
       (later.0, later.1, candidate_is_above_used join fresh start a later.0 later.2)
 
-  -- no counter up to one that could pass was spent
-  lower_counter_is_not_spent : (counter passed : ℕ) → CanPass start [] moment passed → passed ≤ counter
+  -- before a pass, no counter that is at least one that could pass was spent
+  counter_above_candidate_was_not_spent : (counter passed : ℕ) → CanPass start [] moment passed → passed ≤ counter
       → AllByRecursion (λ q. (name, counter) ≢ q) ps
-  lower_counter_is_not_spent counter passed can at =
+  counter_above_candidate_was_not_spent counter passed can at =
       each_follows (λ p. IsCounterSpent old p.0 p.1) (λ q. (name, counter) ≢ q)
-      (candidate_is_not_spent old name start counter passed moment has is can at) ps spent.spent
+      (counter_above_candidate_is_not_spent old name start counter passed moment has is can at) ps spent.spent
 
   -- the counter of a pass is spent after it, and so are both of a pass of two codes in a row:
-  code_pass_spends_counter : (text : List ℕ) → IsFitting start [] moment (OneText text) c
-      → IsBookAfter (accounts_in old) (logged_reply_of name moment (OneText text) (Some (Pass c)) ∷ []) new
+  code_pass_spends_counter : (text : List ℕ) → IsFitting start [] moment (one_text text) c
+      → IsBookAfter (accounts_in old) (logged_attempt_of name moment (one_text text) (Some (Pass c)) ∷ []) new
       → AreSpent ((name, c) ∷ ps) new
   code_pass_spends_counter text fits after =
-      let token = pass_leaves_higher_candidates (OneText text) after in
+      let token = pass_leaves_higher_candidates (one_text text) after in
       let stays = reply_keeps_spent_counters join old new _ after ps spent in
       record {
-        different = (lower_counter_is_not_spent c c (inl fits.0) (omega arith), spent.different);
+        different = (counter_above_candidate_was_not_spent c c (inl fits.0) (omega arith), spent.different);
         spent = (
           record { token = token.0; has = token.1; below = λ history later k at legal can. (token.2 history later k at legal can).0 },
           stays.spent,
         );
       }
 
-  pair_pass_spends_counters : (first second : List ℕ) → IsFitting start [] moment (TwoTexts first second) c
-      → IsBookAfter (accounts_in old) (logged_reply_of name moment (TwoTexts first second) (Some (Pass c)) ∷ []) new
+  pair_pass_spends_counters : (first second : List ℕ) → IsFitting start [] moment (two_texts first second) c
+      → IsBookAfter (accounts_in old) (logged_attempt_of name moment (two_texts first second) (Some (Pass c)) ∷ []) new
       → AreSpent ((name, c) ∷ (name, c - 1) ∷ ps) new
   pair_pass_spends_counters first second (w, next, can, one, two) after =
-      let token = pass_leaves_higher_candidates (TwoTexts first second) after in
+      let token = pass_leaves_higher_candidates (two_texts first second) after in
       let stays = reply_keeps_spent_counters join old new _ after ps spent in
-      let greater = lower_counter_is_not_spent c w (inr can) (omega (arith, next)) in
-      let lesser = lower_counter_is_not_spent (c - 1) w (inr can) (omega (arith, next)) in
+      let greater = counter_above_candidate_was_not_spent c w (inr can) (omega (arith, next)) in
+      let lesser = counter_above_candidate_was_not_spent (c - 1) w (inr can) (omega (arith, next)) in
       let apart : (name, c) ≢ (name, c - 1) = λ same. let counters : c
       ≡ c - 1 = ap (λ (p : List ℕ × ℕ). p.1) same in omega (arith, counters, next) in
       record {
@@ -175,18 +177,18 @@ no_reply_without_token moment sent r same = cc
 module _ (join : LegalHistoriesJoin) (fresh : CandidatesAreNew) (old new : BookFields) (name : List ℕ) (moment : ℕ) (is : IsMoment moment)
     (ps : List (List ℕ × ℕ)) (spent : AreSpent ps old) where
   due_reply_spends_counters : (sent : CodeTexts) (reply : Option Reply) (o : Option TokenFields) → token_at old name ≡ o
-      → IsReplyDueBy o [] moment sent reply → IsBookAfter (accounts_in old) (logged_reply_of name moment sent reply ∷ []) new
+      → IsReplyDueBy o [] moment sent reply → IsBookAfter (accounts_in old) (logged_attempt_of name moment sent reply ∷ []) new
       → AreSpent (of_account name (used_by_reply sent reply) ++ ps) new
   due_reply_spends_counters sent None o has due after = reply_keeps_spent_counters join old new _ after ps spent
   due_reply_spends_counters sent (Some Fail) o has due after = reply_keeps_spent_counters join old new _ after ps spent
   due_reply_spends_counters sent (Some Locked) o has due after = reply_keeps_spent_counters join old new _ after ps spent
   due_reply_spends_counters sent (Some (Pass c)) None has due after = absurd (no_reply_without_token moment sent (Pass c) due)
-  due_reply_spends_counters (OneText text) (Some (Pass c)) (Some start) has due after =
+  due_reply_spends_counters (one_text text) (Some (Pass c)) (Some start) has due after =
       code_pass_spends_counter join fresh old new name moment start has is ps spent c text
-      (reply_by_token_is_due start moment (OneText text) (Pass c) due).1 after
-  due_reply_spends_counters (TwoTexts first second) (Some (Pass c)) (Some start) has due after =
+      (reply_by_token_is_due start moment (one_text text) (Pass c) due).1 after
+  due_reply_spends_counters (two_texts first second) (Some (Pass c)) (Some start) has due after =
       pair_pass_spends_counters join fresh old new name moment start has is ps spent c first second
-      (reply_by_token_is_due start moment (TwoTexts first second) (Pass c) due).1 after
+      (reply_by_token_is_due start moment (two_texts first second) (Pass c) due).1 after
 
 -- the law: what was spent stays spent over each reply that is due
 pub spent_stays_spent : LegalHistoriesJoin → CandidatesAreNew → SpentStaysSpent

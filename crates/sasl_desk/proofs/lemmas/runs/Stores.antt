@@ -1,5 +1,5 @@
 -- What the store of a desk holds, wherever the desk stops: a book that its run may leave, in which all that was told is spent.
-use Rattle.std.proofs.Common.{inl, inr, ℕ, List, ◌++◌, reverse, refl}
+use Rattle.std.proofs.Common.{inl, inr, ℕ, List, ◌++◌, reverse, refl, sym, subst}
 use Rattle.book_format.specs.Book.{BookFields}
 use Rattle.book_format.specs.Trees.{IsBookText}
 use Rattle.account_book.specs.SavedBooks.{HasStoredText}
@@ -7,30 +7,55 @@ use Rattle.account_book.specs.Store.{StoreFacts}
 use Rattle.otp_core.specs.Laws.{BeginsWithItself}
 use Rattle.log_grammar.specs.Books.{accounts_in}
 use Rattle.log_grammar.specs.Lines.{log_bytes}
-use Rattle.log_grammar.specs.LoggedReply.{LoggedReply}
+use Rattle.log_grammar.specs.LoggedAttempt.{LoggedAttempt}
 use Rattle.log_grammar.specs.Places.{Place, halted}
 use Rattle.log_grammar.specs.Demands.{Accounts}
 use Rattle.sasl_desk.specs.Keeper.{IsAttemptJudged}
 use Rattle.sasl_desk.specs.Runs.{Call, run_lines}
 use Rattle.sasl_desk.specs.Saved.{IsLogSaved}
 use Rattle.sasl_desk.specs.Spent.{AreSpent, SpentStaysSpent}
-use Rattle.sasl_desk.specs.Desks.{IsStoredAt, spent_by_all, IsDeskAfter}
+use Rattle.sasl_desk.specs.Desks.{MayHold, HoldsBook, IsLostAfter, IsStoredAt, spent_by_all, IsDeskAfter}
 use Rattle.sasl_desk.specs.Restarts.{MayLeave, IsDeskRunLeaving}
 use Rattle.sasl_desk.specs.declared.desk.Desk.{Desk}
 use Rattle.sasl_desk.proofs.lemmas.runs.Restarts.{left_book_keeps_spent_counters}
 
+-- the text is that of a book that a run may leave: of this book, which the run kept, or of that with one more attempt
+abbrev pub IsTextLeft : (book : BookFields) → (text : List ℕ) → Type 0
+IsTextLeft book text = (left : BookFields) × MayLeave book left × IsBookText text left
+
+-- a store of this book
+module _ (IsStored : List ℕ → Type 0) (book : BookFields) (store : StoreFacts) where
+  -- a text that the store may hold while it holds the book is one that a run may leave
+  pub held_text_may_be_left : HoldsBook IsStored book store → (text : List ℕ) → MayHold store text → IsTextLeft book text
+  held_text_may_be_left held text (inl same) = (book, inl refl, subst (λ (t : List ℕ). IsBookText t book) (sym same) held.saved)
+  held_text_may_be_left held text (inr (failed, same)) = absurd (cc (held.working, failed))
+
+  -- a text that the store may hold after it failed to save the latest attempt is one that a run may leave
+  lost_text_may_be_left : (accounts : Accounts) (calls : List Call) → IsLostAfter IsStored accounts calls book store
+      → (text : List ℕ) → MayHold store text → IsTextLeft book text
+  lost_text_may_be_left accounts calls lost text (inl same) = elim lost.saved [
+    | inl before ↦ (book, inl refl, subst (λ (t : List ℕ). IsBookText t book) (sym same) before.0)
+    | inr after ↦ (
+      lost.next,
+      inr (lost.attempt, lost.is_judged),
+      subst (λ (t : List ℕ). IsBookText t lost.next) (sym same) after,
+    )
+  ]
+  lost_text_may_be_left accounts calls lost text (inr (failed, same)) = (
+    lost.next,
+    inr (lost.attempt, lost.is_judged),
+    subst (λ (t : List ℕ). IsBookText t lost.next) (sym same) lost.asked,
+  )
+
 -- a store that is as it has to be at a place of a log
 module _ (IsStored : List ℕ → Type 0) (accounts : Accounts) (calls : List Call) (book : BookFields) (store : StoreFacts) where
-  -- it holds the text of a book that a run may leave: the book, or that with the attempt whose save failed
+  -- each text that the store may hold at a place of a log is one that a run may leave
   pub store_holds_left_book : (place : Place) → IsStoredAt IsStored accounts calls place book store
-      → (left : BookFields) × MayLeave book left × IsBookText store.saved left
-  store_holds_left_book halted lost = elim lost.saved [
-    | inl before ↦ (book, inl refl, before.0)
-    | inr after ↦ (lost.next, inr (lost.t, lost.is_judged), after)
-  ]
-  store_holds_left_book place held = (book, inl refl, held.saved)
+      → (text : List ℕ) → MayHold store text → IsTextLeft book text
+  store_holds_left_book halted lost = lost_text_may_be_left IsStored book store accounts calls lost
+  store_holds_left_book place held = held_text_may_be_left IsStored book store held
 
-  -- the book was saved
+  -- the book that a desk has at a place of its log was saved
   pub book_was_saved : (place : Place) → IsStoredAt IsStored accounts calls place book store → HasStoredText IsStored book
   book_was_saved halted lost = lost.before
   book_was_saved place held = (store.saved, held.saved, held.stored)
@@ -38,7 +63,7 @@ module _ (IsStored : List ℕ → Type 0) (accounts : Accounts) (calls : List Ca
 -- a desk that has answered these calls
 module _ {S : Type 0} {facts : S → StoreFacts} {IsStored : List ℕ → Type 0} {start : BookFields} {calls : List Call} {desk : Desk S}
     (s : IsDeskAfter facts IsStored start calls desk) where
-  -- the book to which all that its log tells leads was saved
+  -- the law: the book to which the replies in a desk's log lead was saved
   pub log_is_saved : IsLogSaved IsStored start (log_bytes (run_lines calls))
   log_is_saved = record {
     lines = run_lines calls;
@@ -53,12 +78,12 @@ module _ {S : Type 0} {facts : S → StoreFacts} {IsStored : List ℕ → Type 0
     };
   }
 
-  -- its store holds the text of the book, or of the book with one attempt more
-  desk_store_may_leave : (left : BookFields) × MayLeave desk.keeper.book left × IsBookText (facts desk.keeper.store).saved left
-  desk_store_may_leave =
+  -- each text that the store of a desk may hold is that of the desk's book, or of that book with one more attempt
+  desk_text_may_be_left : (text : List ℕ) → MayHold (facts desk.keeper.store) text → IsTextLeft desk.keeper.book text
+  desk_text_may_be_left =
       store_holds_left_book IsStored (accounts_in start) calls desk.keeper.book (facts desk.keeper.store) s.place s.is_stored
 
-  -- its run may leave the book that it has, and that with one attempt more
+  -- the run of a desk may leave the desk's book, and that book with one more attempt
   desk_run_may_leave : (left : BookFields) → MayLeave desk.keeper.book left → IsDeskRunLeaving facts IsStored start calls left
   desk_run_may_leave left leaves = (
     record { start = start; calls = calls; told = s.told; left = left },
@@ -68,30 +93,34 @@ module _ {S : Type 0} {facts : S → StoreFacts} {IsStored : List ℕ → Type 0
     refl,
   )
 
-  -- its store holds the text of a book that its run may leave
-  pub desk_store_holds_left_book : (left : BookFields) × IsDeskRunLeaving facts IsStored start calls left
-      × IsBookText (facts desk.keeper.store).saved left
-  desk_store_holds_left_book = let (left, leaves, text) = desk_store_may_leave in (left, desk_run_may_leave left leaves, text)
+  -- the law: each text that the store of a desk may hold is that of a book that the desk's run may leave
+  pub store_holds_a_book : (text : List ℕ) → MayHold (facts desk.keeper.store) text
+      → (left : BookFields) × IsDeskRunLeaving facts IsStored start calls left × IsBookText text left
+  store_holds_a_book text holds =
+      let (left, leaves, is_text) = desk_text_may_be_left text holds in (left, desk_run_may_leave left leaves, is_text)
 
-  -- a run that stops within a call may leave the book with the attempt that was judged
-  pub stopped_desk_leaves_attempt : (t : LoggedReply) (next : BookFields) → IsAttemptJudged desk.keeper.book t next
+  -- the law: a desk's run may leave its book with one more judged attempt
+  pub stops_leave_runs : (t : LoggedAttempt) (next : BookFields) → IsAttemptJudged desk.keeper.book t next
       → IsDeskRunLeaving facts IsStored start calls next
-  stopped_desk_leaves_attempt t next one = desk_run_may_leave next (inr (t, one))
+  stops_leave_runs t next one = desk_run_may_leave next (inr (t, one))
 
-  -- what was spent before stays spent, and each counter that a reply used is spent, in the book whose text the store holds
-  pub desk_store_keeps_spent_counters : BeginsWithItself → SpentStaysSpent → (ps : List (List ℕ × ℕ)) → AreSpent ps start
-      → (saved : BookFields) × IsBookText (facts desk.keeper.store).saved saved × AreSpent (spent_by_all (reverse s.told) ++ ps) saved
-  desk_store_keeps_spent_counters itself stays ps spent =
-      let (left, leaves, text) = desk_store_may_leave in (
+  -- the law, after a call: in each book whose text the store may hold, what was spent before the run is spent, and so is each counter
+  -- that a reply used
+  pub told_counters_are_saved_ended : BeginsWithItself → SpentStaysSpent → (ps : List (List ℕ × ℕ)) (text : List ℕ) → AreSpent ps start
+      → MayHold (facts desk.keeper.store) text
+      → (saved : BookFields) × IsBookText text saved × AreSpent (spent_by_all (reverse s.told) ++ ps) saved
+  told_counters_are_saved_ended itself stays ps text spent holds =
+      let (left, leaves, is_text) = desk_text_may_be_left text holds in (
         left,
-        text,
+        is_text,
         left_book_keeps_spent_counters itself stays desk.keeper.book left (spent_by_all (reverse s.told) ++ ps) leaves (s.spent ps spent),
       )
 
-  -- in its book with one more attempt, what was spent before is spent, and so is each counter that a reply used
-  pub stopped_desk_keeps_spent_counters : BeginsWithItself → SpentStaysSpent → (ps : List (List ℕ × ℕ)) (t : LoggedReply)
+  -- the law, within a call: in the desk's book with one more attempt, what was spent before the run is spent, and so is each counter
+  -- that a reply used
+  pub told_counters_are_saved_within : BeginsWithItself → SpentStaysSpent → (ps : List (List ℕ × ℕ)) (t : LoggedAttempt)
       (next : BookFields) → AreSpent ps start → IsAttemptJudged desk.keeper.book t next
       → AreSpent (spent_by_all (reverse s.told) ++ ps) next
-  stopped_desk_keeps_spent_counters itself stays ps t next spent one =
+  told_counters_are_saved_within itself stays ps t next spent one =
       left_book_keeps_spent_counters itself stays desk.keeper.book next (spent_by_all (reverse s.told) ++ ps) (inr (t, one))
       (s.spent ps spent)

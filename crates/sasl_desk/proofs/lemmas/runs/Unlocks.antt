@@ -6,7 +6,7 @@ use Rattle.std.specs.declared.option.Option.TheVariants.{None, Some}
 use Rattle.std.proofs.lemmas.Bool.{cases_Bool}
 use Rattle.std.proofs.lemmas.Slice.Eq.{bytes_eq-Decides}
 use Rattle.std.proofs.lemmas.Option.{same_Some}
-use Rattle.otp_core.specs.Attempt.{Attempt, CodeTexts, OneText, TwoTexts, attempt_of}
+use Rattle.otp_core.specs.Attempt.{Attempt, CodeTexts, one_text, two_texts, attempt_of}
 use Rattle.otp_core.specs.Ranges.{IsMoment}
 use Rattle.otp_core.specs.Reply.{IsDueReply}
 use Rattle.otp_core.specs.History.{IsLegal}
@@ -48,13 +48,13 @@ attempt_keeps_below fresh token counter before at sent Fail is due below moment 
     (fail_admits_no_more token before at sent moment c can)
 attempt_keeps_below fresh token counter before at sent Locked is due below moment c later can = below moment c later
     (locked_admits_no_more token before at sent moment c can)
-attempt_keeps_below fresh token counter before at (OneText text) (Pass w) is due below moment c later can =
+attempt_keeps_below fresh token counter before at (one_text text) (Pass w) is due below moment c later can =
     let passed : counter < w = below at w is (inl due.1.0) in
-    let apart = (fresh token (attempt_of at (OneText text) (Pass w) ∷ before) moment c can).0 in omega (arith, passed, apart)
-attempt_keeps_below fresh token counter before at (TwoTexts first second) (Pass w) is due below moment c later can =
+    let apart = (fresh token (attempt_of at (one_text text) (Pass w) ∷ before) moment c can).0 in omega (arith, passed, apart)
+attempt_keeps_below fresh token counter before at (two_texts first second) (Pass w) is due below moment c later can =
     let (first_one, next, can_pair, one, other) = due.1 in
     let passed : counter < first_one = below at first_one is (inr can_pair) in
-    let apart = (fresh token (attempt_of at (TwoTexts first second) (Pass w) ∷ before) moment c can).0 in omega (arith, passed, next, apart)
+    let apart = (fresh token (attempt_of at (two_texts first second) (Pass w) ∷ before) moment c can).0 in omega (arith, passed, next, apart)
 
 -- a counter below each that can pass now is below each that can pass ever
 history_keeps_below : CandidatesAreNew → (token : TokenFields) (counter : ℕ) → IsBelowAfter token [] counter → (history : List Attempt)

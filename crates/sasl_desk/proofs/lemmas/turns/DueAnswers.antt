@@ -10,7 +10,7 @@ use Rattle.scram_ends.specs.Entry.{Entry}
 use Rattle.scram_ends.specs.Stages.{challenged_login}
 use Rattle.scram_ends.specs.Opening.{IsTakenUp}
 use Rattle.scram_ends.specs.First.{IsRefusedWith, IsChallengeTo}
-use Rattle.scram_ends.specs.Standing.{StandsFor}
+use Rattle.scram_ends.specs.Standing.{StandsForChallenged}
 use Rattle.scram_ends.specs.Verdict.{Due, accept, refuse, IsDue, due_text, final_due, verdict_of}
 use Rattle.scram_ends.specs.Laws.{RefusedIsNotTakenUp}
 use Rattle.scram_ends.specs.declared.server.ServerWait.{ServerWait}
@@ -19,17 +19,17 @@ use Rattle.scram_ends.specs.declared.verdict.Verdict.{Verdict}
 use Rattle.log_grammar.specs.Places.{Place, between, asks_bare, waits_first, got_first, waits_final, got_final, waits_code, leaving, over}
 use Rattle.log_grammar.specs.Demands.{Accounts, NamesMechanism, IsFirstOf}
 use Rattle.sasl_log.proofs.lemmas.steps.Logins.{stands_for_equal_login, login_is_challenged}
-use Rattle.sasl_desk.specs.ChallengedLogin.{challenged_login_of}
+use Rattle.sasl_desk.specs.ChallengedLogin.{waiting_login_of}
 use Rattle.sasl_desk.specs.Sessions.{answer_of, verdict_answer, IsBareNoDue, IsAnswer}
 use Rattle.sasl_desk.specs.declared.session.Session.TheVariants.{WaitFirst, WaitFinal}
 use Rattle.sasl_desk.specs.declared.session.event.Saying.TheVariants.{Nothing, Continues, Refuses}
 
 -- a bare `S NO` is due to a client that is turned away
-pub bare_refusal_due : (accounts : Accounts) (server_nonce : List ℕ) (at : Place) → IsBareNoDue at
+pub bare_refusal_is_due : (accounts : Accounts) (server_nonce : List ℕ) (at : Place) → IsBareNoDue at
     → IsAnswer accounts server_nonce at (answer_of Refuses None) []
-bare_refusal_due accounts server_nonce leaving away =
+bare_refusal_is_due accounts server_nonce leaving away =
     record { next = between; path = (over, (refl, refl), (between, refl, refl)); left = refl; challenge = tt; plain = (tt, (tt, tt)) }
-bare_refusal_due accounts server_nonce (asks_bare mechanism) away =
+bare_refusal_is_due accounts server_nonce (asks_bare mechanism) away =
     record {
       next = between;
       path = (over, ((away, refl), refl), (between, refl, refl));
@@ -37,7 +37,7 @@ bare_refusal_due accounts server_nonce (asks_bare mechanism) away =
       challenge = tt;
       plain = (tt, (tt, tt));
     }
-bare_refusal_due accounts server_nonce (got_first mechanism first) away =
+bare_refusal_is_due accounts server_nonce (got_first mechanism first) away =
     record {
       next = between;
       path = (over, ((away, refl), refl), (between, refl, refl));
@@ -45,11 +45,12 @@ bare_refusal_due accounts server_nonce (got_first mechanism first) away =
       challenge = tt;
       plain = (tt, (tt, tt));
     }
-bare_refusal_due accounts server_nonce at away = absurd away
+bare_refusal_is_due accounts server_nonce at away = absurd away
 
 -- nothing but `E` is due after a client that has gone away
-pub departure_due : (accounts : Accounts) (server_nonce : List ℕ) → IsAnswer accounts server_nonce over (answer_of Nothing None) []
-departure_due accounts server_nonce = record {
+pub end_is_due_after_departure : (accounts : Accounts) (server_nonce : List ℕ)
+    → IsAnswer accounts server_nonce over (answer_of Nothing None) []
+end_is_due_after_departure accounts server_nonce = record {
   next = between;
   path = (between, refl, refl);
   left = refl;
@@ -77,9 +78,9 @@ taken_first_opens_login mechanism first name m p authzid named is taken =
     record { m = m; offered = named; parts = p; authzid = authzid; is_first = is; taken_up = taken }
 
 -- the empty challenge is due to a client that asks for a mechanism that is offered
-pub invitation_due : (accounts : Accounts) (server_nonce : List ℕ) (mechanism : List ℕ) (m : Mechanism) → NamesMechanism mechanism m
+pub invitation_is_due : (accounts : Accounts) (server_nonce : List ℕ) (mechanism : List ℕ) (m : Mechanism) → NamesMechanism mechanism m
     → IsAnswer accounts server_nonce (asks_bare mechanism) (answer_of Continues (Some (WaitFirst m))) []
-invitation_due accounts server_nonce mechanism m named = record {
+invitation_is_due accounts server_nonce mechanism m named = record {
   next = waits_first mechanism;
   path = (waits_first mechanism, (((m, named), refl), refl), refl);
   left = ap waits_first named;
@@ -92,12 +93,12 @@ module _ (once : HasOneClientFirst) (names : SpellsOneName) (accounts : Accounts
     (m : Mechanism)
     (mechanism name client_first server_first : List ℕ) where
   -- the challenge that a server writes is due, and the server stands for its login
-  account_challenge_due : NamesMechanism mechanism m → IsFirstOf mechanism client_first name
+  account_challenge_is_due : NamesMechanism mechanism m → IsFirstOf mechanism client_first name
       → IsChallengeTo (accounts.entry m name) client_first server_nonce server_first
-      → StandsFor wait (challenged_login (accounts.entry m name) m client_first server_first)
+      → StandsForChallenged wait (challenged_login (accounts.entry m name) m client_first server_first)
       → IsAnswer accounts server_nonce (got_first mechanism client_first)
-      (answer_of Continues (Some (WaitFinal (challenged_login_of wait m name)))) server_first
-  account_challenge_due named first shows stands = record {
+      (answer_of Continues (Some (WaitFinal (waiting_login_of wait m name)))) server_first
+  account_challenge_is_due named first shows stands = record {
     next = waits_final mechanism name client_first server_first;
     path = (
       waits_final mechanism name client_first server_first,
@@ -110,26 +111,26 @@ module _ (once : HasOneClientFirst) (names : SpellsOneName) (accounts : Accounts
   }
 
   -- a challenge of a server that stands for the account's login is due, and the session then waits for the client-final message
-  pub challenge_due : (message : List ℕ) (entry : Entry) → entry ≡ accounts.entry m name → message ≡ server_first
+  pub challenge_is_due : (message : List ℕ) (entry : Entry) → entry ≡ accounts.entry m name → message ≡ server_first
       → NamesMechanism mechanism m → IsFirstOf mechanism client_first name → IsChallengeTo entry client_first server_nonce server_first
-      → StandsFor wait (challenged_login entry m client_first server_first)
+      → StandsForChallenged wait (challenged_login entry m client_first server_first)
       → IsAnswer accounts server_nonce (got_first mechanism client_first)
-      (answer_of Continues (Some (WaitFinal (challenged_login_of wait m name)))) message
-  challenge_due message entry same written named first shows stands =
+      (answer_of Continues (Some (WaitFinal (waiting_login_of wait m name)))) message
+  challenge_is_due message entry same written named first shows stands =
       let here = subst (λ (e : Entry). IsChallengeTo e client_first server_nonce server_first) same shows in
       let stood = stands_for_equal_login wait entry (accounts.entry m name) m client_first client_first server_first same refl stands in
       subst (λ (t : List ℕ). IsAnswer accounts server_nonce (got_first mechanism client_first)
-      (answer_of Continues (Some (WaitFinal (challenged_login_of wait m name)))) t)
-      (sym written) (account_challenge_due named first here stood)
+      (answer_of Continues (Some (WaitFinal (waiting_login_of wait m name)))) t)
+      (sym written) (account_challenge_is_due named first here stood)
 
 -- the verdict on a client-final message
 module _ (accounts : Accounts) (server_nonce : List ℕ) (m : Mechanism) (name client_first server_first client_final : List ℕ) where
   -- an acceptance, or a refusal with the message that says why, is due if its verdict is
-  either_verdict_due : (d : Due) → IsDue (challenged_login (accounts.entry m name) m client_first server_first) client_final d
+  either_verdict_is_due : (d : Due) → IsDue (challenged_login (accounts.entry m name) m client_first server_first) client_final d
       → IsServerFinal (due_text d) (final_due d)
       → IsAnswer accounts server_nonce (got_final (name_of m) name client_first server_first client_final)
       (verdict_answer (verdict_of d) name) (due_text d)
-  either_verdict_due (accept signature) due is = record {
+  either_verdict_is_due (accept signature) due is = record {
     next = waits_code name;
     path = (
       waits_code name,
@@ -147,7 +148,7 @@ module _ (accounts : Accounts) (server_nonce : List ℕ) (m : Mechanism) (name c
     challenge = tt;
     plain = ((signature, is), tt);
   }
-  either_verdict_due (refuse why) due is = record {
+  either_verdict_is_due (refuse why) due is = record {
     next = between;
     path = (over, ((why, (m, refl, due), refl), refl), (between, refl, refl));
     left = refl;
@@ -156,12 +157,12 @@ module _ (accounts : Accounts) (server_nonce : List ℕ) (m : Mechanism) (name c
   }
 
   -- the answer with the verdict that is due, and its message, is due
-  pub verdict_due : (message : List ℕ) (v : Verdict) (d : Due)
+  pub verdict_is_due : (message : List ℕ) (v : Verdict) (d : Due)
       → IsDue (challenged_login (accounts.entry m name) m client_first server_first) client_final d → v ≡ verdict_of d
       → message ≡ due_text d → IsServerFinal (due_text d) (final_due d)
       → IsAnswer accounts server_nonce (got_final (name_of m) name client_first server_first client_final) (verdict_answer v name) message
-  verdict_due message v d due says written is =
+  verdict_is_due message v d due says written is =
       let at = got_final (name_of m) name client_first server_first client_final in
       let worded = subst (λ (w : Verdict). IsAnswer accounts server_nonce at (verdict_answer w name) (due_text d)) (sym says)
-      (either_verdict_due d due is) in
+      (either_verdict_is_due d due is) in
       subst (λ (t : List ℕ). IsAnswer accounts server_nonce at (verdict_answer v name) t) (sym written) worded

@@ -1,15 +1,14 @@
 -- What is recorded of a client may stand if and only if it is due.
-use Rattle.std.proofs.Common.{◌≡◌, true, refl, sym, subst, arith}
+use Rattle.std.proofs.Common.{◌≡◌, true, refl, sym, subst}
 use Rattle.log_grammar.specs.Lines.{heard, bad, gone, ClientLine, auth, auth_with, resp, abort, code, sync}
 use Rattle.log_grammar.specs.Places.{Place, offered, waits_first, waits_final, waits_code, leaving, over}
 use Rattle.log_grammar.specs.Demands.{Demands, demands}
 use Rattle.log_grammar.specs.state_machine.Steps.{IsTransition}
-use Rattle.sasl_desk.specs.DueLines.{is_client_turn, is_due, heard_place, DueLinesStand, BadLinesStand, GoneClientsStand}
-use Rattle.sasl_desk.specs.Sessions.{LongTextsAreBad}
+use Rattle.sasl_desk.specs.DueLines.{is_client_turn, is_due, place_after_line, DueLinesStand, BadLinesStand, GoneClientsStand}
 
 -- a line that is due may stand, and leads to the place after it
 pub due_line_may_stand : (d : Demands) (line : ClientLine) (at : Place) → is_due at line ≡ true
-    → IsTransition d at (heard line) (heard_place at line)
+    → IsTransition d at (heard line) (place_after_line at line)
 due_line_may_stand d (auth mechanism) offered due = refl
 due_line_may_stand d (auth mechanism) at due = absurd (cc due)
 due_line_may_stand d (auth_with mechanism message) offered due = refl
@@ -30,7 +29,7 @@ due_line_may_stand d (sync one two) at due = absurd (cc due)
 -- a line that may stand is due, and leads nowhere else
 pub standing_client_line_is_due : (d : Demands) (line : ClientLine) (at next : Place) → IsTransition d at (heard line) next
     → (is_due at line ≡ true)
-    × (next ≡ heard_place at line)
+    × (next ≡ place_after_line at line)
 standing_client_line_is_due d (auth mechanism) offered next goes = (refl, goes)
 standing_client_line_is_due d (auth mechanism) at next goes = absurd goes
 standing_client_line_is_due d (auth_with mechanism message) offered next goes = (refl, goes)
@@ -80,7 +79,7 @@ gone_stands_in_turn d (waits_final mechanism account first challenge) next goes 
 gone_stands_in_turn d (waits_code account) next goes = (refl, goes)
 gone_stands_in_turn d at next goes = absurd goes
 
--- a line of the client may stand if and only if it is due, and leads to the place after it
+-- the law: a line of the client may stand if and only if it is due, and leads to the place after it
 pub due_lines_stand : DueLinesStand
 due_lines_stand accounts at line next = (
   standing_client_line_is_due (demands accounts) line at next,
@@ -88,22 +87,16 @@ due_lines_stand accounts at line next = (
       (due_line_may_stand (demands accounts) line at due.0),
 )
 
--- `C BAD` may stand if and only if it is the client's turn
+-- the law: `C BAD` may stand if and only if it is the client's turn
 pub bad_lines_stand : BadLinesStand
 bad_lines_stand accounts at next = (
   bad_stands_in_turn (demands accounts) at next,
   λ due. subst (λ (p : Place). IsTransition (demands accounts) at bad p) (sym due.1) (bad_may_stand (demands accounts) at due.0),
 )
 
--- `C GONE` may stand if and only if it is the client's turn
+-- the law: `C GONE` may stand if and only if it is the client's turn
 pub gone_clients_stand : GoneClientsStand
 gone_clients_stand accounts at next = (
   gone_stands_in_turn (demands accounts) at next,
   λ due. subst (λ (p : Place). IsTransition (demands accounts) at gone p) (sym due.1) (gone_may_stand (demands accounts) at due.0),
 )
-
--- a text with more bytes than a client's line may have is recorded as `C BAD`
-pub long_texts_are_bad : LongTextsAreBad
-long_texts_are_bad text at (heard line) long is = let short = is.0.short in absurd (omega (arith, short, long))
-long_texts_are_bad text at bad long is = refl
-long_texts_are_bad text at kept long is = absurd is

@@ -1,16 +1,15 @@
 -- What is recorded of a line, and what came of it, is recorded of the event by which the line was sent, and came of that event.
-use Rattle.std.proofs.Common.{◌≡◌, true, false, ℕ, List, refl, sym, subst}
+use Rattle.std.proofs.Common.{◌≡◌, true, false, ℕ, List, refl, sym, subst, arith}
 use Rattle.log_grammar.specs.laws.LineLaws.{EachTextIsAtMostOneLine}
-use Rattle.otp_core.specs.Attempt.{CodeTexts, OneText, TwoTexts}
+use Rattle.otp_core.specs.Attempt.{CodeTexts, one_text, two_texts}
 use Rattle.log_grammar.specs.Lines.{LogLine, heard, bad, ClientLine, code_line, from_client, IsLine}
 use Rattle.log_grammar.specs.Places.{Place}
 use Rattle.log_grammar.specs.Demands.{Accounts}
 use Rattle.sasl_desk.specs.Events.{ClientEvent, sends, goes_away}
 use Rattle.otp_core.specs.Sent.{texts_of}
 use Rattle.sasl_desk.specs.DueLines.{is_due}
-use Rattle.sasl_desk.specs.Sessions.{IsLineOf, IsRecord, IsRecordOfLine, ComesOfEvent, ComesOfLine, TakesMemory}
-use Rattle.sasl_desk.specs.Sessions.{JudgesOnlyLine, JudgesOnlyWhatWasSent}
-use Rattle.sasl_desk.specs.Sessions.{SentWhatTakesMemory}
+use Rattle.sasl_desk.specs.Sessions.{IsLineOf, IsRecord, IsRecordOfLine, ComesOfEvent, ComesOfLine, TakesMemory, JudgesOnlyLine}
+use Rattle.sasl_desk.specs.Sessions.{JudgesOnlyWhatWasSent, SentWhatTakesMemory, LongTextsAreBad}
 use Rattle.sasl_desk.specs.declared.session.event.HearResult.{HearResult}
 use Rattle.sasl_desk.specs.declared.session.event.HearResult.TheVariants.{Answered, ToJudge}
 
@@ -43,11 +42,18 @@ line_result_is_event_result once accounts server_nonce event line at (Answered t
 line_result_is_event_result once accounts server_nonce event line at (ToJudge name sent) message is came =
     record { place = came.0; is_record = line_record_is_event_record once event line at (heard (code_line (texts_of sent))) is came.1 }
 
--- a text that is no line of a client is recorded as `C BAD`
-pub no_line_is_recorded_bad : (event : ClientEvent) (at : Place) → ((line : ClientLine) → IsLineOf event line → ⊥) → (event ≡ goes_away → ⊥)
+-- a text that is not a line of a client is recorded as `C BAD`
+pub text_of_no_line_is_recorded_bad : (event : ClientEvent) (at : Place) → ((line : ClientLine) → IsLineOf event line → ⊥)
+    → (event ≡ goes_away → ⊥)
     → IsRecord event at bad
-no_line_is_recorded_bad goes_away at no_line sent = absurd (sent refl)
-no_line_is_recorded_bad (sends text) at no_line sent = λ line is. absurd (no_line line is)
+text_of_no_line_is_recorded_bad goes_away at no_line sent = absurd (sent refl)
+text_of_no_line_is_recorded_bad (sends text) at no_line sent = λ line is. absurd (no_line line is)
+
+-- the law: a text with more bytes than a client's line may have is recorded as `C BAD`
+pub long_texts_are_bad : LongTextsAreBad
+long_texts_are_bad text at (heard line) long is = let short = is.0.short in absurd (omega (arith, short, long))
+long_texts_are_bad text at bad long is = refl
+long_texts_are_bad text at kept long is = absurd is
 
 -- a code that is to be judged is the event's if it is that of the line that the event was
 pub judged_code_was_sent : (event : ClientEvent) (line : ClientLine) (h : HearResult) → IsLineOf event line → JudgesOnlyLine h line
@@ -57,8 +63,8 @@ judged_code_was_sent event line (ToJudge name sent) is same = subst (λ (l : Cli
 
 -- a line with a code, or with two in a row, takes memory to answer
 code_takes_memory : (sent : CodeTexts) → TakesMemory (code_line sent)
-code_takes_memory (OneText text) = tt
-code_takes_memory (TwoTexts first second) = tt
+code_takes_memory (one_text text) = tt
+code_takes_memory (two_texts first second) = tt
 
 -- a client that sent a code, or two in a row, sent a line whose answer takes memory
 pub sent_code_takes_memory : (event : ClientEvent) (sent : CodeTexts) → IsLineOf event (code_line sent) → SentWhatTakesMemory event

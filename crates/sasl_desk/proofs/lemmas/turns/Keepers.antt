@@ -17,8 +17,8 @@ use Rattle.account_book.specs.Tokens.{token_at, with_token}
 use Rattle.account_book.proofs.lemmas.Maps.{account_is_changed}
 use Rattle.account_book.proofs.lemmas.Tokens.{tokens_go_back, tokens_stay}
 use Rattle.log_grammar.specs.Lines.{IsReplyInRange}
-use Rattle.log_grammar.specs.LoggedReply.{LoggedReply, logged_reply_of}
-use Rattle.log_grammar.specs.Demands.{Accounts, IsLoggedReplyDue}
+use Rattle.log_grammar.specs.LoggedAttempt.{LoggedAttempt, logged_attempt_of}
+use Rattle.log_grammar.specs.Demands.{Accounts, HasDueReply}
 use Rattle.sasl_log.proofs.lemmas.steps.Tokens.{book_reply_is_due, book_follows_attempt}
 use Rattle.sasl_log.specs.Tokens.{IsBookAfter}
 use Rattle.sasl_desk.specs.Keeper.{IsAttemptJudged, IsKept}
@@ -28,49 +28,49 @@ pub token_attempt_is_judged : (old new : BookFields) (name : List ℕ) (token no
     (reply : Reply)
     → IsMoment moment
     → token_at old name ≡ Some token → IsTokenAttempt token moment sent reply now → IsChanged old name (with_token now) new
-    → IsAttemptJudged old (logged_reply_of name moment sent (Some reply)) new
+    → IsAttemptJudged old (logged_attempt_of name moment sent (Some reply)) new
 token_attempt_is_judged old new name token now moment sent reply is has attempt put =
     record { is_moment = is; answered = rw has (reply, refl, record { next = now; judged = attempt; kept = put }) }
 
 -- an attempt of an account without a token is judged: there is no reply, and the book stays as it was
 pub tokenless_attempt_is_judged : (old : BookFields) (name : List ℕ) (moment : ℕ) (sent : CodeTexts) → IsMoment moment
     → token_at old name ≡ None
-    → IsAttemptJudged old (logged_reply_of name moment sent None) old
+    → IsAttemptJudged old (logged_attempt_of name moment sent None) old
 tokenless_attempt_is_judged old name moment sent is has = record { is_moment = is; answered = rw has (refl, refl) }
 
 -- the reply of an attempt that was judged is the one that is due after the replies before it
-pub judged_reply_is_due : (old new : BookFields) (t : LoggedReply) → IsAttemptJudged old t new
-    → (accounts : Accounts) (told : List LoggedReply)
+pub judged_reply_is_due : (old new : BookFields) (t : LoggedAttempt) → IsAttemptJudged old t new
+    → (accounts : Accounts) (told : List LoggedAttempt)
     → IsBookAfter accounts told old
-    → IsLoggedReplyDue accounts (reverse told) t
+    → HasDueReply accounts (reverse told) t
 judged_reply_is_due old new t one accounts told h = book_reply_is_due accounts told old t.account t.moment t.sent t.reply new one.answered h
 
 -- the book in which an attempt was judged is the book after what was told before, with that attempt's reply told last
-pub judged_book_is_after : (old new : BookFields) (t : LoggedReply) → IsAttemptJudged old t new
-    → (accounts : Accounts) (told : List LoggedReply)
+pub judged_book_is_after : (old new : BookFields) (t : LoggedAttempt) → IsAttemptJudged old t new
+    → (accounts : Accounts) (told : List LoggedAttempt)
     → IsBookAfter accounts told old
     → IsBookAfter accounts (told ++ t ∷ []) new
 judged_book_is_after old new t one accounts told h = book_follows_attempt accounts told old t.account t.moment t.sent t.reply new
     (token_at old t.account) refl one.answered h
 
 -- the reply of a token whose counter is at most the largest is in its range
-pub reply_in_range : (reply : Reply) → ((c : ℕ) → reply ≡ Pass c → c ≤ most_counter) → IsReplyInRange (Some reply)
-reply_in_range (Pass counter) most = most counter refl
-reply_in_range Fail most = tt
-reply_in_range Locked most = tt
+pub token_reply_is_in_range : (reply : Reply) → ((c : ℕ) → reply ≡ Pass c → c ≤ most_counter) → IsReplyInRange (Some reply)
+token_reply_is_in_range (Pass counter) most = most counter refl
+token_reply_is_in_range Fail most = tt
+token_reply_is_in_range Locked most = tt
 
 -- a reply other than LOCKED needs a save
-pub needs_save_unless_locked : (reply : Reply) → reply ≢ Locked → needs_save (Some reply) ≡ true
-needs_save_unless_locked (Pass counter) apart = refl
-needs_save_unless_locked Fail apart = refl
-needs_save_unless_locked Locked apart = absurd (apart refl)
+pub reply_but_locked_needs_save : (reply : Reply) → reply ≢ Locked → needs_save (Some reply) ≡ true
+reply_but_locked_needs_save (Pass counter) apart = refl
+reply_but_locked_needs_save Fail apart = refl
+reply_but_locked_needs_save Locked apart = absurd (apart refl)
 
 -- an attempt that LOCKED answers is judged and kept, and the book and the store stay as they were
 pub locked_attempt_is_judged : (IsStored : List ℕ → Type 0) (old : BookFields) (name : List ℕ) (token now : TokenFields) (moment : ℕ)
     (sent : CodeTexts)
     (reply : Reply) → IsMoment moment
     → token_at old name ≡ Some token → IsTokenAttempt token moment sent reply now → reply ≡ Locked → (was : StoreFacts)
-    → IsAttemptJudged old (logged_reply_of name moment sent (Some reply)) old × IsKept IsStored (needs_save (Some reply)) old was old was
+    → IsAttemptJudged old (logged_attempt_of name moment sent (Some reply)) old × IsKept IsStored (needs_save (Some reply)) old was old was
 locked_attempt_is_judged IsStored old name token now moment sent reply is has attempt locked was =
     let same : now ≡ token = attempt.state ∙ ap (after_reply token moment) locked in
     let stays : old ≡ with_changed old name (with_token now) =
@@ -79,11 +79,11 @@ locked_attempt_is_judged IsStored old name token now moment sent reply is has at
     (token_attempt_is_judged old old name token now moment sent reply is has attempt put, rw locked (refl, refl))
 
 -- a reply that is not LOCKED is kept by a store that holds the book's text
-pub kept_unless_locked : (IsStored : List ℕ → Type 0) (old new : BookFields) (was now : StoreFacts) (reply : Reply) → reply ≢ Locked
+pub reply_but_locked_is_kept : (IsStored : List ℕ → Type 0) (old new : BookFields) (was now : StoreFacts) (reply : Reply) → reply ≢ Locked
     → SavesBook IsStored was new now → IsKept IsStored (needs_save (Some reply)) old was new now
-kept_unless_locked IsStored old new was now (Pass counter) apart holds = holds
-kept_unless_locked IsStored old new was now Fail apart holds = holds
-kept_unless_locked IsStored old new was now Locked apart holds = absurd (apart refl)
+reply_but_locked_is_kept IsStored old new was now (Pass counter) apart holds = holds
+reply_but_locked_is_kept IsStored old new was now Fail apart holds = holds
+reply_but_locked_is_kept IsStored old new was now Locked apart holds = absurd (apart refl)
 
 -- if a token is put back, the book is as it was
 pub put_back_restores_book : (old mid new : BookFields) (name : List ℕ) (token next back : TokenFields) → token_at old name ≡ Some token
@@ -96,11 +96,11 @@ put_back_restores_book old mid new name token next back has same first second =
     ∙ tokens_go_back old name token next has
 
 -- a store that had not failed, and has failed now, failed in this save
-pub save_failed_now : (was now : StoreFacts) (text : List ℕ) → was.failed ≡ false
+pub store_failed_in_this_save : (was now : StoreFacts) (text : List ℕ) → was.failed ≡ false
     → ((was.failed ≡ true) × (now ≡ was)) ⊎ IsFailedSave was text now
     → IsFailedSave was text now
-save_failed_now was now text working (inl (failed, same)) = absurd (false≢true (sym working ∙ failed))
-save_failed_now was now text working (inr lost) = lost
+store_failed_in_this_save was now text working (inl (failed, same)) = absurd (false≢true (sym working ∙ failed))
+store_failed_in_this_save was now text working (inr lost) = lost
 
 -- a store that failed in a save, or had failed before, has failed
 pub lost_store_has_failed : (was now : StoreFacts) (text : List ℕ) → ((was.failed ≡ true) × (now ≡ was)) ⊎ IsFailedSave was text now

@@ -6,7 +6,7 @@ use Rattle.sasl_log.specs.declared.line.ClientLine.{ClientLine}
 use Rattle.sasl_log.specs.declared.line.ClientLine.TheVariants.{Auth, AuthWith, Resp, Abort, Code, Sync}
 use Rattle.sasl_desk.specs.DueLines.{is_auth_due, is_code_due, is_due}
 
--- after the offer a line that is no AUTH and no ABORT is not due
+-- after the offer, a line that is neither AUTH nor ABORT is not due
 pub only_auth_is_due : (line : ClientLine) → ((mechanism : Bor (List ℕ)) → line ≡ Auth mechanism → ⊥)
     → ((mechanism : Bor (List ℕ)) (message : List ℕ) → line ≡ AuthWith mechanism message → ⊥) → (line ≡ Abort → ⊥)
     → is_due offered (client_shown line) ≡ false
@@ -17,7 +17,7 @@ only_auth_is_due Abort auth with_message abort = absurd (abort refl)
 only_auth_is_due (Code text) auth with_message abort = refl
 only_auth_is_due (Sync first second) auth with_message abort = refl
 
--- if no AUTH and no code is due, a line that is no RESP and no ABORT is not due
+-- if neither AUTH nor a code is due, a line that is neither RESP nor ABORT is not due
 pub only_resp_is_due : (at : Place) (line : ClientLine) → is_auth_due at ≡ false → is_code_due at ≡ false
     → ((message : List ℕ) → line ≡ Resp message → ⊥) → (line ≡ Abort → ⊥) → is_due at (client_shown line) ≡ false
 only_resp_is_due at (Auth mechanism) auth code resp abort = auth
@@ -27,7 +27,7 @@ only_resp_is_due at Abort auth code resp abort = absurd (abort refl)
 only_resp_is_due at (Code text) auth code resp abort = code
 only_resp_is_due at (Sync first second) auth code resp abort = code
 
--- when codes are due, a line that is no CODE, no SYNC and no ABORT is not due
+-- where codes are due, a line that is not CODE, SYNC or ABORT is not due
 pub only_codes_are_due : (name : List ℕ) (line : ClientLine) → ((text : Bor (List ℕ)) → line ≡ Code text → ⊥)
     → ((first second : Bor (List ℕ)) → line ≡ Sync first second → ⊥) → (line ≡ Abort → ⊥)
     → is_due (waits_code name) (client_shown line) ≡ false

@@ -6,14 +6,14 @@ use Rattle.log_grammar.specs.laws.LogLaws.{GoesOnByALine}
 use Rattle.otp_core.specs.Attempt.{CodeTexts}
 use Rattle.otp_core.specs.declared.token.reply.Reply.{Reply}
 use Rattle.log_grammar.specs.Lines.{LogLine, said, heard, bad, gone, replies, code_line}
-use Rattle.log_grammar.specs.LoggedReply.{LoggedReply, logged_reply_of}
+use Rattle.log_grammar.specs.LoggedAttempt.{LoggedAttempt, logged_attempt_of}
 use Rattle.log_grammar.specs.Places.{Place, got_code, between, offered, waits_first, waits_final, waits_code, halted}
-use Rattle.log_grammar.specs.Demands.{Accounts, Demands, demands, AreReplies, IsLoggedReplyDue}
+use Rattle.log_grammar.specs.Demands.{Accounts, Demands, demands, HaveDueReplies, HasDueReply}
 use Rattle.log_grammar.specs.state_machine.Steps.{IsTransition, told_at}
 use Rattle.log_grammar.specs.Begins.{Begins}
 use Rattle.log_grammar.proofs.lemmas.state_machine.Shortening.{code_may_stand}
 use Rattle.sasl_desk.specs.Events.{ClientEvent, sends, goes_away}
-use Rattle.sasl_desk.specs.DueLines.{is_client_turn, record_place, IsPath}
+use Rattle.sasl_desk.specs.DueLines.{is_client_turn, place_after_record, IsPath}
 use Rattle.sasl_desk.specs.Sessions.{IsSessionAt, IsRecord, IsTurnOnEvent, recorded_shown, turn_lines, IsLeftAt}
 use Rattle.sasl_desk.specs.declared.session.Session.{Session}
 use Rattle.sasl_desk.specs.declared.session.Session.TheVariants.{WaitAuth, WaitFirst, WaitFinal, WaitCode}
@@ -48,15 +48,15 @@ left_session_rests accounts at None is = rw is tt
 left_session_rests accounts at (Some going) is = client_turn_rests at (session_has_client_turn accounts at going is)
 
 -- a session is not left at a halt
-pub left_place_not_halted : (accounts : Accounts) (at : Place) (going : Option Session) → IsLeftAt accounts at going → at ≡ halted → ⊥
-left_place_not_halted accounts at None is same = cc (is, same)
-left_place_not_halted accounts at (Some going) is same =
+pub left_place_is_not_halted : (accounts : Accounts) (at : Place) (going : Option Session) → IsLeftAt accounts at going → at ≡ halted → ⊥
+left_place_is_not_halted accounts at None is same = cc (is, same)
+left_place_is_not_halted accounts at (Some going) is same =
     false≢true (subst (λ (p : Place). is_client_turn p ≡ true) same (session_has_client_turn accounts at going is))
 
 -- what is recorded of an event may stand at a client's turn
 pub record_may_stand : (d : Demands) (at : Place) (event : ClientEvent) (recorded : LogLine) → is_client_turn at ≡ true
     → IsRecord event at recorded
-    → IsTransition d at recorded (record_place at recorded)
+    → IsTransition d at recorded (place_after_record at recorded)
 record_may_stand d at (sends text) (heard line) turn is = due_line_may_stand d line at is.1
 record_may_stand d at (sends text) bad turn is = bad_may_stand d at turn
 record_may_stand d at goes_away gone turn is = gone_may_stand d at turn
@@ -69,17 +69,17 @@ pub turn_is_path : (accounts : Accounts) (server_nonce : List ℕ) (event : Clie
     → (t : IsTurnOnEvent accounts server_nonce event at turn message)
     → IsPath (demands accounts) at (turn_lines turn message) t.is_answer.next
 turn_is_path accounts server_nonce event at going turn message is t = (
-  record_place at (recorded_shown turn.recorded),
+  place_after_record at (recorded_shown turn.recorded),
   record_may_stand (demands accounts) at event (recorded_shown turn.recorded) (session_has_client_turn accounts at going is) t.is_record,
   t.is_answer.path,
 )
 
--- the line is no reply to a code
+-- the line is not a reply to a code
 abbrev pub IsNoReply : LogLine → Type 0
 IsNoReply (said (replies moment reply)) = ⊥
 IsNoReply line = Unit {0}
 
--- what is recorded of a client is no reply
+-- what is recorded of a client is not a reply
 pub record_is_no_reply : (event : ClientEvent) (at : Place) (recorded : LogLine) → IsRecord event at recorded → IsNoReply recorded
 record_is_no_reply (sends text) at (heard line) is = tt
 record_is_no_reply (sends text) at bad is = tt
@@ -95,14 +95,14 @@ turn_has_no_reply accounts server_nonce event at turn message t = (
   answer_lines_have IsNoReply (λ text. tt) (λ text. tt) (λ text. tt) tt turn.answer.says turn.answer.session message,
 )
 
--- a line that is no reply tells nothing
+-- a line that is not a reply tells nothing
 pub no_reply_tells_nothing : (at : Place) (line : LogLine) → IsNoReply line → told_at at line ≡ []
 no_reply_tells_nothing (got_code account sent) (said (replies moment reply)) no_reply = absurd no_reply
 no_reply_tells_nothing (got_code account sent) line no_reply = refl
 no_reply_tells_nothing at line no_reply = refl
 
 -- a log goes on by a path without replies, and tells nothing new
-pub log_goes_on_by_path : GoesOnByALine → (accounts : Accounts) (log : List LogLine) (at : Place) (told : List LoggedReply)
+pub log_goes_on_by_path : GoesOnByALine → (accounts : Accounts) (log : List LogLine) (at : Place) (told : List LoggedAttempt)
     (lines : List LogLine) (next : Place)
     → Begins (demands accounts) log at told → IsPath (demands accounts) at lines next → AllByRecursion IsNoReply lines
     → Begins (demands accounts) (log ++ lines) next told
@@ -111,26 +111,26 @@ log_goes_on_by_path law accounts log at told [] next begins path no_replies =
     subst (λ (l : List LogLine). Begins (demands accounts) l next told) (sym (append-nil log)) here
 log_goes_on_by_path law accounts log at told (line ∷ lines) next begins (middle, goes, path) no_replies =
     let quiet = no_reply_tells_nothing at line no_replies.0 in
-    let due = subst (λ (t : List LoggedReply). AreReplies (demands accounts) (reverse told) t) (sym quiet) tt in
+    let due = subst (λ (t : List LoggedAttempt). HaveDueReplies (demands accounts) (reverse told) t) (sym quiet) tt in
     let step = law accounts log at told line middle begins goes due in
-    let told_here = subst (λ (t : List LoggedReply). Begins (demands accounts) (log ++ line ∷ []) middle (told ++ t)) quiet step in
-    let here = subst (λ (t : List LoggedReply). Begins (demands accounts) (log ++ line ∷ []) middle t) (append-nil told) told_here in
+    let told_here = subst (λ (t : List LoggedAttempt). Begins (demands accounts) (log ++ line ∷ []) middle (told ++ t)) quiet step in
+    let here = subst (λ (t : List LoggedAttempt). Begins (demands accounts) (log ++ line ∷ []) middle t) (append-nil told) told_here in
     subst (λ (l : List LogLine). Begins (demands accounts) l next told) (append_assoc log (line ∷ []) lines)
     (log_goes_on_by_path law accounts (log ++ line ∷ []) middle told lines next here path no_replies.1)
 
 -- a log goes on by a code, or two in a row, and its reply
-pub log_goes_on_by_reply : GoesOnByALine → (accounts : Accounts) (log : List LogLine) (name : List ℕ) (told : List LoggedReply)
+pub log_goes_on_by_reply : GoesOnByALine → (accounts : Accounts) (log : List LogLine) (name : List ℕ) (told : List LoggedAttempt)
     (moment : ℕ) (sent : CodeTexts) (reply : Option Reply)
     → Begins (demands accounts) log (waits_code name) told
-    → IsLoggedReplyDue accounts (reverse told) (logged_reply_of name moment sent reply)
+    → HasDueReply accounts (reverse told) (logged_attempt_of name moment sent reply)
     → Begins (demands accounts) (log ++ heard (code_line sent) ∷ said (replies moment reply) ∷ []) (waits_code name)
-    (told ++ logged_reply_of name moment sent reply ∷ [])
+    (told ++ logged_attempt_of name moment sent reply ∷ [])
 log_goes_on_by_reply law accounts log name told moment sent reply begins due =
     let line = heard (code_line sent) in
     let first = law accounts log (waits_code name) told line (got_code name sent) begins (code_may_stand name sent) tt in
-    let quiet = subst (λ (t : List LoggedReply). Begins (demands accounts) (log ++ line ∷ []) (got_code name sent) t)
+    let quiet = subst (λ (t : List LoggedAttempt). Begins (demands accounts) (log ++ line ∷ []) (got_code name sent) t)
     (append-nil told) first in
     let second = law accounts (log ++ line ∷ []) (got_code name sent) told (said (replies moment reply)) (waits_code name) quiet refl
     (due, tt) in
-    subst (λ (l : List LogLine). Begins (demands accounts) l (waits_code name) (told ++ logged_reply_of name moment sent reply ∷ []))
+    subst (λ (l : List LogLine). Begins (demands accounts) l (waits_code name) (told ++ logged_attempt_of name moment sent reply ∷ []))
     (append_assoc log (line ∷ []) (said (replies moment reply) ∷ [])) second

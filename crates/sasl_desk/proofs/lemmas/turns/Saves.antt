@@ -8,28 +8,28 @@ use Rattle.book_format.specs.Book.{BookFields}
 use Rattle.book_format.specs.Trees.{IsBookText}
 use Rattle.account_book.specs.Store.{StoreFacts}
 use Rattle.log_grammar.specs.Lines.{LogLine, said, replies, halt}
-use Rattle.log_grammar.specs.LoggedReply.{LoggedReply, logged_reply_of}
+use Rattle.log_grammar.specs.LoggedAttempt.{LoggedAttempt, logged_attempt_of}
 use Rattle.log_grammar.specs.Places.{Place, waits_code}
 use Rattle.log_grammar.specs.Demands.{Accounts}
 use Rattle.sasl_desk.specs.Desks.{HoldsBook}
 use Rattle.sasl_desk.specs.Events.{ClientEvent}
 use Rattle.sasl_desk.specs.Keeper.{IsAttemptJudged, IsJudged}
 use Rattle.sasl_desk.specs.Runs.{hears}
-use Rattle.sasl_desk.specs.SavedCalls.{is_saving, IsAttemptOf, CountsSaves, AsksForSave, IsQuiet, FailsInSave}
+use Rattle.sasl_desk.specs.SavedCalls.{is_saving, IsAttemptOf, CountsSaves, AsksToSaveAttempt, IsQuiet, FailsInSave}
 use Rattle.sasl_desk.specs.Sessions.{IsSessionAt, recorded_shown, turn_lines}
 use Rattle.sasl_desk.specs.TurnResults.{after_turn_of, judged_lines, after_judged, IsTurnOf}
 use Rattle.sasl_desk.specs.declared.keeper.Keeper.{Keeper}
 use Rattle.sasl_desk.specs.declared.keeper.CodeJudged.{CodeJudged}
-use Rattle.sasl_desk.specs.declared.keeper.CodeJudged.TheVariants.{Replied, Lost}
+use Rattle.sasl_desk.specs.declared.keeper.CodeJudged.TheVariants.{Replied, NotSaved}
 use Rattle.sasl_desk.specs.declared.session.Session.{Session}
 use Rattle.sasl_desk.specs.declared.session.event.Recorded.{Recorded}
 use Rattle.sasl_desk.specs.declared.session.event.Recorded.TheVariants as recorded
 use Rattle.sasl_desk.specs.declared.session.event.Turn.{Turn}
 use Rattle.sasl_desk.specs.declared.turn.AfterTurn.{AfterTurn}
 use Rattle.sasl_desk.specs.declared.turn.AfterTurn.TheVariants.{Going, Over, Halted}
-use Rattle.sasl_desk.proofs.lemmas.Lists.{none_passes_none_kept}
+use Rattle.sasl_desk.proofs.lemmas.Lists.{filter_keeps_none_if_none_passes}
 use Rattle.sasl_desk.proofs.lemmas.turns.AnswerLines.{answer_lines_have}
-use Rattle.sasl_desk.proofs.lemmas.turns.Keepers.{save_failed_now, lost_store_has_failed}
+use Rattle.sasl_desk.proofs.lemmas.turns.Keepers.{store_failed_in_this_save, lost_store_has_failed}
 
 -- what is recorded of a client stands for no save
 record_is_not_saving : (kept : Recorded) → is_saving (recorded_shown kept) ≡ false
@@ -39,7 +39,7 @@ record_is_not_saving recorded.Gone = refl
 
 -- the store is not asked to save for any line of a turn that a session answers
 session_turn_saves_nothing : (turn : Turn) (message : List ℕ) → filter is_saving (turn_lines turn message) ≡ []
-session_turn_saves_nothing turn message = none_passes_none_kept is_saving (turn_lines turn message) (
+session_turn_saves_nothing turn message = filter_keeps_none_if_none_passes is_saving (turn_lines turn message) (
   record_is_not_saving turn.recorded,
   answer_lines_have (λ line. is_saving line ≡ false) (λ text. refl) (λ text. refl) (λ text. refl) refl turn.answer.says turn.answer.session
       message,
@@ -58,23 +58,23 @@ left_session_halts_nothing None is = cc is
 
 -- what came of a code, or of two in a row: the book and the store before it was judged, and after
 module _ (IsStored : List ℕ → Type 0) (name : List ℕ) (moment : ℕ) (sent : CodeTexts) (old new : BookFields) (was now : StoreFacts) where
-  -- there is one save if the answer is PASS, FAIL or HALT, and none for another answer
+  -- a code makes one save if the answer is PASS, FAIL or HALT, and none for another answer
   code_counts_saves : (judged : CodeJudged) → HoldsBook IsStored old was → IsJudged IsStored old was name moment sent judged new now
       → now.saves ≡ was.saves + length (filter is_saving (judged_lines moment sent judged))
   code_counts_saves (Replied (Some (Pass c))) held (one, kept) = kept.saved.begun.counted
   code_counts_saves (Replied (Some Fail)) held (one, kept) = kept.saved.begun.counted
   code_counts_saves (Replied (Some Locked)) held (one, kept) = let same = ap (λ (f : StoreFacts). f.saves) kept.1 in omega (arith, same)
   code_counts_saves (Replied None) held (one, kept) = let same = ap (λ (f : StoreFacts). f.saves) kept.1 in omega (arith, same)
-  code_counts_saves Lost held (same, (reply, next, needs, one, loses)) =
-      (save_failed_now was now loses.text held.working loses.lost).begun.counted
+  code_counts_saves NotSaved held (same, (reply, next, needs, one, loses)) =
+      (store_failed_in_this_save was now loses.text held.working loses.lost).begun.counted
 
   -- a code that needs a save is an attempt, and the store was asked to save the book with it
   code_asks_for_save : (event : ClientEvent) (at : Place) (judged : CodeJudged) → at ≡ waits_code name → HoldsBook IsStored old was
       → IsJudged IsStored old was name moment sent judged new now → (filter is_saving (judged_lines moment sent judged) ≡ [] → ⊥)
-      → (t : LoggedReply) × (next : BookFields) × IsAttemptOf (hears event moment) at (judged_lines moment sent judged) t
+      → (t : LoggedAttempt) × (next : BookFields) × IsAttemptOf (hears event moment) at (judged_lines moment sent judged) t
       × IsAttemptJudged old t next × IsBookText now.asked next
   code_asks_for_save event at (Replied (Some (Pass c))) here held (one, kept) some = (
-    logged_reply_of name moment sent (Some (Pass c)),
+    logged_attempt_of name moment sent (Some (Pass c)),
     new,
     record {
       event = event;
@@ -88,7 +88,7 @@ module _ (IsStored : List ℕ → Type 0) (name : List ℕ) (moment : ℕ) (sent
     subst (λ (t : List ℕ). IsBookText t new) (sym kept.saved.begun.asked) kept.is_text,
   )
   code_asks_for_save event at (Replied (Some Fail)) here held (one, kept) some = (
-    logged_reply_of name moment sent (Some Fail),
+    logged_attempt_of name moment sent (Some Fail),
     new,
     record { event = event; answer = said (replies moment (Some Fail)); is_request = refl; place = here; lines_are = refl; to_save = refl },
     one,
@@ -96,33 +96,35 @@ module _ (IsStored : List ℕ → Type 0) (name : List ℕ) (moment : ℕ) (sent
   )
   code_asks_for_save event at (Replied (Some Locked)) here held judged some = absurd (some refl)
   code_asks_for_save event at (Replied None) here held judged some = absurd (some refl)
-  code_asks_for_save event at Lost here held (same, (reply, next, needs, one, loses)) some = (
-    logged_reply_of name moment sent reply,
+  code_asks_for_save event at NotSaved here held (same, (reply, next, needs, one, loses)) some = (
+    logged_attempt_of name moment sent reply,
     next,
     record { event = event; answer = said halt; is_request = refl; place = here; lines_are = refl; to_save = needs },
     one,
-    subst (λ (t : List ℕ). IsBookText t next) (sym (save_failed_now was now loses.text held.working loses.lost).begun.asked) loses.is_text,
+    subst (λ (t : List ℕ). IsBookText t next)
+        (sym (store_failed_in_this_save was now loses.text held.working loses.lost).begun.asked) loses.is_text,
   )
 
-  -- if nothing is saved for it, the book and the store stay as they were
+  -- if nothing is saved for a code, the book and the store stay as they were
   code_is_quiet : (judged : CodeJudged) → IsJudged IsStored old was name moment sent judged new now
       → filter is_saving (judged_lines moment sent judged) ≡ [] → (new ≡ old) × (now ≡ was)
   code_is_quiet (Replied (Some (Pass c))) judged none = absurd (cc none)
   code_is_quiet (Replied (Some Fail)) judged none = absurd (cc none)
   code_is_quiet (Replied (Some Locked)) (one, kept) none = kept
   code_is_quiet (Replied None) (one, kept) none = kept
-  code_is_quiet Lost judged none = absurd (cc none)
+  code_is_quiet NotSaved judged none = absurd (cc none)
 
-  -- if it halts a desk or a hall, the store has failed, and the book stays as it was
+  -- if a code halts a desk or a hall, the store has failed, and the book stays as it was
   halting_code_failed_saving : (judged : CodeJudged) → IsJudged IsStored old was name moment sent judged new now
       → halted_after (after_judged name judged) ≡ true → (now.failed ≡ true) × (new ≡ old)
   halting_code_failed_saving (Replied reply) judged is = absurd (cc is)
-  halting_code_failed_saving Lost (same, (reply, next, needs, one, loses)) is = (lost_store_has_failed was now loses.text loses.lost, same)
+  halting_code_failed_saving NotSaved (same, (reply, next, needs, one, loses)) is =
+      (lost_store_has_failed was now loses.text loses.lost, same)
 
 -- what a turn of a session did to its keeper
 module _ {S : Type 0} {facts : S → StoreFacts} {IsStored : List ℕ → Type 0} {old new : Keeper S} {going : Session} {server_nonce : List ℕ}
     {event : ClientEvent} {moment : ℕ} {lines : List LogLine} {left : AfterTurn} where
-  -- it made as many saves as its lines stand for
+  -- a turn makes as many saves as its lines stand for
   pub turn_counts_saves : IsTurnOf facts IsStored old going server_nonce event moment lines left new
       → HoldsBook IsStored old.book (facts old.store) → CountsSaves facts lines old new
   turn_counts_saves (inl t) held =
@@ -134,24 +136,24 @@ module _ {S : Type 0} {facts : S → StoreFacts} {IsStored : List ℕ → Type 0
       rw t.lines_are
       (code_counts_saves IsStored name moment sent old.book new.book (facts old.store) (facts new.store) t.judged held t.is_judged)
 
-  -- with a line that stands for a save it was an attempt, and the store was asked to save the book with it
+  -- a turn with a line that stands for a save is an attempt, and the store was asked to save the book with it
   pub turn_asks_for_save : (accounts : Accounts) (at : Place) → IsSessionAt accounts at going
       → IsTurnOf facts IsStored old going server_nonce event moment lines left new
-      → HoldsBook IsStored old.book (facts old.store) → AsksForSave facts (hears event moment) at lines old new
+      → HoldsBook IsStored old.book (facts old.store) → AsksToSaveAttempt facts (hears event moment) at lines old new
   turn_asks_for_save accounts at is (inl t) held some =
       absurd (some (ap (filter is_saving) t.lines_are ∙ session_turn_saves_nothing t.turn t.message))
   turn_asks_for_save accounts at is (inr (name, sent, asked, t)) held some =
       rw t.lines_are (code_asks_for_save IsStored name moment sent old.book new.book (facts old.store) (facts new.store) event at t.judged
       (subst (λ (g : Session). IsSessionAt accounts at g) asked.waits is) held t.is_judged (rw t.lines_are at some))
 
-  -- without a line that stands for a save it changed neither the book nor the store
+  -- a turn without a line that stands for a save changes neither the book nor the store
   pub turn_is_quiet : IsTurnOf facts IsStored old going server_nonce event moment lines left new → IsQuiet facts lines old new
   turn_is_quiet (inl t) none = (ap (λ (k : Keeper S). k.book) t.same, ap (λ (k : Keeper S). facts k.store) t.same)
   turn_is_quiet (inr (name, sent, asked, t)) none =
       code_is_quiet IsStored name moment sent old.book new.book (facts old.store) (facts new.store) t.judged t.is_judged
       (rw t.lines_are at none)
 
-  -- if it halted the desk or the hall, the store has failed, and the book is as before
+  -- if a turn halts the desk or the hall, the store has failed, and the book is as before
   pub halting_turn_failed_saving : IsTurnOf facts IsStored old going server_nonce event moment lines left new → halted_after left ≡ true
       → FailsInSave facts old new
   halting_turn_failed_saving (inl t) is = absurd (left_session_halts_nothing t.turn.answer.session (rw t.is_left at is))

@@ -12,7 +12,7 @@ use Rattle.sasl_desk.specs.Events.{ClientEvent}
 use Rattle.sasl_desk.specs.Runs.{BearsMoment, IsAnswerLine, IsTurnTaken}
 use Rattle.sasl_desk.specs.Sessions.{IsSessionAt, IsCodeDue, IsTurnOnEvent, IsChallengeWith, recorded_shown, lines_of_answer, turn_lines}
 use Rattle.sasl_desk.specs.TurnResults.{judged_lines}
-use Rattle.sasl_desk.specs.declared.keeper.CodeJudged.TheVariants.{Replied, Lost}
+use Rattle.sasl_desk.specs.declared.keeper.CodeJudged.TheVariants.{Replied, NotSaved}
 use Rattle.sasl_desk.specs.declared.session.Session.{Session}
 use Rattle.sasl_desk.specs.declared.session.event.Turn.{Turn}
 use Rattle.sasl_desk.proofs.lemmas.turns.AnswerLines.{answer_lines_have}
@@ -56,14 +56,14 @@ module _ (accounts : Accounts) (server_nonce : List ℕ) (event : ClientEvent) (
 
   -- a code, or two in a row, whose save failed
   pub halt_turn_is_taken : (name : List ℕ) (sent : CodeTexts) → IsCodeDue event at name sent
-      → IsTurnTaken accounts server_nonce event moment at (judged_lines moment sent Lost) halted
+      → IsTurnTaken accounts server_nonce event moment at (judged_lines moment sent NotSaved) halted
   halt_turn_is_taken name sent due = record {
     recorded = heard (code_line sent);
     answered = said halt ∷ [];
     lines_are = refl;
     is_record = due.is_record;
     answers = (tt, tt);
-    path = subst (λ (p : Place). IsPath (demands accounts) p (judged_lines moment sent Lost) halted) (sym due.place)
+    path = subst (λ (p : Place). IsPath (demands accounts) p (judged_lines moment sent NotSaved) halted) (sym due.place)
         (got_code name sent, code_may_stand name sent, (halted, refl, refl));
     rests = tt;
     challenge = tt;

@@ -26,8 +26,8 @@ returns-in_default-clause-err c =
     )
 
 -- the header of a client-first message is no longer than a message may be
-header_is_short : (client_first : List ℕ) (p : ClientFirstParts) (header : List ℕ) → IsClientFirst client_first p → header ≡ gs2_header p
-    → length header ≤ longest_message
+header_is_short : (client_first : List ℕ) (p : ClientFirstParts) (header : List ℕ)
+    → IsClientFirst client_first p → header ≡ gs2_header p → length header ≤ longest_message
 unfolding client_first_text
 header_is_short client_first p header is same = omega
     (arith, ap length is.spelled, ap length same, length-append (gs2_header p) (client_first_bare p), is.short)

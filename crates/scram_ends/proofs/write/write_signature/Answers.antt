@@ -1,5 +1,5 @@
-use Rattle.std.proofs.Common.{length, arith, inl, inr}
-use Rattle.std.proofs.lemmas.Bool.{cases_lt}
+use Rattle.std.proofs.Common.{arith}
+use Rattle.scram_text.specs.Limits.{longest_tag}
 use Rattle.scram_text.proofs.lemmas.Base64.{bytes_are_field}
 use Rattle.scram_ends.proofs.lemmas.Written.{signature_can_be_written, signature_fits}
 use Rattle.scram_ends.proofs.write.write_signature.Goals as goal
@@ -7,15 +7,11 @@ use Rattle.scram_ends.proofs.write.write_signature.Goals as goal
 pub returns-clause-unwritable : goal.returns-clause-unwritable
 returns-clause-unwritable g c = λ refused.
     let signature = c.args.signature.now in
-    elim (cases_lt 0 (length signature)) [
-      | inr none ↦ omega (arith, none)
-      | inl some ↦
-          let can = signature_can_be_written signature
-          (bytes_are_field 64 signature (λ i. omega (arith, c.type_inv.signature i)) (omega (arith, some)) c.requires) in
-          absurd (c.write_server_final.ensures.unwritable refused (rw c.copy_of.ensures can))
-    ]
+    let can = signature_can_be_written signature
+    (bytes_are_field longest_tag signature (λ i. omega (arith, c.type_inv.signature i)) c.requires.some c.requires.most) in
+    c.write_server_final.ensures.unwritable refused (rw c.copy_of.ensures can)
 
 pub returns-clause-over_limit : goal.returns-clause-over_limit
 returns-clause-over_limit g c = λ over.
     let longer = c.write_server_final.ensures.over_limit over in
-    signature_fits c.args.signature.now c.requires (rw c.copy_of.ensures at longer.1)
+    signature_fits c.args.signature.now c.requires.most (rw c.copy_of.ensures at longer.1)

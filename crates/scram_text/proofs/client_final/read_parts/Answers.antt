@@ -5,7 +5,8 @@ use Rattle.scram_text.specs.Limits.{longest_channel}
 use Rattle.scram_text.specs.Parts.{parts_of_some}
 use Rattle.scram_text.specs.Messages.{ClientFinalParts}
 use Rattle.scram_text.proofs.lemmas.Places.{field_part_spells_field}
-use Rattle.scram_text.proofs.lemmas.ClientFinal.{unfit_channel_is_fault, unfit_nonce_is_fault, extension_misfit_is_fault, unfit_proof_is_fault, pieces_spell_client_final}
+use Rattle.scram_text.proofs.lemmas.ClientFinal.{unfit_channel_is_fault, unfit_nonce_is_fault, extension_misfit_is_fault, unfit_proof_is_fault}
+use Rattle.scram_text.proofs.lemmas.ClientFinal.{pieces_spell_client_final}
 use Rattle.scram_text.proofs.client_final.read_parts.Goals as goal
 
 pub returns-in_default-clause-fault : goal.returns-in_default-clause-fault

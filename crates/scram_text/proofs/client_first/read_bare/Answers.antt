@@ -4,7 +4,8 @@ use Rattle.std.specs.declared.option.Option.TheVariants.{None}
 use Rattle.std.proofs.lemmas.Result.{err_from_is_err_and}
 use Rattle.scram_text.specs.Parts.{parts, parts_of_some}
 use Rattle.scram_text.specs.Messages.{ClientFirstParts}
-use Rattle.scram_text.proofs.lemmas.ClientFirst.{unfit_name_is_bare_misfit, unfit_nonce_is_bare_misfit, extension_misfit_is_bare_misfit, bare_pieces_are_parts}
+use Rattle.scram_text.proofs.lemmas.ClientFirst.{unfit_name_is_bare_misfit, unfit_nonce_is_bare_misfit, extension_misfit_is_bare_misfit}
+use Rattle.scram_text.proofs.lemmas.ClientFirst.{bare_pieces_are_parts}
 use Rattle.scram_text.proofs.client_first.read_bare.Goals as goal
 
 pub returns-in_default-clause-fault : goal.returns-in_default-clause-fault

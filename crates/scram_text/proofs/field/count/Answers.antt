@@ -1,8 +1,7 @@
 use Rattle.std.proofs.Common.{◌≡◌, sym, ◌∙◌, arith}
 use Rattle.std.proofs.lemmas.Fmt.{decimal_injective}
 use Rattle.scram_text.proofs.lemmas.Counts.{count_is_below_2_64}
-use Rattle.scram_text.proofs.field.count.Goals.{then-number-lt1-via-then-number-lt1}
-use Rattle.scram_text.proofs.field.count.Goals.{then-number-lt1-via-else-number-lt1+then-from-number}
+use Rattle.scram_text.proofs.field.count.Goals.{then-number-lt1-via-then-number-lt1, then-number-lt1-via-else-number-lt1+then-from-number}
 use Rattle.scram_text.proofs.field.count.Goals as goal
 
 pub returns-in_default-clause-none : goal.returns-in_default-clause-none

@@ -3,7 +3,7 @@ use Rattle.std.proofs.Common.{◌≡◌, ℕ, ◌≤◌, List, [], ◌∷◌, �
 use Rattle.std.specs.Prelude.{codes}
 use Rattle.std.specs.Str.{byte}
 use Rattle.base64.specs.GeneralPurpose.{IsBytes}
-use Rattle.scram_text.specs.Limits.{longest_message, longest_nonce}
+use Rattle.scram_text.specs.Limits.{longest_message, longest_nonce, longest_tag}
 use Rattle.scram_text.specs.Class.{IsUtf8Text}
 use Rattle.scram_text.specs.Base64Field.{base64, IsField}
 use Rattle.scram_text.specs.Messages.{ClientFinalParts, client_final_without_proof, client_final_text, IsClientFinal}
@@ -55,13 +55,13 @@ with_proof_is_text p front bytes =
 -- what was written before the proof, with the proof, is a client-final message, if it is within the limit
 pub with_proof_is_client_final : (w : ClientFinalWithoutProof) (p : ClientFinalParts) (proof : List ℕ) → IsClientFinalWithoutProof w p
     → p.proof ≡ proof
-    → IsBytes proof → IsField 64 proof → length (client_final_text p) ≤ longest_message → IsClientFinal (client_final_text p) p
+    → IsBytes proof → IsField longest_tag proof → length (client_final_text p) ≤ longest_message → IsClientFinal (client_final_text p) p
 with_proof_is_client_final w p proof is same bytes field short = record {
   spelled = refl;
   channel = is.channel;
   nonce = is.nonce;
   extensions = is.extensions;
-  proof = subst (IsField 64) (sym same) field;
+  proof = subst (IsField longest_tag) (sym same) field;
   utf8_text = with_proof_is_text p is.utf8_text (subst IsBytes (sym same) bytes);
   short = short;
 }

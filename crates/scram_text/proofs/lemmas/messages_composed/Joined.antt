@@ -29,7 +29,7 @@ pub extensions_join_after_comma : (piece extensions : List ℕ)
 extensions_join_after_comma piece [] = sym (append-nil piece)
 extensions_join_after_comma piece (c ∷ text) =
     joined-cons piece (parts (c ∷ text)) (omega (arith, parts_exceed_commas_by_one (c ∷ text)))
-    ∙ ap (λ (t : List ℕ). piece ++ byte "," ∷ t) (join_with_byte-slice_split 44 (c ∷ text))
+    ∙ ap (λ (t : List ℕ). piece ++ byte "," ∷ t) (join_with_byte-slice_split (byte ",") (c ∷ text))
 
 -- a comma and extensions that are a text are a text
 pub after_comma_is_text : (extensions : List ℕ) → IsUtf8Text extensions → IsUtf8Text (after_comma extensions)

@@ -5,8 +5,8 @@ use Rattle.base64.specs.GeneralPurpose.{IsBytes}
 use Rattle.scram_text.specs.Limits.{longest_message}
 use Rattle.scram_text.specs.Class.{IsUtf8Text}
 use Rattle.scram_text.specs.Base64Field.{base64}
-use Rattle.scram_text.specs.Messages.{VerifierOrError}
-use Rattle.scram_text.specs.Messages.{verifier, server_error, verifier_or_error_text, IsVerifierOrError, server_final_text, IsServerFinal}
+use Rattle.scram_text.specs.Messages.{VerifierOrError, verifier, server_error, verifier_or_error_text, IsVerifierOrError, server_final_text}
+use Rattle.scram_text.specs.Messages.{IsServerFinal}
 use Rattle.scram_text.specs.Draft.{after_comma}
 use Rattle.scram_text.specs.Written.{server_final_of, CanBeVerifierOrError, CanBeServerFinal}
 use Rattle.scram_text.proofs.lemmas.Texts.{IsUtf8Text-append, plain_is_text, base64_is_text}

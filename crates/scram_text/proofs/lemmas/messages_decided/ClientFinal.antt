@@ -2,6 +2,7 @@
 use Rattle.std.proofs.Common.{◌≡◌, ℕ, ◌≤◌, List, [], ◌∷◌, ◌++◌, length, refl, sym, ◌∙◌, ap, arith, subst, length-append}
 use Rattle.std.specs.Prelude.{codes}
 use Rattle.std.proofs.lemmas.List.Splits.{join_with_byte-slice_split}
+use Rattle.std.specs.Str.{byte}
 use Rattle.mac_core.proofs.lemmas.Decided.{Decided, decided_equivalent}
 use Rattle.scram_text.specs.Limits.{longest_message, longest_nonce}
 use Rattle.scram_text.specs.Class.{IsUtf8Text}
@@ -47,7 +48,7 @@ fitting_parts_are_client_final text channel nonce proof extensions cut short utf
     ≡ client_final_parts p = cc (channel_is, channel_spelled, nonce_is, proof_is, proof_spelled) in (
       p,
       record {
-        spelled = sym (join_with_byte-slice_split 44 text) ∙ ap joined (cut ∙ pieces) ∙ joined-client_final_parts p;
+        spelled = sym (join_with_byte-slice_split (byte ",") text) ∙ ap joined (cut ∙ pieces) ∙ joined-client_final_parts p;
         channel = channel_field;
         nonce = nonce_class;
         extensions = after.0;

@@ -19,8 +19,8 @@ use Rattle.scram_text.proofs.lemmas.Places.{AllFit, first_part_fits, fitting_are
 use Rattle.scram_text.proofs.lemmas.MextAndRest.{mext_and_rest_lengths_add_up, mext_and_rest_are_nonempty, some_mext_and_rest}
 use Rattle.scram_text.proofs.lemmas.messages_composed.Joined.{joined-cons}
 use Rattle.scram_text.proofs.lemmas.Decided.{some_or_none}
-use Rattle.scram_text.proofs.lemmas.ClientFirst.{client_first_rest_places_unfold as first_later_places, parts-client_first, client_first_parts_fit, header_places_unfold}
-use Rattle.scram_text.proofs.lemmas.ClientFirst.{bare_has_mext_and_rest, bare_parts_fit, header_pieces_regroup}
+use Rattle.scram_text.proofs.lemmas.ClientFirst.{client_first_rest_places_unfold as first_later_places, parts-client_first, client_first_parts_fit}
+use Rattle.scram_text.proofs.lemmas.ClientFirst.{header_places_unfold, bare_has_mext_and_rest, bare_parts_fit, header_pieces_regroup}
 use Rattle.scram_text.proofs.lemmas.messages_decided.Fitting.{IsFittingText, decided_fitting_text}
 
 -- the parts of client-first, joined by commas, are its text
@@ -85,7 +85,7 @@ fitting_bare_is_client_first text flag authzid bare cut short utf8_text enough f
     let pieces : flag ∷ authzid ∷ bare ≡ p.flag ∷ authzid_text p.authzid ∷ bare_parts p = cc (authzid_is, bare_is) in (
       p,
       record {
-        spelled = sym (join_with_byte-slice_split 44 text) ∙ ap joined (cut ∙ pieces) ∙ joined-client_first_parts p;
+        spelled = sym (join_with_byte-slice_split (byte ",") text) ∙ ap joined (cut ∙ pieces) ∙ joined-client_first_parts p;
         flag = first.0;
         authzid = authzid_class;
         mext = marked.value;

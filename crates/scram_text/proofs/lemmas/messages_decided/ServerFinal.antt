@@ -16,7 +16,8 @@ use Rattle.scram_text.specs.declared.fault.TextWhy.TheVariants.{Extension}
 use Rattle.scram_text.proofs.lemmas.Parts.{parts_exceed_commas_by_one}
 use Rattle.scram_text.proofs.lemmas.Places.{AllFit, first_part_fits, fitting_are_extensions}
 use Rattle.scram_text.proofs.lemmas.Decided.{some_or_none}
-use Rattle.scram_text.proofs.lemmas.ServerFinal.{parts-server_final, server_final_parts_fit, outcome_fits, server_final_places_unfold, pieces_spell_server_final}
+use Rattle.scram_text.proofs.lemmas.ServerFinal.{parts-server_final, server_final_parts_fit, outcome_fits, server_final_places_unfold}
+use Rattle.scram_text.proofs.lemmas.ServerFinal.{pieces_spell_server_final}
 use Rattle.scram_text.proofs.lemmas.messages_decided.Fitting.{IsFittingText, decided_fitting_text}
 
 -- a first part that fits the place of an outcome is the text of one

@@ -15,7 +15,8 @@ use Rattle.scram_text.specs.declared.fault.TextWhy.TheVariants.{Nonce, Salt, Cou
 use Rattle.scram_text.proofs.lemmas.Places.{AllFit, first_part_fits, fitting_are_extensions}
 use Rattle.scram_text.proofs.lemmas.MextAndRest.{mext_and_rest_lengths_add_up, some_mext_and_rest}
 use Rattle.scram_text.proofs.lemmas.Decided.{some_or_none}
-use Rattle.scram_text.proofs.lemmas.ServerFirst.{server_first_has_mext_and_rest, server_first_parts_fit, pieces_spell_server_first, server_first_rest_places_unfold}
+use Rattle.scram_text.proofs.lemmas.ServerFirst.{server_first_has_mext_and_rest, server_first_parts_fit, pieces_spell_server_first}
+use Rattle.scram_text.proofs.lemmas.ServerFirst.{server_first_rest_places_unfold}
 use Rattle.scram_text.proofs.lemmas.messages_decided.Fitting.{IsFittingText, decided_fitting_text}
 
 -- a short text whose parts are those of server-first is one, with or without a mandatory extension:

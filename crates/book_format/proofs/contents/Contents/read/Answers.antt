@@ -18,8 +18,7 @@ result_book_stands bytes (Ok book) h = read_book_text_stands bytes book h
 result_book_stands bytes (Err fault) h = tt
 
 result_is_only_book : (bytes : List ℕ) (r : Result BookFields BookFault) → IsReadOrFault (λ b. b) r (book_in bytes) → (book : BookFields)
-    → IsBookText bytes book
-    → (r ≡ Ok book) ⊎ IsErrAnd r (λ f. f.why ≡ NoMemory)
+    → IsBookText bytes book → (r ≡ Ok book) ⊎ IsErrAnd r (λ f. f.why ≡ NoMemory)
 result_is_only_book bytes (Ok other) h book text = inl (sym h ∙ book_text_is_read bytes book text)
 result_is_only_book bytes (Err fault) (inl memory) book text = inr memory
 result_is_only_book bytes (Err fault) (inr read) book text =

@@ -12,7 +12,7 @@ use Rattle.book_format.specs.reading.Steps.{◌>>=◌}
 use Rattle.book_format.specs.declared.fault.BookFault.{BookFault}
 use Rattle.book_format.proofs.lemmas.Steps.{fact_holds_unless_err}
 use Rattle.book_format.proofs.lemmas.InOrder.{Named, HaveKeys-last, inserted_account_goes_last}
-use Rattle.book_format.proofs.lemmas.Tables.{entry_name_is_key}
+use Rattle.book_format.proofs.lemmas.AccountTables.{entry_name_is_key}
 use Rattle.book_format.proofs.lemmas.Lists.{value_moves_to_front}
 use Rattle.book_format.proofs.read.accounts.accounts_from.Goals as goal
 

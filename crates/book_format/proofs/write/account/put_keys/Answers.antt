@@ -3,8 +3,8 @@ use Rattle.std.specs.Option.{ForSome}
 use Rattle.std.specs.Result.{OnOk}
 use Rattle.book_format.specs.Account.{AreKeys}
 use Rattle.book_format.specs.Rows.{WritesItself}
-use Rattle.book_format.specs.RowKinds.{in_table}
-use Rattle.book_format.specs.Tables.{mech}
+use Rattle.book_format.specs.RowKinds.{table_type}
+use Rattle.book_format.specs.Tables.{keys_table}
 use Rattle.book_format.specs.declared.account.MechKeys.{MechKeys}
 use Rattle.book_format.proofs.write.account.put_keys.Goals as goal
 
@@ -15,10 +15,10 @@ fact_holds_on_ok P (Err e) p = tt
 
 -- keys in their ranges write themselves
 keys_write_themselves : (m : MechKeys) (o : Option MechKeys) → o ≡ Some m
-    → ((len : ℕ) → AreKeys len m → WritesItself (in_table (mech len)) m)
-    → (len : ℕ) → ForSome o (AreKeys len) → ForSome o (WritesItself (in_table (mech len)))
+    → ((len : ℕ) → AreKeys len m → WritesItself (table_type (keys_table len)) m)
+    → (len : ℕ) → ForSome o (AreKeys len) → ForSome o (WritesItself (table_type (keys_table len)))
 keys_write_themselves m o is itself len fits k there =
-    subst (λ k. WritesItself (in_table (mech len)) k) (same m k o is there) (itself len (fits m is))
+    subst (λ k. WritesItself (table_type (keys_table len)) k) (same m k o is there) (itself len (fits m is))
   where
     same : (m k : MechKeys) (o : Option MechKeys) → o ≡ Some m → o ≡ Some k → m ≡ k
     same m k o one two = cc (one, two)

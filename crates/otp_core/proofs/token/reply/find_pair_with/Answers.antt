@@ -1,4 +1,4 @@
-use Rattle.std.proofs.Common.{◌≡◌, ◌+◌, inl, inr, ℕ, refl, sym, ◌∙◌, subst, arith}
+use Rattle.std.proofs.Common.{◌≡◌, ◌<◌, ◌+◌, inl, inr, ℕ, refl, sym, ◌∙◌, subst, arith}
 use Rattle.std.proofs.lemmas.Bool.{both_ways, cases_lt}
 use Rattle.otp_core.specs.Hash.{hotp_text_by}
 use Rattle.otp_core.specs.declared.hash.OtpHash.TheVariants.{Sha1}
@@ -6,20 +6,22 @@ use Rattle.otp_core.proofs.token.reply.find_pair_with.Goals.{else-follows_first-
 use Rattle.otp_core.proofs.token.reply.find_pair_with.Goals.{else-follows_first-via-else-follows_first}
 use Rattle.otp_core.proofs.token.reply.find_pair_with.Goals as goal
 
-pub returns-then-code_is-clause-some : goal.returns-then-code_is-clause-some
-returns-then-code_is-clause-some c =
+pub returns-then-code_is : goal.returns-then-code_is
+returns-then-code_is c =
     let text_of = λ (k : ℕ). hotp_text_by Sha1 c.args.token.now.digits c.args.token.now.secret k in
     let code : c.hotp_with-code.result ≡ text_of c.loop-counter.counter = rw (c.bytes.ensures.value) at
     (c.hotp_with-code.ensures _ c.new-prepared.ensures) in
     let (w, next, from, first) = c.loop-counter.invariant.flag.0 c.if-follows_first.true in
     let here = sym code ∙ c.code_is.ensures.0 c.if-code_is.true in
-    (w, next, from, omega (arith, next, c.loop-counter-test.true), first, subst (λ (n : ℕ). text_of n ≡ c.args.second.now) next here)
-
-pub returns-then-code_is-clause-least : goal.returns-then-code_is-clause-least
-returns-then-code_is-clause-least c = λ w from below first second. elim (cases_lt (w + 1) c.loop-counter.counter) [
-  | inl before ↦ absurd (c.loop-counter.invariant.none w from before first second)
-  | inr reached ↦ reached
-]
+    let within : w < c.args.counters.end = omega (arith, next, c.loop-counter-test.true) in
+    let second = subst (λ (n : ℕ). text_of n ≡ c.args.second.now) next here in (
+      (w, next, (from, within), first, second),
+      λ k (v, follows, among, one, other).
+          elim (cases_lt (v + 1) c.loop-counter.counter) [
+            | inl before ↦ absurd (c.loop-counter.invariant.none v among.0 before one other)
+            | inr reached ↦ omega (arith, follows, reached)
+          ],
+    )
 
 pub loop-counter-preserved : goal.loop-counter-preserved
 loop-counter-preserved c =
@@ -49,6 +51,6 @@ loop-counter-preserved c =
       ];
     }
 
-pub returns-clause-none : goal.returns-clause-none
-returns-clause-none c = λ w from below first second. c.loop-counter.invariant.none w from
-    (omega (arith, below, c.loop-counter-test.false)) first second
+pub returns : goal.returns
+returns c = λ k (w, next, among, first, second). c.loop-counter.invariant.none w among.0
+    (omega (arith, among.1, c.loop-counter-test.false)) first second

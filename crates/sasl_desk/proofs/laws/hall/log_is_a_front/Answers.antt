@@ -1,5 +1,5 @@
-use Rattle.sasl_desk.proofs.lemmas.halls.Logs.{hall_log_is_front}
+use Rattle.sasl_desk.proofs.lemmas.halls.Logs.{log_is_a_front}
 use Rattle.sasl_desk.proofs.laws.hall.log_is_a_front.Goals as goal
 
 pub returns : goal.returns
-returns g c = λ start calls hall s. hall_log_is_front s
+returns g c = λ start calls hall s. log_is_a_front s

@@ -1,9 +1,9 @@
-use Rattle.sasl_desk.proofs.lemmas.halls.Alone.{sessions_tell_same}
+use Rattle.sasl_desk.proofs.lemmas.halls.Alone.{sessions_are_told_alone}
 use Rattle.sasl_desk.proofs.laws.hall.sessions_are_told_alone.Goals as goal
 
 pub returns : goal.returns
 returns g c = λ start begun calls others hall other n m.
-    sessions_tell_same
+    sessions_are_told_alone
     (record {
       one_first = c.has_one_client_first.ensures;
       one_last = c.has_one_server_final.ensures;

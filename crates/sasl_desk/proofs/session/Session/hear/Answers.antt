@@ -1,7 +1,7 @@
 use Rattle.std.proofs.lemmas.Result.{IfOk-weaker, on_err_weaker}
 use Rattle.sasl_log.specs.Shown.{client_shown}
 use Rattle.sasl_desk.specs.Events.{sends, goes_away}
-use Rattle.sasl_desk.proofs.lemmas.turns.HeardLines.{line_result_is_event_result, no_line_is_recorded_bad, judged_code_was_sent}
+use Rattle.sasl_desk.proofs.lemmas.turns.HeardLines.{line_result_is_event_result, text_of_no_line_is_recorded_bad, judged_code_was_sent}
 use Rattle.sasl_desk.proofs.session.Session.hear.Goals as goal
 
 pub returns-in-Gone-clause-heard : goal.returns-in-Gone-clause-heard
@@ -20,7 +20,7 @@ pub returns-in-None-clause-heard : goal.returns-in-None-clause-heard
 returns-in-None-clause-heard g c = λ accounts at keeps is.
     rw (c.in-Line.is, c.requires)
     (c.bad_turn.ensures.turn accounts c.args.server_nonce.now at (sends c.in-Line.text.now)
-    (no_line_is_recorded_bad (sends c.in-Line.text.now) at c.in-None.ensures.none (λ same. cc same)))
+    (text_of_no_line_is_recorded_bad (sends c.in-Line.text.now) at c.in-None.ensures.none (λ same. cc same)))
 
 pub returns-in-Some-clause-sent : goal.returns-in-Some-clause-sent
 returns-in-Some-clause-sent g c =

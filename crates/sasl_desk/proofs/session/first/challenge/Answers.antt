@@ -3,7 +3,7 @@ use Rattle.scram_ends.specs.Entry.{entry_of}
 use Rattle.log_grammar.specs.Lines.{said, cont}
 use Rattle.log_grammar.specs.Places.{got_first}
 use Rattle.sasl_desk.specs.Sessions.{CanBeWritten}
-use Rattle.sasl_desk.proofs.lemmas.turns.DueAnswers.{taken_first_opens_login, refused_first_opens_no_login, challenge_due}
+use Rattle.sasl_desk.proofs.lemmas.turns.DueAnswers.{taken_first_opens_login, refused_first_opens_no_login, challenge_is_due}
 use Rattle.sasl_desk.proofs.lemmas.turns.Writable.{server_first_is_writable}
 use Rattle.sasl_desk.proofs.session.first.challenge.Goals as goal
 
@@ -22,7 +22,7 @@ returns-in-Ok-clause-due g c = λ accounts name keeps named.
     let entry = c.view-view.ensures.entry ∙ keeps m user in
     let message : c.server_first.new.out.items ≡ server_first = written ∙ ap (λ (t : List ℕ). t ++ server_first) c.requires.empty in
     rw c.new.ensures
-    (challenge_due c.has_one_client_first.ensures c.spells_one_name.ensures accounts c.args.server_nonce.now c.in-Ok.wait m name user
+    (challenge_is_due c.has_one_client_first.ensures c.spells_one_name.ensures accounts c.args.server_nonce.now c.in-Ok.wait m name user
     first server_first
     c.server_first.new.out.items (entry_of c.view-view.result) entry message named
     (taken_first_opens_login name first user m parts authzid named is taken) shows stands)

@@ -1,7 +1,7 @@
 use Rattle.std.proofs.Common.{refl}
 use Rattle.log_grammar.specs.Places.{offered}
 use Rattle.sasl_desk.proofs.lemmas.turns.NotDue.{only_auth_is_due}
-use Rattle.sasl_desk.proofs.lemmas.turns.Writable.{heard_line_is_writable}
+use Rattle.log_grammar.proofs.lemmas.lines.Written.{heard_line_is_writable}
 use Rattle.sasl_desk.proofs.session.hear.hear_auth.Goals as goal
 
 pub returns-in-Abort-clause-turn : goal.returns-in-Abort-clause-turn
@@ -12,7 +12,7 @@ pub returns-in-Auth-clause-lines : goal.returns-in-Auth-clause-lines
 returns-in-Auth-clause-lines g c = (
   heard_line_is_writable _
       (rw c.in-Auth.is at c.requires.line),
-  rw c.requires.empty c.auth_answer-answer.ensures.lines,
+  rw c.requires.empty c.answer_to_auth-answer.ensures.lines,
 )
 
 pub returns-in-Ok-clause-lines : goal.returns-in-Ok-clause-lines

@@ -1,6 +1,6 @@
 use Rattle.std.proofs.Common.{refl}
 use Rattle.sasl_desk.proofs.lemmas.turns.NotDue.{only_resp_is_due}
-use Rattle.sasl_desk.proofs.lemmas.turns.Writable.{heard_line_is_writable}
+use Rattle.log_grammar.proofs.lemmas.lines.Written.{heard_line_is_writable}
 use Rattle.sasl_desk.proofs.session.hear.hear_final.Goals as goal
 
 pub returns-in-Ok-clause-turn : goal.returns-in-Ok-clause-turn

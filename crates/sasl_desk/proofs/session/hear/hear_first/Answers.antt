@@ -2,7 +2,7 @@ use Rattle.std.proofs.Common.{refl}
 use Rattle.mac_core.specs.Mechanism.{name_of}
 use Rattle.log_grammar.specs.Places.{waits_first}
 use Rattle.sasl_desk.proofs.lemmas.turns.NotDue.{only_resp_is_due}
-use Rattle.sasl_desk.proofs.lemmas.turns.Writable.{heard_line_is_writable}
+use Rattle.log_grammar.proofs.lemmas.lines.Written.{heard_line_is_writable}
 use Rattle.sasl_desk.proofs.session.hear.hear_first.Goals as goal
 
 pub returns-in-Abort-clause-turn : goal.returns-in-Abort-clause-turn

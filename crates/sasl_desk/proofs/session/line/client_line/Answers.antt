@@ -1,5 +1,5 @@
 use Rattle.log_grammar.specs.Lines.{from_client}
-use Rattle.sasl_desk.proofs.lemmas.turns.Writable.{read_line_is_writable}
+use Rattle.log_grammar.proofs.lemmas.lines.Written.{read_line_is_writable}
 use Rattle.sasl_desk.proofs.session.line.client_line.Goals as goal
 
 pub returns-in-Ok-FromClient-clause-written : goal.returns-in-Ok-FromClient-clause-written

@@ -6,7 +6,8 @@ use Rattle.scram_text.specs.Messages.{client_first_text, IsClientFirst}
 use Rattle.scram_text.specs.Written.{client_first_of}
 use Rattle.scram_text.specs.declared.client_first.Flag.TheVariants.{NoBinding}
 use Rattle.scram_text.specs.declared.fault.WriteFault.{WriteFault}
-use Rattle.scram_ends.proofs.lemmas.Clients.{client_first_fault_is_memory, written_first_is_honest, bare_is_short, header_fits_channel}
+use Rattle.scram_ends.proofs.lemmas.client_messages.ClientFirst.{client_first_fault_is_memory, written_first_is_honest, bare_is_short}
+use Rattle.scram_ends.proofs.lemmas.client_messages.Headers.{header_fits_channel}
 use Rattle.scram_ends.proofs.lemmas.Written.{slice_after_front_is_text}
 use Rattle.scram_ends.proofs.client.Client.start.Goals as goal
 
@@ -16,8 +17,7 @@ returns-in_err-write_client_first-clause-no_memory g c =
     let authzid = option_copied c.args.authzid in
     let first = client_first_of NoBinding authzid c.args.name.now c.args.nonce.now [] in
     let full = client_first_fault_is_memory c.write_client_first.result _ authzid c.args.name.now c.args.nonce.now
-    c.in_err-write_client_first.was
-    c.are_in_class.ensures.authzid c.are_in_class.ensures.name c.are_in_class.ensures.nonce
+    c.in_err-write_client_first.was c.law_of_names.ensures.authzid c.law_of_names.ensures.name c.law_of_names.ensures.nonce
     c.write_client_first.ensures.unwritable c.write_client_first.ensures.over_limit in
     let room = c.write_client_first.ensures.no_memory (c.in_err-write_client_first.was ∙ ap (λ (x : WriteFault). Err x) full) in
     rw (e.1, e.2) (
@@ -26,7 +26,7 @@ returns-in_err-write_client_first-clause-no_memory g c =
         client_first_text first,
         first,
         written_first_is_honest authzid c.args.name.now c.args.nonce.now
-            (client_first_text first) c.are_in_class.ensures.authzid c.are_in_class.ensures.name room.0,
+            (client_first_text first) c.law_of_names.ensures.authzid c.law_of_names.ensures.name room.0,
         room.1,
       ),
     )
@@ -46,9 +46,8 @@ copy_of-requires-2 g c =
     let shows = c.in-Ok.ensures.every first
     (subst (λ (client_first : List ℕ). IsClientFirst client_first first) (sym written) c.in_ok-write_client_first.ensures.is_message) in (
       omega arith,
-      header_fits_channel c.args.name.now authzid c.args.nonce.now (client_first_text first) c.in-Ok.message.header.now first
+      header_fits_channel
           (written_first_is_honest authzid c.args.name.now c.args.nonce.now
-          (client_first_text first) c.are_in_class.ensures.authzid c.are_in_class.ensures.name
-          c.in_ok-write_client_first.ensures.is_message)
-          shows.header,
+          (client_first_text first) c.law_of_names.ensures.authzid c.law_of_names.ensures.name
+          c.in_ok-write_client_first.ensures.is_message) c.in-Ok.message.header.now shows.header,
     )

@@ -3,7 +3,7 @@ use Rattle.std.proofs.lemmas.Bool.{eqb-true}
 use Rattle.std.proofs.lemmas.List.Quantifiers.{position-Some}
 use Rattle.std.proofs.lemmas.List.Sorted.{IsPermutation-swap_remove}
 use Rattle.sasl_desk.specs.Guests.{is_of}
-use Rattle.sasl_desk.proofs.lemmas.Lists.{no_position_finds_none}
+use Rattle.sasl_desk.proofs.lemmas.Lists.{find_gives_none_without_position}
 use Rattle.sasl_desk.proofs.hall.seats.Seats.leave.Goals as goal
 
 pub returns-in-Some-clause-some : goal.returns-in-Some-clause-some
@@ -18,4 +18,5 @@ returns-in-Some-clause-some c =
     )
 
 pub returns-in-None-clause-none : goal.returns-in-None-clause-none
-returns-in-None-clause-none c = (no_position_finds_none (is_of c.args.number) c.args.self.now (sym c.index_of.ensures ∙ c.in-None.is), refl)
+returns-in-None-clause-none c =
+    (find_gives_none_without_position (is_of c.args.number) c.args.self.now (sym c.index_of.ensures ∙ c.in-None.is), refl)

@@ -3,7 +3,7 @@ use Rattle.std.specs.declared.option.Option.TheVariants.{Some}
 use Rattle.std.proofs.lemmas.List.Quantifiers.{position-Some}
 use Rattle.std.proofs.lemmas.Option.{slice_get-get_or}
 use Rattle.sasl_desk.specs.Guests.{is_of}
-use Rattle.sasl_desk.proofs.lemmas.Lists.{found_is_at_position, no_position_finds_none}
+use Rattle.sasl_desk.proofs.lemmas.Lists.{found_is_at_position, find_gives_none_without_position}
 use Rattle.sasl_desk.proofs.hall.seats.Seats.session.Goals as goal
 
 pub returns-in-Some-clause-some : goal.returns-in-Some-clause-some
@@ -19,4 +19,5 @@ returns-in-Some-clause-some c =
     )
 
 pub returns-in-None-clause-none : goal.returns-in-None-clause-none
-returns-in-None-clause-none c = no_position_finds_none (is_of c.args.number) c.args.self.now (sym c.index_of.ensures ∙ c.in-None.is)
+returns-in-None-clause-none c = find_gives_none_without_position (is_of c.args.number) c.args.self.now
+    (sym c.index_of.ensures ∙ c.in-None.is)

@@ -2,8 +2,8 @@ use Rattle.std.proofs.Common.{ℕ, List, ◌++◌, sym, ◌∙◌, ap, subst}
 use Rattle.scram_ends.specs.Stages.{challenged_login}
 use Rattle.scram_ends.specs.Verdict.{due_text, final_due}
 use Rattle.scram_ends.specs.declared.server.ServerWait.{ServerWait}
-use Rattle.sasl_desk.specs.ChallengedLogin.{challenged_login_of, IsChallenging}
-use Rattle.sasl_desk.proofs.lemmas.turns.DueAnswers.{verdict_due}
+use Rattle.sasl_desk.specs.ChallengedLogin.{waiting_login_of, IsChallenging}
+use Rattle.sasl_desk.proofs.lemmas.turns.DueAnswers.{verdict_is_due}
 use Rattle.sasl_desk.proofs.lemmas.turns.Writable.{server_final_is_writable}
 use Rattle.sasl_desk.proofs.session.challenged_login.ChallengedLogin.finish.Goals as goal
 
@@ -13,7 +13,7 @@ returns-in-Ok-clause-due g c = λ accounts server_nonce client_first server_firs
     let (d, due, says, written, is) = c.in-Ok.ensures.ok _ here in
     let message = written ∙ ap (λ (t : List ℕ). t ++ due_text d) c.requires in
     rw (c.verdict_answer.ensures, ← c.self.view_is)
-    (verdict_due accounts server_nonce c.self.inside.mechanism c.self.inside.name client_first server_first c.args.client_final.now
+    (verdict_is_due accounts server_nonce c.self.inside.mechanism c.self.inside.name client_first server_first c.args.client_final.now
     c.finish.new.out.items
     c.in-Ok.verdict d due says message is)
 
@@ -28,15 +28,11 @@ returns-in-Ok-clause-lines g c =
 
 pub invariant_of-result : goal.invariant_of-result
 invariant_of-result g c =
-    let (entry, client_first, server_first, stands) = c.self.invariant in
-    let memory = (c.in-Err.ensures.no_memory (challenged_login entry c.self.inside.mechanism client_first server_first) stands).0 in
-    subst (λ (w : ServerWait). IsChallenging w c.self.inside.mechanism) (sym (c.in-Err.ensures.back memory)) c.self.invariant
+    subst (λ (w : ServerWait). IsChallenging w c.self.inside.mechanism) (sym c.in-Err.ensures.back.0) c.self.invariant
 
 pub returns-in-Err-clause-err : goal.returns-in-Err-clause-err
-returns-in-Err-clause-err g c =
-    let (entry, client_first, server_first, stands) = c.self.invariant in
-    let memory = (c.in-Err.ensures.no_memory (challenged_login entry c.self.inside.mechanism client_first server_first) stands).0 in (
-      ap (λ (w : ServerWait). challenged_login_of w c.self.inside.mechanism c.self.inside.name) (c.in-Err.ensures.back memory) ∙
-          c.self.view_is,
-      c.in-Err.ensures.unchanged ∙ c.requires,
-    )
+returns-in-Err-clause-err g c = (
+  ap (λ (w : ServerWait). waiting_login_of w c.self.inside.mechanism c.self.inside.name) c.in-Err.ensures.back.0 ∙
+      c.self.view_is,
+  c.in-Err.ensures.unchanged ∙ c.requires,
+)

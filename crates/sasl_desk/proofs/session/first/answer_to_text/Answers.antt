@@ -1,0 +1,10 @@
+use Rattle.log_grammar.specs.Places.{got_first}
+use Rattle.sasl_desk.proofs.lemmas.turns.DueAnswers.{refused_first_opens_no_login}
+use Rattle.sasl_desk.proofs.session.first.answer_to_text.Goals as goal
+
+pub returns-in-Err-clause-due : goal.returns-in-Err-clause-due
+returns-in-Err-clause-due g c = λ accounts name keeps named.
+    let first = c.args.client_first.now in
+    rw c.requires
+    (c.bare_no.ensures.due accounts c.args.server_nonce.now (got_first name first)
+    (refused_first_opens_no_login c.refused_is_not_taken_up.ensures name first c.in-Err.field-0 c.in-Err.ensures.err))

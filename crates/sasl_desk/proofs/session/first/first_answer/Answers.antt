@@ -1,4 +1,0 @@
-use Rattle.sasl_desk.proofs.session.first.first_answer.Goals as goal
-
-pub returns-clause-due : goal.returns-clause-due
-returns-clause-due g c = rw (c.as_slice.ensures.value, c.in_ok-text.ensures.ok) at c.answer_to.ensures.due

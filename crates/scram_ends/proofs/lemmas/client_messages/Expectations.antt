@@ -1,0 +1,58 @@
+-- A client that has written client-final is honest, and expects the signature of its login.
+use Rattle.std.proofs.Common.{◌≡◌, ℕ, ◌+◌, List, [], ◌++◌, ◌∙◌, ap, refl}
+use Rattle.mac_core.specs.declared.mechanism.Mechanism.{Mechanism}
+use Rattle.scram_text.specs.Messages.{ServerFirstParts, IsServerFirst, client_final_without_proof, ClientFinalParts, client_final_text, IsClientFinal}
+use Rattle.scram_text.specs.Written.{client_final_of}
+use Rattle.scram_ends.specs.Auth.{auth_to_challenge, auth_message, proof_of, expected_signature}
+use Rattle.scram_ends.specs.Stages.{Started, answered_login}
+use Rattle.scram_ends.specs.Client.{StandsForStarted, StandsForAnswered}
+use Rattle.scram_ends.specs.declared.client.ClientOne.{ClientOne}
+use Rattle.scram_ends.specs.declared.client.ClientTwo.{ClientTwo}
+
+-- a mechanism, a salt, a count and a text signed, and others that are equal
+module _ (m n : Mechanism) (password salt other auth text : List ℕ) (count also : ℕ) (e : m ≡ n) (f : salt ≡ other) (g : count ≡ also)
+    (h : auth ≡ text) where
+  -- equal arguments make equal proofs
+  pub proofs_are_same : proof_of m password salt count auth ≡ proof_of n password other also text
+  proofs_are_same = λ i. proof_of (e i) password (f i) (g i) (h i)
+
+  -- equal arguments make equal signatures
+  pub signatures_are_same : expected_signature m password salt count auth ≡ expected_signature n password other also text
+  signatures_are_same = λ i. expected_signature (e i) password (f i) (g i) (h i)
+
+-- a client that has written client-final has done so honestly, and expects the signature of this login
+pub client_expects_signature : (w : ClientOne) (two : ClientTwo) (l : Started)
+    (server_first password header nonce salt front proof : List ℕ) (count : ℕ) (p : ServerFirstParts)
+    → (started : StandsForStarted w l) → IsServerFirst server_first p → header ≡ w.header.items → nonce ≡ p.nonce → salt ≡ p.salt
+    → count ≡ p.count
+    → front ≡ client_final_without_proof (client_final_of header nonce [] proof)
+    → proof ≡ proof_of w.mechanism password salt count (auth_to_challenge started.first server_first ++ front)
+    → two.expected.items ≡ expected_signature w.mechanism password salt count (auth_to_challenge started.first server_first ++ front)
+    → IsClientFinal (client_final_text (client_final_of header nonce [] proof)) (client_final_of header nonce [] proof)
+    → StandsForAnswered two (answered_login l password server_first (client_final_text (client_final_of header nonce [] proof)))
+client_expects_signature w two l server_first password header nonce salt front proof count p started is_challenge is_header is_nonce is_salt
+    is_count is_front is_proof is_signature is_final =
+    let q : ClientFinalParts = client_final_of header nonce [] proof in
+    let auth : auth_to_challenge started.first server_first ++ front ≡ auth_message started.first server_first q =
+    ap (λ (text : List ℕ). auth_to_challenge started.first server_first ++ text) is_front in
+    record {
+      honest = record {
+        first = started.first;
+        challenge = p;
+        final = q;
+        is_first = started.is_first;
+        is_challenge = is_challenge;
+        is_final = record {
+          is_final = is_final;
+          channel = is_header ∙ started.header;
+          sent_nonce = is_nonce;
+          no_extensions = refl;
+          proof = is_proof ∙ proofs_are_same w.mechanism l.mechanism password salt p.salt _ _ count p.count started.mechanism is_salt
+              is_count auth;
+        };
+      };
+      signature = two.expected.items;
+      signed = is_signature ∙ signatures_are_same w.mechanism l.mechanism password salt p.salt _ _ count p.count started.mechanism is_salt
+          is_count auth;
+      expected = refl;
+    }
