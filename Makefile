@@ -16,7 +16,7 @@ SOURCES = crates.txt HANDLES $(shell find crates \( -name out -prune \) -o \( -n
 IS_FRESH = test -x $(PROGRAM) && test -z "$$(find $(SOURCES) -newer $(PROGRAM))"
 # The example of RFC 5802, section 5; its password is pencil.
 EXAMPLE = keys --mechanism SCRAM-SHA-1 --salt 4125c247e43ab1e93c6dff76 --count 4096
-# The processors that the program was last built for; rt ci builds it for the default ones.
+# The processors that make last built the program for. rt ci builds it for the default ones, and make test then removes this note.
 BUILT_FOR := $(shell cat crates/scramotp/out/built_for 2>/dev/null || echo x86-64-v2)
 
 .PHONY: help run build libraries install test fuzz bench clean kit this_kit needed FORCE
@@ -82,6 +82,7 @@ install:
 test: this_kit needed
 	python3 tests/documents.py
 	rt ci
+	@rm -f crates/scramotp/out/built_for
 	python3 tests/edits.py --built
 	$(MAKE) build
 	python3 tests/run.py $(PROGRAM)
@@ -91,7 +92,7 @@ SEED := $(or $(SEED),$(shell date +%s))
 COUNT ?= 5000
 fuzz: needed build
 	@echo 'SEED=$(SEED) COUNT=$(COUNT)'
-	python3 tests/fuzz.py $(PROGRAM) $(SEED) $(COUNT)
+	SEED=$(SEED) COUNT=$(COUNT) python3 tests/fuzz.py $(PROGRAM)
 
 bench: build
 	cd crates/bench && rt run -- hotp 1 12345678901234567890

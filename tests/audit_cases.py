@@ -4,11 +4,10 @@ A row names a log and a book in that folder. In the log, `old`, which occurs onc
 `\\n` is written as in Python. The answer is the line that an audit has to print, by docs/FORMATS.md. The signatures are those that the
 RFCs print, and the codes those of RFC 4226 and RFC 6238. `shows` says what is right or wrong in the log.
 """
-import csv
 import pathlib
 from typing import NamedTuple
 
-from expected import AUDITS, edited
+from expected import AUDITS, edited, rows_of
 
 TABLE = AUDITS / "cases.csv"
 
@@ -30,5 +29,4 @@ def case(row):
 
 def cases():
     """The cases of all rows, in the table's order."""
-    with open(TABLE, newline="", encoding="ascii") as table:
-        return [case(row) for row in csv.DictReader(table)]
+    return [case(row) for row in rows_of(TABLE)]

@@ -14,7 +14,6 @@ import fcntl
 import os
 import pathlib
 import re
-import subprocess
 import threading
 import time
 
@@ -22,7 +21,8 @@ import suite
 from audit_cases import TABLE, cases
 from checks import equal
 from expected import AUDITS, SESSION_LEFT, login_keys, proved
-from suite import LIMIT, MOST_BYTES, PROGRAM, SALT, audit_says, prints, sleeps, until
+from runs import LIMIT, Running
+from suite import MOST_BYTES, PROGRAM, SALT, audit_says, prints
 
 KEYS = AUDITS / "keys.toml"
 LOGIN = AUDITS / "sha1.log"
@@ -91,11 +91,9 @@ def logs_from_pipes(folder):
     """A log is read as it arrives, and not past the line at fault: an audit does not wait for a pipe that stays open."""
     words = [PROGRAM, "audit", "--book", KEYS, "--log", "/dev/stdin"]
     audit_says(KEYS, "/dev/stdin", CLEAN, "a pipe", text=LOGIN.read_bytes())
-    running = subprocess.Popen(words, stdin=subprocess.PIPE, stdout=subprocess.PIPE, stderr=subprocess.PIPE)
-    running.stdin.write(HEADER + b"S MECHS SCRAM-SHA-1\n")
-    running.stdin.flush()
-    equal((running.wait(LIMIT), running.stdout.read()), (1, b"line 2: mechs\n"), "a pipe that stays open")
-    running.stdin.close()
+    running = Running(words, HEADER + b"S MECHS SCRAM-SHA-1\n")
+    equal(running.process.wait(LIMIT), 1, "the status of an audit of a pipe that stays open")
+    running.ends(1, "line 2: mechs\n")
     fifo = pathlib.Path(folder, "fifo")
     os.mkfifo(fifo)
     writer = threading.Thread(target=fifo.write_bytes, args=(LOGIN.read_bytes(),))
@@ -118,15 +116,11 @@ def audit_at_a_terminal(wait):
     terminal, end = os.openpty()
     words = [PROGRAM, "audit", "--book", KEYS, "--log", "/dev/stdin"]
     began = time.monotonic()
-    running = subprocess.Popen(words, stdin=subprocess.PIPE, stdout=subprocess.PIPE, stderr=end)
-    running.stdin.write(HEADER + SESSION_LEFT)
-    running.stdin.flush()
+    running = Running(words, HEADER + SESSION_LEFT, stderr=end)
     # The program counts its two seconds from the start of its reading, and sleeps once it has read what is there.
-    until(lambda: sleeps(running.pid))
+    running.waits()
     time.sleep(wait)
-    running.stdin.write(SESSION_LEFT)
-    running.stdin.close()
-    equal((running.stdout.read(), running.wait(LIMIT)), (b"clean sessions=2 accepted=0 codes=0\n", 0), "an audit at a terminal")
+    running.ends(0, "clean sessions=2 accepted=0 codes=0\n", text=SESSION_LEFT)
     seconds = time.monotonic() - began
     os.write(end, b"!")
     shown = shown_at(terminal)

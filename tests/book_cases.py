@@ -2,12 +2,12 @@
 
 Each row is a book: a file next to the table, in which `old`, which occurs once, is replaced by `new`, and then `old2` by `new2`. `\\n`,
 `\\\\` and `\\xNN` are written as in Python. `base` names the file, and `shows` says what the row is about. The answer is a fault's number,
-from docs/FORMATS.md, or what `unlock` prints for the account `user` in a book that it reads.
+from docs/REFUSALS.md (docs/FORMATS.md has the order of the checks), or what `unlock` prints for the account `user` in a book that it
+reads.
 """
-import csv
 from typing import NamedTuple
 
-from expected import BOOK_FAULTS, edited
+from expected import BOOK_FAULTS, edited, rows_of
 
 TABLE = BOOK_FAULTS / "cases.csv"
 
@@ -27,5 +27,4 @@ def case(row):
 
 def cases():
     """The cases of all rows, in the table's order."""
-    with open(TABLE, newline="", encoding="ascii") as table:
-        return [case(row) for row in csv.DictReader(table)]
+    return [case(row) for row in rows_of(TABLE)]

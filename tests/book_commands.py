@@ -11,14 +11,14 @@ import json
 import os
 import pathlib
 import shutil
-import subprocess
 import sys
 import tempfile
 from concurrent.futures import ThreadPoolExecutor
 
 import suite
 from checks import equal, holds
-from suite import AS_NOBODY, BOOK_OF_USER, CODES, LIMIT, MOST_BYTES, NOBODY, ROOT, fault_text, hotp, is_root, read_book, seen, token
+from runs import ran
+from suite import BOOK_OF_USER, CODES, MOST_BYTES, ROOT, as_nobody, fault_text, hotp, is_root, nobody, read_book, seen, token
 
 # A copy of the program that the user nobody can run, wherever the program is.
 COPY = tempfile.TemporaryDirectory()
@@ -42,9 +42,8 @@ GOOD = {
 def run(command, options, text="", **how):
     """Runs a command. Its input is `text`, or the open file with that descriptor if it is a number."""
     words = [f"--{name}={value}" for name, value in options.items()]
-    given = {"stdin": text} if isinstance(text, int) else {"input": text}
-    streams = {"stdout": subprocess.PIPE, "stderr": subprocess.PIPE, "text": True, **given, **how}
-    return subprocess.run([PROGRAM, command, *words], timeout=LIMIT, **streams)
+    given = {"stdin": text} if isinstance(text, int) else {"data": text}
+    return ran([PROGRAM, command, *words], **given, **how)
 
 
 def well(command, book, **how):
@@ -55,7 +54,7 @@ def well(command, book, **how):
 
 def says(what, done, status, output, fault=""):
     """Compares what a run answered. A fault is given without its prefix."""
-    equal((done.returncode, done.stdout, done.stderr), (status, output, fault_text(fault)), what)
+    equal(done, (status, output, fault_text(fault)), what)
 
 
 def succeeds(command, book, **how):
@@ -72,76 +71,80 @@ def access(path):
     return found.st_mode, found.st_uid, found.st_gid
 
 
-def climb(command, options, text, rungs):
-    """Runs a command that has many faults, and mends the one that it reports. Each rung is an answer (status,
-    output, fault) and what mends it: options, another input, or a call."""
-    for answer, mended in rungs:
-        says(f"{command} {options}", run(command, options, text), *answer)
+def climb(command, options, text, rungs, printed):
+    """Runs a command that has many faults, and mends the one that it reports, until it prints this. Each rung is a status, a fault and what
+    mends it: options, another input, or a call."""
+    for status, fault, mended in rungs:
+        says(f"{command} {options}", run(command, options, text), status, "", fault)
         if isinstance(mended, dict):
             options = {**options, **mended}
         elif callable(mended):
             mended()
         else:
             text = mended
+    says(f"{command} {options}", run(command, options, text), 0, printed)
 
 
 def order_of_enrol(folder):
     """`enrol` checks the options, the password, the book, the random file, and only then whether the name is taken."""
     book, random = os.path.join(folder, "book"), pathlib.Path(folder, "random")
     random.write_bytes(bytes(31))
-    climb("enrol", {"random": random, "count": "0", "name": "", "book": book}, "", [
-        ((2, "", "bad value for --name"), {"name": "user"}),
-        ((2, "", "bad value for --count"), {"count": "1"}),
-        ((2, "", "bad password"), lambda: put(book, "")),
-        ((2, "", "bad password"), "pencil"),
-        ((1, "", "bad book: 61"), lambda: put(book)),
-        ((3, "", f"cannot read {random}"), lambda: random.write_bytes(bytes(32))),
-        ((1, "", "name is taken"), {"name": "new"}),
-        ((0, "enrolled new\n"), ""),
-    ])
+    rungs = [
+        (2, "bad value for --name", {"name": "user"}),
+        (2, "bad value for --count", {"count": "1"}),
+        (2, "bad password", lambda: put(book, "")),
+        (2, "bad password", "pencil"),
+        (1, "bad book: 61", lambda: put(book)),
+        (3, f"cannot read {random}", lambda: random.write_bytes(bytes(32))),
+        (1, "name is taken", {"name": "new"}),
+    ]
+    climb("enrol", {"random": random, "count": "0", "name": "", "book": book}, "", rungs, "enrolled new\n")
 
 
 def order_of_a_new_book(folder):
     """After a bad password, or with a random file that is missing or has less than 64 bytes, no book is made."""
     book, random = os.path.join(folder, "book"), pathlib.Path(folder, "random")
-    climb("enrol", {"random": random, "name": "user", "count": "1", "book": book}, "\n", [
-        ((2, "", "bad password"), "pencil"),
-        ((3, "", f"cannot read {random}"), lambda: random.write_bytes(b"")),
-        ((3, "", f"cannot read {random}"), lambda: random.write_bytes(bytes(63))),
-        ((3, "", f"cannot read {random}"), lambda: equal(os.listdir(folder), ["random"], "folder")),
-        ((3, "", f"cannot read {random}"), lambda: random.write_bytes(bytes(64))),
-        ((0, "enrolled user\n"), ""),
-    ])
+    options = {"random": random, "name": "user", "count": "1", "book": book}
+    says("a bad password", run("enrol", options, "\n"), 2, "", "bad password")
+    equal(os.listdir(folder), [], "the folder")
+    says("no random file", run("enrol", options, "pencil"), 3, "", f"cannot read {random}")
+    equal(os.listdir(folder), [], "the folder")
+    for length in [0, 63]:
+        random.write_bytes(bytes(length))
+        says(f"{length} random bytes", run("enrol", options, "pencil"), 3, "", f"cannot read {random}")
+        equal(os.listdir(folder), ["random"], "the folder")
+    random.write_bytes(bytes(64))
+    says("64 random bytes", run("enrol", options, "pencil"), 0, "enrolled user\n")
 
 
 def order_of_verify(folder):
     """`verify` checks the options, the book, the account, its token, and only then the input, which can't be read here."""
     book = os.path.join(folder, "book")
     unreadable = os.open(folder, os.O_RDONLY)
-    climb("verify", {"moment": "x", "name": "", "book": book}, unreadable, [
-        ((2, "", "bad value for --name"), {"name": "nobody"}),
-        ((2, "", "bad value for --moment"), {"moment": "5"}),
-        ((3, "", f"cannot read {book}"), lambda: put(book, "format = 2")),
-        ((1, "", "bad book: 61"), lambda: put(book)),
-        ((1, "", "no such account"), {"name": "bare"}),
-        ((1, "", "no token"), {"name": "user"}),
-        ((3, "", "cannot read input"), CODES[0]),
-        ((0, "PASS 5 0\n"), ""),
-    ])
+    rungs = [
+        (2, "bad value for --name", {"name": "nobody"}),
+        (2, "bad value for --moment", {"moment": "5"}),
+        (3, f"cannot read {book}", lambda: put(book, "format = 2")),
+        (1, "bad book: 61", lambda: put(book)),
+        (1, "no such account", {"name": "bare"}),
+        (1, "no token", {"name": "user"}),
+        (3, "cannot read input", CODES[0]),
+    ]
+    climb("verify", {"moment": "x", "name": "", "book": book}, unreadable, rungs, "PASS 5 0\n")
     os.close(unreadable)
 
 
 def order_of_unlock(folder):
     """`unlock` checks the name, the book, the account and its token."""
     book = os.path.join(folder, "book")
-    climb("unlock", {"name": "", "book": book}, "", [
-        ((2, "", "bad value for --name"), {"name": "nobody"}),
-        ((3, "", f"cannot read {book}"), lambda: put(book, "format = 2")),
-        ((1, "", "bad book: 61"), lambda: put(book)),
-        ((1, "", "no such account"), {"name": "bare"}),
-        ((1, "", "no token"), {"name": "user"}),
-        ((0, "unlocked user\n"), ""),
-    ])
+    rungs = [
+        (2, "bad value for --name", {"name": "nobody"}),
+        (3, f"cannot read {book}", lambda: put(book, "format = 2")),
+        (1, "bad book: 61", lambda: put(book)),
+        (1, "no such account", {"name": "bare"}),
+        (1, "no token", {"name": "user"}),
+    ]
+    climb("unlock", {"name": "", "book": book}, "", rungs, "unlocked user\n")
 
 
 def bad_values(folder):
@@ -191,7 +194,7 @@ def unreadable(folder):
         before = os.stat(path).st_mode
         os.chmod(path, mode)
         for command in GOOD:
-            says(f"{command}: {path}", well(command, book, **AS_NOBODY), 3, "", f"cannot read {book}")
+            says(f"{command}: {path}", well(command, book, **as_nobody()), 3, "", f"cannot read {book}")
         os.chmod(path, before)
     equal(pathlib.Path(book).read_text(), BOOK, "the book")
 
@@ -212,17 +215,17 @@ def unwritable(folder):
     book, new = put(os.path.join(folder, "book")), os.path.join(folder, "new")
     if ROOT:
         for path in [book, folder]:
-            os.chown(path, NOBODY.pw_uid, NOBODY.pw_gid)
+            os.chown(path, nobody().pw_uid, nobody().pw_gid)
     before = seen(book)
     os.chmod(folder, 0o555)
     for command in GOOD:
-        says(command, well(command, book, **AS_NOBODY), 3, "", f"cannot write {book}")
-    says("a new book", well("enrol", new, **AS_NOBODY), 3, "", f"cannot write {new}")
+        says(command, well(command, book, **as_nobody()), 3, "", f"cannot write {book}")
+    says("a new book", well("enrol", new, **as_nobody()), 3, "", f"cannot write {new}")
     equal(seen(book), before, "the book")
     equal(os.listdir(folder), ["book"], "the folder")
     os.chmod(folder, 0o755)
     for command in GOOD:
-        succeeds(command, book, **AS_NOBODY)
+        succeeds(command, book, **as_nobody())
 
 
 def each_line(folder):
@@ -287,8 +290,8 @@ def owner(folder):
     put(book)
     os.chown(book, 0, 0)
     os.chmod(book, 0o666)
-    os.chown(folder, NOBODY.pw_uid, NOBODY.pw_gid)
-    check_refused(book, AS_NOBODY)
+    os.chown(folder, nobody().pw_uid, nobody().pw_gid)
+    check_refused(book, as_nobody())
 
 
 def shared_book(folder):
@@ -298,7 +301,7 @@ def shared_book(folder):
     for path, mode in [(book, 0o660), (folder, 0o2770)]:
         os.chown(path, 0, 4321)
         os.chmod(path, mode)
-    check_refused(book, {**AS_NOBODY, "extra_groups": [4321]})
+    check_refused(book, {**as_nobody(), "extra_groups": [4321]})
     succeeds("verify", book)
     equal((os.stat(book).st_uid, os.stat(book).st_gid, os.stat(book).st_mode & 0o7777), (0, 4321, 0o600), "access")
 
@@ -307,13 +310,13 @@ def group_of_others(folder):
     """A book whose owner is not in its group can be used and saved: the file then has the owner's group, and only
     the owner may read it. Only root can try this."""
     book = put(os.path.join(folder, "book"))
-    os.chown(folder, NOBODY.pw_uid, NOBODY.pw_gid)
+    os.chown(folder, nobody().pw_uid, nobody().pw_gid)
     for command in GOOD:
-        os.chown(book, NOBODY.pw_uid, 0)
+        os.chown(book, nobody().pw_uid, 0)
         os.chmod(book, 0o640)
-        succeeds(command, book, **AS_NOBODY)
+        succeeds(command, book, **as_nobody())
         found = os.stat(book)
-        equal((found.st_uid, found.st_gid, found.st_mode & 0o7777), (NOBODY.pw_uid, NOBODY.pw_gid, 0o600), "access")
+        equal((found.st_uid, found.st_gid, found.st_mode & 0o7777), (nobody().pw_uid, nobody().pw_gid, 0o600), "access")
 
 
 def check_refused(book, runner):
@@ -337,7 +340,7 @@ def others_book(folder):
         os.chown(folder, owner, owner)
         os.chmod(folder, mode)
         for command in GOOD:
-            for user in [{}, AS_NOBODY]:
+            for user in [{}, as_nobody()]:
                 says(f"{command} in {mode:o}", well(command, book, **user), 3, "", f"cannot read {book}")
     equal(seen(book), before, "another's book")
     os.chown(folder, 0, 0)
@@ -350,16 +353,16 @@ def others_next(folder):
     """If another user's file is at the path of the next text and can't be removed, the fault names it. Only root can
     try this."""
     book, next_text = os.path.join(folder, "book"), put(os.path.join(folder, "book.new"))
-    os.chown(put(book), NOBODY.pw_uid, NOBODY.pw_gid)
+    os.chown(put(book), nobody().pw_uid, nobody().pw_gid)
     os.chown(next_text, 1234, 4321)
     os.chmod(next_text, 0o600)
     os.chmod(folder, 0o1777)
     before = seen(book)
     for command in GOOD:
-        says(command, well(command, book, **AS_NOBODY), 3, "", f"cannot write {next_text}")
+        says(command, well(command, book, **as_nobody()), 3, "", f"cannot write {next_text}")
     equal(seen(book), before, "the book")
     os.remove(book)
-    says("a new book", well("enrol", book, **AS_NOBODY), 3, "", f"cannot write {next_text}")
+    says("a new book", well("enrol", book, **as_nobody()), 3, "", f"cannot write {next_text}")
     equal(os.listdir(folder), ["book.new"], "the folder")
 
 
@@ -369,15 +372,15 @@ def closed_next(folder):
     book, next_text = (put(os.path.join(folder, name)) for name in ["book", "book.new"])
     if ROOT:
         for path in [folder, book, next_text]:
-            os.chown(path, NOBODY.pw_uid, NOBODY.pw_gid)
+            os.chown(path, nobody().pw_uid, nobody().pw_gid)
     os.chmod(next_text, 0)
     before = seen(book), access(next_text)
     for command in GOOD:
-        says(command, well(command, book, **AS_NOBODY), 3, "", f"cannot write {next_text}")
+        says(command, well(command, book, **as_nobody()), 3, "", f"cannot write {next_text}")
     equal((seen(book), access(next_text)), before, "the book and the next text")
     os.chmod(next_text, 0o600)
     for command in GOOD:
-        succeeds(command, book, **AS_NOBODY)
+        succeeds(command, book, **as_nobody())
     equal(os.listdir(folder), ["book"], "the folder")
 
 

@@ -9,53 +9,39 @@ import ctypes
 import errno
 import fcntl
 import os
+import pathlib
 import random
-import select
 import shutil
 import signal
 import struct
-import subprocess
 import sys
 import threading
 import time
 
 import suite
 from checks import equal, holds
-from kills import kill_at_any_moment, start
+from kills import kill_at_any_moment
+from runs import Running, ran, taken, until, whole
 from suite import (
-    BOOK_OF_USER, CODES, LIMIT, MOST_BYTES, PROGRAM, BookFolder, code, hotp, is_locked, ran, read_book, seen, sleeps, taken,
-    token, until,
+    BOOK_OF_USER, CODES, MOST_BYTES, PROGRAM, BookFolder, code, fault_text, hotp, is_locked, prints, read_book, seen, verify_words,
 )
 
 BOOK = BOOK_OF_USER + hotp(look_ahead=3, limit=100)
 FIRST_CODE = CODES[0]
+# The answer to the first code.
+PASSES = (0, "PASS 5 0\n", "")
 # The user ID in the entries of an access list that name no user.
 NONE = 0xFFFFFFFF
 
 
-def put_book(path):
-    with open(path, "w") as file:
-        file.write(BOOK)
-
-
-def verify_words(path):
-    return [PROGRAM, "verify", "--book", path, "--name", "user", "--moment", "5"]
-
-
-def verify(path, text):
-    return subprocess.run(verify_words(path), input=text, capture_output=True, text=True, timeout=LIMIT)
-
-
-def start_verify(path, text):
-    return start(verify_words(path), text)
+def mode_of(path):
+    """The mode of a file, in octal digits."""
+    return f"{path.stat().st_mode & 0o7777:o}"
 
 
 def start_enrol(path, name, count):
-    words = [PROGRAM, "enrol", "--book", path, "--name", name, "--count", str(count)]
-    run = subprocess.Popen(words, stdin=subprocess.PIPE, stdout=subprocess.DEVNULL, text=True)
-    run.stdin.write("pencil\n")
-    run.stdin.close()
-    return run
+    """Starts a run that adds an account, to a new book if there is none."""
+    return whole([PROGRAM, "enrol", "--book", path, "--name", name, "--count", str(count)], "pencil\n")
 
 
 def locked(path):
@@ -67,33 +53,24 @@ def locked(path):
 
 def waiting_verify(path, text=""):
     """Starts a run that holds the book, is sent this text, and waits for more input."""
-    run = subprocess.Popen(verify_words(path), stdin=subprocess.PIPE, stdout=subprocess.PIPE, stderr=subprocess.PIPE, text=True)
-    run.stdin.write(text)
-    run.stdin.flush()
-    until(lambda: is_locked(path) and sleeps(run.pid))
+    run = Running(verify_words(path), text)
+    until(lambda: is_locked(path), "the run should hold", path)
+    run.waits()
     return run
-
-
-def answered(run, text, want):
-    """Gives a run the rest of its input, and compares its status, output and faults."""
-    output, faults = run.communicate(text, timeout=LIMIT)
-    equal((run.returncode, output, faults), want)
 
 
 def twenty_at_once(folder):
     """A code passes once, whichever of the book's two names each run is given."""
-    book, link = os.path.join(folder, "book"), os.path.join(folder, "link")
-    os.symlink("book", link)
-    for _ in range(5):
-        put_book(book)
-        runs = [start_verify([book, link][n % 2], FIRST_CODE) for n in range(20)]
-        printed = [run.stdout.read() for run in runs]
-        statuses = sorted(run.wait(LIMIT) for run in runs)
-        equal(sorted(printed), ["FAIL 5\n"] * 19 + ["PASS 5 0\n"])
-        equal(statuses, [0] + [1] * 19)
-        equal((token(book)["next"], token(book)["failures"]), (1, 19))
-        holds(os.path.islink(link), "the link is gone")
-        equal(sorted(os.listdir(folder)), ["book", "link"])
+    here = BookFolder(folder, BOOK)
+    link = here.folder / "link"
+    link.symlink_to("book")
+    for turn in range(5):
+        here.put(BOOK)
+        runs = [whole(verify_words([here.book, link][n % 2]), FIRST_CODE) for n in range(20)]
+        equal(sorted(run.end() for run in runs), [PASSES] + [(1, "FAIL 5\n", "")] * 19, f"turn {turn}: the answers of all runs")
+        here.token_has(f"turn {turn}", next=1, failures=19)
+        holds(link.is_symlink(), f"turn {turn}: the link is gone")
+        here.has_only("book", "link")
 
 
 def killed_at_any_moment(folder):
@@ -102,108 +79,98 @@ def killed_at_any_moment(folder):
 
     def started(at, output):
         codes = [code(counter) for counter in range(max(at - 2, 0), at + 10)]
-        return start(verify_words(here.book), "".join(f"{it}\n" for it in codes), output)
+        return whole(verify_words(here.book), "".join(f"{it}\n" for it in codes), stdout=output)
 
     kill_at_any_moment(here, started, 200, [0, 1], is_log=False)
-    counter = token(here.book)["next"]
-    here.prints(verify_words(here.book), code(counter), 0, f"PASS 5 {counter}\n")
-    equal(sorted(os.listdir(folder)), ["before", "book"])
+    counter = here.token()["next"]
+    here.verifies(code(counter), 0, f"PASS 5 {counter}\n")
+    here.has_only("book")
 
 
 def modes(folder):
     """Only its owner can read a new book, whatever the umask. A rewritten book keeps only the owner's bits of its mode."""
-    book = os.path.join(folder, "book")
+    here = BookFolder(folder, BOOK)
     for mask in [0o000, 0o022, 0o077]:
+        here.book.unlink()
         old = os.umask(mask)
         try:
-            enrolling = start_enrol(book, "user", 1)
+            enrolling = start_enrol(here.book, "user", 1)
         finally:
             os.umask(old)
-        equal(enrolling.wait(LIMIT), 0)
-        equal(oct(os.stat(book).st_mode & 0o7777), oct(0o600), f"umask {mask:03o}")
-        os.remove(book)
-    for before, after in [(0o640, 0o600), (0o604, 0o600), (0o600, 0o600), (0o444, 0o400)]:
-        put_book(book)
-        os.chmod(book, before)
-        equal(verify(book, FIRST_CODE).stdout, "PASS 5 0\n")
-        equal(oct(os.stat(book).st_mode & 0o7777), oct(after), f"mode {before:03o} before")
-        os.remove(book)
+        enrolling.ends(0, "enrolled user\n")
+        equal(mode_of(here.book), "600", f"the mode of a new book, with umask {mask:03o}")
+    for before, after in [(0o640, "600"), (0o604, "600"), (0o600, "600"), (0o444, "400")]:
+        here.put(BOOK)
+        here.book.chmod(before)
+        here.verifies(FIRST_CODE, *PASSES)
+        equal(mode_of(here.book), after, f"the mode after a save, which was {before:o}")
 
 
 def access_lists(folder):
     """A save gives nobody more access through an access list: neither the group, whose bits in the mode are the list's mask,
     nor the users and groups that the folder's list names for new files."""
-    book = os.path.join(folder, "book")
-    put_book(book)
-    os.chmod(book, 0o600)
+    here = BookFolder(folder, BOOK)
+    here.book.chmod(0o600)
     entries = [(1, 6, NONE), (2, 4, 1234), (4, 0, NONE), (16, 4, NONE), (32, 0, NONE)]
     listed = struct.pack("<I", 2) + b"".join(struct.pack("<HHI", *entry) for entry in entries)
     try:
-        os.setxattr(book, "system.posix_acl_access", listed)
-        os.setxattr(folder, "system.posix_acl_default", listed)
+        os.setxattr(here.book, "system.posix_acl_access", listed)
+        os.setxattr(here.folder, "system.posix_acl_default", listed)
     except OSError as error:
         equal(error.errno, errno.EOPNOTSUPP, error)
         print("books.py: this file system has no access lists, so they are not tested", file=sys.stderr)
         return
-    equal(os.stat(book).st_mode & 0o777, 0o640)
-    equal(verify(book, FIRST_CODE).stdout, "PASS 5 0\n")
-    equal(os.stat(book).st_mode & 0o777, 0o600)
+    equal(mode_of(here.book), "640", "the mode before, with the mask of the access list")
+    here.verifies(FIRST_CODE, *PASSES)
+    equal(mode_of(here.book), "600", "the mode after a save")
 
 
 def unwritable(folder):
     """A save that can't be made leaves the old book, and nothing is printed."""
-    book = os.path.join(folder, "book")
-    put_book(book)
-    os.mkdir(book + ".new")
-    run = verify(book, FIRST_CODE)
-    equal((run.returncode, run.stdout, run.stderr), (3, "", f"scramotp: cannot write {book}\n"), run)
-    with open(book) as file:
-        equal(file.read(), BOOK)
-    os.rmdir(book + ".new")
-    equal(verify(book, FIRST_CODE).stdout, "PASS 5 0\n")
+    here = BookFolder(folder, BOOK)
+    here.next_text.mkdir()
+    here.verifies(FIRST_CODE, 3, "", f"cannot write {here.book}")
+    equal(here.book.read_text(), BOOK, "the book after a save that can't be made")
+    here.next_text.rmdir()
+    here.verifies(FIRST_CODE, *PASSES)
 
 
 def locked_by_another(folder):
     """A run waits for up to 30 seconds for the lock, and goes on as soon as it becomes free."""
-    book = os.path.join(folder, "book")
-    put_book(book)
-    lock = locked(book)
+    here = BookFolder(folder, BOOK)
+    lock = locked(here.book)
     begun = time.monotonic()
-    run = verify(book, FIRST_CODE)
+    here.verifies(FIRST_CODE, 3, "", f"other runs held {here.book} for 30 seconds\nscramotp: cannot read {here.book}")
     waited = time.monotonic() - begun
-    faults = f"scramotp: other runs held {book} for 30 seconds\nscramotp: cannot read {book}\n"
-    equal((run.returncode, run.stdout, run.stderr), (3, "", faults), run)
-    holds(29 < waited < 60, "the seconds that the run waited, which should be 30", waited)
-    run = start_verify(book, FIRST_CODE)
-    until(lambda: sleeps(run.pid))
+    holds(29 < waited < 60, "the run did not wait for 30 seconds, but for", waited)
+    run = whole(verify_words(here.book), FIRST_CODE)
+    run.waits()
     time.sleep(0.5)
-    equal(run.poll(), None)
+    run.goes_on()
     os.close(lock)
-    equal(run.stdout.read(), "PASS 5 0\n")
-    equal(run.wait(LIMIT), 0)
+    run.ends(*PASSES)
 
 
 def locked_folder(folder):
     """A run does not wait for a lock on the folder, or on another book in it."""
-    book, other = os.path.join(folder, "book"), os.path.join(folder, "other")
-    put_book(book)
-    put_book(other)
+    here = BookFolder(folder, BOOK)
+    other = here.folder / "other"
+    other.write_text(BOOK)
     lock = locked(folder)
     waiting = waiting_verify(other)
-    equal(verify(book, FIRST_CODE).stdout, "PASS 5 0\n")
-    answered(waiting, FIRST_CODE, (0, "PASS 5 0\n", ""))
+    here.verifies(FIRST_CODE, *PASSES)
+    waiting.ends(*PASSES, FIRST_CODE)
     os.close(lock)
 
 
 def one_lock(folder):
     """The book is opened once, and the file of each next text once: the run keeps its lock, even when it saves."""
-    book = os.path.join(folder, "book")
-    put_book(book)
+    here = BookFolder(folder, BOOK)
     kinds = {0x20: "open", 0x80: "take its place"}
     libc = ctypes.CDLL(None)
     told = libc.inotify_init()
     holds(libc.inotify_add_watch(told, folder.encode(), sum(kinds)) >= 0, "the folder can't be watched")
-    equal(verify(book, f"{FIRST_CODE}\n{code(1)}\n").stdout, "PASS 5 0\nPASS 5 1\n")
+    here.verifies(f"{FIRST_CODE}\n{code(1)}\n", 0, "PASS 5 0\nPASS 5 1\n")
     data, at, events = os.read(told, 65536), 0, []
     while at < len(data):
         _, mask, _, length = struct.unpack_from("iIII", data, at)
@@ -211,116 +178,125 @@ def one_lock(folder):
         at += 16 + length
     os.close(told)
     saved = [("open", "book.new"), ("take its place", "book")]
-    equal(events, [("open", ""), ("open", "book"), *saved, *saved])
-    run = waiting_verify(book, f"{code(2)}\n")
-    equal(run.stdout.readline(), "PASS 5 2\n")
-    holds(is_locked(book), "the book is not locked while the run goes on")
-    answered(run, "", (0, "", ""))
-    holds(not is_locked(book), "the book is locked after the run")
+    equal(events, [("open", ""), ("open", "book"), *saved, *saved], "what the run opened in the folder and put there")
+    run = waiting_verify(here.book, f"{code(2)}\n")
+    run.prints("PASS 5 2\n")
+    holds(is_locked(here.book), "the book is not locked while the run goes on")
+    run.ends(0)
+    holds(not is_locked(here.book), "the book is locked after the run")
 
 
 def swapped(folder):
     """A file that takes the book's path while a run waits for input is not overwritten, and the run ends."""
-    held = os.path.join(folder, "held")
-    book, other, away = (os.path.join(held, name) for name in ["book", "other", "away"])
-    os.mkdir(held)
+    held = pathlib.Path(folder, "held")
+    held.mkdir()
+    here = BookFolder(held, BOOK)
+    other, away = held / "other", held / "away"
 
     def move():
-        os.rename(book, away)
+        here.book.rename(away)
 
     def link():
         move()
-        os.symlink("other", book)
+        here.book.symlink_to("other")
 
     def copy():
         move()
-        shutil.copy(away, book)
+        shutil.copy(away, here.book)
 
     def edit():
-        with open(book, "r+") as file:
+        with open(here.book, "r+") as file:
             file.write("#ormat")
 
     def rename_folder():
-        os.rename(held, held + ".old")
-        os.mkdir(held)
-        shutil.copy(os.path.join(held + ".old", "book"), book)
+        old = held.rename(f"{held}.old")
+        held.mkdir()
+        shutil.copy(old / "book", here.book)
 
     for turn in [move, link, copy, edit, rename_folder]:
-        put_book(book)
-        put_book(other)
-        os.chmod(other, 0o644)
-        run = waiting_verify(book)
+        here.put(BOOK)
+        other.write_text(BOOK)
+        other.chmod(0o644)
+        run = waiting_verify(here.book)
         turn()
-        before = {name: seen(os.path.join(held, name)) for name in os.listdir(held)}
-        answered(run, FIRST_CODE, (3, "", f"scramotp: cannot write {book}\n"))
-        after = {name: seen(os.path.join(held, name)) for name in os.listdir(held)}
-        equal(after, before, turn.__name__)
-        for path in [book, away]:
-            if os.path.lexists(path):
-                os.remove(path)
+        before = {name: seen(held / name) for name in os.listdir(held)}
+        run.ends(3, "", fault_text(f"cannot write {here.book}"), FIRST_CODE)
+        after = {name: seen(held / name) for name in os.listdir(held)}
+        equal(after, before, "the files after", turn.__name__)
+        for path in [here.book, away]:
+            path.unlink(missing_ok=True)
 
 
 def keys_before_the_lock(folder):
     """`enrol` makes its keys while other runs use or make the book, and adds its account to the book as it is afterwards."""
-    book, new = os.path.join(folder, "book"), os.path.join(folder, "new")
-    put_book(book)
-    slow = [start_enrol(path, "slow", 3000000) for path in [book, new]]
-    # Each of the two needs seconds of processor time for its keys, and is stopped early in that.
-    until(lambda: all(taken(run.pid) > 0.1 for run in slow))
+    here = BookFolder(folder, BOOK)
+    new = here.folder / "new"
+    slow = [start_enrol(path, "slow", 1000000) for path in [here.book, new]]
+    # Each of the two needs more than a second of processor time for its keys, and is stopped early in that.
+    until(lambda: all(taken(run.process.pid) > 0.1 for run in slow), "both runs should make keys")
     for run in slow:
-        run.send_signal(signal.SIGSTOP)
+        run.process.send_signal(signal.SIGSTOP)
     try:
-        equal(verify(book, FIRST_CODE).stdout, "PASS 5 0\n")
-        equal(start_enrol(new, "quick", 1).wait(LIMIT), 0)
-        equal([run.poll() for run in slow], [None, None])
+        here.verifies(FIRST_CODE, *PASSES)
+        start_enrol(new, "quick", 1).ends(0, "enrolled quick\n")
+        for run in slow:
+            run.goes_on()
     finally:
         for run in slow:
-            run.send_signal(signal.SIGCONT)
-    equal([run.wait(LIMIT) for run in slow], [0, 0])
-    equal((sorted(read_book(book)["accounts"]), token(book)["next"]), (["slow", "user"], 1))
-    equal(sorted(read_book(new)["accounts"]), ["quick", "slow"])
-    equal(sorted(os.listdir(folder)), ["book", "new"])
+            run.process.send_signal(signal.SIGCONT)
+    for run in slow:
+        run.ends(0, "enrolled slow\n")
+    equal(sorted(read_book(here.book)["accounts"]), ["slow", "user"], "the book's accounts")
+    here.token_has(next=1)
+    equal(sorted(read_book(new)["accounts"]), ["quick", "slow"], "the new book's accounts")
+    here.has_only("book", "new")
 
 
 def made_at_once(folder):
     """Runs that make a book at the same time find what the others have added, even if some are killed."""
-    book = os.path.join(folder, "book")
-    for _ in range(40):
-        runs = [start_enrol(book, f"user{number}", 1) for number in range(6)]
+    here, killed = BookFolder(folder, BOOK), 0
+    began = time.monotonic()
+    start_enrol(here.book, "first", 1).ends(0, "enrolled first\n")
+    duration = time.monotonic() - began
+    for turn in range(40):
+        here.book.unlink()
+        runs = [start_enrol(here.book, f"user{number}", 1) for number in range(6)]
         for run in runs[:2]:
-            time.sleep(random.uniform(0, 0.008))
-            run.kill()
-        statuses = [run.wait(LIMIT) for run in runs]
-        equal(statuses[2:], [0] * 4, statuses)
-        equal(verify(book, "").stderr, "scramotp: no such account\n")
-        equal(os.listdir(folder), ["book"])
-        names = set(read_book(book)["accounts"])
-        holds(names >= {f"user{number}" for number in range(6) if statuses[number] == 0}, statuses, names)
-        os.remove(book)
+            time.sleep(random.uniform(0, duration))
+            run.process.kill()
+        statuses = [run.end().status for run in runs]
+        killed += statuses[:2].count(-signal.SIGKILL)
+        equal(statuses[2:], [0] * 4, f"turn {turn}: the statuses of the runs that are not killed")
+        here.verifies("", 1, "", "no such account")
+        here.has_only("book")
+        names, due = set(read_book(here.book)["accounts"]), {f"user{number}" for number in range(6) if statuses[number] == 0}
+        equal(due - names, set(), f"turn {turn}: the accounts that were added and are not in the book", statuses)
+    holds(killed > 8, "too few runs were killed", killed)
 
 
 def pipes(folder):
-    """In a folder that others may write, no run waits for a pipe that takes the book's place at any moment."""
-    book, pipe, file = (os.path.join(folder, name) for name in ["book", "pipe", "file"])
-    os.chmod(folder, 0o777)
-    put_book(file)
+    """In a folder that others may write, no run waits for a pipe that takes the book's place at any moment. The file that takes turns with
+    the pipe has a second name, so a run is refused at once, except in rare moments; one that opened the pipe to read would never end."""
+    here = BookFolder(folder, BOOK)
+    file, pipe, following = (here.folder / name for name in ["file", "pipe", "following"])
+    here.folder.chmod(0o777)
+    here.book.rename(file)
     os.mkfifo(pipe)
-    os.chmod(pipe, 0o666)
+    pipe.chmod(0o666)
     is_over = threading.Event()
 
     def turn():
         while not is_over.is_set():
-            for name in [file, pipe]:
-                os.link(name, book + ".next")
-                os.rename(book + ".next", book)
+            for path in [file, pipe]:
+                os.link(path, following)
+                following.rename(here.book)
 
     turning = threading.Thread(target=turn)
     turning.start()
     try:
-        for _ in range(300):
-            run = subprocess.run(verify_words(book), input="", capture_output=True, text=True, timeout=20)
-            refused = (3, "", f"scramotp: cannot read {book}\n")
-            holds((run.returncode, run.stdout, run.stderr) in [(0, "", ""), refused], run)
+        for number in range(300):
+            answer, refused = ran(verify_words(here.book)), (3, "", fault_text(f"cannot read {here.book}"))
+            holds(answer in [(0, "", ""), refused], f"run {number} has another answer than {refused}, or than none", answer)
     finally:
         is_over.set()
         turning.join()
@@ -328,72 +304,56 @@ def pipes(folder):
 
 def left_by_a_killed_run(folder):
     """The next run removes the file of a next text that a killed run left, even if it saves nothing."""
-    book = os.path.join(folder, "book")
-    put_book(book)
-    put_book(book + ".new")
-    equal(verify(book, "").returncode, 0)
-    equal(os.listdir(folder), ["book"])
-    os.remove(book)
-    put_book(book + ".new")
-    equal(start_enrol(book, "user", 1).wait(LIMIT), 0)
-    equal(os.listdir(folder), ["book"])
+    here = BookFolder(folder, BOOK)
+    here.next_text.write_text(BOOK)
+    here.verifies("", 0, "")
+    here.has_only("book")
+    here.book.unlink()
+    here.next_text.write_text(BOOK)
+    start_enrol(here.book, "user", 1).ends(0, "enrolled user\n")
+    here.has_only("book")
 
 
 def too_long(folder):
     """A text that no command would read is not saved: here the accounts take three times the bytes when they are written."""
-    book = os.path.join(folder, "book")
-    with open(book, "w") as file:
-        file.write(BOOK + "[accounts]\n")
-        file.writelines(f"a{number} = {{}}\n" for number in range(560000))
-    holds(os.stat(book).st_size < MOST_BYTES, "the book is too long to be read", os.stat(book))
-    before = seen(book)
-    run = verify(book, FIRST_CODE)
-    equal((run.returncode, run.stdout, run.stderr), (3, "", f"scramotp: cannot write {book}\n"), run)
-    equal(seen(book), before)
-    equal(os.listdir(folder), ["book"])
+    here = BookFolder(folder, BOOK, "[accounts]\n", *(f"a{number} = {{}}\n" for number in range(560000)))
+    holds(len(here.before) < MOST_BYTES, "the book is too long to be read", len(here.before))
+    before = seen(here.book)
+    here.verifies(FIRST_CODE, 3, "", f"cannot write {here.book}")
+    equal(seen(here.book), before, "the book")
+    here.has_only("book")
 
 
 def shown_texts(folder):
     """No path or word sends control characters to a terminal, or starts a new line there."""
     book = os.path.join(folder, "a\n\x1b[2J\x7f\u009b\u00e9")
     shown = os.path.join(folder, "a\\x0a\\x1b[2J\\x7f\\x9b\u00e9")
-    run = verify(book, "")
-    equal((run.returncode, run.stderr), (3, f"scramotp: cannot read {shown}\n"), run)
-    put_book(book)
+    prints(verify_words(book), "", 3, "", f"cannot read {shown}")
+    pathlib.Path(book).write_text(BOOK)
     lock = locked(book)
-    run = verify(book, "")
+    prints(verify_words(book), "", 3, "", f"other runs held {shown} for 30 seconds\nscramotp: cannot read {shown}")
     os.close(lock)
-    equal(run.stderr, f"scramotp: other runs held {shown} for 30 seconds\nscramotp: cannot read {shown}\n", run)
     for words in [["a\n\x1b[2J"], ["verify", "--\x1b[2J\n"], ["verify", "--book", "x", "\x1b[2J\nscramotp: no token"]]:
         status, _, faults = ran([PROGRAM, *words])
-        equal(status, 2, faults)
-        holds("\\x1b[2J" in faults, faults)
-        holds("\x1b" not in faults, faults)
-        holds("\nscramotp" not in faults, faults)
+        equal(status, 2, words, faults)
+        holds("\\x1b[2J" in faults, "the word is not shown", words, faults)
+        holds("\x1b" not in faults, "a control character is shown", words, faults)
+        holds("\nscramotp" not in faults, "the word starts a line", words, faults)
 
 
 def input_limit(folder):
     """All lines together may have 16777216 bytes. The replies to the lines before the limit are printed."""
-    book = os.path.join(folder, "book")
-    put_book(book)
-    run = verify(book, "x\n" + "a" * (MOST_BYTES - 2))
-    equal((run.returncode, run.stdout, run.stderr), (1, "FAIL 5\nFAIL 5\n", ""))
-    run = verify(book, "x\n" + "a" * (MOST_BYTES - 1))
-    equal((run.returncode, run.stdout, run.stderr), (3, "FAIL 5\n", "scramotp: cannot read input\n"))
+    here = BookFolder(folder, BOOK)
+    here.verifies("x\n" + "a" * (MOST_BYTES - 2), 1, "FAIL 5\nFAIL 5\n")
+    here.verifies("x\n" + "a" * (MOST_BYTES - 1), 3, "FAIL 5\n", "cannot read input")
 
 
 def told_at_once(folder):
     """A reply is printed while the input is still open."""
-    book = os.path.join(folder, "book")
-    put_book(book)
-    run = subprocess.Popen(verify_words(book), stdin=subprocess.PIPE, stdout=subprocess.PIPE)
-    run.stdin.write(FIRST_CODE.encode() + b"\n")
-    run.stdin.flush()
-    ready, _, _ = select.select([run.stdout], [], [], 20)
-    told = os.read(run.stdout.fileno(), 100) if ready else None
-    run.stdin.close()
-    equal((told, run.wait(LIMIT)), (b"PASS 5 0\n", 0))
-    run.stdout.close()
+    here = BookFolder(folder, BOOK)
+    run = Running(verify_words(here.book))
+    run.prints("PASS 5 0\n", f"{FIRST_CODE}\n")
+    run.ends(0)
 
 
 TESTS = [

@@ -16,10 +16,24 @@ def shown(value):
     return cut(repr(value))
 
 
+def entries(got, want):
+    """Each entry in which two dictionaries differ."""
+    for key in {**want, **got}:
+        if key not in want:
+            yield f"{key}: {shown(got[key])}, which should be missing"
+        elif key not in got:
+            yield f"{key}: missing, not {shown(want[key])}"
+        elif got[key] != want[key]:
+            yield f"{key}: {difference(got[key], want[key])}"
+
+
 def difference(got, want):
-    """Two values that differ: of tuples only the parts that do, and of long texts what is around the first difference."""
+    """Two values that differ: of tuples and dictionaries only the parts that do, and of long texts what is around the first difference."""
+    if isinstance(got, dict) and isinstance(want, dict):
+        return "; ".join(entries(got, want))
     if isinstance(got, tuple) and isinstance(want, tuple) and len(got) == len(want):
-        return "; ".join(f"part {at}: {difference(*both)}" for at, both in enumerate(zip(got, want), 1) if both[0] != both[1])
+        names = getattr(got, "_fields", None) or [f"part {number}" for number in range(1, len(got) + 1)]
+        return "; ".join(f"{name}: {difference(*both)}" for name, *both in zip(names, got, want) if both[0] != both[1])
     if type(got) is type(want) and isinstance(got, (str, bytes)) and max(len(got), len(want)) > LONGEST:
         differ = (at for at, both in enumerate(zip(got, want)) if both[0] != both[1])
         at = next(differ, min(len(got), len(want)))
@@ -40,6 +54,6 @@ def equal(got, want, *about):
 
 
 def holds(is_so, *about):
-    """Fails if this is not true, and shows what the caller says about it."""
+    """Fails if this is not true, and shows what the caller says about it: what is wrong, as in "the socket is left"."""
     if not is_so:
         fail(about, [])

@@ -6,14 +6,14 @@ import pathlib
 import re
 import shutil
 import stat
-import subprocess
 import tomllib
 from typing import NamedTuple
 
 import suite
 from checks import equal
 from expected import ACCEPTED, AUDITS, AUTH, GONE, RESP, keys_of, numbered
-from suite import CODES, KEYS_OF_PENCIL, LIMIT, NONCES, PROGRAM, SALT, SECRET
+from runs import ran
+from suite import CODES, KEYS_OF_PENCIL, PROGRAM, PUBLISHED, SALT, SECRET
 
 # RFC 5802's user with RFC 4226's token, at which two codes have failed.
 BOOK = (AUDITS / "hotp.toml").read_text().replace("failures = 0", "failures = 2")
@@ -105,7 +105,7 @@ def commands(count=2):
     """All commands. Those that take codes are sent `count` of them."""
     book, codes = parsed_book(BOOK), "".join(f"{code}\n" for code in CODES[:count])
     on = ["--book", "{book}", "--name"]
-    login = [*on, "user", "--socket", "{socket}", "--mechanism", "SCRAM-SHA-1", *NONCES, "--moment", "5"]
+    login = [*on, "user", "--socket", "{socket}", *PUBLISHED, "--moment", "5"]
     heard, log = events(count)
     return [
         Command("keys", ["--mechanism", "SCRAM-SHA-1", "--salt", SALT, "--count", "4096"], "pencil\n", KEYS_OF_PENCIL, [book]),
@@ -154,12 +154,8 @@ def left(folder):
 
 
 def run(command, folder, **how):
-    """Runs a command on the files of a folder, with its input unless another is given. Returns its status, output and faults."""
-    given = {"stdout": subprocess.PIPE, "stderr": subprocess.PIPE, **how}
-    if "stdin" not in given:
-        given.setdefault("input", command.text.encode())
-    done = subprocess.run(command.in_folder(folder), timeout=LIMIT, **given)
-    return done.returncode, *((text or b"").decode() for text in (done.stdout, done.stderr))
+    """Runs a command on the files of a folder, with its input unless another is given as `stdin`. Returns its answer."""
+    return ran(command.in_folder(folder), command.text, **how)
 
 
 def book_of(folder):

@@ -6,7 +6,6 @@ Usage: commands.py PROGRAM [TEST ..]
 import os
 import re
 import stat
-import subprocess
 import tempfile
 import time
 from hmac import digest
@@ -15,9 +14,10 @@ from pathlib import Path
 import suite
 from checks import equal, holds
 from expected import DATA, keys_of
+from runs import ran
 from suite import (
-    BOOK_OF_USER, KEYS_OF_PENCIL, LIMIT, MOST_BYTES, PROGRAM, SALT, SECRET, SEEDS, fault_text, hotp, prints, program_on_path, ran,
-    read_book, token, totp,
+    BOOK_OF_USER, KEYS_OF_PENCIL, MOST_BYTES, PROGRAM, SALT, SECRET, SEEDS, BookFolder, fault_text, hotp, prints, program_on_path,
+    read_book, totp,
 )
 
 # 64 bytes
@@ -53,24 +53,16 @@ def check_usage(words, begin):
     """Runs the program with faulty words, and compares its status; its fault has to begin with `begin`."""
     status, output, faults = ran([PROGRAM, *words], "pencil\n")
     equal((status, output), (2, ""), words, faults)
-    holds(faults.startswith(begin), words, faults)
+    holds(faults.startswith(begin), words, "the fault does not begin with", begin, faults)
 
 
 def keys(mechanism, salt, count):
     return ["keys", "--mechanism", mechanism, "--salt", salt, "--count", count]
 
 
-def write(path, *parts):
-    with open(path, "w") as file:
-        file.write("".join(parts))
-
-
-def words_on(book, command, name="user", *more):
-    return [command, "--book", book, "--name", name, *more]
-
-
-def verify(book, moment, text, status, printed):
-    check(words_on(book, "verify", "user", "--moment", moment), text, status, printed)
+def words_on(book, command, *more):
+    """The words of a command on the account `user`."""
+    return [command, "--book", book, "--name", "user", *more]
 
 
 def passwords(folder):
@@ -185,7 +177,7 @@ def help_of(words):
     """The output of --help, whose lines have at most 100 columns."""
     status, output, faults = ran([PROGRAM, *words, "--help"])
     equal((status, faults), (0, ""), words, output)
-    holds(all(len(line) <= 100 for line in output.splitlines()), output)
+    equal([line for line in output.splitlines() if len(line) > 100], [], "lines with over 100 columns in the help of", words)
     return output
 
 
@@ -193,11 +185,11 @@ def help_and_version(folder):
     """Each help page is that in data/help, and each page there belongs to a command or to the program."""
     check(["--version"], "", 0, "scramotp 0.1.0\n")
     pages = {"scramotp": [], **{command: [command] for command, _ in EXAMPLES}}
-    equal({path.stem for path in HELP.iterdir()}, set(pages))
+    equal({path.stem for path in HELP.iterdir()}, set(pages), "the pages in data/help")
     for name, words in pages.items():
         equal(help_of(words), (HELP / f"{name}.txt").read_text(), f"{name}.txt")
     listed = re.findall(r"^  ([a-z]+) +[A-Z]", help_of([]).split("Commands:\n")[1].split("\n\n")[0], re.M)
-    equal(sorted(listed), sorted(command for command, _ in EXAMPLES), listed)
+    equal(sorted(listed), sorted(command for command, _ in EXAMPLES), "the commands that the help lists")
 
 
 def example_of(command):
@@ -215,16 +207,17 @@ def runs_example(folder, command):
         status, output, faults = ran(words, cwd=folder, env=environment, umask=0)
         moments = range(began, int(time.time()) + 1)
     equal((status, faults), (0, ""), command, output)
-    holds(output in [dict(EXAMPLES)[command].format(moment) for moment in moments], command, output)
+    due = [dict(EXAMPLES)[command].format(moment) for moment in moments]
+    holds(output in due, f"what the example of {command} prints is none of", due, output)
 
 
 def examples(folder):
     """All examples run in a folder that is empty at first. Nobody else can read what they leave, even with umask 0."""
     for command, _ in EXAMPLES:
         runs_example(folder, command)
-    equal(os.listdir(folder), ["logins"])
+    equal(os.listdir(folder), ["logins"], "the files in the folder")
     modes = {path.name: stat.S_IMODE(path.stat().st_mode) for path in [Path(folder, "logins"), Path(folder, "logins", "book.toml")]}
-    equal(modes, {"logins": 0o700, "book.toml": 0o600})
+    equal(modes, {"logins": 0o700, "book.toml": 0o600}, "the modes of the folder and of the book")
 
 
 def examples_alone(folder):
@@ -255,23 +248,21 @@ def server_signature(folder):
     status, output, faults = ran([PROGRAM, *words], "pencil\n")
     equal((status, faults), (0, ""), output)
     stored, server = output.splitlines()
-    holds(stored.startswith("stored="), output)
-    holds(server.startswith("server="), output)
+    holds(stored.startswith("stored=") and server.startswith("server="), "the two lines of keys", output)
     signature = digest(bytes.fromhex(server.removeprefix("server=")), auth_message, "sha256").hex()
-    equal(signature, "eabae24d1062db75a9451ff0b6ea7e98c8546549ff741e672d3251b2397de46e")
+    equal(signature, "eabae24d1062db75a9451ff0b6ea7e98c8546549ff741e672d3251b2397de46e", "the signature made with", server)
 
 
 def hotp_codes(folder):
     """Codes of RFC 4226, appendix D: each passes once, in order, and at most three counters ahead."""
-    book = os.path.join(folder, "book")
-    write(book, BOOK_OF_USER, hotp(3, 3))
+    here = BookFolder(folder, BOOK_OF_USER, hotp(3, 3))
     text = "755224\n755224\n338314\n359152\n162583\n755224x\n"
-    verify(book, "5", text, 1, "PASS 5 0\nFAIL 5\nPASS 5 4\nFAIL 5\nPASS 5 7\nFAIL 5\n")
-    equal((token(book)["next"], token(book)["failures"]), (8, 1), token(book))
-    verify(book, "5", "755224", 1, "FAIL 5\n")
-    verify(book, "5", "399871", 0, "PASS 5 8\n")
-    verify(book, "5", "", 0, "")
-    verify(book, "5", "\n", 1, "FAIL 5\n")
+    here.verifies(text, 1, "PASS 5 0\nFAIL 5\nPASS 5 4\nFAIL 5\nPASS 5 7\nFAIL 5\n")
+    here.token_has(next=8, failures=1)
+    here.verifies("755224", 1, "FAIL 5\n")
+    here.verifies("399871", 0, "PASS 5 8\n")
+    here.verifies("", 0, "")
+    here.verifies("\n", 1, "FAIL 5\n")
 
 
 # The codes of counters 8 and 9, as a line of `verify`.
@@ -281,7 +272,7 @@ FAR_PAIR = "SYNC 399871 520489\n"
 def pairs_of_codes(folder):
     """A line `SYNC text text` passes with two codes of RFC 4226, appendix D, in a row, and spends both. Without the key sync_ahead it
     passes only with those of the next two counters."""
-    book = os.path.join(folder, "book")
+    here = BookFolder(folder)
     runs = [
         (8, "399871\nSYNC 338314 969429\n" + FAR_PAIR, "FAIL 5\nFAIL 5\nPASS 5 9\n"),
         (8, "SYNC 969429 338314\n338314\n969429\n254676\n", "PASS 5 4\nFAIL 5\nFAIL 5\nPASS 5 5\n"),
@@ -291,111 +282,102 @@ def pairs_of_codes(folder):
         (None, "SYNC 287082 359152\nSYNC 755224 287082\n", "FAIL 5\nPASS 5 1\n"),
     ]
     for sync_ahead, text, printed in runs:
-        write(book, BOOK_OF_USER, hotp(3, 3, sync_ahead))
-        verify(book, "5", text, 1, printed)
-        equal(token(book)["sync_ahead"], sync_ahead or 0, token(book))
+        here.put(BOOK_OF_USER, hotp(3, 3, sync_ahead))
+        here.verifies(text, 1, printed)
+        here.token_has(sync_ahead=sync_ahead or 0)
 
 
 def a_far_pair(folder):
     """Two codes in a row beyond the window of one code move the token on, and count no failure."""
-    book = os.path.join(folder, "book")
-    write(book, BOOK_OF_USER, hotp(3, 3, 8))
-    verify(book, "5", FAR_PAIR, 0, "PASS 5 9\n")
-    equal((token(book)["next"], token(book)["failures"]), (10, 0), token(book))
+    here = BookFolder(folder, BOOK_OF_USER, hotp(3, 3, 8))
+    here.verifies(FAR_PAIR, 0, "PASS 5 9\n")
+    here.token_has(next=10, failures=0)
 
 
 def texts_that_are_no_pair(folder):
     """Lines that only look like `SYNC text text` are codes that fail."""
-    book = os.path.join(folder, "book")
-    write(book, BOOK_OF_USER, hotp(3, 100, 8))
+    here = BookFolder(folder, BOOK_OF_USER, hotp(3, 100, 8))
     for line in ["SYNC 755224", "SYNC 755224  287082", "SYNC  755224 287082", "SYNC 755224 287082 ", " SYNC 755224 287082",
                  "sync 755224 287082", "SYNC 755224 287082\r", "SYNC 755224 287082 359152", "SYNC\t755224 287082",
                  "C SYNC 755224 287082", "CODE 755224"]:
-        verify(book, "5", line, 1, "FAIL 5\n")
-    verify(book, "5", "SYNC 755224 287082", 0, "PASS 5 1\n")
+        here.verifies(line, 1, "FAIL 5\n")
+    here.verifies("SYNC 755224 287082", 0, "PASS 5 1\n")
 
 
 def two_steps_in_a_row(folder):
     """A TOTP token accepts no two codes in a row: a line `SYNC text text` fails, and counts as a failure."""
-    book = os.path.join(folder, "book")
-    write(book, BOOK_OF_USER, TOTP)
-    verify(book, "59", "SYNC 94287082 37359152\n94287082\n", 1, "FAIL 59\nPASS 59 1\n")
-    verify(book, "59", "SYNC 37359152 37359152\n" * 4, 1, "FAIL 59\n" * 3 + "LOCKED 59\n")
+    here = BookFolder(folder, BOOK_OF_USER, TOTP)
+    here.verifies("SYNC 94287082 37359152\n94287082\n", 1, "FAIL 59\nPASS 59 1\n", moment="59")
+    here.verifies("SYNC 37359152 37359152\n" * 4, 1, "FAIL 59\n" * 3 + "LOCKED 59\n", moment="59")
 
 
 def totp_codes(folder):
     """Codes of RFC 6238, appendix B: that of the next step passes too, and no code passes again, or after one of a later step."""
-    book, moment = os.path.join(folder, "book"), "1111111109"
-    write(book, BOOK_OF_USER, TOTP)
-    verify(book, moment, "14050471\n07081804\n", 1, f"PASS {moment} 37037037\nFAIL {moment}\n")
-    write(book, BOOK_OF_USER, TOTP)
+    here, moment = BookFolder(folder, BOOK_OF_USER, TOTP), "1111111109"
+    here.verifies("14050471\n07081804\n", 1, f"PASS {moment} 37037037\nFAIL {moment}\n", moment=moment)
+    here.put(BOOK_OF_USER, TOTP)
     text = "07081804\n07081804\n14050471\n07081804\n14050471\n14050471x\n"
     printed = "PASS {0} 37037036\nFAIL {0}\nPASS {0} 37037037\nFAIL {0}\nFAIL {0}\nFAIL {0}\n"
-    verify(book, moment, text, 1, printed.format(moment))
-    kept = token(book)
-    equal((kept["last"], kept["drift"], kept["failures"]), (37037037, 1, 3), kept)
-    verify(book, moment, "14050471", 1, f"LOCKED {moment}\n")
-    write(book, BOOK_OF_USER, TOTP)
-    verify(book, "59", "94287082", 0, "PASS 59 1\n")
-    verify(book, "59", "94287082", 1, "FAIL 59\n")
+    here.verifies(text, 1, printed.format(moment), moment=moment)
+    here.token_has(last=37037037, drift=1, failures=3)
+    here.verifies("14050471", 1, f"LOCKED {moment}\n", moment=moment)
+    here.put(BOOK_OF_USER, TOTP)
+    here.verifies("94287082", 0, "PASS 59 1\n", moment="59")
+    here.verifies("94287082", 1, "FAIL 59\n", moment="59")
 
 
 def totp_codes_of_each_hash(folder):
     """Codes of RFC 6238, appendix B, at tokens with each hash function: each passes once, and none at a token with another one."""
-    book, moment = os.path.join(folder, "book"), "1111111109"
+    here, moment = BookFolder(folder), "1111111109"
     codes_of = {"sha1": "07081804", "sha256": "68084774", "sha512": "25091201"}
     for function, passes in codes_of.items():
-        write(book, BOOK_OF_USER, totp(5, function))
+        here.put(BOOK_OF_USER, totp(5, function))
         others = [other for other in codes_of.values() if other != passes]
-        text = "\n".join([*others, passes, passes])
-        verify(book, moment, text, 1, "FAIL {0}\nFAIL {0}\nPASS {0} 37037036\nFAIL {0}\n".format(moment))
-        kept = token(book)
-        equal((kept["hash"], kept["last"], kept["failures"]), (function, 37037036, 1), kept)
+        printed = "FAIL {0}\nFAIL {0}\nPASS {0} 37037036\nFAIL {0}\n".format(moment)
+        here.verifies("\n".join([*others, passes, passes]), 1, printed, moment=moment)
+        here.token_has(hash=function, last=37037036, failures=1)
 
 
 def locked_tokens(folder):
     """A locked token accepts no code until it is unlocked, and never again a code that has passed."""
-    book = os.path.join(folder, "book")
-    write(book, BOOK_OF_USER, hotp(0, 2))
-    verify(book, "3", "000000\n111111\n755224\n", 1, "FAIL 3\nFAIL 3\nLOCKED 3\n")
-    check(words_on(book, "unlock"), "", 0, "unlocked user\n")
-    verify(book, "3", "755224", 0, "PASS 3 0\n")
-    write(book, BOOK_OF_USER, hotp(3, 3))
-    verify(book, "5", "755224\n000000\n000000\n000000\n", 1, "PASS 5 0\nFAIL 5\nFAIL 5\nFAIL 5\n")
-    verify(book, "5", "287082", 1, "LOCKED 5\n")
-    check(words_on(book, "unlock"), "", 0, "unlocked user\n")
-    verify(book, "5", "755224", 1, "FAIL 5\n")
+    here = BookFolder(folder, BOOK_OF_USER, hotp(0, 2))
+    here.verifies("000000\n111111\n755224\n", 1, "FAIL 5\nFAIL 5\nLOCKED 5\n")
+    check(words_on(here.book, "unlock"), "", 0, "unlocked user\n")
+    here.verifies("755224", 0, "PASS 5 0\n")
+    here.put(BOOK_OF_USER, hotp(3, 3))
+    here.verifies("755224\n000000\n000000\n000000\n", 1, "PASS 5 0\nFAIL 5\nFAIL 5\nFAIL 5\n")
+    here.verifies("287082", 1, "LOCKED 5\n")
+    check(words_on(here.book, "unlock"), "", 0, "unlocked user\n")
+    here.verifies("755224", 1, "FAIL 5\n")
 
 
 def enrolling(folder):
     """A new book, its account's keys for both mechanisms, and a name that is taken."""
-    book, file = os.path.join(folder, "book"), os.path.join(folder, "random")
-    with open(file, "wb") as out:
-        out.write(bytes(range(64)))
-    words = words_on(book, "enrol", "user", "--random", file)
+    book, file = Path(folder, "book"), Path(folder, "random")
+    file.write_bytes(bytes(range(64)))
+    words = words_on(book, "enrol", "--random", file)
     check(words, "pencil\n", 0, "enrolled user\n")
     made = read_book(book)
-    equal((made["decoy_key"], made["decoy_count"]), (bytes(range(32)).hex(), 4096), made)
+    equal((made["decoy_key"], made["decoy_count"]), (bytes(range(32)).hex(), 4096), "the decoy key and the count of decoys", made)
     for mechanism, table, at in [("SCRAM-SHA-1", "sha1", 32), ("SCRAM-SHA-256", "sha256", 48)]:
         salt, found = bytes(range(at, at + 16)), made["accounts"]["user"][table]
-        equal((found["salt"], found["count"]), (salt.hex(), 4096), made)
+        equal((found["salt"], found["count"]), (salt.hex(), 4096), f"the salt and the count of {table}", made)
         lines = f"stored={found['stored']}\nserver={found['server']}\n"
-        equal(lines, key_lines(mechanism, b"pencil", salt, 4096), made)
+        equal(lines, key_lines(mechanism, b"pencil", salt, 4096), f"the keys of {table}", made)
     check(words, "pencil\n", 1, fault="name is taken")
-    check(words_on(book, "verify", "user", "--moment", "5"), "755224\n", 1, fault="no token")
-    equal(sorted(os.listdir(folder)), ["book", "random"])
+    check(words_on(book, "verify", "--moment", "5"), "755224\n", 1, fault="no token")
+    equal(sorted(os.listdir(folder)), ["book", "random"], "the files in the folder")
 
 
 def words_that_are_no_text(folder):
     """A word that is not UTF-8 is refused before any word is looked at."""
-    equal(ran([PROGRAM, "keys", "--salt", b"\xff"]), (2, "", "error: the arguments are not UTF-8 text\n"))
+    equal(ran([PROGRAM, "keys", "--salt", b"\xff"]), (2, "", "error: the arguments are not UTF-8 text\n"), "words that are not UTF-8")
 
 
 def unprinted_help(folder):
     """Help that can't be printed is a fault of the output."""
     with open("/dev/full", "wb") as full:
-        run = subprocess.run([PROGRAM, "--help"], stdout=full, stderr=subprocess.PIPE, text=True, timeout=LIMIT)
-    equal((run.returncode, run.stderr), (3, fault_text("cannot write output")))
+        equal(ran([PROGRAM, "--help"], stdout=full), (3, "", fault_text("cannot write output")), "help on a full device")
 
 
 TESTS = [

@@ -1,17 +1,19 @@
 #!/usr/bin/env python3
 """Checks that what the documents name exists: links and their sections, paths, and the names in the sources that they cite; that no
-test is left out; and that sizes are not stale.
+test is left out; that code which they show is in the sources; and that sizes are not stale.
 
 Usage: documents.py
 
 Each link between pages leads to a page and a section in it. Each path between backquotes is in the repository, and each source file that
-is named is in a crate. Each name that a page of promises has between backquotes is in the sources. Each name without a space in a page
-for maintainers, in docs/REFUSALS.md or in docs/TESTING.md is in the sources or in a script. A name that a page gives together with a
-file, as in `name` of `file.rt` or `file.rt` (`name`, `other`), is in that file. So is each law of docs/LOG_PROMISES.md in one of the
-files that are named before its table. run.py runs each script in this folder that takes a program, and docs/TESTING.md names each
-script. A script that runs a list of tests uses all of its functions. The sizes in docs/PROMISES.md and README.md are about those of the
-sources, and docs/TESTING.md says how many rows the tables of vectors and of faulty books have. The kit that the Makefile names is that in
-docs/PROMISES.md and README.md. Each fault has a line, and the status is then 1.
+is named is in a crate. Each block of code, definitions, proofs or an edit that a page shows stands in one as it is. Each name that a page
+of promises has between backquotes is in the sources. Each name without a space in a page for maintainers, in docs/REFUSALS.md or in
+docs/TESTING.md is in the sources or in a script. A name that a page gives together with a file, as in `name` of `file.rt` or `file.rt`
+(`name`, `other`), is in that file. So is each law of docs/LOG_PROMISES.md in one of the files that are named before its table. run.py runs
+each script in this folder that takes a program, and docs/TESTING.md names each script. A script that runs a list of tests uses all of its
+functions. The sizes in docs/PROMISES.md and README.md are about those of the sources, and docs/TESTING.md says how many rows the tables of
+vectors and of faulty books have. The kit that the Makefile names is that in docs/PROMISES.md and README.md. docs/MUTATIONS.md says how many
+edits each crate has. tests/data/planted.csv has a row for each edit that a test has to refuse. Each fault has a line, and the status is
+then 1.
 """
 import ast
 import csv
@@ -20,11 +22,11 @@ import sys
 from pathlib import Path
 
 import run
-from edit_sources import Unusable, read_edit
+from edit_sources import Unusable, planted_edits, read_planted
 
 TOP = Path(__file__).resolve().parent.parent
 PAGES = [TOP / "README.md", TOP / "CONTRIBUTING.md", TOP / "CHANGELOG.md", *sorted(TOP.glob("docs/*.md")), TOP / "bench" / "README.md"]
-PROMISES = ["PROMISES.md", "LOG_PROMISES.md", "CONTRACTS.md"]
+PROMISES = ["PROMISES.md", "LOG_PROMISES.md", "COMMAND_PROMISES.md", "CONTRACTS.md"]
 MAINTAINERS = ["ARCHITECTURE.md", "DECISIONS.md", "MUTATIONS.md", "PROVING.md", "REFUSALS.md", "TESTING.md", "TIMES.md"]
 
 # The kit with which everything was proved: its name, and the checksum of its logic.
@@ -81,10 +83,22 @@ def missing_paths(page):
                 yield f"{page.name}:{number}: {path}"
 
 
-def sources():
-    """The text of each file of all crates, by its path from the repository's top."""
-    files = [file for file in sorted(TOP.glob("crates/**/*")) if file.suffix in (".rt", ".antt") and "out" not in file.parts]
+def texts_of(files):
+    """The text of each of these files, by its path from the repository's top."""
     return {str(file.relative_to(TOP)): file.read_text(encoding="utf-8") for file in files}
+
+
+def sources():
+    """The text of each source file of all crates, by its path from the repository's top."""
+    return texts_of(file for file in sorted(TOP.glob("crates/**/*")) if file.suffix in (".rt", ".antt") and "out" not in file.parts)
+
+
+def missing_blocks(page, texts):
+    """The blocks of code, definitions, proofs or an edit of a page that do not stand in any source or edit as they are shown."""
+    page_text = page.read_text(encoding="utf-8")
+    for block in re.finditer(r"^```(?:rust|antt|edit)\n(.*?)^```$", page_text, re.MULTILINE | re.DOTALL):
+        if not any(block[1] in text for text in texts.values()):
+            yield f"{page.name}:{page_text.count(chr(10), 0, block.start()) + 1}"
 
 
 def words_of(text):
@@ -210,20 +224,33 @@ def pages_of_another_kit():
 
 
 def stale_bugs():
-    """The rows of planted.csv that have no edit or no test, and the edits in tested/ that have no row or do not apply."""
+    """The rows of planted.csv that have no edit or no test, and the edits in a folder tested/ that have no row or do not apply."""
     with open(TOP / "tests/data/planted.csv", newline="", encoding="utf-8") as file:
         rows = list(csv.DictReader(file))
-    edits = {(path.parent.parent.name, path.stem): path for path in TOP.glob("crates/*/tested/*.edit")}
-    yield from (f"no row for {crate}/{bug}" for crate, bug in edits.keys() - {(row["crate"], row["bug"]) for row in rows})
+    yield from (f"no row for {of}/{bug}" for of, bug in planted_edits(TOP).keys() - {(row["of"], row["bug"]) for row in rows})
     for row in rows:
-        name, by = f"{row['crate']}/{row['bug']}", row["by"]
+        name, by = f"{row['of']}/{row['bug']}", row["by"]
         try:
-            read_edit(edits[row["crate"], row["bug"]], TOP / "crates" / row["crate"], [])
-        except (KeyError, Unusable) as fault:
+            read_planted(TOP, row["of"], row["bug"])
+        except Unusable as fault:
             yield f"{name}: {fault}"
         files = [TOP / "tests" / by] if by.endswith(".py") else [*(TOP / "crates" / by / "src").rglob("*.rt")]
         if not any(re.search(rf"\b(?:def|fn) {row['test']}\(", file.read_text(encoding="utf-8")) for file in files if file.exists()):
             yield f"{name}: {by} has no test {row['test']}"
+
+
+def miscounted_edits():
+    """The rows of the table in docs/MUTATIONS.md that do not give the numbers of edits in a crate's folders, and those that are missing."""
+    places = [*TOP.glob("crates/*/*/*.edit"), *TOP.glob("tests/tested/*.edit")]
+    found = [(path.parent.parent.name, path.parent.name) for path in places]
+    due = set()
+    for of in {of for of, _ in found} | {"all"}:
+        counts = [sum(1 for it in found if of in (it[0], "all") and it[1] == folder) for folder in ("edits", "must-fail", "tested")]
+        due.add(" | ".join([f"| `{of}`" if of != "all" else "| all", *map(str, counts)]) + " |")
+    text = (TOP / "docs" / "MUTATIONS.md").read_text(encoding="utf-8")
+    told = {line for line in text.splitlines() if re.fullmatch(r"\| [`\w]+ \| \d+ \| \d+ \| \d+ \|", line)}
+    yield from (f"it should have: {line}" for line in sorted(due - told))
+    yield from (f"it should not have: {line}" for line in sorted(told - due))
 
 
 def faults():
@@ -231,7 +258,8 @@ def faults():
     texts = sources()
     paths = list(texts)
     known = words_of("\n".join(texts.values())) | NOT_OF_THE_SOURCES
-    scripts = {str(file.relative_to(TOP)): file.read_text(encoding="utf-8") for file in TOP.glob("tests/*.py")}
+    edits = texts_of(TOP.glob("crates/*/*/*.edit"))
+    scripts = texts_of(TOP.glob("tests/*.py"))
     known_to_maintainers = known | words_of_scripts() | NOT_OF_THE_REPOSITORY
     promises = [TOP / "docs" / name for name in PROMISES]
     maintainers = [TOP / "docs" / name for name in MAINTAINERS]
@@ -241,6 +269,7 @@ def faults():
     for kind, pages, find in [
         ("no such link", PAGES, broken_links),
         ("no such path", PAGES, missing_paths),
+        ("no source shows this block", PAGES, lambda page: missing_blocks(page, texts | edits)),
         ("no crate has this file", PAGES, lambda page: unknown_files(page, paths)),
         ("the file beside this name does not have it", PAGES, lambda page: misplaced_names(page, texts | scripts)),
         ("no source has this name", promises, lambda page: unknown_names(page, paths, known)),
@@ -253,12 +282,14 @@ def faults():
         ("the kit of the Makefile is missing", pages_of_another_kit()),
         ("run.py does not run this script, or docs/TESTING.md does not name it", untold_tests()),
         ("its script never uses this function", unused_functions()),
-        ("planted.csv and crates/NAME/tested/ do not fit", stale_bugs()),
+        ("planted.csv and the folders tested/ do not fit", stale_bugs()),
+        ("the table of edits in docs/MUTATIONS.md", miscounted_edits()),
     ]:
         yield from ((kind, fault) for fault in found)
 
 
 def main():
+    """Prints the faults, and returns the exit status."""
     found = list(faults())
     for kind, fault in found:
         print(f"documents.py: {kind}: {fault}", file=sys.stderr)

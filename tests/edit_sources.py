@@ -1,6 +1,7 @@
-"""For edits.py and planted.py: where the functions of a crate are in its sources, and what its edits change.
+"""For edits.py, planted.py and documents.py: where the functions of a crate are in its sources, and what edits change.
 
-An edit has the form that `rt help` describes, and changes src/ or specs/. An edit of a definition in specs/ belongs to no function.
+An edit has the form that `rt help` describes. That of a crate changes src/ or specs/, and one of a definition in specs/ belongs to no
+function. The edits in tests/tested/ change what no crate has: a tool, the Makefile, or a C file that makes calls go wrong.
 """
 import re
 from collections.abc import Iterable
@@ -9,8 +10,9 @@ from pathlib import Path
 
 # Where the edits of a crate are that edits.py tries.
 FOLDERS = ("must-fail", "edits")
-# Where in a crate an edit may make changes.
+# Where in a crate an edit may make changes; and where in the repository one in tests/tested/ may.
 EDITED = ("src/", "specs/")
+EDITED_BY_TESTS = ("tools/", "Makefile", "tests/refuse_", "tests/turn_clock.c")
 
 FUNCTION = re.compile(r"( *)(?:pub(?:\([a-z ]+\))? )?(?:(?:const|unsafe) )*fn (\w+)")
 IMPL = re.compile(r"impl(?:<.*?>)? (?:(?:\w+::)*(\w+)(?:<(.*?)>)? for )?(?:\w+::)*(\w+)")
@@ -99,15 +101,16 @@ def last_line(lines: list[str], at: int, indent: str) -> int:
     return len(lines)
 
 
-def read_edit(path: Path, crate: Path, functions: list[Function]) -> Edit:
-    """Reads an edit and applies it to the crate's sources, or raises Unusable."""
+def read_edit(path: Path, crate: Path, functions: list[Function], edited: tuple[str, ...] = EDITED) -> Edit:
+    """Reads an edit and applies it to the files in a crate, or in another folder, which it may change where `edited` says; or raises
+    Unusable."""
     file, old, whole = "", "", path.read_text(encoding="utf-8")
     texts: dict[str, str] = {}
     places: set[tuple[str, int]] = set()
     for line in whole.split("\n"):
         if line.startswith("file: "):
             file = line.removeprefix("file: ").strip()
-            if not file.startswith(EDITED) or not (crate / file).is_file():
+            if not file.startswith(edited) or not (crate / file).is_file():
                 raise Unusable(f"there is no source {file}")
             texts.setdefault(file, (crate / file).read_text(encoding="utf-8"))
         elif line.startswith("old: "):
@@ -136,6 +139,25 @@ def between(places: set[tuple[str, int]]) -> Iterable[tuple[str, int]]:
     for file in {file for file, _ in places}:
         lines = [at for it, at in places if it == file]
         yield from ((file, at) for at in range(min(lines), max(lines) + 1))
+
+
+def root_of(of: str) -> str:
+    """Returns the folder, from the repository's top, in which the edits of a crate's tested/ change files, or those of tests/tested/."""
+    return "." if of == "tests" else f"crates/{of}"
+
+
+def planted_edits(top: Path) -> dict[tuple[str, str], Path]:
+    """Returns the files of all edits in a folder tested/, by their crate, or by `tests`, and their name."""
+    found = [*top.glob("crates/*/tested/*.edit"), *top.glob("tests/tested/*.edit")]
+    return {(path.parent.parent.name, path.stem): path for path in sorted(found)}
+
+
+def read_planted(top: Path, of: str, bug: str) -> Edit:
+    """Reads an edit in a folder tested/, as `read_edit` does."""
+    path = planted_edits(top).get((of, bug))
+    if path is None:
+        raise Unusable("there is no such edit")
+    return read_edit(path, top / root_of(of), [], EDITED_BY_TESTS if of == "tests" else EDITED)
 
 
 def edits_of(crate: Path) -> list[Path]:

@@ -1,11 +1,12 @@
 """What several scripts compare with or start from, computed in Python and not by the program: codes, keys, salts of decoys, the texts
 of the tables' rows, sessions, logs with numbers, and orders of turns. Also the paths of the recorded logs, books and vectors."""
+import csv
 import hashlib
 import hmac
 import itertools
 import pathlib
 
-from checks import equal
+from checks import equal, holds
 
 DATA = pathlib.Path(__file__).resolve().parent / "data"
 # Logs that were put together by hand from the examples of RFC 5802 and RFC 7677 and codes of RFC 4226, the books by which they are
@@ -64,13 +65,21 @@ def decoy_salt(name):
 def orders_of_turns():
     """All orders of three turns of each of three sessions."""
     orders = sorted(set(itertools.permutations([0, 0, 0, 1, 1, 1, 2, 2, 2])))
-    equal(len(orders), 1680)
+    equal(len(orders), 1680, "the number of orders")
     return orders
 
 
 def spelled(text):
     """The bytes that the text in a table's cell stands for."""
     return text.encode("latin-1").decode("unicode_escape").encode("latin-1")
+
+
+def rows_of(table):
+    """The rows of a table, a CSV file, of which there is at least one."""
+    with open(table, newline="", encoding="utf-8") as file:
+        rows = [*csv.DictReader(file)]
+    holds(rows, f"{table} has no rows")
+    return rows
 
 
 def edited(text, row):

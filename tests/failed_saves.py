@@ -79,7 +79,7 @@ class Saves:
     def __init__(self, folder):
         self.folder = os.path.join(folder, "files")
         os.mkdir(self.folder)
-        self.shim = shims.built("refuse_io", folder)
+        self.shim = shims.built("refuse_io")
         self.book = pathlib.Path(self.folder, "book")
         self.count = 0
 
@@ -102,18 +102,19 @@ def twice(here, command, lines, number, way):
     opening, done = here.book.read_text(), number - first_save - 1
     turns = [*exchanged(0, lines)]
     log = printed(command.name, lines, [reply for reply, _, _ in turns[:done]], True)
-    equal(here.fails(sent(command, lines), number, way), here.unsaved(log), command.name, lines, number, way)
+    what = f"{command.name}, save {number} fails by {way}"
+    equal(here.fails(sent(command, lines), number, way), here.unsaved(log), what, lines)
     kept = done + way[-1]
     after = turns[kept - 1][2] if kept else 0
     saved = here.book.read_text()
-    equal(token(here.book)["next"], after, command.name, number, way, saved)
-    equal(left(here.folder), set(), command.name, number, way, saved)
+    equal(token(here.book)["next"], after, what, "the next counter", saved)
+    equal(left(here.folder), set(), what, "the files that are left", saved)
     again = [*exchanged(after, lines)]
     more = printed(command.name, lines, [reply for reply, _, _ in again], False)
     status = 0 if command.name == "hall" or all(used for _, used, _ in again) else 1
-    equal(run(sent(command, lines), here.folder), (status, more, ""), command.name, lines, number, way)
+    equal(run(sent(command, lines), here.folder), (status, more, ""), what, "the run after it", lines)
     spent = [counter for _, used, _ in [*turns[:done], *again] for counter in used]
-    equal(len(spent), len(set(spent)), spent)
+    equal(len(spent), len(set(spent)), what, "how many counters differ of those that passed", spent)
     if first_save:
         audited(here.folder, opening, log)
         audited(here.folder, saved, more)
@@ -129,7 +130,7 @@ def codes_of_two_runs(folder):
                 for number in range(first, first + 3):
                     for way in Saves.WAYS:
                         twice(here, command, lines, number, way)
-    equal(here.count, 3 * 3 * 3 * 4)
+    equal(here.count, 3 * 3 * 3 * 4, "how many saves fail")
     print(f"failed_saves.py: {here.count} saves of a code fail, and no counter passes twice")
 
 
@@ -141,15 +142,15 @@ def first_saves(folder):
             for way in Saves.WAYS:
                 prepare(here.folder, command)
                 equal(here.fails(command, 1, way), here.unsaved(""), command.name, way)
-                equal(book_of(here.folder), command.books[way[-1]], command.name, way)
-                equal(left(here.folder), set(), command.name, way)
+                equal(book_of(here.folder), command.books[way[-1]], command.name, way, "the book")
+                equal(left(here.folder), set(), command.name, way, "the files that are left")
                 holds(way[-1] or here.book.read_text() == BOOK, "the old text is not kept", way, here.book.read_text())
     command = new_book()
     for call, how, is_made in [("link", "refused", False), ("fsync", "refused", False), ("link", "late", True)]:
         prepare(here.folder, command)
         equal(here.fails(command, 1, (call, how, 1, 0, is_made)), here.unsaved(""), call)
-        equal(book_of(here.folder), command.books[is_made], call)
-        equal(left(here.folder), set(), call)
+        equal(book_of(here.folder), command.books[is_made], call, "the book")
+        equal(left(here.folder), set(), call, "the files that are left")
     print(f"failed_saves.py: {here.count} first saves fail")
 
 

@@ -11,14 +11,14 @@ import functools
 import gzip
 import math
 import re
-import subprocess
 from pathlib import Path
 
 import audit_cases
+import runs
 import suite
 from checks import equal, holds
 from expected import AUDITS
-from suite import LIMIT, PROGRAM, blocks_of, document, program_on_path
+from suite import PROGRAM, blocks_of, document, program_on_path
 
 DOCUMENT = document("docs/FORMATS.md")
 LOGIN, TWO_SESSIONS = "clean sessions=1 accepted=1 codes=0", "clean sessions=2 accepted=0 codes=0"
@@ -75,8 +75,8 @@ def with_files(folder, **logs):
 
 def ran(folder, commands, environment):
     """The status, the output lines and the faults of commands run in a folder."""
-    done = subprocess.run(["sh", "-c", commands], cwd=folder, env=environment, capture_output=True, text=True, timeout=LIMIT)
-    return done.returncode, sorted(done.stdout.splitlines()), done.stderr
+    status, output, faults = runs.ran(["sh", "-c", commands], cwd=folder, env=environment)
+    return status, sorted(output.splitlines()), faults
 
 
 def the_book(folder):
@@ -168,12 +168,12 @@ def the_grammar(folder):
         if at_fault and at_fault[2] == "not a line":
             equal(no_line(log), number, shows)
         else:
-            holds(no_line(log) > (number or log.count(b"\n")), shows)
+            holds(no_line(log) > (number or log.count(b"\n")), "the grammar lacks a line of the log", shows)
 
 
 def every_block(folder):
     """No block of the document is left out."""
-    equal([text for *_, text in blocks_of(DOCUMENT)], [BOOK, LOG, NUMBERED, GRAMMAR, COMMANDS])
+    equal([text for *_, text in blocks_of(DOCUMENT)], [BOOK, LOG, NUMBERED, GRAMMAR, COMMANDS], "the blocks of the page")
 
 
 suite.run_all([the_book, the_logs, many_logs, the_grammar, every_block])

@@ -1,43 +1,50 @@
 #!/usr/bin/env python3
 """Gives the built program random input: words of `code` and `keys`; and books, logs and events of a hall, a few edits from good ones.
 
-Usage: fuzz.py PROGRAM [SEED [COUNT]]
+Usage: fuzz.py PROGRAM [TEST ..]
 
-Every run has to end within 2 seconds of processor time, not by a signal, with a documented status and a documented fault. If a
+Every run has to end within 2 seconds of processor time, not by a signal, with status 0, 1 or 2 and a documented fault. If a
 command accepts its input, Python checks what follows: the code (RFC 4226, RFC 6238) and the keys (RFC 5802); the text of the book, with
 tomllib, and that a second save leaves it as it is; that a log's lines before the one at fault begin a clean log, and that an upgraded
 log has the same answer; and that the log of a hall's events is clean. An input with any other result, or that the program accepts and
-Python does not, is kept as a file fuzz-KIND-SEED-NUMBER in the folder in which the script was started, and ends the script. Some inputs
+Python does not, is kept as a file fuzz-KIND-SEED-NUMBER in the folder in which the script was started, and ends its test. Some inputs
 of each kind have to be accepted, so that not only refusals are tested.
 
-COUNT, by default 300, is how many inputs of each kind are tried. Each is made from SEED, by default 1, and its own number.
+COUNT in the environment, by default 300, is how many inputs of each kind are tried. Each is made from SEED, by default 1, and its own
+number.
 """
 import collections
+import os
 import pathlib
 import random
 import re
 import subprocess
-import sys
 import tempfile
 import tomllib
 
+# Before `suite` takes another seed: each run of this script tries the same input, unless it is given a seed.
+SEED = int(os.environ.setdefault("SEED", "1"))
+
+import suite
 from checks import equal, fail, holds
 from expected import AUDITS, AUTH, BOOK_FAULTS, MECHS, RESP, code, keys_of, numbered
-from suite import LIMIT, PROGRAM, processor_time
+from runs import LIMIT, processor_time
+from suite import PROGRAM
+
+COUNT = int(os.environ.get("COUNT") or 300)
 
 BOOKS = sorted(BOOK_FAULTS.glob("*.toml"))
 # The most processor time of a run, whatever else the machine does.
 SECONDS = 2
 
 # What an audit or an upgrade says of a log.
-OF_A_LOG = rb"line \d+: [ -~]+\n|too many lines\n|read fault\n"
+OF_A_LOG = rb"line \d+: [ -~]+\n|too many lines\n"
 
 # What a command may say on standard error, by its status.
 FAULTS = {
     0: rb"",
     1: rb"scramotp: (name is taken|no such account|no token|before the first step|bad book: 6[0-7]|bad event)\n",
     2: rb"scramotp: (bad value for --[a-z0-9-]+|bad password|needs --counter or --moment)\n|error: [ -~\n]*",
-    3: rb"scramotp: (cannot (read|write) [ -~]+|socket fault|no memory)\n",
 }
 NUMBERS = [
     *[b"0", b"1", b"-1", b"01", b"+1", b"9", b"64", b"101", b"4096", b"65535", b"1e3", b"0x1f"],
@@ -61,11 +68,12 @@ def run(words, data=b""):
     holds(processor_time() - before <= SECONDS, words, "too long")
     # `audit` answers with a log's line at fault on standard output; `upgrade` has no answer, and reports the line as a fault.
     told, other = (done.stdout, done.stderr) if words[0] == "audit" else (done.stderr, done.stdout)
-    is_of_log = words[0] in ("audit", "upgrade") and done.returncode in (1, 3) and re.fullmatch(OF_A_LOG, told)
+    is_of_log = words[0] in ("audit", "upgrade") and done.returncode == 1 and re.fullmatch(OF_A_LOG, told)
     if is_of_log:
-        holds(other == b"", words, done)
+        holds(other == b"", "it says more than what is wrong with the log", words, done)
         return done.returncode, told
-    holds(done.returncode in FAULTS and re.fullmatch(FAULTS[done.returncode], done.stderr), words, done)
+    is_documented = done.returncode in FAULTS and re.fullmatch(FAULTS[done.returncode], done.stderr)
+    holds(is_documented, "the status and the faults are not documented", words, done)
     return done.returncode, done.stdout
 
 
@@ -105,17 +113,18 @@ def a_book(folder, chosen):
     words = ["unlock", "--book", book, "--name", "user"]
     status, _ = run(words)
     if status != 0:
-        holds(book.read_bytes() == text, "a refused book has changed")
+        equal(book.read_bytes(), text, "the refused book")
         return
     wanted = tomllib.loads(text.decode())
     wanted["accounts"]["user"]["token"]["failures"] = 0
     first = book.read_bytes()
-    holds(plain(tomllib.loads(first.decode())) == plain(wanted), first)
-    holds(run(words)[0] == 0 and book.read_bytes() == first, "a second save differs", first)
+    equal(plain(tomllib.loads(first.decode())), plain(wanted), "what the saved book states")
+    equal(run(words)[0], 0, "a second save")
+    equal(book.read_bytes(), first, "the book after a second save")
     log = folder / "log"
     log.write_bytes(b"SCRAMLOG 2\n")
     answer = run(["audit", "--book", book, "--log", log])
-    holds(answer == (0, b"clean sessions=0 accepted=0 codes=0\n"), answer)
+    holds(answer == (0, b"clean sessions=0 accepted=0 codes=0\n"), "the audit of a log without sessions is not clean", answer)
     yield "a book that is read"
 
 
@@ -156,15 +165,15 @@ def a_log(folder, chosen):
     upgraded, other = run(["upgrade", "--log", log])
     if upgraded == 0 and b"\nSCRAMLOG" not in text:
         log.write_bytes(other)
-        holds(run(words) == (status, answer), "the upgraded log", answer)
+        equal(run(words), (status, answer), "the answer for the upgraded log")
         yield "an upgraded log"
     if status == 0:
-        holds(re.fullmatch(rb"clean sessions=\d+ accepted=\d+ codes=\d+\n", answer), answer)
+        holds(re.fullmatch(rb"clean sessions=\d+ accepted=\d+ codes=\d+\n", answer), "the counts of a clean log", answer)
         yield "a clean log"
         return
     line = int(re.match(rb"line (\d+): ", answer)[1])
     before = b"".join(lines_of(text)[: line - 1])
-    holds(line <= text.count(b"\n") + 1, answer)
+    holds(line <= text.count(b"\n") + 1, "the line at fault is after the log's end", answer)
     log.write_bytes(before)
     front = run(words)
     cut_there = (1, b"line %d: cut\n" % line)
@@ -177,8 +186,28 @@ def lines_of(text):
     return [line + b"\n" for line in text.split(b"\n")[:-1]]
 
 
+# The least and the greatest number of each option of `code` that takes one.
+RANGES = {"--digits": (6, 8), "--counter": (0, 2**63 - 2), "--moment": (0, 253402300799), "--t0": (0, 253402300799), "--step": (1, 3600)}
+
+
+def is_in_range(name, text):
+    """Whether a text is a number that this option of `code` takes."""
+    least, most = RANGES[name]
+    return re.fullmatch("0|[1-9][0-9]*", text) is not None and least <= int(text) <= most
+
+
+def status_of_code(given):
+    """The status with which `code` has to end for these options: 2 if a value is bad or one is missing, and 1 before the first step."""
+    is_secret = re.fullmatch("(?:[0-9A-Fa-f]{2}){10,64}", given.get("--secret", "")) is not None
+    is_hash = given.get("--hash", "sha1") in ("sha1", "sha256", "sha512")
+    are_numbers = all(is_in_range(name, text) for name, text in given.items() if name in RANGES)
+    if not (is_secret and is_hash and are_numbers and ("--counter" in given or "--moment" in given)):
+        return 2
+    return 0 if "--counter" in given or int(given["--moment"]) >= int(given.get("--t0", 0)) else 1
+
+
 def words_of_code(_, chosen):
-    """The words of `code`: if it prints a code, Python's hmac gives the same one."""
+    """The words of `code`: it prints a code if all of them are right, and Python's hmac gives the same one."""
     odd = [it.decode() for it in NUMBERS]
     some = {
         "--secret": chosen.choice(["31" * 20, "00" * 10, "3132333435363738393031323334353637383930", "AB" * 64, "zz", "", "AB" * 65]),
@@ -193,8 +222,9 @@ def words_of_code(_, chosen):
     words = ["code", *[f"{name}={value}" for name, value in given.items()]]
     yield repr(words).encode()
     status, printed = run(words)
+    equal(status, status_of_code(given), "the status", printed)
     if status != 0:
-        holds(printed == b"", printed)
+        equal(printed, b"", "the output")
         return
     secret, digits = bytes.fromhex(given["--secret"]), int(given.get("--digits", 6))
     if "--counter" in given:
@@ -202,7 +232,7 @@ def words_of_code(_, chosen):
     else:
         since = int(given["--moment"]) - int(given.get("--t0", 0))
         wanted = code(secret, since // int(given.get("--step", 30)), digits, given.get("--hash", "sha1"))
-    holds(printed == f"{wanted}\n".encode(), printed, wanted)
+    equal(printed, f"{wanted}\n".encode(), "the code")
     yield "a code of a counter" if "--counter" in given else "a code of a moment"
 
 
@@ -218,12 +248,12 @@ def words_of_keys(_, chosen):
     status, printed = run(words, password + chosen.choice([b"", b"\n", b"\nmore"]))
     is_password = 1 <= len(password) <= 1024 and all(32 <= byte <= 126 for byte in password)
     right = count in ("1", "2", "4096") and 1 <= len(salt) <= 64 and is_password
-    holds(status == (0 if right else 2), status, printed)
+    equal(status, 0 if right else 2, "the status", printed)
     if not right:
-        holds(printed == b"", printed)
+        equal(printed, b"", "the output")
         return
     stored, server = keys_of(function, password, salt, int(count))
-    holds(printed.decode() == f"stored={stored}\nserver={server}\n", printed)
+    equal(printed.decode(), f"stored={stored}\nserver={server}\n", "the keys")
     yield "the keys of a password"
 
 
@@ -262,55 +292,68 @@ def a_hall(folder, chosen):
 
     status, printed, answer = heard(events)
     lines = printed.splitlines()
-    holds(answer in [(0, answer[1]), (1, b"line %d: cut\n" % (len(lines) + 1))], answer)
+    holds(answer in [(0, answer[1]), (1, b"line %d: cut\n" % (len(lines) + 1))], "the log does not begin a clean one", answer)
     begun = [line.split()[0] for line in lines if b" S MECHS " in line]
     ended = {line.split()[0] for line in lines if line.endswith(b" E")}
     # Each event has one line of its own in the log: a client's, or the first of a session.
     taken = sum(re.match(rb"\d+ (C |S MECHS|S BUSY)", line) is not None for line in lines)
-    holds((status, taken) == (0, len(events)) or status == 1 and taken < len(events), status, taken)
+    are_all = (status, taken) == (0, len(events)) or status == 1 and taken < len(events)
+    holds(are_all, "the log does not have a line for each event that was heard", status, taken, len(events))
     status, more, answer = heard(events[:taken] + [b"gone %s 9" % number for number in begun if number not in ended])
-    holds(status == 0 and more.startswith(printed) and answer[0] == 0, status, answer)
+    holds(status == 0 and more.startswith(printed) and answer[0] == 0, "the log is not clean once the sessions have ended", status, answer)
     if b" S OK " in more:
         yield "a login in a hall"
     if b" S PASS " in more:
         yield "a code in a hall"
 
 
-KINDS = [a_book, a_log, words_of_code, words_of_keys, a_hall]
-# The results that inputs of a kind must have, and at least one in how many: about half as often as with seed 1.
-ONE_IN = {
-    "a book that is read": 30,
-    "an upgraded log": 25,
-    "a clean log": 100,
-    "the lines before a fault": 2,
-    "a code of a counter": 25,
-    "a code of a moment": 40,
-    "the keys of a password": 10,
-    "a login in a hall": 2,
-    "a code in a hall": 4,
-}
-
-
-def tried(kind, seed, number):
-    """The results of an input. An input with an unexpected result, or that Python can't judge, is kept, and ends the script."""
-    chosen = random.Random(f"{kind.__name__} {seed} {number}")
+def results_of(kind, number):
+    """The results of an input of this kind. An input with an unexpected result, or that Python can't judge, is kept."""
+    chosen = random.Random(f"{kind.__name__} {SEED} {number}")
     with tempfile.TemporaryDirectory() as folder:
         steps = kind(pathlib.Path(folder), chosen)
         text = next(steps)
         try:
             return list(steps)
-        except Exception as seen:
-            kept = pathlib.Path(f"fuzz-{kind.__name__}-{seed}-{number}")
+        except Exception:
+            kept = pathlib.Path(f"fuzz-{kind.__name__}-{SEED}-{number}")
             kept.write_bytes(text)
-            sys.exit(f"fuzz.py: {kept}: {type(seen).__name__}: {seen}")
+            print(f"fuzz.py: the input is kept as {kept}", flush=True)
+            raise
 
 
-def main():
-    seed, count = (int(given or usual) for given, usual in zip([*sys.argv[2:], "", ""], ["1", "300"]))
-    seen = collections.Counter(what for kind in KINDS for number in range(count) for what in tried(kind, seed, number))
-    equal([what for what, number in ONE_IN.items() if seen[what] < count // number], [], "what too few inputs led to", dict(seen))
-    print(f"fuzz.py: {count} inputs of each of {len(KINDS)} kinds, from seed {seed}")
+def tried(kind, **one_in):
+    """Tries COUNT inputs of this kind. `one_in` names results, and says in how many inputs each has to come once at least: about half as
+    often as with seed 1."""
+    seen = collections.Counter(result for number in range(COUNT) for result in results_of(kind, number))
+    due = {name.replace("_", " "): COUNT // number for name, number in one_in.items()}
+    equal([name for name, least in due.items() if seen[name] < least], [], "what too few inputs led to", dict(seen))
+    print(f"fuzz.py: {COUNT} inputs by {kind.__name__}, from seed {SEED}")
 
 
-if __name__ == "__main__":
-    main()
+def books(_):
+    """Books that are a few edits from good or faulty ones."""
+    tried(a_book, a_book_that_is_read=30)
+
+
+def recorded_logs(_):
+    """Logs that are a few edits from recorded ones."""
+    tried(a_log, an_upgraded_log=25, a_clean_log=100, the_lines_before_a_fault=2)
+
+
+def codes(_):
+    """Words of `code`."""
+    tried(words_of_code, a_code_of_a_counter=25, a_code_of_a_moment=40)
+
+
+def keys(_):
+    """Words and passwords of `keys`."""
+    tried(words_of_keys, the_keys_of_a_password=10)
+
+
+def halls(_):
+    """Events of halls."""
+    tried(a_hall, a_login_in_a_hall=2, a_code_in_a_hall=4)
+
+
+suite.run_all([books, recorded_logs, codes, keys, halls])

@@ -11,17 +11,17 @@ import itertools
 import os
 import random
 import tempfile
-import tomllib
 
 import clients
 import suite
 from checks import equal
 from clients import Account, book, dealt, gone, logged_in, of_session, opened, said, turned_away
 from expected import AUDITS, AUTH, MECHS, RESP, orders_of_turns
-from halls import HOTP_BOOK, OWN, Hall, clean, handed, login, next_lines
-from suite import LIMIT
+from halls import HOTP_BOOK, OWN, Hall, clean, login
+from suite import read_book
 
-SHUFFLES = 1000
+# How many random orders of all turns are tried.
+SHUFFLES = int(os.environ.get("RUNS") or 1000)
 # A folder whose files are in memory, on a system that has one.
 MEMORY = "/dev/shm"
 
@@ -39,16 +39,16 @@ def two_sessions(folder):
         "gone 1 4",
     ]
     text, log = "\n".join(events), (AUDITS / "interleaved.log").read_text()
-    equal(log.count("\n"), 14)
+    equal(log.count("\n"), 14, "the lines of the recorded log")
     for end in ["\n", ""]:
         here.put(HOTP_BOOK)
         here.prints(text + end, 0, log)
-        equal((here.token()["next"], here.token()["failures"]), (1, 0))
+        here.token_has(repr(end), next=1, failures=0)
     here.audited(log, clean(2, 1, 1))
     here.put(HOTP_BOOK)
     here.prints("", 0, clients.FIRST_LINE)
     here.audited(clients.FIRST_LINE, clean(0))
-    equal(tomllib.loads(here.book.read_text())["accounts"]["user"]["sha1"], tomllib.loads(HOTP_BOOK)["accounts"]["user"]["sha1"])
+    equal(read_book(here.book)["accounts"]["user"]["sha1"], read_book(AUDITS / "hotp.toml")["accounts"]["user"]["sha1"], "the keys")
 
 
 def sixty_four(folder):
@@ -71,13 +71,10 @@ def bounds(folder):
     """The longest nonce, and the first and the last moment."""
     here = Hall(folder)
     for own in ["z" * 256, "!", "~", "open"]:
-        text, log = dealt([0, 0], [[opened(own), said("AUTH SCRAM-SHA-1", "S CONT :")]])
-        here.prints(text, 0, log)
+        here.hears(opened(own), said("AUTH SCRAM-SHA-1", "S CONT :"))
     for moment in [0, 253402300799]:
         here.put(HOTP_BOOK)
-        visit = login() + [said("CODE 000000", f"S FAIL {moment}", moment=moment), gone(moment)]
-        text, log = dealt([0] * len(visit), [visit])
-        here.prints(text, 0, log)
+        log = here.hears(*login(), said("CODE 000000", f"S FAIL {moment}", moment=moment), gone(moment))
         here.audited(log, clean(1, 1))
 
 
@@ -111,19 +108,18 @@ def codes_of_one_account(folder):
     text, log = dealt([which for _ in range(5) for which in range(len(visits))], visits)
     here.prints(text, 0, log)
     here.audited(log, clean(7, 7, 2))
-    equal((here.token()["next"], here.token()["failures"]), (3, 3), here.token())
+    here.token_has(next=3, failures=3)
 
 
 def told_at_once(folder):
     """Each line is in the log while the input is still open, and a code is spent before its reply is printed."""
     here = Hall(folder)
     running = here.start()
-    equal(next_lines(running, 1), clients.FIRST_LINE)
+    running.prints(clients.FIRST_LINE)
     for event, lines in login() + [said("CODE 755224", "S PASS 5 0"), gone()]:
-        equal(handed(running, event.replace("#", "1") + "\n", len(lines)), "".join(f"1 {line}\n" for line in lines))
-    equal(here.token()["next"], 1)
-    output, faults = running.communicate(timeout=LIMIT)
-    equal((running.returncode, output, faults), (0, "", ""))
+        running.prints("".join(f"1 {line}\n" for line in lines), event.replace("#", "1") + "\n")
+    here.token_has(next=1)
+    running.ends(0)
 
 
 def three_visits():
@@ -143,9 +139,7 @@ def all_orders(folder):
     here, text, alone = Hall(folder, book(accounts)), book(accounts), []
     for visit in visits:
         here.put(text)
-        events, log = dealt([0] * len(visit), [visit])
-        here.prints(events, 0, log)
-        alone.append(of_session(log, 1))
+        alone.append(of_session(here.hears(*visit), 1))
     for order, begun in zip(orders_of_turns(), itertools.cycle(itertools.permutations([0, 1, 2]))):
         here.put(text)
         events, log = dealt(begun + order + (0, 2), visits)

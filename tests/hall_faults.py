@@ -3,17 +3,16 @@
 
 Usage: hall_faults.py PROGRAM [TEST ..]
 """
-import os
 import resource
-import subprocess
 import time
 
 import clients
 import suite
 from checks import equal, holds
 from clients import Account, book, dealt, gone, logged_in, opened, said
-from halls import HOTP_BOOK, Hall, clean, handed, login, next_lines
-from suite import LIMIT, MOST_BYTES, sleeps, until
+from halls import HOTP_BOOK, Hall, clean, login
+from runs import whole
+from suite import MOST_BYTES, verify_words
 
 # Input lines that state no event when sessions 2 and 3 are open, session 1 has ended and no other has begun.
 NO_EVENTS = [
@@ -47,19 +46,19 @@ def bad_events(folder):
         for end in [b"\nopen cc\ngone 2 5\n", b"\n"] + [b""] * (line != b""):
             here.put(HOTP_BOOK)
             here.prints(text.encode() + line + end, 1, log, "bad event")
-            equal(here.token()["next"], 1, line)
+            here.token_has(line, next=1)
     here.audited(log, f"line {log.count(chr(10)) + 1}: cut")
     here.prints(b"\n", 1, clients.FIRST_LINE, "bad event")
 
 
 def full_device(running, _):
     """Keeps a run from writing another byte to a file. Pipes are not files."""
-    resource.prlimit(running.pid, resource.RLIMIT_FSIZE, (0, 0))
+    resource.prlimit(running.process.pid, resource.RLIMIT_FSIZE, (0, 0))
 
 
-def taken_name(_, path):
+def taken_name(_, here):
     """Makes a folder at the path where the book's next text is written."""
-    os.mkdir(path)
+    here.next_text.mkdir()
 
 
 def failed_saves(folder):
@@ -71,23 +70,21 @@ def failed_saves(folder):
     for block in [taken_name, full_device]:
         here.put(book([anne, bob]))
         running = here.start(restore_signals=False)
-        equal(next_lines(running, 1) + handed(running, text, log.count("\n") - 1), log)
-        kept = here.book.read_bytes()
-        block(running, f"{here.book}.new")
+        running.prints(log, text)
+        kept, halted = here.book.read_bytes(), f"2 C CODE {bob.code(0)}\n2 S HALT\n"
+        block(running, here)
         lines = f"line 2 5 CODE {bob.code(0)}\nline 1 5 CODE {anne.code(0)}\ngone 3 5\nno event\n"
-        output, faults = running.communicate(lines, timeout=LIMIT)
-        equal((running.returncode, output), (3, f"2 C CODE {bob.code(0)}\n2 S HALT\n"))
-        equal(faults, f"scramotp: cannot write {here.book}\n")
-        equal(here.book.read_bytes(), kept)
-        here.audited(log + output, clean(3, 2))
+        running.ends(3, halted, f"scramotp: cannot write {here.book}\n", lines)
+        equal(here.book.read_bytes(), kept, "the book after", block.__name__)
+        here.audited(log + halted, clean(3, 2))
         if block == taken_name:
-            os.rmdir(f"{here.book}.new")
+            here.next_text.rmdir()
 
 
 def first_saves(folder):
     """The book is saved before the first line. If that fails, nothing is printed, and no input is judged."""
     here = Hall(folder)
-    os.mkdir(f"{here.book}.new")
+    here.next_text.mkdir()
     for text in ["", "no event\n", let_in()[0]]:
         here.refuses(text, 3, f"cannot write {here.book}")
 
@@ -110,32 +107,24 @@ def held_books(folder):
     here = Hall(folder)
     text, log = let_in()
     running = here.start()
-    equal(next_lines(running, 1) + handed(running, text, log.count("\n") - 1), log)
-    words = [here.words[0], "verify", "--book", here.book, "--name", "user", "--moment", "5"]
-    waiting = subprocess.Popen(words, stdin=subprocess.PIPE, stdout=subprocess.PIPE, text=True)
-    waiting.stdin.write("755224\n")
-    waiting.stdin.close()
-    until(lambda: sleeps(waiting.pid))
+    running.prints(log, text)
+    waiting = whole(verify_words(here.book), "755224\n")
+    waiting.waits()
     time.sleep(0.5)
-    equal(waiting.poll(), None)
-    output, faults = running.communicate("gone 2 5\n", timeout=LIMIT)
-    equal((running.returncode, output, faults), (0, "2 C GONE\n2 E\n", ""))
-    equal((waiting.stdout.read(), waiting.wait(LIMIT)), ("FAIL 5\n", 1))
-    waiting.stdout.close()
+    waiting.goes_on()
+    running.ends(0, "2 C GONE\n2 E\n", text="gone 2 5\n")
+    waiting.ends(1, "FAIL 5\n")
 
 
 def outputs_that_fail(folder):
     """If a line can't be printed, the hall ends: no code is judged that the log does not have."""
     here = Hall(folder)
-    text, log = let_in()
     running = here.start()
-    equal(next_lines(running, 1), clients.FIRST_LINE)
-    running.stdout.close()
-    running.stdin.write(text)
-    running.stdin.close()
-    equal((running.stderr.read(), running.wait(LIMIT)), ("scramotp: cannot write output\n", 3))
-    running.stderr.close()
-    equal(here.token()["next"], 0)
+    running.prints(clients.FIRST_LINE)
+    running.process.stdout.close()
+    running.process.stdout = None
+    running.ends(3, "", "scramotp: cannot write output\n", let_in()[0])
+    here.token_has(next=0)
 
 
 def long_inputs(folder):
@@ -144,7 +133,7 @@ def long_inputs(folder):
     text, log = let_in()
     text += "line 2 5 "
     here.prints(text + "a" * (MOST_BYTES + 1 - len(text)), 3, log, "cannot read input")
-    equal(here.token()["next"], 1)
+    here.token_has(next=1)
     here.put(HOTP_BOOK)
     here.prints(text + "a" * (MOST_BYTES - len(text)), 0, log + "2 C BAD\n2 S NO :\n2 E\n")
 

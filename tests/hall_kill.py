@@ -4,15 +4,14 @@ all their logs, the book can always be read, and each log is the beginning of a 
 
 Usage: hall_kill.py PROGRAM [TEST ..]
 """
-import os
 import random
 
 import clients
 import suite
-from checks import equal
 from clients import Account, book, logged_in
 from halls import Hall
-from kills import kill_at_any_moment, start
+from kills import kill_at_any_moment
+from runs import whole
 
 RUNS = 2000
 # How many sessions log in before the first code, and how many different codes are then sent.
@@ -37,9 +36,9 @@ def killed_at_any_moment(folder):
     account = Account("user", "SCRAM-SHA-1")
     here = Hall(folder, book([account]))
     events = clients.dealt([which for _ in range(3) for which in range(OPEN)], visits(account))[0]
-    kill_at_any_moment(here, lambda at, output: start(here.words, events + codes_from(account, at), output), RUNS, [0])
+    kill_at_any_moment(here, lambda at, output: whole(here.words, events + codes_from(account, at), stdout=output), RUNS, [0])
     here.prints("", 0, clients.FIRST_LINE)
-    equal(sorted(os.listdir(folder)), ["before", "book"])
+    here.has_only("book")
 
 
 suite.run_all([killed_at_any_moment])

@@ -1,13 +1,9 @@
 """What the scripts on `hall` share: a folder with a book, halls over it, and RFC 5802's login in a hall."""
-import os
-import select
-import subprocess
-import time
-
 import suite
 from checks import equal
-from clients import opened, said
+from clients import dealt, opened, said
 from expected import AUDITS, AUTH, CONT, OK, RESP
+from runs import Running
 from suite import PROGRAM
 
 OWN = "3rfcNHYJY1ZVvWVs7j"
@@ -32,36 +28,19 @@ class Hall(suite.BookFolder):
         self.prints(text, status, "", fault)
         equal(self.seen(), seen, f"the book and its folder after {text[:200]!r}")
 
-    def token(self, name="user"):
-        return suite.token(self.book, name)
+    def hears(self, *visit):
+        """Gives a hall these turns of one client, without another, and compares the log. Returns the log."""
+        events, log = dealt([0] * len(visit), [visit])
+        self.prints(events, 0, log)
+        return log
 
     def start(self, **more):
         """Starts a hall, which waits for input."""
-        pipe = subprocess.PIPE
-        return subprocess.Popen(self.words, stdin=pipe, stdout=pipe, stderr=pipe, text=True, bufsize=1, **more)
+        return Running(self.words, **more)
 
 
 def clean(sessions, accepted=0, codes=0):
     return f"clean sessions={sessions} accepted={accepted} codes={codes}"
-
-
-def next_lines(running, count):
-    """The next `count` lines that a run prints while its input is open, or fewer if it ends."""
-    text, deadline = "", time.monotonic() + 20
-    while text.count("\n") < count and time.monotonic() < deadline:
-        if select.select([running.stdout], [], [], 1)[0]:
-            read = os.read(running.stdout.fileno(), 65536)
-            if not read:
-                break
-            text += read.decode()
-    return text
-
-
-def handed(running, text, count):
-    """Sends a run more input, and returns the next `count` lines that it prints."""
-    running.stdin.write(text)
-    running.stdin.flush()
-    return next_lines(running, count)
 
 
 def login():

@@ -11,11 +11,11 @@ import os
 import pathlib
 import shutil
 import stat
-import subprocess
 
 import suite
 from checks import equal, holds
-from suite import KEYS_OF_PENCIL, LIMIT, PROGRAM
+from runs import ran
+from suite import KEYS_OF_PENCIL, PROGRAM
 
 TOP = pathlib.Path(__file__).resolve().parent.parent
 REFUSED = "The program is not built, or is older than its sources: run make build first."
@@ -27,7 +27,7 @@ ENVIRONMENT = {name: value for name, value in os.environ.items() if name not in 
 def made(target, program, **folders):
     """Makes a target with this program and these variables."""
     words = ["make", target, *(f"{name}={value}" for name, value in {"PROGRAM": program, **folders}.items())]
-    return subprocess.run(words, cwd=TOP, env=ENVIRONMENT, stdin=subprocess.DEVNULL, capture_output=True, text=True, timeout=LIMIT)
+    return ran(words, cwd=TOP, env=ENVIRONMENT)
 
 
 def files_of(folder):
@@ -48,7 +48,7 @@ def installed(folder):
     ]:
         to = pathlib.Path(folder, name)
         done = made("install", program, **{variable: value.format(to) for variable, value in folders.items()})
-        equal((done.returncode, done.stderr), (0, ""), name)
+        equal((done.status, done.faults), (0, ""), name)
         due = {to / place / "share" / "scramotp" / tool: text for tool, text in tools.items()}
         due[to / place / "bin" / "scramotp"] = pathlib.Path(PROGRAM).read_bytes()
         equal(sorted(files_of(to)), sorted(due), name)
@@ -63,15 +63,15 @@ def refused(folder):
     os.utime(old, (0, 0))
     for program in [f"{folder}/none", old]:
         done = made("install", program, DESTDIR=to)
-        equal((done.returncode, done.stdout), (2, ""), program, done.stderr)
-        holds(REFUSED in done.stderr.splitlines(), program, done.stderr)
+        equal((done.status, done.output), (2, ""), program)
+        holds(REFUSED in done.faults.splitlines(), program, "it is not refused", done.faults)
         equal(files_of(to), [], program)
 
 
 def shown(folder):
     """`make run` has the program print the keys of the example, if it is built and newer than its sources."""
     done = made("run", shutil.copy(PROGRAM, folder))
-    equal((done.returncode, done.stdout, done.stderr), (0, KEYS_OF_PENCIL, ""))
+    equal(done, (0, KEYS_OF_PENCIL, ""), "what make run prints")
 
 
 suite.run_all([installed, refused, shown])

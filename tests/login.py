@@ -10,18 +10,16 @@ import pathlib
 import random
 import re
 import socket
-import subprocess
 import time
-import tomllib
 
 import suite
 from checks import equal, holds
 from expected import ACCEPTED, AUDITS, GONE, decoy_salt
-from halls import clean, handed, next_lines
-from suite import LIMIT, MOST_BYTES, NONCES, PROGRAM, hotp, ran
+from halls import clean
+from runs import Running, ran
+from suite import MOST_BYTES, PROGRAM, PUBLISHED as SHA1, hotp, login_words, read_book
 
-# The logins of RFC 5802's and RFC 7677's examples
-SHA1 = ["--mechanism", "SCRAM-SHA-1", *NONCES]
+# The nonces of RFC 7677's example, section 3
 SHA256 = ["--client-nonce", "rOprNGfwEbeRWgbNEkqO", "--server-nonce", "%hvYDpWUa2RaTCAfuxFIlj)hNlF$k0"]
 KEYS = (AUDITS / "keys.toml").read_text()
 
@@ -31,24 +29,30 @@ class Login(suite.BookFolder):
 
     def __init__(self, folder, text=KEYS):
         super().__init__(folder, text)
-        self.socket = self.folder / "socket"
 
     def words(self, *more, name="user", path=None):
-        return [PROGRAM, "login", "--book", self.book, "--name", name, "--socket", path or self.socket, *more]
-
-    def run(self, words, text):
-        return subprocess.run(words, input=text.encode(), capture_output=True, timeout=LIMIT)
+        return login_words(self.book, path or self.socket, *more, name=name)
 
     def log_of(self, words, text, status):
         """Runs a login, compares its status, checks that it reports no fault, and returns its log."""
-        done = self.run(words, text)
-        equal((done.returncode, done.stderr), (status, b""), done)
-        return done.stdout.decode()
+        answer = ran(words, text)
+        equal((answer.status, answer.faults), (status, ""), "the status and the faults", answer.output)
+        return answer.output
+
+    def starts(self, *more):
+        """Starts RFC 5802's login, which prints its log up to the acceptance, and then waits for codes."""
+        running = Running(self.words(*SHA1, *more), "pencil\n")
+        running.prints(ACCEPTED)
+        return running
+
+    def has_no_socket(self):
+        """Checks that the socket's file is gone."""
+        holds(not os.path.lexists(self.socket), "the socket is left")
 
     def prints(self, words, text, status, log, fault=""):
         """Runs a login, compares its status, log and fault, and checks that the socket's file is gone."""
         super().prints(words, text, status, log, fault)
-        holds(not os.path.lexists(self.socket), "the socket is left", words)
+        self.has_no_socket()
 
     def refuses(self, words, text, status, fault):
         """As `prints`, for a login that prints nothing; it has to leave the book unwritten."""
@@ -56,28 +60,17 @@ class Login(suite.BookFolder):
         self.prints(words, text, status, "", fault)
         equal(self.seen(), seen, f"the book and its folder after {words}")
 
-    def account(self):
-        return suite.read_book(self.book)["accounts"]["user"]
-
 
 def with_codes(look_ahead=3, limit=3, sync_ahead=None):
     """The book of RFC 5802's user, with RFC 4226's token."""
     return KEYS + hotp(look_ahead, limit, sync_ahead)
 
 
-def waiting(words, text):
-    """Starts a run that is sent this text, and waits for more input."""
-    running = subprocess.Popen(words, stdin=subprocess.PIPE, stdout=subprocess.PIPE, stderr=subprocess.PIPE, text=True)
-    running.stdin.write(text)
-    running.stdin.flush()
-    return running
-
-
 def published_logins(folder):
     """The logins of RFC 5802 and RFC 7677, each with exactly the recorded log."""
     here = Login(folder)
     here.prints(here.words(*SHA1), "pencil", 0, ACCEPTED + GONE)
-    equal(tomllib.loads(here.book.read_text()), tomllib.loads(KEYS))
+    equal(read_book(here.book), read_book(AUDITS / "keys.toml"), "what the book states")
     here.prints(here.words(*SHA1), "pencil\n", 0, ACCEPTED + GONE)
     here.put((AUDITS / "sha256.toml").read_text())
     for more in [[], ["--mechanism", "SCRAM-SHA-256"]]:
@@ -88,14 +81,14 @@ def refused_logins(folder):
     """Another password, and a user without keys for the mechanism: no code is sent, and no fault is reported."""
     here = Login(folder, with_codes())
     log = here.log_of(here.words(*SHA1), "pencils\n755224\n", 1)
-    holds(log.endswith("\nS NO :e=invalid-proof\nE\n"), log)
+    holds(log.endswith("\nS NO :e=invalid-proof\nE\n"), "the login is not refused for its proof", log)
     equal(log.count("\n"), 7, log)
     here.audited(log, clean(1, 0, 0))
     log = here.log_of(here.words(), "pencil\n755224\n", 1)
-    holds(log.splitlines()[2].startswith("C AUTH SCRAM-SHA-256 :n,,n=user,r="), log)
-    holds(log.endswith("\nS NO :e=invalid-proof\nE\n"), log)
+    holds(log.splitlines()[2].startswith("C AUTH SCRAM-SHA-256 :n,,n=user,r="), "the client does not send its first message", log)
+    holds(log.endswith("\nS NO :e=invalid-proof\nE\n"), "a login without keys is not refused for its proof", log)
     here.audited(log, clean(1, 0, 0))
-    equal(here.account()["token"]["next"], 0)
+    here.token_has(next=0)
 
 
 def decoys(folder):
@@ -106,7 +99,8 @@ def decoys(folder):
         log = here.log_of(here.words("--mechanism", "SCRAM-SHA-1", name="nobody"), password, 1)
         lines = log.splitlines()
         equal(len(lines), 7, lines)
-        holds(lines[3].endswith(f",s={base64.b64encode(salt).decode()},i=4096"), lines)
+        ends = f",s={base64.b64encode(salt).decode()},i=4096"
+        holds(lines[3].endswith(ends), "the challenge does not have the decoy's salt", ends, lines)
         equal(lines[5:], ["S NO :e=invalid-proof", "E"], lines)
         here.audited(log, clean(1, 0, 0))
 
@@ -118,17 +112,18 @@ def names_to_act_as(folder):
     log = here.log_of(words, "pencil\n", 1)
     lines = log.splitlines()
     equal(lines[2], "C AUTH SCRAM-SHA-1 :n,a=root,n=user,r=fyko+d2lbbFgONRv9qkxdawL", lines)
-    holds(lines[4].startswith("C RESP :c=bixhPXJvb3Qs,r=fyko+d2lbbFgONRv9qkxdawL3rfcNHYJY1ZVvWVs7j,p="), lines)
+    begins = "C RESP :c=bixhPXJvb3Qs,r=fyko+d2lbbFgONRv9qkxdawL3rfcNHYJY1ZVvWVs7j,p="
+    holds(lines[4].startswith(begins), "the client-final message does not begin with", begins, lines)
     equal(lines[5:], ["S NO :e=other-error", "E"], lines)
     here.audited(log, clean(1, 0, 0))
     here.put(KEYS.replace("act_as = []", 'act_as = ["root"]'))
     log = here.log_of(words, "pencil\n", 0)
-    holds(log.splitlines()[5].startswith("S OK :v="), log)
+    holds(log.splitlines()[5].startswith("S OK :v="), "the login is not accepted", log)
     here.audited(log, clean(1, 1, 0))
     here.put(KEYS)
     here.prints(here.words(*SHA1), "pencil\n", 0, ACCEPTED + GONE)
     log = here.log_of(here.words(*SHA1, "--as", "user"), "pencil\n", 0)
-    holds("\nC AUTH SCRAM-SHA-1 :n,a=user,n=user,r=" in log, log)
+    holds("\nC AUTH SCRAM-SHA-1 :n,a=user,n=user,r=" in log, "the client does not send the name to act as", log)
 
 
 def client_faults(folder):
@@ -139,13 +134,13 @@ def client_faults(folder):
         log = "".join(ACCEPTED.splitlines(True)[:4]).replace("i=4096", f"i={count}") + GONE
         here.prints(here.words(*SHA1), "pencil\n755224\n", 1, log)
         here.audited(log, clean(1, 0, 0))
-        equal(here.account()["token"]["next"], 0)
+        here.token_has(f"count {count}", next=0)
     here.put(with_codes().replace('server = "0f', 'server = "0e'))
     log = here.log_of(here.words(*SHA1), "pencil\n755224\n", 1)
     equal(len(log.splitlines()), 8, log)
-    holds(log.splitlines()[5].startswith("S OK :v="), log)
-    holds("rmF9pqV8S7suAoZWja4dJRkFsKQ=" not in log, log)
-    holds(log.endswith(GONE), log)
+    holds(log.splitlines()[5].startswith("S OK :v="), "the login is not accepted", log)
+    holds("rmF9pqV8S7suAoZWja4dJRkFsKQ=" not in log, "the signature is that of the client's keys", log)
+    holds(log.endswith(GONE), "the client does not end the login", log)
     here.audited(log, clean(1, 1, 0))
 
 
@@ -180,7 +175,7 @@ def lines_that_are_no_code(folder):
         log = ACCEPTED + "C BAD\nS NO :\nE\n"
         here.prints(words, f"pencil\n{line}\n755224\n", 1, log)
         here.audited(log, clean(1, 1, 0))
-        equal(here.account()["token"]["next"], 0)
+        here.token_has(repr(line[:20]), next=0)
     here.put(with_codes())
     here.prints(words, b"pencil\n\xff\0\n755224\n", 1, ACCEPTED + "C BAD\nS NO :\nE\n")
     for text in ["CODE 755224", "ABORT"]:
@@ -191,27 +186,23 @@ def lines_that_are_no_code(folder):
 def replies_at_once(folder):
     """Each line is in the log while the input is still open, and the socket's file is there until the input ends."""
     here = Login(folder, with_codes())
-    running = waiting(here.words(*SHA1, "--moment", "5"), "pencil\n")
-    equal(next_lines(running, 6), ACCEPTED)
+    running = here.starts("--moment", "5")
     holds(here.socket.is_socket(), "there is no socket while the login goes on")
     for code, lines in [("755224", "C CODE 755224\nS PASS 5 0\n"), ("000000", "C CODE 000000\nS FAIL 5\n")]:
-        equal(handed(running, code + "\n", 2), lines)
-    equal((here.account()["token"]["next"], here.account()["token"]["failures"]), (1, 1))
-    output, faults = running.communicate(timeout=LIMIT)
-    equal((running.returncode, output, faults), (1, GONE, ""))
-    holds(not os.path.lexists(here.socket), "the socket is left")
+        running.prints(lines, f"{code}\n")
+    here.token_has(next=1, failures=1)
+    running.ends(1, GONE)
+    here.has_no_socket()
 
 
 def another_at_the_path(folder):
     """A file that takes the socket's path while the login runs stays there."""
     here = Login(folder, with_codes())
-    running = waiting(here.words(*SHA1), "pencil\n")
-    equal(next_lines(running, 6), ACCEPTED)
+    running = here.starts()
     here.socket.unlink()
     here.socket.write_text("another")
-    output, faults = running.communicate(timeout=LIMIT)
-    equal((running.returncode, output, faults), (0, GONE, ""))
-    equal(here.socket.read_text(), "another")
+    running.ends(0, GONE)
+    equal(here.socket.read_text(), "another", "the file at the socket's path")
 
 
 def failed_saves(folder):
@@ -219,19 +210,16 @@ def failed_saves(folder):
     here = Login(folder, with_codes(sync_ahead=8))
     for line, sent in [("755224", "C CODE 755224\n"), ("000000", "C CODE 000000\n"), ("SYNC 755224 287082", "C SYNC 755224 287082\n")]:
         here.put(with_codes(sync_ahead=8))
-        running = waiting(here.words(*SHA1, "--moment", "5"), "pencil\n")
-        equal(next_lines(running, 6), ACCEPTED)
+        running = here.starts("--moment", "5")
         book = here.book.read_bytes()
-        os.mkdir(f"{here.book}.new")
-        output, faults = running.communicate(line + "\n755224\n", timeout=LIMIT)
-        equal((running.returncode, output), (3, sent + "S HALT\n"))
-        equal(faults, f"scramotp: cannot write {here.book}\n")
-        equal(here.book.read_bytes(), book)
-        holds(not os.path.lexists(here.socket), "the socket is left")
-        os.rmdir(f"{here.book}.new")
-        here.audited(ACCEPTED + output, clean(1, 1, 0))
+        here.next_text.mkdir()
+        running.ends(3, f"{sent}S HALT\n", f"scramotp: cannot write {here.book}\n", f"{line}\n755224\n")
+        equal(here.book.read_bytes(), book, "the book after", line)
+        here.has_no_socket()
+        here.next_text.rmdir()
+        here.audited(f"{ACCEPTED}{sent}S HALT\n", clean(1, 1, 0))
     here.put(with_codes())
-    os.mkdir(f"{here.book}.new")
+    here.next_text.mkdir()
     here.refuses(here.words(*SHA1), "pencil\n755224\n", 3, f"cannot write {here.book}")
 
 
@@ -248,30 +236,30 @@ def random_nonces(folder):
         log = here.log_of(here.words("--random", file, name=name), password, 0)
         client, service = (base64.b64encode(part).decode() for part in [data[:18], data[18:]])
         lines = log.splitlines()
-        holds(lines[2].endswith(f",r={client}"), lines)
-        holds(f":r={client}{service},s=" in lines[3], lines)
+        holds(lines[2].endswith(f",r={client}"), "the client's nonce is not of the first 18 bytes", name, lines)
+        holds(f":r={client}{service},s=" in lines[3], "the server's part is not of the next 18 bytes", name, lines)
         here.audited(log, clean(1, 1, 0))
     here.put(KEYS)
     file.write_bytes(data[:18])
     given = ["--mechanism", "SCRAM-SHA-1", "--random", file]
     for more, nonce in [(["--client-nonce", "me"], f"me{client}"), (["--server-nonce", "you"], f"{client}you")]:
         log = here.log_of(here.words(*given, *more), "pencil", 0)
-        holds(f"S CONT :r={nonce},s=" in log, log)
-    fresh = {here.run(here.words("--mechanism", "SCRAM-SHA-1"), "pencil").stdout for _ in range(3)}
-    equal(len(fresh), 3, fresh)
+        holds(f"S CONT :r={nonce},s=" in log, "the challenge does not have the nonces", nonce, log)
+    fresh = {here.log_of(here.words("--mechanism", "SCRAM-SHA-1"), "pencil", 0) for _ in range(3)}
+    equal(len(fresh), 3, "how many of the logs of three runs differ", fresh)
 
 
 def moments(folder):
     """A code's moment is the time of the machine's clock, unless one is given."""
     here = Login(folder, with_codes())
     began = int(time.time())
-    done = here.run(here.words(*SHA1), "pencil\n755224\n")
-    [moment] = re.findall(rb"\nS PASS (\d+) 0\n", done.stdout)
-    holds(began <= int(moment) <= time.time(), began, moment)
+    log = here.log_of(here.words(*SHA1), "pencil\n755224\n", 0)
+    [moment] = re.findall(r"\nS PASS (\d+) 0\n", log)
+    holds(began <= int(moment) <= time.time(), "the moment of the code is before the run's begin or after its end", began, moment)
     for moment in ["0", "253402300799"]:
         here.put(with_codes())
-        done = here.run(here.words(*SHA1, "--moment", moment), "pencil\n755224\n")
-        holds(f"\nS PASS {moment} 0\n".encode() in done.stdout, done)
+        log = here.log_of(here.words(*SHA1, "--moment", moment), "pencil\n755224\n", 0)
+        holds(f"\nS PASS {moment} 0\n" in log, "the code does not pass at", moment, log)
 
 
 def order_of_faults(folder):
@@ -305,7 +293,7 @@ def order_of_faults(folder):
     here.put(KEYS)
     here.refuses(here.words(*more, path=taken), "pencil", 3, f"cannot read {missing}")
     here.refuses(here.words(path=taken), "pencil", 3, "socket fault")
-    equal(taken.read_text(), "")
+    equal(taken.read_text(), "", "the file at the socket's path")
     here.prints(here.words(*SHA1, *more), "pencil", 0, ACCEPTED + GONE)
 
 
@@ -334,7 +322,7 @@ def sockets_in_the_way(folder):
     here.refuses([*here.words()[:-1], ""], "pencil\n", 3, "socket fault")
     for size, is_short in [(107, True), (108, False), (4000, False)]:
         path = os.path.join(folder, "x" * (size - len(folder) - 1))
-        equal(len(path), size)
+        equal(len(path), size, "the length of the socket's path")
         if is_short:
             here.prints(here.words(*SHA1, path=path), "pencil\n", 0, ACCEPTED + GONE)
         else:

@@ -4,30 +4,29 @@ book can always be read, and each log is the beginning of a clean one.
 
 Usage: login_kill.py PROGRAM [TEST ..]
 """
-import os
 import pathlib
 import re
-import subprocess
 
 import suite
 from checks import equal, holds
 from expected import AUDITS
-from kills import kill_at_any_moment, start
-from suite import LIMIT, PROGRAM, BookFolder, code, hotp, token
+from kills import kill_at_any_moment
+from runs import Running, whole
+from suite import BookFolder, code, hotp, login_words
 
 KEYS = (AUDITS / "keys.toml").read_text()
 BOOK = KEYS + hotp(look_ahead=3, limit=100, sync_ahead=10)
 RUNS = 2000
 
 
-def words_of(book, path):
-    """The words of a login over a socket at this path."""
-    return [PROGRAM, "login", "--book", book, "--name", "user", "--mechanism", "SCRAM-SHA-1", "--socket", path]
+def words_of(here, socket=None):
+    """The words of a login with RFC 5802's mechanism and random nonces."""
+    return login_words(here.book, socket or here.socket, "--mechanism", "SCRAM-SHA-1")
 
 
-def start_login(book, path, lines, output=subprocess.PIPE):
+def start_login(here, lines, socket=None, **how):
     """Starts a login that sends these lines."""
-    return start(words_of(book, path), "\n".join(["pencil", *lines, ""]), output)
+    return whole(words_of(here, socket), "\n".join(["pencil", *lines, ""]), **how)
 
 
 def lines_from(at):
@@ -40,55 +39,49 @@ def lines_from(at):
 def killed_at_any_moment(folder):
     """Logins are killed at any moment, and each next one goes on from the book that they leave."""
     here = BookFolder(folder, BOOK)
-    path = here.folder / "socket"
 
     def started(at, output):
-        path.unlink(missing_ok=True)
-        return start_login(here.book, path, lines_from(at), output)
+        here.socket.unlink(missing_ok=True)
+        return start_login(here, lines_from(at), stdout=output)
 
     # A code of a pair has passed before, so a whole run ends with status 1.
     kill_at_any_moment(here, started, RUNS, [1])
-    path.unlink(missing_ok=True)
-    run = start_login(here.book, path, [code(token(here.book)["next"])])
-    output, faults = run.communicate(timeout=LIMIT)
-    equal((run.returncode, faults), (0, ""), output)
-    holds("\nS PASS " in output, output, faults)
-    equal(sorted(os.listdir(folder)), ["before", "book"])
+    here.socket.unlink(missing_ok=True)
+    status, log, faults = start_login(here, [code(here.token()["next"])]).end()
+    equal((status, faults), (0, ""), log)
+    holds("\nS PASS " in log, "no code passes after the runs that were killed", log)
+    here.has_only("book")
 
 
 def left_sockets(folder):
     """A run that is killed may leave its socket. The next run reports a fault until the file is removed."""
-    book, path = pathlib.Path(folder, "book"), f"{folder}/socket"
-    book.write_text(BOOK)
-    run = subprocess.Popen(words_of(book, path), stdin=subprocess.PIPE, stdout=subprocess.PIPE, stderr=subprocess.PIPE, text=True)
-    run.stdin.write("pencil\n")
-    run.stdin.flush()
-    equal(run.stdout.readline(), "SCRAMLOG 1\n")
-    run.kill()
-    run.communicate(timeout=LIMIT)
-    for removed, want in [(False, (3, "scramotp: socket fault\n")), (True, (0, ""))]:
-        if removed:
-            os.remove(path)
-        run = start_login(book, path, [])
-        _, faults = run.communicate(timeout=LIMIT)
-        equal((run.returncode, faults), want)
-        equal(not os.path.lexists(path), removed, path)
+    here = BookFolder(folder, BOOK)
+    run = Running(words_of(here), "pencil\n")
+    run.prints("SCRAMLOG 1\n")
+    run.killed()
+    start_login(here, []).ends(3, "", "scramotp: socket fault\n")
+    here.has_only("book", "socket")
+    here.socket.unlink()
+    status, _, faults = start_login(here, []).end()
+    equal((status, faults), (0, ""), "once the socket is removed")
+    here.has_only("book")
 
 
 def twenty_at_once(folder):
     """A code passes once, whichever run comes first. It fails in the others, each in a log with its own login."""
-    book = pathlib.Path(folder, "book")
-    for _ in range(5):
-        book.write_text(BOOK)
-        runs = [start_login(book, f"{folder}/socket{number}", [code(0)]) for number in range(20)]
-        logs = [run.communicate(timeout=LIMIT) for run in runs]
-        holds(all(faults == "" for _, faults in logs), logs)
-        replies = sorted(re.findall(r"^S (PASS|FAIL) ", log, re.M) for log, _ in logs)
-        equal(replies, [["FAIL"]] * 19 + [["PASS"]])
-        equal(sorted(run.returncode for run in runs), [0] + [1] * 19)
-        holds(all(re.search(r"^S OK :v=", log, re.M) and log.endswith("\nC GONE\nE\n") for log, _ in logs), logs)
-        equal((token(book)["next"], token(book)["failures"]), (1, 19), token(book))
-        equal(os.listdir(folder), ["book"])
+    here = BookFolder(folder, BOOK)
+    for turn in range(5):
+        here.put(BOOK)
+        runs = [start_login(here, [code(0)], pathlib.Path(folder, f"socket{number}")) for number in range(20)]
+        answers = [run.end() for run in runs]
+        replies = sorted(re.findall(r"^S (PASS|FAIL) ", answer.output, re.M) for answer in answers)
+        equal(replies, [["FAIL"]] * 19 + [["PASS"]], f"turn {turn}: the replies of all logins", answers)
+        for answer in answers:
+            equal((answer.status, answer.faults), (0 if "\nS PASS " in answer.output else 1, ""), f"turn {turn}", answer.output)
+            holds(re.search(r"^S OK :v=", answer.output, re.M), f"turn {turn}: a log without a login", answer.output)
+            holds(answer.output.endswith("\nC GONE\nE\n"), f"turn {turn}: a log without its end", answer.output)
+        here.token_has(f"turn {turn}", next=1, failures=19)
+        here.has_only("book")
 
 
 suite.run_all([killed_at_any_moment, left_sockets, twenty_at_once])

@@ -18,7 +18,6 @@ import re
 import resource
 import shutil
 import signal
-import subprocess
 import time
 from collections.abc import Callable
 from typing import NamedTuple
@@ -31,7 +30,8 @@ from command_table import (
     run,
 )
 from expected import numbered
-from suite import AS_NOBODY, LIMIT, NOBODY, NONCES, PROGRAM, ROOT, totp
+from runs import Running, whole
+from suite import NONCES, PROGRAM, ROOT, as_nobody, fault_text, nobody, totp
 
 
 class Due(NamedTuple):
@@ -84,7 +84,7 @@ class Machine:
         os.mkdir(self.folder)
         self.program = shutil.copy(PROGRAM, folder)
         self.clock = pathlib.Path(folder, "clock")
-        self.with_clock = {**os.environ, "LD_PRELOAD": shims.built("turn_clock", folder), "CLOCK": str(self.clock)}
+        self.with_clock = {**os.environ, "LD_PRELOAD": shims.built("turn_clock"), "CLOCK": str(self.clock)}
 
     def full_output(self, command):
         with open("/dev/full", "wb") as full:
@@ -106,9 +106,9 @@ class Machine:
         """Runs a command in a folder that nobody may write, not even its owner, as whom the command runs."""
         for path in [self.folder, *(os.path.join(self.folder, name) for name in os.listdir(self.folder))]:
             if ROOT:
-                os.chown(path, NOBODY.pw_uid, NOBODY.pw_gid)
+                os.chown(path, nobody().pw_uid, nobody().pw_gid)
         os.chmod(self.folder, 0o555)
-        answer = run(command, self.folder, executable=self.program, **AS_NOBODY)
+        answer = run(command, self.folder, executable=self.program, **as_nobody())
         os.chmod(self.folder, 0o755)
         if ROOT:
             os.chown(self.folder, 0, 0)
@@ -194,11 +194,11 @@ def table(folder):
             answer = disturbance.run(here, command)
             cell = (disturbance.name, name)
             printed = command.printed if due.printed is None else due.printed
-            fault = f"scramotp: {due.fault.format(folder=here.folder)}\n" if due.fault else ""
+            fault = fault_text(due.fault.format(folder=here.folder))
             seen = (due.status, "" if disturbance.loses_output else printed, "" if disturbance.loses_faults else fault)
             equal(answer, seen, cell)
             equal((book_of(here.folder), left(here.folder)), (command.books[due.saves], set()), (*cell, "the book, and what else is left"))
-            holds(due.saves != 0 or is_kept(here.folder, command, ""), cell)
+            holds(due.saves != 0 or is_kept(here.folder, command, ""), cell, "the book is not as it was")
             cells += 1
     print(f"machine.py: {cells} cells of {len(TABLE)} disturbances of {len(named())} commands")
 
@@ -212,9 +212,9 @@ def socket_elsewhere(folder):
     words = [word.replace("{socket}", os.path.join(open_folder, "socket")) for word in login.words]
     prepare(here.folder, login)
     answer = here.sealed(login._replace(words=words))
-    equal(answer, (3, "", f"scramotp: {UNSAVED.format(folder=here.folder)}\n"))
+    equal(answer, (3, "", fault_text(UNSAVED.format(folder=here.folder))), "the answer")
     holds(is_kept(here.folder, login, ""), "the book is not kept", book_of(here.folder))
-    equal(os.listdir(open_folder), [])
+    equal(os.listdir(open_folder), [], "the files in the socket's folder")
 
 
 def few_descriptors(folder):
@@ -225,12 +225,12 @@ def few_descriptors(folder):
             prepare(here.folder, command)
             limit = functools.partial(resource.setrlimit, resource.RLIMIT_NOFILE, (most, most))
             status, printed, fault = answer = run(command, here.folder, preexec_fn=limit)
-            holds(is_kept(here.folder, command, printed), name, most, answer)
-            equal(left(here.folder), set(), name, most, answer)
+            holds(is_kept(here.folder, command, printed), name, most, answer, "the book is not whole, or lacks what was reported")
+            equal(left(here.folder), set(), name, most, answer, "the files that are left")
             if answer != (0, command.printed, ""):
-                equal(status, 3, name, most, answer)
-                holds(is_front(command, printed), name, most, answer)
-                holds(re.fullmatch(r"scramotp: (cannot (read|write) .+|socket fault)\n", fault), name, most, answer)
+                equal(status, 3, name, f"{most} descriptors", answer, "the status")
+                holds(is_front(command, printed), name, most, answer, "its output is no beginning of", command.printed)
+                holds(re.fullmatch(r"scramotp: (cannot (read|write) .+|socket fault)\n", fault), name, most, answer, "no fault of a file")
                 refused += 1
         equal(answer, (0, command.printed, ""), name)
     holds(refused > 0, "no run had too few descriptors")
@@ -243,18 +243,11 @@ TIMES = 30
 
 
 def interrupted(here, command, number, wait):
-    """Sends a run a signal after so many seconds, unless it ends before. Returns its status, output and faults."""
-    run = subprocess.Popen(command.in_folder(here.folder), stdin=subprocess.PIPE, stdout=subprocess.PIPE, stderr=subprocess.PIPE)
-    try:
-        run.stdin.write(command.text.encode())
-        run.stdin.close()
-    except BrokenPipeError:
-        pass
-    run.stdin = None
+    """Sends a run a signal after so many seconds, unless it ends before. Returns its answer."""
+    run_of_command = whole(command.in_folder(here.folder), command.text)
     time.sleep(wait)
-    run.send_signal(number)
-    output, faults = run.communicate(timeout=LIMIT)
-    return run.returncode, output.decode(), faults.decode()
+    run_of_command.process.send_signal(number)
+    return run_of_command.end()
 
 
 def signals(folder):
@@ -270,19 +263,19 @@ def signals(folder):
             prepare(here.folder, command)
             status, printed, fault = answer = interrupted(here, command, number, random.uniform(0, duration))
             what = (name, number, answer)
-            holds((status, fault) in [(0, ""), (-number, "")], what)
-            holds(is_front(command, printed), what)
-            holds(status or printed == command.printed, what)
-            holds(is_kept(here.folder, command, printed), what, book_of(here.folder))
-            holds(left(here.folder) <= ({"book.new", "socket"} if status else set()), what, left(here.folder))
-            holds(name not in ("login", "hall") or printed_begins_clean(here.folder, printed), what)
+            holds((status, fault) in [(0, ""), (-number, "")], what, "it ended neither by the signal nor well, or with a fault")
+            holds(is_front(command, printed), what, "its output is no beginning of", command.printed)
+            holds(status or printed == command.printed, what, "it ended well, but did not print", command.printed)
+            holds(is_kept(here.folder, command, printed), what, "the book is not whole, or lacks what was reported", book_of(here.folder))
+            holds(left(here.folder) <= ({"book.new", "socket"} if status else set()), what, "files are left", left(here.folder))
+            holds(name not in ("login", "hall") or printed_begins_clean(here.folder, printed), what, "a line of the log is at fault")
             ended[status] += 1
             other = enrol._replace(words=[word.replace("new", "other") for word in enrol.words])
             pathlib.Path(here.folder, "random").write_bytes(bytes(64))
-            equal(run(other, here.folder), (0, "enrolled other\n", ""), what)
-            holds(left(here.folder) <= {"socket"}, what)
+            equal(run(other, here.folder), (0, "enrolled other\n", ""), "the next command after", what)
+            holds(left(here.folder) <= {"socket"}, what, "files are left after the next command", left(here.folder))
     killed = sum(ended[-number] for number in SIGNALS)
-    holds(all(ended[-number] > TIMES for number in SIGNALS), f"how many runs each signal ended, which should be more than {TIMES}", ended)
+    holds(all(ended[-number] > TIMES for number in SIGNALS), f"a signal ended at most {TIMES} runs", ended)
     print(f"machine.py: {killed} runs ended by a signal, of {ended.total()}")
 
 
@@ -311,11 +304,11 @@ def twenty_at_once(folder):
         first = (0, command.printed, "")
         answers = collections.Counter(together(here, [command] * 20))
         equal(answers, collections.Counter([first] + [late.get(name, first)] * 19), name)
-        equal(left(here.folder), set(), name)
+        equal(left(here.folder), set(), name, "the files that are left")
         token = (book_of(here.folder)["accounts"].get("user") or {}).get("token", {})
         codes = name in ("verify", "login", "hall")
         want = (1, 19) if codes else (0, 0 if name == "unlock" else 2)
-        holds(name == "new" or (token["next"], token["failures"]) == want, name, token)
+        holds(name == "new" or (token["next"], token["failures"]) == want, name, "the next counter and the failures are not", want, token)
     print(f"machine.py: 20 runs at once of each of {len(one_code)} commands")
 
 
@@ -330,16 +323,16 @@ def all_at_once(folder):
         for command, (status, printed, fault) in zip(started, answers):
             what = (command.name, status, printed, fault)
             if command.name == "enrol":
-                holds(what[1:] in [(0, command.printed, ""), (1, "", "scramotp: name is taken\n")], what)
+                holds(what[1:] in [(0, command.printed, ""), (1, "", "scramotp: name is taken\n")], "no answer of enrol", what)
             elif command.name in ("verify", "login", "hall"):
                 passed += re.findall(r"PASS 5 (\d+)", printed)
                 equal(re.sub(r"PASS 5 \d+", "FAIL 5", printed), re.sub(r"PASS 5 \d+", "FAIL 5", command.printed), what)
                 equal(fault, "", what)
             else:
                 equal(what[1:], (0, command.printed, ""), what)
-        equal(sorted(passed), ["0", "1"])
-        equal(left(here.folder), set(), passed)
-        equal(sorted(book_of(here.folder)["accounts"]), ["new", "user"])
+        equal(sorted(passed), ["0", "1"], "the counters that pass", answers)
+        equal(left(here.folder), set(), "the files that are left")
+        equal(sorted(book_of(here.folder)["accounts"]), ["new", "user"], "the accounts")
     print("machine.py: 10 times 20 runs at once of all commands")
 
 
@@ -363,20 +356,17 @@ class Clocks(Machine):
 
     def login(self, *turns):
         """The replies to codes in a login; each turn is a second at which the clock is stopped, and a code. The log has to be clean."""
-        login, before = self.named["login"], self.book.read_text()
-        words, pipe = login.in_folder(self.folder)[:-2], subprocess.PIPE
+        before = self.book.read_text()
         self.set_clock(turns[0][0])
-        with subprocess.Popen(words, stdin=pipe, stdout=pipe, text=True, bufsize=1, env=self.with_clock) as run_of_login:
-            run_of_login.stdin.write("pencil\n")
-            lines = [run_of_login.stdout.readline() for _ in range(6)]
-            for clock, code in turns:
-                self.set_clock(clock)
-                run_of_login.stdin.write(f"{code}\n")
-                lines += [run_of_login.stdout.readline() for _ in range(2)]
-            run_of_login.stdin.close()
-            lines += run_of_login.stdout.readlines()
-        audited(self.folder, before, "".join(lines))
-        return [line.removeprefix("S ").removesuffix("\n") for line in lines[7:-2:2]]
+        run_of_login = Running(self.named["login"].in_folder(self.folder)[:-2], "pencil\n", env=self.with_clock)
+        log = run_of_login.next_lines(6)
+        for clock, code in turns:
+            self.set_clock(clock)
+            run_of_login.send(f"{code}\n")
+            log += run_of_login.next_lines(2)
+        log += run_of_login.end().output
+        audited(self.folder, before, log)
+        return [line.removeprefix("S ") for line in log.splitlines()[7:-2:2]]
 
 
 def clocks_that_go_back(folder):
@@ -384,16 +374,17 @@ def clocks_that_go_back(folder):
     clock gives no valid moment, the moment is 0."""
     here = Clocks(folder)
     (then, first, code), (now, second, next_code), (_, _, old_code) = BEFORE, AFTER, EARLY
-    equal(here.login((now, next_code), (then, code), (then, next_code)), [f"PASS {now} {second}", f"FAIL {then}", f"FAIL {then}"])
-    equal(here.login((59, old_code), (59, next_code)), ["FAIL 59", "FAIL 59"])
-    equal(here.login((then, code)), [f"FAIL {then}"])
+    told = here.login((now, next_code), (then, code), (then, next_code))
+    equal(told, [f"PASS {now} {second}", f"FAIL {then}", f"FAIL {then}"], "codes while the clock is set back")
+    equal(here.login((59, old_code), (59, next_code)), ["FAIL 59", "FAIL 59"], "codes of earlier steps, in the next run")
+    equal(here.login((then, code)), [f"FAIL {then}"], "the code of the step before, in a later run")
     for clock in [-1, -10 ** 12, 253402300800, 10 ** 12]:
         equal(here.login((clock, next_code)), ["FAIL 0"], clock)
     here.fresh()
     told = here.login((then, code), (59, old_code), (now, next_code))
-    equal(told, [f"PASS {then} {first}", "FAIL 59", f"PASS {now} {second}"])
+    equal(told, [f"PASS {then} {first}", "FAIL 59", f"PASS {now} {second}"], "codes of a new token, in the order of clocks")
     here.fresh()
-    equal(here.login((59, old_code)), ["PASS 59 1"])
+    equal(here.login((59, old_code)), ["PASS 59 1"], "the code of an early step, at a new token")
 
 
 def moments_that_fall(folder):
@@ -412,7 +403,8 @@ def moments_that_fall(folder):
     events = "".join(f"line 1 {moment} CODE {sent}\n" for moment, sent, _ in turns)
     lines = "".join(f"1 C CODE {sent}\n1 S {reply}\n" for _, sent, reply in turns)
     log = hall.printed.replace("1 C GONE\n", f"{lines}1 C GONE\n")
-    equal(run(hall._replace(text=hall.text.replace("gone", f"{events}gone")), here.folder), (0, log, ""))
+    answer = run(hall._replace(text=hall.text.replace("gone", f"{events}gone")), here.folder)
+    equal(answer, (0, log, ""), "a hall whose moments fall")
     audited(here.folder, before, log)
 
 

@@ -9,7 +9,6 @@ the run's peak memory early and late is compared.
 import array
 import fcntl
 import itertools
-import os
 import pathlib
 import subprocess
 import tempfile
@@ -20,11 +19,12 @@ import clients
 import expected
 import suite
 from checks import equal, holds
-from clients import Account, Exchange, base, dealt, escaped, gone, logged_in, opened, said
-from command_table import BOOK, command_of, commands, login_log, prepare
+from clients import Account, base, dealt, escaped, gone, logged_in, opened, said
+from command_table import BOOK, command_of, commands, left, login_log, prepare
 from expected import AUDITS, SESSION_LEFT
 from halls import Hall, clean
-from suite import LIMIT, MOST_BYTES, PROGRAM, ran, sleeps
+from runs import LIMIT, ran, sleeps
+from suite import MOST_BYTES, PROGRAM, BookFolder, login_words
 
 # A hall's log of RFC 5802's login, without its end, and the events that lead to it.
 HALL = command_of("hall", 0)
@@ -68,9 +68,7 @@ def lengths_of_first_messages(folder):
             visit = [opened("own"), said(f"AUTH SCRAM-SHA-1 :{escaped(text)}", f"S CONT :r={nonce}own,{known}"), gone()]
         else:
             visit = [opened("own"), said(f"AUTH SCRAM-SHA-1 :{escaped(text)}", *NO_AND_END)]
-        events, log = dealt([0] * len(visit), [visit])
-        here.prints(events, 0, log)
-        here.audited(log, clean(1))
+        here.audited(here.hears(*visit), clean(1))
         tried += 1
     print_count("client-first messages", tried)
 
@@ -94,62 +92,48 @@ def lengths_of_lines(folder):
     ]
     for before, line, answers in rows:
         turn = said(line, *answers) if answers else clients.Turn(f"line # 5 {line}", bad)
-        visit = [*before, turn]
-        events, log = dealt([0] * len(visit), [visit])
         here.put(clients.book([user]))
-        here.prints(events, 0, log)
+        log = here.hears(*before, turn)
         open_still = log.endswith("S FAIL 5\n")
         here.audited(log + "1 C GONE\n1 E\n" * open_still, clean(1, log.count(" S OK :")))
     print_count("lines", len(rows))
-
-
-def final_message(account, more, given=None):
-    """The messages of a login in which the client's last message has this extension. Its proof is right unless one is given."""
-    it = account.exchange("abc", "def")
-    unproved = f"c=biws,r=abcdef{more}"
-    signed = f"{it.first[3:]},{it.challenge},{unproved}".encode()
-    right, signature = expected.proved(account.hash, account.client, account.server, signed)
-    proof = right if given is None else given
-    return Exchange(it.first, it.challenge, f"{unproved},p={base(proof)}", base(signature), "")
 
 
 def lengths_of_last_messages(folder):
     """A client-final message has at most 2048 bytes, and a proof 64; a proof is wrong unless it has the hash's length."""
     account = Account("user", "SCRAM-SHA-1")
     here = Hall(folder, clients.book([account]))
-    room = 2048 - len(final_message(account, ",x=").final)
+    room = 2048 - len(account.exchange("abc", "def", ",x=").final)
     rows = [(f",x={'y' * room}", None, None), (f",x={'y' * (room + 1)}", None, "invalid-encoding"), (f",x={' ' * room}", None, None)]
     rows += [("", bytes(size), "invalid-proof") for size in [1, 19, 21, 63, 64]] + [("", bytes(65), "invalid-encoding")]
     rows += [("", b"", "invalid-encoding")]
     for more, proof, refusal in rows:
-        it = final_message(account, more, proof)
+        it = account.exchange("abc", "def", more, proof)
         answers = [f"S NO :e={refusal}", "E"] if refusal else [f"S OK :v={it.signature}"]
-        visit = [
+        log = here.hears(
             opened("def"),
             said(f"AUTH SCRAM-SHA-1 :{escaped(it.first)}", f"S CONT :{escaped(it.challenge)}"),
             said(f"RESP :{escaped(it.final)}", *answers),
             *([] if refusal else [gone()]),
-        ]
-        events, log = dealt([0] * len(visit), [visit])
-        here.prints(events, 0, log)
+        )
         here.audited(log, clean(1, log.count(" S OK :")))
-    equal(len(final_message(account, rows[0][0]).final), 2048)
+    equal(len(account.exchange("abc", "def", rows[0][0]).final), 2048, "the length of the longest message")
     print_count("client-final messages", len(rows))
 
 
 def lengths_of_words(folder):
     """Both nonces of a login have at most 256 bytes, and a token's secret 64 and at least 10."""
     user, tried = Account("user", "SCRAM-SHA-1"), 0
-    book, socket = (os.path.join(folder, name) for name in ["book", "socket"])
-    words = [PROGRAM, "login", "--book", book, "--name", "user", "--mechanism", "SCRAM-SHA-1", "--socket", socket]
+    here = BookFolder(folder)
+    words = login_words(here.book, here.socket, "--mechanism", "SCRAM-SHA-1")
     for own, others in [(256, 256), (257, 256), (256, 257)]:
-        pathlib.Path(book).write_text(clients.book([user]))
+        here.put(clients.book([user]))
         visit = [*logged_in(user, "n" * own, "s" * others), gone()]
         log = "SCRAMLOG 1\n" + "".join(line.removeprefix("1 ") for line in dealt([0] * len(visit), [visit])[1].splitlines(True)[1:])
         option = "client" if own > 256 else "server"
         want = (0, log, "") if own == others else (2, "", f"scramotp: bad value for --{option}-nonce\n")
         done = ran([*words, "--client-nonce", "n" * own, "--server-nonce", "s" * others], b"password of user")
-        equal(done, want, own, others)
+        equal(done, want, f"nonces of {own} and {others} bytes")
         tried += 1
     for size in [9, 10, 64, 65]:
         want = (0, f"{expected.code(bytes(size), 7)}\n", "") if 10 <= size <= 64 else (2, "", "scramotp: bad value for --secret\n")
@@ -173,8 +157,8 @@ def lengths_of_files(folder):
             unread = (3, "", "scramotp: cannot read input\n")
             for size, want in [(MOST_BYTES, (2, "", "scramotp: bad password\n")), (MOST_BYTES + 1, unread)]:
                 prepare(folder, command)
-                equal(ran(command.in_folder(folder), b"a" * size), want, size)
-                equal(pathlib.Path(folder, "book").read_text(), BOOK)
+                equal(ran(command.in_folder(folder), b"a" * size), want, f"a password of {size} bytes")
+                equal(pathlib.Path(folder, "book").read_text(), BOOK, f"the book after a password of {size} bytes")
                 tried += 1
     print_count("books and passwords", tried)
 
@@ -243,7 +227,7 @@ def long_logs(folder):
             late = run.most_memory()
             run.feed([more])
             equal(run.end(), answer, version, more)
-            holds(late - early <= MORE, f"memory, which should be at most {MORE} KiB more late than early", version, early, late)
+            holds(late - early <= MORE, f"it takes over {MORE} KiB more memory late than early", version, early, late)
     print(f"oversized.py: 4 logs of a million lines, and a byte; the last took {late - early} KiB more than its first ten lines")
 
 
@@ -264,10 +248,10 @@ def endless_logs(folder):
     for begin, parts, of_audit, of_upgrade in rows:
         for words, want in [(audit, (1, f"{of_audit}\n", "")), (upgrade, (1, "", f"{of_upgrade}\n"))]:
             run = Fed(words)
-            holds(not run.feed(itertools.chain([begin], parts)), words, begin)
+            holds(not run.feed(itertools.chain([begin], parts)), "the run reads a log that never ends", words, begin)
             equal(run.end(), want, words, begin)
     words = [PROGRAM, "audit", "--book", "/dev/zero", "--log", AUDITS / "sha1.log"]
-    equal(ran(words, b""), (3, "", "scramotp: cannot read /dev/zero\n"))
+    equal(ran(words, b""), (3, "", "scramotp: cannot read /dev/zero\n"), "a book that never ends")
     print(f"oversized.py: {2 * len(rows)} logs and a book that never end")
 
 
@@ -278,12 +262,12 @@ def endless_passwords(folder):
         if command.text.startswith("pencil"):
             prepare(folder, command)
             run = Fed(command.in_folder(folder))
-            holds(not run.feed(itertools.repeat(b"a" * 4096)), command.name)
+            holds(not run.feed(itertools.repeat(b"a" * 4096)), "the run reads a password that never ends", command.name)
             equal(run.end(), (3, "", "scramotp: cannot read input\n"), command.name)
-            equal(pathlib.Path(folder, "book").read_text(), BOOK)
-            equal(sorted(os.listdir(folder)), ["book", "log", "random"])
+            equal(pathlib.Path(folder, "book").read_text(), BOOK, command.name, "the book")
+            equal(left(folder), set(), command.name, "the files that are left")
             count += 1
-    equal(count, 3)
+    equal(count, 3, "how many commands read a password")
     print(f"oversized.py: {count} passwords that never end")
 
 
@@ -307,11 +291,11 @@ def endless_codes(folder):
             early = run.most_memory()
             holds(run.feed(itertools.repeat(data, whole - 1000)), "the run has ended early", command.name)
             late = run.most_memory()
-            holds(not run.feed(itertools.repeat(data)), command.name)
+            holds(not run.feed(itertools.repeat(data)), "the run reads codes that never end", command.name)
             status, output, faults = run.end()
             equal((status, faults), (3, "scramotp: cannot read input\n"), command.name)
             equal(output, printed + failed * 3 + locked * (whole - 3), command.name)
-            holds(late - early <= MORE, f"memory, which should be at most {MORE} KiB more late than early", command.name, early, late)
+            holds(late - early <= MORE, f"it takes over {MORE} KiB more memory late than early", command.name, early, late)
             print(f"oversized.py: {whole} codes by {command.name}, which took {late - early} KiB more than the first 1000")
 
 

@@ -1,13 +1,22 @@
 #!/usr/bin/env python3
-"""Plants the bugs in crates/NAME/tested/, one at a time: the test that tests/data/planted.csv names for each has to fail.
+"""Plants bugs, one at a time: the test that tests/data/planted.csv names for each has to fail.
 
-Usage: planted.py [BUG ..]
+Usage: planted.py [--jobs N] [BUG ..]
 
-These are bugs for which there is a test, most of them since no contract can speak of them. Each is an edit, in the form that `rt help`
-describes. The script works in a temporary copy of the repository, and proves nothing. A test is in a test crate, and `rt try --test`
-runs it with all others of that crate; or it is in a script of tests/, and is run on a program that `rt try` made of the edited
-sources. Without an edit, each test has to pass. By default all bugs are tried, and otherwise those of these names.
+By default all bugs are tried, and otherwise those of these names. Each is an edit, in the form that `rt help` describes:
+
+- of a crate, in crates/NAME/tested/: a bug for which there is a test, in most cases since no contract can speak of it. The test is in a
+  test crate, and `rt try --test` runs it with all others of that crate; or it is in a script of tests/, and is run on a program that
+  `rt try` makes of the edited sources. Nothing is proved.
+- in tests/tested/: of a tool, of the Makefile, or of a C file with which a script makes calls go wrong: it then makes no call go wrong, or
+  one in another way. The test is in a script, and is run on the programs that `make build` and `make bench` made.
+
+The script works in temporary copies of the repository, whose sources must not change meanwhile. Without an edit, each test has to pass.
+
+The program of `rt try` checks its use of memory and is slow, so a script that kills runs or makes input at random makes fewer of them
+here, as RUNS and COUNT say. It can't run together with those C files, so for a bug of a crate no test that loads one of them is named.
 """
+import argparse
 import csv
 import os
 import re
@@ -15,15 +24,24 @@ import shutil
 import subprocess
 import sys
 import tempfile
+import threading
 import time
-from functools import cache
+from concurrent.futures import ThreadPoolExecutor
 from pathlib import Path
+from typing import NamedTuple
 
-from edit_sources import Edit, Unusable, read_edit
+from edit_sources import Unusable, read_planted, root_of
 
 TOP = Path(__file__).resolve().parent.parent
+# The built programs, from the repository's top: the one that is tested, and the one whose library calls a script tests.
+PROGRAM = "crates/scramotp/out/scramotp"
+BENCH = "crates/bench/out/bench"
+# What a copy of the repository has besides them.
+COPIED = ["crates", "tests", "tools", "docs", "crates.txt", "HANDLES", "Makefile", "README.md"]
 # The most seconds that a command may take.
 LIMIT = 1800
+# How many runs a script kills, and how many inputs of a kind it tries.
+FEWER = {"RUNS": "60", "COUNT": "300", "SEED": "1"}
 # A run of the program that lasts long enough to copy the program, which `rt try` removes at its end.
 LONG_RUN = ["keys", "--mechanism", "SCRAM-SHA-1", "--salt", "00", "--count", "4294967295"]
 
@@ -32,100 +50,151 @@ class NotJudged(Exception):
     """Why a test gave no verdict."""
 
 
+class Row(NamedTuple):
+    """A bug and the test that has to refuse it: the crate that is edited, or `tests`; the edit's name; and the test's crate or script."""
+
+    of: str
+    bug: str
+    by: str
+    test: str
+
+
 def ran(words: list[str], folder: Path) -> str:
     """Runs a command without input, and returns all its output."""
-    ways = {"stdin": subprocess.DEVNULL, "stdout": subprocess.PIPE, "stderr": subprocess.STDOUT}
+    ways = {"stdin": subprocess.DEVNULL, "stdout": subprocess.PIPE, "stderr": subprocess.STDOUT, "env": {**os.environ, **FEWER}}
     return subprocess.run(words, cwd=folder, text=True, errors="replace", timeout=LIMIT, **ways).stdout
 
 
-def make_program(room: Path, to: Path) -> None:
-    """Makes the program of a copy's sources without proofs: copies it while `rt try` runs it, in a folder that has its output too."""
-    with tempfile.TemporaryDirectory(prefix="planted-") as folder, tempfile.TemporaryFile("w+", errors="replace") as said:
-        ways = {"stdin": subprocess.PIPE, "stdout": said, "stderr": said, "env": {**os.environ, "TMPDIR": folder}}
-        with subprocess.Popen(["rt", "try", "--", *LONG_RUN], cwd=room / "crates/scramotp", **ways) as run:
-            run.stdin.write(b"pencil\n")
-            run.stdin.close()
-            while run.poll() is None and not to.exists():
-                time.sleep(1)
-                for output in Path(folder).glob("*/*/stdout"):
-                    shutil.copy(output.with_name("program"), to)
-            run.terminate()
-        said.seek(0)
-        if not to.exists():
-            raise NotJudged(said.read()[-1000:])
+class Room:
+    """A copy of the repository, in which one bug at a time is planted."""
+
+    def __init__(self, folder: Path) -> None:
+        self.top = folder
+        for name in COPIED:
+            if (TOP / name).is_dir():
+                shutil.copytree(TOP / name, folder / name, ignore=shutil.ignore_patterns("out", "__pycache__"))
+            else:
+                shutil.copy2(TOP / name, folder / name)
+        for built in filter(Path.exists, (TOP / PROGRAM, TOP / BENCH)):
+            to = folder / built.relative_to(TOP)
+            to.parent.mkdir()
+            shutil.copy2(built, to)
+
+    def is_refused(self, row: Row) -> bool:
+        """Whether the row's test fails while its bug is planted."""
+        edit, root = read_planted(TOP, row.of, row.bug), root_of(row.of)
+        texts = {file: (TOP / root / file).read_text(encoding="utf-8").split("\n") for file, _ in edit.lines}
+        for (file, at), line in edit.lines.items():
+            texts[file][at - 1] = line
+        try:
+            for file, lines in texts.items():
+                (self.top / root / file).write_text("\n".join(lines), encoding="utf-8")
+            return not self.passes(row)
+        finally:
+            for file in texts:
+                shutil.copy2(TOP / root / file, self.top / root / file)
+
+    def passes(self, row: Row) -> bool:
+        """Whether the row's test passes, with the copy's sources as they are."""
+        if row.by.endswith(".py"):
+            with tempfile.TemporaryDirectory(prefix="planted-") as folder:
+                said = ran([sys.executable, "-B", row.by, str(self.program(row, Path(folder))), row.test], self.top / "tests")
+            verdict = re.search(f"^{row.by}: (?:(1 passed, 0 failed)|0 passed, 1 failed)$", said, re.M)
+        else:
+            said = ran(["rt", "try", "--test"], self.top / "crates" / row.by)
+            verdict = re.search(rf"^test (?:\w+::)*{row.test} \.\.\. (?:(ok)$)?", said, re.M)
+        if not verdict:
+            raise NotJudged(said[-1000:])
+        return verdict[1] is not None
+
+    def program(self, row: Row, folder: Path) -> Path:
+        """The program for a script: the one that is built if no crate is edited, and otherwise one that is made of the copy's sources."""
+        if row.of != "tests":
+            return self.made_program(folder / "program")
+        if not (self.top / PROGRAM).exists():
+            raise NotJudged("this needs the built program: run make build")
+        return self.top / PROGRAM
+
+    def made_program(self, to: Path) -> Path:
+        """Makes the program without proofs: copies it while `rt try` runs it, in a folder that has its output too."""
+        with tempfile.TemporaryDirectory(prefix="planted-") as folder, tempfile.TemporaryFile("w+", errors="replace") as said:
+            ways = {"stdin": subprocess.PIPE, "stdout": said, "stderr": said, "env": {**os.environ, "TMPDIR": folder}}
+            with subprocess.Popen(["rt", "try", "--", *LONG_RUN], cwd=self.top / "crates/scramotp", **ways) as run:
+                run.stdin.write(b"pencil\n")
+                run.stdin.close()
+                while run.poll() is None and not to.exists():
+                    time.sleep(1)
+                    for output in Path(folder).glob("*/*/stdout"):
+                        shutil.copy(output.with_name("program"), to)
+                run.terminate()
+            said.seek(0)
+            if not to.exists():
+                raise NotJudged(said.read()[-1000:])
+        return to
 
 
-def make(room: Path, by: str, to: Path) -> None:
-    """Makes what shows whether a test passes: the output of the tests of a crate, or the program for a script."""
-    if by.endswith(".py"):
-        make_program(room, to)
-    else:
-        to.write_text(ran(["rt", "try", "--test"], room / "crates" / by), encoding="utf-8")
+class Trial:
+    """Trials of bugs, each in a room of its thread's own, and whether each test passes without them."""
+
+    def __init__(self, folder: Path) -> None:
+        self.folder = folder
+        self.own = threading.local()
+        self.lock = threading.Lock()
+        self.passed: dict[tuple[str, str, bool], bool] = {}
+
+    def room(self) -> Room:
+        """This thread's copy of the repository."""
+        if not hasattr(self.own, "room"):
+            self.own.room = Room(Path(tempfile.mkdtemp(dir=self.folder)))
+        return self.own.room
+
+    def passes_without(self, row: Row) -> bool:
+        """Whether the row's test passes without a bug. A test of several rows is run once, unless they are tried at the same time."""
+        key = (row.by, row.test, row.of == "tests")
+        with self.lock:
+            known = self.passed.get(key)
+        if known is None:
+            known = self.room().passes(row)
+            with self.lock:
+                self.passed[key] = known
+        return known
+
+    def judged(self, row: Row) -> bool:
+        """Tries a bug, prints what became of it, and returns whether its test refuses it."""
+        began = time.monotonic()
+        try:
+            if not self.room().is_refused(row):
+                how = "LET THROUGH"
+            elif not self.passes_without(row):
+                how = "NOT JUDGED: it fails without the bug too"
+            else:
+                how = "refused"
+        except (Unusable, NotJudged, subprocess.TimeoutExpired) as fault:
+            how = f"NOT JUDGED: {fault}"
+        print(f"{row.of}/{row.bug}: {row.test} of {row.by}: {how}, {time.monotonic() - began:.0f} s", flush=True)
+        return how == "refused"
 
 
-def passes(made: Path, by: str, test: str) -> bool:
-    """Whether a test of a crate or of a script passes, by what was made for it."""
-    if by.endswith(".py"):
-        said = ran([sys.executable, by, str(made), test], TOP / "tests")
-        verdict = re.search(f"^{by}: (?:(1 passed, 0 failed)|0 passed, 1 failed)$", said, re.M)
-    else:
-        said = made.read_text(encoding="utf-8")
-        verdict = re.search(rf"^test (?:\w+::)*{test} \.\.\. (?:(ok)$)?", said, re.M)
-    if not verdict:
-        raise NotJudged(said[-1000:])
-    return verdict[1] is not None
-
-
-def fails_with(edit: Edit, crate: str, room: Path, by: str, test: str) -> bool:
-    """Whether the test fails while this edit of a crate is in the copy."""
-    texts = {file: (TOP / "crates" / crate / file).read_text(encoding="utf-8").split("\n") for file, _ in edit.lines}
-    for (file, at), line in edit.lines.items():
-        texts[file][at - 1] = line
-    try:
-        for file, lines in texts.items():
-            (room / "crates" / crate / file).write_text("\n".join(lines), encoding="utf-8")
-        with tempfile.TemporaryDirectory(prefix="planted-") as folder:
-            make(room, by, Path(folder) / "made")
-            return not passes(Path(folder) / "made", by, test)
-    finally:
-        for file in texts:
-            shutil.copyfile(TOP / "crates" / crate / file, room / "crates" / crate / file)
+def rows_of(bugs: list[str]) -> list[Row]:
+    """The rows of planted.csv, or those of these bugs. Exits if there is none of a name."""
+    with open(TOP / "tests/data/planted.csv", newline="", encoding="utf-8") as file:
+        rows = [Row(**it) for it in csv.DictReader(file)]
+    if strangers := set(bugs) - {it.bug for it in rows}:
+        sys.exit(f"planted.py: no bug {', '.join(sorted(strangers))}")
+    return [it for it in rows if not bugs or it.bug in bugs]
 
 
 def main() -> int:
     """Tries the bugs, prints a line for each, and returns the exit status."""
-    with open(TOP / "tests/data/planted.csv", newline="", encoding="utf-8") as file:
-        rows = [it for it in csv.DictReader(file) if len(sys.argv) == 1 or it["bug"] in sys.argv[1:]]
-    if strangers := set(sys.argv[1:]) - {it["bug"] for it in rows}:
-        sys.exit(f"planted.py: no bug {', '.join(sorted(strangers))}")
-    failed = 0
-    with tempfile.TemporaryDirectory(prefix="planted-") as temp:
-        room = Path(temp)
-        shutil.copytree(TOP / "crates", room / "crates", ignore=shutil.ignore_patterns("out"))
-        for name in ("crates.txt", "HANDLES"):
-            shutil.copyfile(TOP / name, room / name)
-
-        @cache
-        def passes_without(by: str, test: str) -> bool:
-            made = room / ("program" if by.endswith(".py") else by)
-            if not made.exists():
-                make(room, by, made)
-            return passes(made, by, test)
-
-        for it in rows:
-            crate, by, test, began = it["crate"], it["by"], it["test"], time.monotonic()
-            try:
-                edit = read_edit(TOP / "crates" / crate / "tested" / f"{it['bug']}.edit", TOP / "crates" / crate, [])
-                if not fails_with(edit, crate, room, by, test):
-                    how = "LET THROUGH"
-                elif not passes_without(by, test):
-                    how = "NOT JUDGED: it fails without the bug too"
-                else:
-                    how = "refused"
-            except (Unusable, NotJudged, subprocess.TimeoutExpired) as fault:
-                how = f"NOT JUDGED: {fault}"
-            failed += how != "refused"
-            print(f"{crate}/{it['bug']}: {test} of {by}: {how}, {time.monotonic() - began:.0f} s", flush=True)
+    words = argparse.ArgumentParser(description="Plants bugs that tests have to refuse.")
+    words.add_argument("--jobs", type=int, default=1, help="how many bugs are tried at the same time; each takes about 2 GB of memory")
+    words.add_argument("bugs", metavar="BUG", nargs="*", help="the name of an edit; by default, all bugs are tried")
+    given = words.parse_args()
+    rows = rows_of(given.bugs)
+    with tempfile.TemporaryDirectory(prefix="planted-") as folder, ThreadPoolExecutor(given.jobs) as pool:
+        trial = Trial(Path(folder))
+        are_refused = [*pool.map(trial.judged, rows)]
+    failed = are_refused.count(False)
     print(f"{len(rows) - failed} refused, {failed} not")
     return 1 if failed else 0
 

@@ -10,13 +10,13 @@ keys and verifiers are those of RFC 4226 and RFC 7677, from keys.csv (made by Do
 test runs is a fault. Takes the 30 seconds for which an edit waits for a book. DOCUMENT=PATH in the environment names another page.
 """
 import base64
-import csv
 import fcntl
 import fnmatch
 import grp
 import os
 import re
 import shlex
+import shutil
 import signal
 import time
 from concurrent.futures import ThreadPoolExecutor
@@ -26,10 +26,9 @@ import expected
 import suite
 from book_cases import cases
 from checks import equal, holds
-from expected import AUDITS, VECTORS, keys_of
-from suite import (
-    BOOK_OF_USER, CODES, LIMIT, NOBODY, ROOT, code, document, hotp, is_locked, is_root, program_on_path, read_book, seen, totp, until,
-)
+from expected import AUDITS, VECTORS, keys_of, rows_of
+from runs import until
+from suite import BOOK_OF_USER, CODES, ROOT, code, document, hotp, is_locked, is_root, nobody, program_on_path, read_book, seen, totp
 from tool_runs import TOOLS, book_of, does, ran, start, with_tools
 
 DOCUMENT = document("docs/OPERATING.md")
@@ -55,6 +54,7 @@ exit $status
 SERVED = "Serve many logins with `hall`"
 UNIT_OF_HALL = "A unit for `serve-hall`"
 
+
 def all_blocks():
     """Each block of the document except the two of `serve-hall`: its section's title, its language and its text."""
     return [block for block in suite.blocks_of(DOCUMENT) if block[0] not in (SERVED, UNIT_OF_HALL)]
@@ -78,12 +78,39 @@ def with_fob(folder):
     does(folder, blocks("Give a user one-time codes")[-1].replace(FOB, NAME).replace("no such account", "no token"))
 
 
+# The tools that have no texts of their own.
+SILENT = {"check-code", "drop-tables"}
+
+# The tables of an account's keys.
+MECHANISMS = ["sha1", "sha256"]
+
+
+def has_keys_of(account, password, count=None):
+    """Checks that an account has the keys of this password for both mechanisms, with this count if one is given."""
+    for mechanism in MECHANISMS:
+        keys = account[mechanism]
+        due = keys_of(mechanism, password, bytes.fromhex(keys["salt"]), count or keys["count"])
+        equal((keys["stored"], keys["server"]), due, f"the {mechanism} keys of", password)
+
+
+def states(folder, book, about):
+    """Checks that the book in a folder states this."""
+    equal(book_of(folder), book, about)
+
+
+def without_keys(book, name):
+    """What a book states, without the keys of this account."""
+    left = {key: it for key, it in book["accounts"][name].items() if key not in MECHANISMS}
+    return {**book, "accounts": {**book["accounts"], name: left}}
+
+
 def code_at(secret, moment):
     """The TOTP code for a moment (RFC 6238): six digits, SHA-1, steps of 30 seconds from 0."""
     return expected.code(secret, moment // 30)
 
 
 def verify(name, *codes, moment=5):
+    """A block in which `verify` is sent these codes."""
     return f"printf '%s\\n' {' '.join(codes)} | scramotp verify --book book.toml --name {name} --moment {moment}"
 
 
@@ -97,11 +124,12 @@ def an_editor_and_a_command(folder):
     editor.chmod(0o755)
     does(folder, "tools/edit-book book.toml", EDITOR=f"{shlex.quote(str(editor))} 'a b@c'")
     does(folder, "tools/edit-book book.toml sed s/4096/4097/")
-    equal(book_of(folder)["decoy_count"], 4097)
-    equal(set(book_of(folder)["accounts"]), {"user", "a b@c"})
+    equal(book_of(folder)["decoy_count"], 4097, "the count of decoys after an edit by a command")
+    equal(set(book_of(folder)["accounts"]), {"user", "a b@c"}, "the accounts after an edit by an editor")
     after = book.stat()
-    equal((after.st_uid, after.st_gid, after.st_mode), (before.st_uid, before.st_gid, before.st_mode))
-    equal({path.name for path in Path(folder).iterdir()}, {"bin", "book.toml", "editor", "tools"})
+    kept = (before.st_uid, before.st_gid, before.st_mode)
+    equal((after.st_uid, after.st_gid, after.st_mode), kept, "the owner, the group and the mode after the edits")
+    equal(set(os.listdir(folder)), {"bin", "book.toml", "editor", "tools"}, "the files in the folder after the edits")
 
 
 def an_edit_that_fails(folder):
@@ -111,22 +139,47 @@ def an_edit_that_fails(folder):
     status, output, faults = ran(folder, "tools/edit-book book.toml sed s/format/former/")
     found = re.fullmatch(rf"scramotp: bad book: 61\nedit-book: {real} is unchanged; look into (.*)\n", faults)
     equal((status, output), (1, ""), faults)
-    holds(found, faults)
-    equal(Path(found[1]).read_text(), BOOK_OF_USER.replace("format", "former"))
+    holds(found, "the faults of an edit whose text is no book", faults)
+    equal(Path(found[1]).read_text(), BOOK_OF_USER.replace("format", "former"), "the text that the fault names")
     os.remove(found[1])
     found = ran(folder, "tools/edit-book book.toml false")
-    equal(found, (1, "", f"edit-book: {real} is unchanged, because false failed\n"))
+    equal(found, (1, "", f"edit-book: {real} is unchanged, because false failed\n"), "an edit by a command that fails")
     found = ran(folder, "tools/edit-book book.toml", EDITOR="false")
-    equal(found, (1, "", f"edit-book: {real} is unchanged, because the editor failed\n"))
-    equal(book.read_text(), BOOK_OF_USER)
-    equal(set(os.listdir(folder)), {"bin", "book.toml", "tools"})
+    equal(found, (1, "", f"edit-book: {real} is unchanged, because the editor failed\n"), "an edit by an editor that fails")
+    equal(book.read_text(), BOOK_OF_USER, "the book after edits that fail")
+    equal(set(os.listdir(folder)), {"bin", "book.toml", "tools"}, "the files in the folder after edits that fail")
+
+
+def an_edit_that_cannot_be_saved(folder):
+    """If the new text can't be put in the book's place, the book stays as it was. If only its folder can't be synced, the book is changed.
+    Both are said. That the group can't be given to the new text is no fault. Here stand-ins for the system's commands fail."""
+    book = with_tools(folder, BOOK_OF_USER)
+    commands, edited = Path(program_on_path(folder)["PATH"].partition(":")[0]), BOOK_OF_USER.replace("4096", "4097")
+    kept = "is unchanged, because the new text could not be put in its place"
+    lost = "is changed, but the change may be lost if the machine stops now"
+    for command, fails, fault, text in [
+        ("sync", '[ ! -d "$2" ]', kept, BOOK_OF_USER),
+        ("mv", "true", kept, BOOK_OF_USER),
+        ("sync", '[ -d "$2" ]', lost, edited),
+        ("chgrp", "true", "", edited),
+    ]:
+        what, refusal = f"{command} fails if {fails}", "echo refused >&2; " if command == "chgrp" else ""
+        book.write_text(BOOK_OF_USER)
+        stand_in = Path(commands, command)
+        stand_in.write_text(f'#!/bin/sh\n{fails} || exec {shutil.which(command)} "$@"\n{refusal}exit 1\n')
+        stand_in.chmod(0o755)
+        said = f"edit-book: {os.path.realpath(book)} {fault}\n" if fault else ""
+        equal(ran(folder, "tools/edit-book book.toml sed s/4096/4097/"), (int(fault != ""), "", said), what)
+        equal(book.read_text(), text, what)
+        equal(set(os.listdir(folder)), {"bin", "book.toml", "tools"}, what)
+        stand_in.unlink()
 
 
 def an_edit_of_anothers_book(folder):
     """Another user's book is refused, and stays as it was. So does root's book in another user's folder, which only root can try."""
     book = with_tools(folder, BOOK_OF_USER)
     if ROOT:
-        os.chown(book, NOBODY.pw_uid, NOBODY.pw_gid)
+        os.chown(book, nobody().pw_uid, nobody().pw_gid)
     else:
         # A file of root's, through a link
         book.unlink()
@@ -135,55 +188,56 @@ def an_edit_of_anothers_book(folder):
     belongs = f"edit-book: {os.path.realpath(book)} belongs to another user: run edit-book as the book's owner\n"
     for edit in ["tools/edit-book book.toml sed s/4096/4097/", "EDITOR=false tools/edit-book book.toml"]:
         found = ran(folder, edit)
-        equal(found, (1, "", belongs))
+        equal(found, (1, "", belongs), edit)
         equal(seen(book), before, edit)
     if is_root():
         os.chown(book, 0, 0)
-        os.chown(folder, NOBODY.pw_uid, NOBODY.pw_gid)
+        os.chown(folder, nobody().pw_uid, nobody().pw_gid)
         before = seen(book)
         found = ran(folder, "tools/edit-book book.toml sed s/4096/4097/")
-        equal(found, (1, "", f"edit-book: {os.path.realpath(book)} is in a folder of another user\n"))
-        equal(seen(book), before)
-    equal(set(os.listdir(folder)), {"bin", "book.toml", "tools"})
+        equal(found, (1, "", f"edit-book: {os.path.realpath(book)} is in a folder of another user\n"), "an edit in another user's folder")
+        equal(seen(book), before, "the book in another user's folder")
+    equal(set(os.listdir(folder)), {"bin", "book.toml", "tools"}, "the files in the folder")
 
 
 def an_edit_that_is_stopped(folder):
     """An edit whose processes are terminated leaves the book as it was, and no file next to it."""
     book = with_tools(folder, BOOK_OF_USER)
     edit = start(folder, "exec setsid tools/edit-book book.toml sh -c 'sed s/4096/4097/; exec sleep 600'")
-    until(lambda: any(path.read_text() for path in Path(folder).glob("book.toml.*")))
-    os.killpg(edit.pid, signal.SIGTERM)
-    edit.communicate(timeout=LIMIT)
-    equal(edit.returncode, 1)
-    equal(book.read_text(), BOOK_OF_USER)
-    equal(list(Path(folder).glob("book.toml.*")), [])
+    until(lambda: any(path.read_text() for path in Path(folder).glob("book.toml.*")), "the edit should write its text")
+    os.killpg(edit.process.pid, signal.SIGTERM)
+    equal(edit.end().status, 1, "the status of an edit that is stopped")
+    equal(book.read_text(), BOOK_OF_USER, "the book")
+    equal(list(Path(folder).glob("book.toml.*")), [], "the files that are left")
+
+
+def has_both_changes(folder):
+    """Checks that the book has what an edit changed, and what a run did."""
+    found = book_of(folder)
+    equal((found["decoy_count"], found["accounts"]["user"]["token"]["next"]), (4097, 1), "the count of decoys and the next counter", found)
 
 
 def an_edit_waits(folder):
     """An edit that waits for a run then edits the file that the run has put in the book's place."""
     book = with_tools(folder, BOOK_OF_USER + hotp(look_ahead=3, limit=3))
     run = start(folder, "exec scramotp verify --book book.toml --name user --moment 5")
-    until(lambda: is_locked(book))
+    until(lambda: is_locked(book), "the run should hold the book")
     edit = start(folder, "tools/edit-book book.toml sed s/4096/4097/")
     time.sleep(0.5)
-    equal(edit.poll(), None)
-    equal(run.communicate(CODES[0] + "\n", timeout=LIMIT), ("PASS 5 0\n", ""))
-    equal(edit.communicate(timeout=LIMIT), ("", ""))
-    equal(edit.returncode, 0)
-    found = book_of(folder)
-    equal((found["decoy_count"], found["accounts"]["user"]["token"]["next"]), (4097, 1), found)
+    edit.goes_on()
+    run.ends(0, "PASS 5 0\n", text=f"{CODES[0]}\n")
+    edit.ends(0)
+    has_both_changes(folder)
 
 
 def a_run_waits(folder):
     """A run that waits for an edit then uses the file that the edit has put in the book's place."""
     book = with_tools(folder, BOOK_OF_USER + hotp(look_ahead=3, limit=3))
     slow = start(folder, "tools/edit-book book.toml sh -c 'sed s/4096/4097/; sleep 1'")
-    until(lambda: is_locked(book))
+    until(lambda: is_locked(book), "the edit should hold the book")
     does(folder, verify("user", CODES[0]), printed="PASS 5 0\n")
-    equal(slow.communicate(timeout=LIMIT), ("", ""))
-    equal(slow.returncode, 0)
-    found = book_of(folder)
-    equal((found["decoy_count"], found["accounts"]["user"]["token"]["next"]), (4097, 1), found)
+    slow.ends(0)
+    has_both_changes(folder)
 
 
 def many_at_once(folder):
@@ -196,7 +250,7 @@ def many_at_once(folder):
     equal([status for status, _, _ in found], [0] * 17, found)
     accounts = book_of(folder)["accounts"]
     equal(set(accounts), {"user", *(f"{kind}{number}" for kind in "ab" for number in range(8))}, sorted(accounts))
-    equal(accounts["user"]["token"]["next"], 6)
+    equal(accounts["user"]["token"]["next"], 6, "the next counter of the token")
 
 
 def an_edit_gives_up(folder):
@@ -205,8 +259,17 @@ def an_edit_gives_up(folder):
     with open(book, "rb") as file:
         fcntl.flock(file, fcntl.LOCK_EX)
         found = ran(folder, "tools/edit-book book.toml sed s/4096/4097/")
-    equal(found, (1, "", f"edit-book: {os.path.realpath(book)} is in use\n"))
-    equal(book.read_text(), BOOK_OF_USER)
+    equal(found, (1, "", f"edit-book: {os.path.realpath(book)} is in use\n"), "an edit of a book that is held")
+    equal(book.read_text(), BOOK_OF_USER, "the book after an edit that gave up")
+
+
+def sets_no_token(folder, block, why):
+    """A block of the section on codes sets no token, and says why. The book stays as it was, and the token's text is removed."""
+    before = book_of(folder)
+    _, output, faults = ran(folder, block)
+    equal((output, faults), ("", f"no token is set: {why}\n"), "a token that is not set")
+    states(folder, before, f"what the book states: {why}")
+    holds(not Path(folder, "token.toml").exists(), "the token's text is left", why)
 
 
 def a_token(folder):
@@ -215,27 +278,24 @@ def a_token(folder):
     enrolled(folder)
     set_token, drop_token, _ = blocks("Give a user one-time codes")
     status, output, faults = ran(folder, set_token)
-    equal((status, faults), (0, ""))
+    equal((status, faults), (0, ""), "the token is set", output)
     secret = base64.b32decode(output.strip())
-    equal(len(secret), 20)
+    equal(len(secret), 20, "how many bytes the secret has")
     holds(not Path(folder, "token.toml").exists(), "the token's text is left")
     moment = 1234567890
     does(folder, verify(NAME, code_at(secret, moment), moment=moment), printed=f"PASS {moment} {moment // 30}\n")
-    equal(ran(folder, verify("other", "000000"))[2], "scramotp: no token\n")
+    equal(ran(folder, verify("other", "000000"))[2], "scramotp: no token\n", "the fault of a code for an account without a token")
     before = book_of(folder)
     mistyped = set_token.replace("user", "usr")
-    for block, why in [(set_token, "there is one already"), (mistyped, "scramotp: no such account")]:
-        _, output, faults = ran(folder, block)
-        equal((output, faults), ("", f"no token is set: {why}\n"))
-        equal(book_of(folder), before, why)
-        holds(not Path(folder, "token.toml").exists(), "the token's text is left", why)
+    sets_no_token(folder, set_token, "there is one already")
+    sets_no_token(folder, mistyped, "scramotp: no such account")
     does(folder, drop_token)
     del before["accounts"][NAME]["token"]
-    equal(book_of(folder), before)
-    equal(ran(folder, verify(NAME, "000000"))[2], "scramotp: no token\n")
+    states(folder, before, "what the book states after the token is dropped")
+    equal(ran(folder, verify(NAME, "000000"))[2], "scramotp: no token\n", "the fault of a code after the token is dropped")
     status, output, faults = ran(folder, set_token)
-    equal((status, faults), (0, ""))
-    holds(base64.b32decode(output.strip()) != secret, faults)
+    equal((status, faults), (0, ""), "the token is set again", output)
+    holds(base64.b32decode(output.strip()) != secret, "the secret of the second token is that of the first", output)
 
 
 def a_hotp_token(folder):
@@ -249,28 +309,24 @@ def a_hotp_token(folder):
     does(folder, verify(FOB, CODES[0], CODES[1]), printed="PASS 5 0\nPASS 5 1\n")
     skipped = 2 + added["accounts"][FOB]["token"]["look_ahead"]
     does(folder, verify(FOB, code(skipped)), printed=f"PASS 5 {skipped}\n")
-    before = book_of(folder)
     of_user = add_fob.replace(FOB, NAME)
-    for block, why in [(add_fob, "there is one already"), (of_user, "scramotp: no token")]:
-        _, output, faults = ran(folder, block)
-        equal((output, faults), ("", f"no token is set: {why}\n"))
-        equal(book_of(folder), before, why)
-        holds(not Path(folder, "token.toml").exists(), "the token's text is left", why)
-    holds("no such account" in of_user, of_user)
+    sets_no_token(folder, add_fob, "there is one already")
+    sets_no_token(folder, of_user, "scramotp: no token")
+    holds("no such account" in of_user, "the block does not name what the document changes in it", of_user)
     does(folder, of_user.replace("no such account", "no token"))
-    equal(book_of(folder)["accounts"][NAME].pop("token"), added["accounts"][FOB]["token"])
+    equal(book_of(folder)["accounts"][NAME].pop("token"), added["accounts"][FOB]["token"], "the token of an account that had none")
 
 
 def a_fob_that_ran_ahead(folder):
     """Two codes in a row pass although the first by itself is too far ahead, and the token goes on after them."""
     enrolled(folder)
     does(folder, blocks("Give a user one-time codes")[-1])
-    equal(ran(folder, verify(FOB, code(8)))[:2], (1, "FAIL 5\n"))
+    equal(ran(folder, verify(FOB, code(8)))[:2], (1, "FAIL 5\n"), "the answer to a code that is too far ahead")
     [sync] = blocks("Resynchronise a HOTP fob")
     status, output, faults = ran(folder, sync)
     equal((status, faults), (0, ""), output)
-    holds(re.fullmatch(r"PASS \d+ 9\n", output), output, faults)
-    equal(ran(folder, sync)[0], 1)
+    holds(re.fullmatch(r"PASS \d+ 9\n", output), "the pair does not pass", output, faults)
+    equal(ran(folder, sync)[0], 1, "the status of a pair that has passed before")
     does(folder, verify(FOB, code(10)), printed="PASS 5 10\n")
 
 
@@ -280,21 +336,20 @@ def an_account(folder):
     with_tools(folder, "").unlink()
     does(folder, add, "pencil\n", f"enrolled {NAME}\n")
     before = book_of(folder)
-    for mechanism in ("sha1", "sha256"):
-        keys = before["accounts"][NAME][mechanism]
-        equal((keys["stored"], keys["server"]), keys_of(mechanism, b"pencil", bytes.fromhex(keys["salt"]), 4096))
+    has_keys_of(before["accounts"][NAME], b"pencil", 4096)
     _, output, faults = ran(folder, add, "another one\n")
-    equal((output, faults), ("", "scramotp: name is taken\n"))
-    equal(book_of(folder), before)
+    equal((output, faults), ("", "scramotp: name is taken\n"), "a name that is taken")
+    states(folder, before, "what the book states after a name that is taken")
     other = add.replace(NAME, "other")
-    holds(other != add, add)
+    holds(other != add, "the block does not add this name", NAME, add)
     does(folder, other + FORGOTTEN, "pencil\n", "enrolled other\n")
     after = book_of(folder)
-    equal((after["accounts"][NAME], set(after["accounts"])), (before["accounts"][NAME], {NAME, "other"}))
+    equal(set(after["accounts"]), {NAME, "other"}, "the accounts after the second is added")
+    equal(after["accounts"][NAME], before["accounts"][NAME], "the first account after the second is added")
     line, acts = re.findall(r"`(act_as = \[[^`]*\])`", DOCUMENT.read_text(encoding="utf-8"))
-    holds(f"\n{line}\n" in Path(folder, "book.toml").read_text(), line, Path(folder, "book.toml").read_text())
+    holds(f"\n{line}\n" in Path(folder, "book.toml").read_text(), "the book does not have the line that the document shows", line)
     does(folder, f"tools/edit-book book.toml sed '/^.accounts.other.$/,$ s/^act_as = .*/{acts}/'")
-    equal(book_of(folder)["accounts"]["other"]["act_as"], ["postmaster", "list"])
+    equal(book_of(folder)["accounts"]["other"]["act_as"], ["postmaster", "list"], "the names that the account may act as")
     audited = "printf 'SCRAMLOG 1\\n' | scramotp audit --book book.toml --log /dev/stdin"
     does(folder, audited, printed="clean sessions=0 accepted=0 codes=0\n")
 
@@ -307,17 +362,16 @@ def a_password(folder):
     change, _ = blocks("Change a password")
     does(folder, change, "another one\n", f"enrolled {NAME}\n")
     after = book_of(folder)
-    for table, mechanism in [("sha1", "sha1"), ("sha256", "sha256")]:
-        old, new = before["accounts"][NAME].pop(table), after["accounts"][NAME].pop(table)
-        holds(old["salt"] != new["salt"], old, new)
-        want = keys_of(mechanism, b"another one", bytes.fromhex(new["salt"]), new["count"])
-        equal((new["stored"], new["server"]), want)
-    equal(after, before)
+    has_keys_of(after["accounts"][NAME], b"another one")
+    for mechanism in MECHANISMS:
+        old, new = (book["accounts"][NAME][mechanism]["salt"] for book in (before, after))
+        holds(old != new, f"the salt of {mechanism} stays", old)
+    equal(without_keys(after, NAME), without_keys(before, NAME), "what else the book states")
     does(folder, verify(NAME, CODES[0]), printed="PASS 5 0\n")
     left = Path(folder, "left")
     left.mkdir()
     does(folder, change + FORGOTTEN, "a third\n", f"enrolled {NAME}\n", TMPDIR=str(left))
-    equal(list(left.iterdir()), [])
+    equal(list(left.iterdir()), [], "the files that are left of the change")
 
 
 def a_password_of_one_mechanism(folder):
@@ -329,11 +383,8 @@ def a_password_of_one_mechanism(folder):
         change, _ = blocks("Change a password")
         does(folder, change, "another one\n", f"enrolled {NAME}\n")
         after = book_of(folder)
-        for mechanism in ("sha1", "sha256"):
-            keys = after["accounts"][NAME].pop(mechanism)
-            equal((keys["stored"], keys["server"]), keys_of(mechanism, b"another one", bytes.fromhex(keys["salt"]), keys["count"]))
-        del before["accounts"][NAME][kept]
-        equal(after, before)
+        has_keys_of(after["accounts"][NAME], b"another one")
+        equal(without_keys(after, NAME), without_keys(before, NAME), f"what else the book states, after only {kept} keys")
 
 
 def a_first_password(folder):
@@ -345,24 +396,23 @@ def a_first_password(folder):
     before = book_of(folder)
     _, first = blocks("Change a password")
     mistyped = first.replace("fob", "fab")
-    holds(mistyped != first, first)
-    equal(ran(folder, mistyped, "another one\n")[1:], ("", "scramotp: no such account\n"))
-    equal(book_of(folder), before)
+    holds(mistyped != first, "the block has no name that can be mistyped", first)
+    equal(ran(folder, mistyped, "another one\n")[1:], ("", "scramotp: no such account\n"), "a name that has no account")
+    states(folder, before, "what the book states after a name that has no account")
     left = Path(folder, "left")
     left.mkdir()
     does(folder, first + FORGOTTEN, "another one\n", f"enrolled {FOB}\n", TMPDIR=str(left))
-    equal(list(left.iterdir()), [])
+    equal(list(left.iterdir()), [], "the files that are left of the first password")
     after = book_of(folder)
-    for mechanism in ("sha1", "sha256"):
-        keys = after["accounts"][FOB].pop(mechanism)
-        equal((keys["stored"], keys["server"]), keys_of(mechanism, b"another one", bytes.fromhex(keys["salt"]), keys["count"]))
-    equal(after, before)
+    has_keys_of(after["accounts"][FOB], b"another one")
+    equal(without_keys(after, FOB), before, "what else the book states")
     does(folder, verify(FOB, CODES[1]), printed="PASS 5 1\n")
     before = book_of(folder)
     _, output, faults = ran(folder, first, "a third\n")
-    equal(output, f"enrolled {FOB}\n")
-    holds(re.fullmatch(r"scramotp: bad book: 60\nedit-book: .* is unchanged; look into .*\n", faults), faults)
-    equal(book_of(folder), before)
+    equal(output, f"enrolled {FOB}\n", "an account that has keys: the output")
+    due = r"scramotp: bad book: 60\nedit-book: .* is unchanged; look into .*\n"
+    holds(re.fullmatch(due, faults), "an account that has keys: other faults than", due, faults)
+    states(folder, before, "what the book states after a first password for an account that has keys")
 
 
 def a_password_that_is_refused(folder):
@@ -375,7 +425,7 @@ def a_password_that_is_refused(folder):
         equal((output, faults), ("", "scramotp: bad password\n"), password)
         equal(Path(folder, "book.toml").read_bytes(), before, password)
     for old, new in [("sed -n", "false"), ("sed -n '/\\.sha1]$/,$p'", "sed -n /none/p"), ("'[accounts.", "'[none.")]:
-        holds(old in change, old)
+        holds(old in change, "the block does not have what is replaced in it", old, change)
         status, output, _ = ran(folder, change.replace(old, new), "another one\n")
         equal(output, f"enrolled {NAME}\n", old)
         equal(Path(folder, "book.toml").read_bytes(), before, old)
@@ -390,17 +440,17 @@ def a_removed_account(folder):
     does(folder, verify(NAME, CODES[0]), printed="PASS 5 0\n")
     does(folder, remove)
     del before["accounts"][NAME]
-    equal(book_of(folder), before)
+    states(folder, before, "what the book states after an account with a token is removed")
     does(folder, f"scramotp enrol --book book.toml --name {NAME}", "pencil\n", f"enrolled {NAME}\n")
     does(folder, remove)
-    equal(book_of(folder), before)
+    states(folder, before, "what the book states after an account with keys is removed")
     keys = f'\n[accounts."{NAME}".sha1]\ncount = 1\nsalt = "00"\nserver = "{"00" * 20}"\nstored = "{"00" * 20}"\n'
     Path(folder, "keys.toml").write_text(keys)
     does(folder, "tools/edit-book book.toml cat - keys.toml")
     does(folder, remove)
-    equal(book_of(folder), before)
-    equal(ran(folder, remove)[0], 1)
-    equal(book_of(folder), before)
+    states(folder, before, "what the book states after an account with keys of one mechanism is removed")
+    equal(ran(folder, remove)[0], 1, "the status of the block for a name without an account")
+    states(folder, before, "what the book states after nothing was removed")
 
 
 def a_renamed_account(folder):
@@ -416,21 +466,21 @@ def a_renamed_account(folder):
     does(folder, rename)
     accounts = before["accounts"]
     accounts[RENAMED] = accounts.pop(FOB)
-    equal(book_of(folder), before)
-    equal(ran(folder, verify(RENAMED, CODES[0], CODES[1]))[:2], (1, "FAIL 5\nPASS 5 1\n"))
-    equal(ran(folder, verify(FOB, CODES[2]))[2], "scramotp: no such account\n")
+    states(folder, before, "what the book states after the account is renamed")
+    equal(ran(folder, verify(RENAMED, CODES[0], CODES[1]))[:2], (1, "FAIL 5\nPASS 5 1\n"), "the answer to codes under the new name")
+    equal(ran(folder, verify(FOB, CODES[2]))[2], "scramotp: no such account\n", "the fault of a code under the old name")
     before = book_of(folder)
     does(folder, rename)
-    equal(book_of(folder), before, "no account has the old name")
+    states(folder, before, "what the book states when no account has the old name")
     taken = rename.replace("fob@example\\.org", "user@example\\.org")
-    holds(taken != rename, rename)
+    holds(taken != rename, "the block does not name the account to rename", rename)
     status, _, faults = ran(folder, taken.replace(RENAMED, "other@example.org"))
-    equal((status, faults), (0, ""))
+    equal((status, faults), (0, ""), "an account that does not exist is renamed")
     does(folder, f"scramotp enrol --book book.toml --name {NAME}", "pencil\n", f"enrolled {NAME}\n")
     before = book_of(folder)
     status, _, faults = ran(folder, taken.replace(RENAMED, "other@example.org"))
-    holds(status == 1 and "is unchanged" in faults, status, faults)
-    equal(book_of(folder), before, "the new name is taken")
+    holds(status == 1 and "is unchanged" in faults, "a new name that is taken is not refused", status, faults)
+    states(folder, before, "what the book states when the new name is taken")
 
 
 def what_accounts_have(folder):
@@ -444,14 +494,14 @@ def what_accounts_have(folder):
     started = {f"{NAME}: sha1 keys, sha256 keys", "other: sha1 keys, sha256 keys", "bare: nothing"}
     told = {"counts: hotp token (next 0, 0 failures)", "timed: totp token (last none, 0 failures)"}
     status, output, faults = ran(folder, tell)
-    equal((status, set(output.splitlines()), faults), (0, started | told, ""))
+    equal((status, set(output.splitlines()), faults), (0, started | told, ""), "what accounts have before any code")
     does(folder, verify("counts", CODES[0]), printed="PASS 5 0\n")
-    equal(ran(folder, verify("counts", "000000", "000000"))[:2], (1, "FAIL 5\nFAIL 5\n"))
+    equal(ran(folder, verify("counts", "000000", "000000"))[:2], (1, "FAIL 5\nFAIL 5\n"), "the answer to codes that lock the token")
     does(folder, verify("timed", "94287082", moment=59), printed="PASS 59 1\n")
-    equal(ran(folder, verify("timed", "00000000", moment=59))[:2], (1, "FAIL 59\n"))
+    equal(ran(folder, verify("timed", "00000000", moment=59))[:2], (1, "FAIL 59\n"), "the answer to a code that fails")
     told = {"counts: hotp token (next 1, locked)", "timed: totp token (last 1, 1 failures)"}
     status, output, faults = ran(folder, tell)
-    equal((status, set(output.splitlines()), faults), (0, started | told, ""))
+    equal((status, set(output.splitlines()), faults), (0, started | told, ""), "what accounts have after the codes")
 
 
 def decoys(folder):
@@ -477,8 +527,7 @@ def texts(mechanism, count, salt, stored, server):
 
 def keys_of_dovecot(folder):
     """Keys that Dovecot made are put into a book unchanged."""
-    with open(VECTORS / "keys.csv", newline="", encoding="ascii") as table:
-        rows = [row for row in csv.DictReader(table) if "doveadm" in row["source"]][::6]
+    rows = [row for row in rows_of(VECTORS / "keys.csv") if "doveadm" in row["source"]][::6]
     into, _ = blocks("Keys from PostgreSQL and Dovecot")
     equal({row["mechanism"] for row in rows}, {"SCRAM-SHA-1", "SCRAM-SHA-256"}, rows)
     for number, row in enumerate(rows):
@@ -489,7 +538,7 @@ def keys_of_dovecot(folder):
         does(of_row, into, texts(*fields)[1] + "\n")
         table = {"SCRAM-SHA-1": "sha1", "SCRAM-SHA-256": "sha256"}[row["mechanism"]]
         keys = {"count": int(row["count"]), "salt": row["salt_hex"], "stored": row["stored_hex"], "server": row["server_hex"]}
-        equal(book_of(of_row)["accounts"][NAME], {table: keys})
+        equal(book_of(of_row)["accounts"][NAME], {table: keys}, "the account's keys", row["source"])
         holds(not Path(of_row, "keys.toml").exists(), "the keys' text is left")
 
 
@@ -507,11 +556,12 @@ def a_verifier_there_and_back(folder):
     does(folder, f"scramotp audit --book book.toml --log {AUDITS / 'sha256.log'}", printed=clean)
     name = "q\"\\'@ x"
     does(folder, f"tools/from-verifier {shlex.quote(name)} >keys.toml && tools/edit-book book.toml cat - keys.toml", both[1] + "\n")
-    equal(book_of(folder)["accounts"][name], book_of(folder)["accounts"]["user"])
+    equal(book_of(folder)["accounts"][name], book_of(folder)["accounts"]["user"], "the account whose name TOML has to quote")
     before = book_of(folder)
     for text in ["", "md5c0ffee", both[0].replace("256", "512"), both[0].replace("==", "=")]:
-        holds("not a verifier" in ran(folder, into.replace(NAME, "new"), text + "\n")[2], text)
-        equal(book_of(folder), before)
+        _, _, faults = ran(folder, into.replace(NAME, "new"), text + "\n")
+        holds("not a verifier" in faults, "a text that is no verifier is taken for one", text, faults)
+        states(folder, before, f"what the book states after {text!r} was given as a verifier")
 
 
 def a_code_in_a_script(folder):
@@ -525,21 +575,25 @@ def a_code_in_a_script(folder):
     for text in ["", "\n", "\r\n", " \n"]:
         equal(lets_in(text), 1, text)
     token = book_of(folder)["accounts"]["user"]["token"]
-    equal((token["next"], token["failures"]), (0, 0))
+    equal((token["next"], token["failures"]), (0, 0), "the next counter and the failures after blank lines")
     for text, status in [(CODES[0] + "\r\n", 0), (CODES[1][:3] + " " + CODES[1][3:], 0), (CODES[1], 1), (CODES[2], 0)]:
         equal(lets_in(text), status, text)
-    equal(lets_in(f"000000\n{CODES[3]}\n"), 1)
-    equal(lets_in("PASS 1 1\n"), 1)
-    equal(lets_in(CODES[3]), 1)
+    equal(lets_in(f"000000\n{CODES[3]}\n"), 1, "the status for a second line")
+    equal(lets_in("PASS 1 1\n"), 1, "the status for a reply instead of a code")
+    equal(lets_in(CODES[3]), 1, "the status for a code at a locked token")
     does(folder, "scramotp unlock --book book.toml --name user", printed="unlocked user\n")
-    equal([lets_in(CODES[3]), lets_in(CODES[0], "-x"), lets_in(CODES[0], "-x")], [0, 0, 1])
-    equal(lets_in(f"SYNC {CODES[1]} {CODES[2]}", "-x"), 1)
-    equal([lets_in(CODES[4], "bare"), lets_in(CODES[4], "nobody"), lets_in(CODES[4], book="none")], [1, 1, 1])
+    equal(lets_in(CODES[3]), 0, "the status for a code after the token is unlocked")
+    equal([lets_in(CODES[0], "-x"), lets_in(CODES[0], "-x")], [0, 1], "the statuses for a code that is sent twice")
+    equal(lets_in(f"SYNC {CODES[1]} {CODES[2]}", "-x"), 1, "the status for two codes in a row")
+    equal(lets_in(CODES[4], "bare"), 1, "the status for an account without a token")
+    equal(lets_in(CODES[4], "nobody"), 1, "the status for a name without an account")
+    equal(lets_in(CODES[4], book="none"), 1, "the status if there is no book")
     silent = Path(folder, "silent", "scramotp")
     silent.parent.mkdir()
     silent.write_text("#!/bin/sh\n")
     silent.chmod(0o755)
-    equal(ran(folder, 'PATH="$PWD/silent:$PATH" tools/check-code book.toml user', CODES[4])[0], 1)
+    status, _, _ = ran(folder, 'PATH="$PWD/silent:$PATH" tools/check-code book.toml user', CODES[4])
+    equal(status, 1, "the status if the program prints nothing")
 
 
 def a_code_of_a_service(folder):
@@ -555,7 +609,7 @@ def a_code_of_a_service(folder):
     for it, status in [(CODES[0], 0), (CODES[0], 1), ("000000", 1)]:
         equal(ran(folder, f"code={it} name=user\n{call}"), (status, "", ""), it)
         asked = Path(folder, "asked").read_text().removesuffix("\n")
-        holds(fnmatch.fnmatchcase(asked, allowed), asked, allowed)
+        holds(fnmatch.fnmatchcase(asked, allowed), "sudo is asked for what its line does not allow", asked, allowed)
 
 
 def keys_at_fault(folder):
@@ -573,7 +627,7 @@ def keys_at_fault(folder):
         Path(folder, f"none{number}.toml").write_bytes(text)
         status, output, faults = ran(folder, f"tools/find-key none{number}.toml")
         equal((status, output), (1, ""), faults)
-        holds(re.fullmatch(r"find-key: not TOML: [^\n]*\n", faults), faults)
+        holds(re.fullmatch(r"find-key: not TOML: [^\n]*\n", faults), "a text that is not TOML is not named so", faults)
     faulty = [case for case in cases() if case.answer == "62" or not case.answer.isdigit()]
     for number, case in enumerate(faulty):
         Path(folder, str(number)).write_bytes(case.book)
@@ -581,7 +635,7 @@ def keys_at_fault(folder):
         found = list(pool.map(lambda number: ran(folder, f"tools/find-key {number}"), range(len(faulty))))
     for (status, output, faults), case in zip(found, faulty):
         equal((status, faults, output != ""), (0, "", case.answer == "62"), case, output)
-    holds({case.answer for case in faulty} > {"62"}, faulty)
+    holds({case.answer for case in faulty} > {"62"}, "the table has too few answers")
 
 
 def a_backup(folder):
@@ -590,20 +644,20 @@ def a_backup(folder):
     copy, put_back = blocks("Backups")
     does(folder, copy, TZ="SUMMER-2")
     [found] = Path(folder, "backups").iterdir()
-    equal(found.read_bytes(), book.read_bytes())
-    equal((found.stat().st_mode & 0o777, found.parent.stat().st_mode & 0o777), (0o600, 0o700))
+    equal(found.read_bytes(), book.read_bytes(), "the text of the copy")
+    equal((found.stat().st_mode & 0o777, found.parent.stat().st_mode & 0o777), (0o600, 0o700), "the modes of the copy and of its folder")
     Path(folder, "backups", "book-20010203T040506Z.toml").write_text("older\n")
     does(folder, "tools/edit-book book.toml sed s/4096/4097/")
     does(folder, put_back)
-    equal(book.read_text(), BOOK_OF_USER)
+    equal(book.read_text(), BOOK_OF_USER, "the book that is put back")
     # A copy that is made later, after the local clock went back
     newer = BOOK_OF_USER.replace("4096", "4098")
     book.write_text(newer)
-    until(lambda: time.time() > found.stat().st_mtime + 1)
+    until(lambda: time.time() > found.stat().st_mtime + 1, "a second should pass")
     does(folder, copy, TZ="WINTER-1")
     book.write_text(BOOK_OF_USER)
     does(folder, put_back)
-    equal(book.read_text(), newer)
+    equal(book.read_text(), newer, "the book that is put back after the clock went back")
 
 
 def a_shell(folder):
@@ -611,26 +665,31 @@ def a_shell(folder):
     shell runs as the user in the folder."""
     shell, _ = blocks("Set up")
     make_user, block = shell.split("\n", 1)
-    equal(make_user, "useradd --system --user-group scramotp")
+    equal(make_user, "useradd --system --user-group scramotp", "the line that makes the user")
     if not is_root():
         return
     os.chmod(folder, 0o711)
     place = os.path.realpath(Path(folder, "place"))
-    group = grp.getgrgid(NOBODY.pw_gid).gr_name
-    for old, new in [(PLACE, place), ("-g scramotp", f"-g {group}"), ("scramotp", NOBODY.pw_name)]:
-        holds(old in block, old)
+    group = grp.getgrgid(nobody().pw_gid).gr_name
+    for old, new in [(PLACE, place), ("-g scramotp", f"-g {group}"), ("scramotp", nobody().pw_name)]:
+        holds(old in block, "the block does not have what is replaced in it", old, block)
         block = block.replace(old, new)
-    does(folder, block, "id -un; pwd; stat -c '%a %U' .\n", f"{NOBODY.pw_name}\n{place}\n700 {NOBODY.pw_name}\n")
+    does(folder, block, "id -un; pwd; stat -c '%a %U' .\n", f"{nobody().pw_name}\n{place}\n700 {nobody().pw_name}\n")
 
 
 def every_tool(folder):
-    """The table of tools lists each of them, with its usage, and the link leads to them."""
+    """The table of tools lists each of them, with its usage, and the link leads to them. Without words, a tool prints its usage."""
     _, link = blocks("Set up")
     does(folder, link.replace(INSTALLED, str(TOOLS)))
     told = re.findall(r"^\| `(\S+) (.*?)` \|", DOCUMENT.read_text(encoding="utf-8").partition("## Folder and rights")[0], re.M)
     equal({name for name, _ in told}, set(os.listdir(Path(folder, "tools"))), told)
     for name, words in told:
-        holds(f"{name} {words}: " in Path(folder, "tools", name).read_text(encoding="utf-8"), name, words)
+        usage = f"{name} {words}: "
+        holds(usage in Path(folder, "tools", name).read_text(encoding="utf-8"), "the usage is not in the tool", name, words)
+        if name not in SILENT:
+            status, output, faults = ran(folder, f"tools/{name}")
+            equal((status, output), (1, ""), name, faults)
+            holds(faults.startswith(usage) and faults.count("\n") == 1, "the tool without words does not print its usage", name, faults)
 
 
 def all_in_order(folder):
@@ -650,7 +709,7 @@ def all_in_order(folder):
     equal(set(told), {f"{NAME}: sha1 keys, sha256 keys", f"{FOB}: hotp token (next 10, 0 failures)"}, printed)
     equal((of_postgresql, of_dovecot), both, printed)
     equal(len(base64.b32decode(secret)), 20, printed)
-    holds(re.fullmatch(r"PASS \d+ 9", ahead), printed)
+    holds(re.fullmatch(r"PASS \d+ 9", ahead), "the fob's codes do not pass", ahead, printed)
     accounts = book_of(folder)["accounts"]
     equal(set(accounts), {NAME, RENAMED}, accounts)
     equal(set(accounts[NAME]), {"sha256"}, accounts)
@@ -670,25 +729,28 @@ def units(folder):
             source = AUDITS / {"before.toml": "hotp.toml", "log.txt": "sha1.log"}.get(name, "")
             if source.is_file():
                 (credentials / name).write_bytes(source.read_bytes())
-            holds((credentials / name).is_file(), name)
+            holds((credentials / name).is_file(), "no file is known for the credential", name)
         [command] = re.findall(r"^ExecStart=(.*)$", unit, re.M)
         answers.append(suite.ran(shlex.split(command), env=program_on_path(folder, **where)))
-    equal(answers, [(0, "enrolled user\n", ""), (0, "clean sessions=1 accepted=1 codes=0\n", "")])
+    equal(answers, [(0, "enrolled user\n", ""), (0, "clean sessions=1 accepted=1 codes=0\n", "")], "the answers of the two commands")
     keys = read_book(state / "book.toml")["accounts"]["user"]["sha256"]
-    equal(keys["stored"], keys_of("sha256", b"pencil", bytes.fromhex(keys["salt"]), keys["count"])[0])
+    stored, _ = keys_of("sha256", b"pencil", bytes.fromhex(keys["salt"]), keys["count"])
+    equal(keys["stored"], stored, "the stored key of the account that the unit made")
 
 
 def every_block(folder):
     """No block of the document is left out, except the shell block and the unit of `serve-hall`."""
     left_out = [block[:2] for block in suite.blocks_of(DOCUMENT) if block not in all_blocks()]
-    equal(left_out, [(SERVED, "sh"), (UNIT_OF_HALL, "ini")])
+    equal(left_out, [(SERVED, "sh"), (UNIT_OF_HALL, "ini")], "the blocks that are left out")
     calls = re.findall(r'\bblocks\("([^"]+)"(?:, "(\w+)")?\)', Path(__file__).read_text(encoding="utf-8"))
-    equal({block[:2] for block in all_blocks()}, {(title, language or "sh") for title, language in calls})
+    taken = {(title, language or "sh") for title, language in calls}
+    equal({block[:2] for block in all_blocks()}, taken, "the blocks of the document, and those that a test takes")
 
 
 TESTS = [
     an_editor_and_a_command,
     an_edit_that_fails,
+    an_edit_that_cannot_be_saved,
     an_edit_of_anothers_book,
     an_edit_that_is_stopped,
     an_edit_waits,

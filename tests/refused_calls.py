@@ -15,7 +15,8 @@ import suite
 from checks import equal, holds
 from command_table import parsed_book, with_account
 from expected import AUDITS, MECHS
-from suite import BOOK_OF_USER, PROGRAM, hotp, ran
+from runs import ran
+from suite import BOOK_OF_USER, PROGRAM, hotp
 
 BENCH = pathlib.Path(__file__).parent.parent / "crates" / "bench" / "out" / "bench"
 BOOK = (AUDITS / "sha256.toml").read_text() + hotp(look_ahead=3, limit=3)
@@ -51,15 +52,16 @@ def made(kind, folder, shim, refused):
     many requests it made."""
     environment = {"LD_PRELOAD": shim, "REFUSED": str(refused)}
     status, output, faults = ran([BENCH, kind, "1", "given"], cwd=folder, env=environment)
-    holds(status in (0, 1), kind, refused, status, faults)
-    requests = int(re.search(r"^requests (\d+)$", faults, re.M).group(1))
-    return None if status else output, requests
+    holds(status in (0, 1), kind, "request", refused, "the status is neither 0 nor 1", status, faults)
+    found = re.search(r"^requests (\d+)$", faults, re.M)
+    holds(found, kind, "request", refused, "the run ended before it could say how many requests it made", status, faults)
+    return None if status else output, int(found[1])
 
 
 def each_refused(kind, folder, given):
     """What is printed for these calls when no request is refused; and for each request, what is printed when it is refused."""
     holds(BENCH.exists(), f"{BENCH} is not built: rt ci builds it, and so does make bench")
-    shim = shims.built("refuse_memory", folder)
+    shim = shims.built("refuse_memory")
     (pathlib.Path(folder) / "given").write_text(given)
     whole, requests = made(kind, folder, shim, 0)
     answers = [made(kind, folder, shim, number)[0] for number in range(1, requests + 1)]
@@ -76,9 +78,9 @@ def count_told(folder, kind, logged, check):
         if answer not in (None, whole):
             log, times = answer.rsplit("out of memory ", 1)
             equal(times, "1\n", kind, answer)
-            holds(check(log), kind, answer)
+            holds(check(log), kind, "neither the log that was due nor a clean beginning of it", answer)
             told += 1
-    holds(2 * told > len(answers), "how many requests are told, which should be more than half of all", kind, told, answers)
+    holds(2 * told > len(answers), "at most half of the requests are told", kind, told, answers)
     return told
 
 
@@ -124,7 +126,7 @@ def texts_are_written_again(folder):
         rows = [row.split(" ", 1) for row in answer.splitlines()]
         told = [number for number, (times, _) in enumerate(rows) if times == "1"]
         equal([text for _, text in rows], want, answer)
-        holds(len(told) <= 1, answer)
+        holds(len(told) <= 1, "one refused request is reported by several texts", answer)
         refused.update(told)
     equal(refused, set(range(len(TEXTS))), [TEXTS[number] for number in range(len(TEXTS)) if number not in refused])
     print(f"refused_calls.py: each of {len(TEXTS)} texts is refused memory")
@@ -147,7 +149,7 @@ def changed_again(folder, book):
             equal(same, texts, answer)
             equal(sum(times), 1, answer)
             counts = [sum(it) for it in zip(counts, times)]
-    holds(2 * sum(counts) > len(answers), "how many requests are told, which should be more than half of all", counts, len(answers))
+    holds(2 * sum(counts) > len(answers), "at most half of the requests are told", counts, len(answers))
     return counts
 
 

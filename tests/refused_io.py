@@ -40,22 +40,26 @@ FAULT = r"scramotp: (?:cannot (?:read|write) [ -~]+|socket fault)\n"
 
 
 class Turns:
-    """A folder for runs in which calls go wrong."""
+    """A folder for runs in which calls go wrong, and how many calls the last run made."""
 
     def __init__(self, folder):
         self.folder = os.path.join(folder, "files")
         os.mkdir(self.folder)
-        self.shim = shims.built("refuse_io", folder)
+        self.shim = shims.built("refuse_io")
         self.counted = pathlib.Path(folder, "counted")
+        self.calls = 0
 
     def turn(self, command, number, calls, how):
         """Makes a run whose call with this number goes wrong. Returns its answer, and the name of that call, or None if there were not so
         many calls."""
         prepare(self.folder, command)
+        self.counted.unlink(missing_ok=True)
         more = {"LD_PRELOAD": self.shim, "CALLS": calls, "REFUSED": str(number), "HOW": how, "COUNTED": str(self.counted)}
         answer = run(command, self.folder, env={**os.environ, **more})
+        holds(self.counted.exists(), command.name, "call", number, "the run ended before it could say which call went wrong", answer)
         count, name = self.counted.read_text().split()
-        holds((name == "none") == (int(count) < number), command.name, "call", number, "of", count, "went wrong:", name)
+        self.calls = int(count)
+        holds((name == "none") == (self.calls < number), command.name, "call", number, "of", count, "went wrong:", name)
         return answer, None if name == "none" else name
 
     def turns(self, command, calls, how):
@@ -68,24 +72,27 @@ class Turns:
                 yield (command.name, number, name, answer), answer
             number += 1
         equal(answer, (0, command.printed, ""), command.name, number)
-        holds(is_done(self.folder, command), command.name, number, answer)
+        holds(is_done(self.folder, command), command.name, number, answer, "the command has not saved all", book_of(self.folder))
 
 
 def all_harmless(folder, how):
-    """Each command does its work, whichever of its reads and writes goes wrong in this way."""
-    here, count = Turns(folder), 0
+    """Each command does its work, whichever of its reads and writes goes wrong in this way. After most of them it makes one more."""
+    here, count, again = Turns(folder), 0, 0
     for command in [*commands(), new_book()]:
+        made = []
         for what, answer in here.turns(command, MOVES, how):
             equal(answer, (0, command.printed, ""), what)
-            holds(is_done(here.folder, command), what)
-            count += 1
-    holds(count > 0, "no read or write went wrong in this way", how)
-    print(f"refused_io.py: {count} reads and writes {how}")
+            holds(is_done(here.folder, command), what, "the command has not saved all", book_of(here.folder), left(here.folder))
+            made.append(here.calls)
+        count += len(made)
+        again += sum(calls > here.calls for calls in made)
+    holds(2 * again > count, "at most half of the reads and writes are made again", how, again, count)
+    print(f"refused_io.py: {count} reads and writes {how}, of which {again} are made again")
 
 
 def every_call_is_known(folder):
     """The program takes nothing from the C library that neither this script nor refused_memory.py lets fail, except what is harmless."""
-    shims_of_tests = [shims.built(name, folder) for name in ("refuse_io", "refuse_memory")]
+    shims_of_tests = [shims.built(name) for name in ("refuse_io", "refuse_memory")]
     refused = set().union(*map(shims.wrapped, shims_of_tests))
     taken = shims.imported(PROGRAM)
     holds({"malloc", "read", "rename"} <= taken, "nm does not list what the program takes", taken)
@@ -124,12 +131,13 @@ def all_told(folder, how, calls):
     here, count, told = Turns(folder), 0, 0
     for command in [*commands(), new_book()]:
         for what, answer in here.turns(command, calls, how):
-            holds(answer == (0, command.printed, "") or is_told(command, answer), what)
-            holds(is_kept(here.folder, command, answer[1]), what, book_of(here.folder))
-            holds(left(here.folder) <= may_be_left(how, what[2]), what, left(here.folder))
-            holds(command.name not in ("login", "hall") or printed_begins_clean(here.folder, answer[1]), what)
+            holds(answer == (0, command.printed, "") or is_told(command, answer), what, "it neither ended well nor reported its fault")
+            holds(is_kept(here.folder, command, answer[1]), what, "the book is not whole, or lacks what was reported", book_of(here.folder))
+            holds(left(here.folder) <= may_be_left(how, what[2]), what, "files are left", left(here.folder))
+            is_log = command.name in ("login", "hall")
+            holds(not is_log or printed_begins_clean(here.folder, answer[1]), what, "a line of the log is at fault")
             count, told = count + 1, told + (answer[0] == 3)
-    holds(2 * told > count, "how many calls are told, which should be more than half of all", told, count)
+    holds(2 * told > count, "at most half of the calls are told", told, count)
     print(f"refused_io.py: {count} calls {how}, of which {told} are told")
 
 

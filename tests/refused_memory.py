@@ -14,21 +14,29 @@ import suite
 from checks import equal, holds
 from command_table import book_of, commands, is_done, is_front, is_kept, left, new_book, prepare, printed_begins_clean, run
 from expected import AUDITS
-from suite import PROGRAM, ran
+from runs import ran
+from suite import PROGRAM
+
+
+def split(said, *run):
+    """The faults of this run, and the number of its requests, which the shim prints when it ends."""
+    faults, is_counted, requests = said.rpartition("requests ")
+    holds(is_counted, *run, "the run ended before it could say how many requests it made", said)
+    return faults, int(requests)
 
 
 def run_refused(folder, words, shim, refused):
     """The status, output and faults of a command for which this request was refused, and how many requests it made."""
     environment = {"LD_PRELOAD": shim, "REFUSED": str(refused)}
     status, output, said = ran([PROGRAM, *words], cwd=folder, env=environment)
-    faults, requests = said.rsplit("requests ", 1)
-    return status, output, faults, int(requests)
+    faults, requests = split(said, words, "request", refused, "status", status)
+    return status, output, faults, requests
 
 
 def each_is_told(folder, words, printed):
     """A command prints this, and only its fault if a request that it needs is refused. It needs more than half of its requests. Returns how
     many it needs."""
-    shim = shims.built("refuse_memory", folder)
+    shim = shims.built("refuse_memory")
     *whole, requests = run_refused(folder, words, shim, 0)
     equal(whole, [0, printed, ""], words)
     needed = 0
@@ -37,7 +45,7 @@ def each_is_told(folder, words, printed):
         if told != whole:
             equal(told, [3, "", "scramotp: no memory\n"], words, number)
             needed += 1
-    holds(2 * needed > requests, "how many requests are needed, which should be more than half of all", words, needed, requests)
+    holds(2 * needed > requests, "at most half of the requests are needed", words, needed, requests)
     return needed
 
 
@@ -65,31 +73,31 @@ def refused(command, folder, shim, number):
     """The answer of a command for which the request with this number is refused, and how many requests it made."""
     prepare(folder, command)
     status, printed, faults = run(command, folder, env={**os.environ, "LD_PRELOAD": shim, "REFUSED": str(number)})
-    faults, requests = faults.rsplit("requests ", 1)
-    return (status, printed, faults), int(requests)
+    faults, requests = split(faults, command.name, "request", number, "status", status)
+    return (status, printed, faults), requests
 
 
 def commands_are_refused(folder):
     """Whichever request of a command is refused, it ends well, or with a fault after what it could print; what it reported is saved."""
-    here, shim, told, count = os.path.join(folder, "files"), shims.built("refuse_memory", folder), 0, 0
+    here, shim, told, count = os.path.join(folder, "files"), shims.built("refuse_memory"), 0, 0
     os.mkdir(here)
     for command in [*commands(), new_book()]:
         whole, requests = refused(command, here, shim, 0)
         equal(whole, (0, command.printed, ""), command.name)
-        holds(is_done(here, command), command.name, whole)
+        holds(is_done(here, command), "the command has not saved all", command.name, whole)
         for number in range(1, requests + 1):
             answer, _ = refused(command, here, shim, number)
             what = (command.name, number, answer)
-            holds(is_kept(here, command, answer[1]), what, book_of(here), left(here))
-            equal(left(here), set(), what, book_of(here))
-            holds(command.name not in ("login", "hall") or printed_begins_clean(here, answer[1]), what)
+            holds(is_kept(here, command, answer[1]), what, "the book is not whole, or lacks what was reported", book_of(here))
+            equal(left(here), set(), what, "the files that are left")
+            holds(command.name not in ("login", "hall") or printed_begins_clean(here, answer[1]), what, "a line of the log is at fault")
             if answer != whole:
-                equal(answer[0], 3, what)
-                holds(re.fullmatch(FAULT, answer[2]), what)
-                holds(is_front(command, answer[1]), what)
+                equal(answer[0], 3, what, "the status")
+                holds(re.fullmatch(FAULT, answer[2]), what, "the fault is none of memory, a file or a socket")
+                holds(is_front(command, answer[1]), what, "its output is no beginning of", command.printed)
                 told += 1
         count += requests
-    holds(2 * told > count, "how many requests are told, which should be more than half of all", told, count)
+    holds(2 * told > count, "at most half of the requests are told", told, count)
     print(f"refused_memory.py: {count} requests of all commands are refused, of which {told} are told")
 
 

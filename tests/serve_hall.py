@@ -17,7 +17,8 @@ import clients
 import suite
 from checks import equal, holds
 from expected import MECHS
-from suite import BOOK_OF_USER, LIMIT, blocks_of, seen, until
+from runs import until
+from suite import BOOK_OF_USER, blocks_of, seen
 from tool_runs import TOOLS, book_of, does, ran, start, with_tools
 
 OPERATING = TOOLS.parent / "docs" / "OPERATING.md"
@@ -49,7 +50,7 @@ def connected(folder):
             return False
         return True
 
-    until(is_connected)
+    until(is_connected, "a client should be able to connect to", folder)
     return client
 
 
@@ -79,7 +80,7 @@ def answers(client, line, answer):
     """The client sends a line, and receives an answer of this form."""
     client.sendall(f"{line}\n".encode())
     told = line_of(client)
-    holds(re.fullmatch(answer, told), line, told)
+    holds(re.fullmatch(answer, told), "another answer is due", answer, line, told)
 
 
 def serving_hall(folder, book, tool="tools/serve-hall"):
@@ -90,14 +91,14 @@ def serving_hall(folder, book, tool="tools/serve-hall"):
 
 def stops(serving):
     """Suspends the program until SIGCONT."""
-    serving.send_signal(signal.SIGSTOP)
-    os.waitid(os.P_PID, serving.pid, os.WSTOPPED)
+    serving.process.send_signal(signal.SIGSTOP)
+    os.waitid(os.P_PID, serving.process.pid, os.WSTOPPED)
 
 
 def serves_until(serving, number, folder, answer):
     """The program ends well at this signal. The audit of its log, by the book that it began with, has this answer."""
-    serving.send_signal(number)
-    equal((serving.wait(timeout=LIMIT), serving.stdout.read(), serving.stderr.read()), (0, "", ""), "the end")
+    serving.process.send_signal(number)
+    serving.ends(0)
     does(folder, "scramotp audit --book hall.log.toml --log hall.log", printed=f"{answer}\n")
 
 
@@ -110,7 +111,7 @@ def a_hall_of_your_own(folder):
     away.close()
     stops(serving)
     connected(folder).close()
-    serving.send_signal(signal.SIGCONT)
+    serving.process.send_signal(signal.SIGCONT)
     begins_login(good, account)
     long.sendall(b"x" * 7000 + b"\n")
     equal([line_of(long), line_of(long)], ["NO :", ""], "a line that is too long")
@@ -158,22 +159,36 @@ def a_hall_that_halts(folder):
         client.sendall(f"CODE {account.code(0)}\n".encode())
         if is_gone:
             client.close()
-        serving.send_signal(signal.SIGCONT)
+        serving.process.send_signal(signal.SIGCONT)
         if not is_gone:
             equal([line_of(client), line_of(client)], ["HALT", ""], "the code's client")
         equal(line_of(other), "", "another client")
         faults = ["scramotp: cannot write book.toml", "serve-hall: the book can't be saved"]
-        equal((serving.wait(timeout=LIMIT), sorted(serving.stderr.read().splitlines())), (1, faults), is_gone)
+        status, _, told = serving.end()
+        equal((status, sorted(told.splitlines())), (1, faults), f"the end of the tool; the client has gone: {is_gone}")
         holds(not Path(place, "hall.sock").exists(), "the socket is left")
         does(place, "scramotp audit --book hall.log.toml --log hall.log", printed="clean sessions=2 accepted=1 codes=0\n")
+
+
+def a_hall_that_is_killed(folder):
+    """If the hall ends while nothing happens, the program ends at the next event, and says why."""
+    serving = serving_hall(folder, BOOK_OF_USER)
+    client = greeted(folder)
+    [hall] = Path(f"/proc/{serving.process.pid}/task/{serving.process.pid}/children").read_text().split()
+    os.kill(int(hall), signal.SIGKILL)
+    until(lambda: Path(f"/proc/{hall}/stat").read_text().rpartition(") ")[2].startswith("Z"), "the hall should end")
+    equal(line_of(connected(folder)), "", "a client that comes then")
+    equal(line_of(client), "", "the client that was there")
+    serving.ends(1, "", "serve-hall: the hall has ended\n")
+    holds(not Path(folder, "hall.sock").exists(), "the socket is left")
 
 
 def a_slow_client(folder):
     """A client that sends byte after byte but no whole line is cut off; here after three seconds, by a copy of the tool."""
     text = (TOOLS / "serve-hall").read_text(encoding="utf-8")
-    equal(text.count("\nPATIENCE = 60\n"), 1, "the seconds that it waits")
+    equal(text.count("\nPATIENCE = 60 "), 1, "the seconds that it waits")
     quick = Path(folder, "quick")
-    quick.write_text(text.replace("\nPATIENCE = 60\n", "\nPATIENCE = 3\n"), encoding="utf-8")
+    quick.write_text(text.replace("\nPATIENCE = 60 ", "\nPATIENCE = 3 "), encoding="utf-8")
     quick.chmod(0o755)
     serving, began = serving_hall(folder, BOOK_OF_USER, "./quick"), time.monotonic()
     slow = greeted(folder)
@@ -188,9 +203,9 @@ def a_slow_client(folder):
         except OSError:
             return True
 
-    until(is_cut_off)
+    until(is_cut_off, "a client that sends no whole line should be cut off")
     waited = time.monotonic() - began
-    holds(waited >= 3, "the seconds until the client was cut off, which should be at least 3", waited)
+    holds(waited >= 3, "the client was cut off before three seconds had passed", waited)
     serves_until(serving, signal.SIGINT, folder, "clean sessions=1 accepted=0 codes=0")
 
 
@@ -215,8 +230,7 @@ def a_socket_that_is_left(folder):
     """A run that is killed leaves its socket. Another run can serve there once the socket is removed."""
     serving = serving_hall(folder, BOOK_OF_USER)
     greeted(folder)
-    serving.kill()
-    serving.communicate(timeout=LIMIT)
+    serving.killed()
     for name in ["hall.log", "hall.log.toml"]:
         Path(folder, name).unlink()
     begins_no_hall(folder, "hall.sock")
@@ -238,6 +252,7 @@ suite.run_all(
         a_hall_of_your_own,
         a_full_hall,
         a_hall_that_halts,
+        a_hall_that_is_killed,
         a_slow_client,
         a_log_that_is_there,
         a_socket_that_is_left,

@@ -5,16 +5,15 @@ Usage: story.py PROGRAM [TEST ..]
 
 The story is made of the shell blocks in the section "Quick start". In them a line with `#>` is one that the command above it
 prints, or `#> status N` if that command does not end with status 0. The story runs in an empty folder, with the program
-on the PATH and a password on standard input. A block of the kind `console` shows some of its commands, after `$ `, and what they
-print: each has to be in the story, with the same output. DOCUMENT=PATH in the environment names another page than README.md.
+on the PATH and a password on standard input. DOCUMENT=PATH in the environment names another page than README.md.
 """
 import os
 import re
-import subprocess
 
+import runs
 import suite
 from checks import equal, holds
-from suite import LIMIT, document, program_on_path
+from suite import document, program_on_path
 
 TITLE = "Quick start"
 SHOWN = "#>"
@@ -49,37 +48,18 @@ def steps(block):
     return [*found, (command, printed, status)]
 
 
-def excerpts(text):
-    """Each command that a console block of the document shows, without its comment, and its output lines."""
-    found = []
-    for block in re.findall(r"^```console\n(.*?)^```$", text, re.M | re.S):
-        for line in block.splitlines():
-            if line.startswith("$ "):
-                found.append((without_comment(line.removeprefix("$ ")), []))
-            else:
-                found[-1][1].append(line)
-    return found
-
-
-def without_comment(command):
-    return re.sub(r"\s+# .*", "", command).strip()
-
-
 def is_whole(command):
     """Whether bash can run this as it is, with no quote or here-document left open."""
-    read = subprocess.run(["bash", "-n"], input=command, capture_output=True, text=True, timeout=LIMIT)
-    return read.returncode == 0 and not read.stderr
+    return runs.ran(["bash", "-n"], command) == (0, "", "")
 
 
 def ran(folder, story):
     """Runs all commands of a story in one bash. Returns the output and the status of each; none may print a fault."""
     mark = f"{os.urandom(16).hex()} "
     script = "".join(f"{command}printf '{mark}%d\\n' $?\n" for command, _, _ in story)
-    done = subprocess.run(
-        ["bash", "-c", script], cwd=folder, env=program_on_path(folder), input=PASSWORD, capture_output=True, text=True, timeout=LIMIT,
-    )
-    equal(done.stderr, "", "the faults of the story")
-    parts = re.split(rf"{mark}(\d+)\n", done.stdout)
+    answer = runs.ran(["bash", "-c", script], PASSWORD, cwd=folder, env=program_on_path(folder))
+    equal(answer.faults, "", "the faults of the story")
+    parts = re.split(rf"{mark}(\d+)\n", answer.output)
     return list(zip(parts[0::2], map(int, parts[1::2])))
 
 
@@ -88,9 +68,6 @@ def quick_start(folder):
     text = document("README.md").read_text(encoding="utf-8")
     story = [step for block in blocks(text, TITLE) for step in steps(block)]
     equal([word for word in NEEDED if not any(word in command for command, _, _ in story)], [], "what the story lacks")
-    shown = [(without_comment(command), printed) for command, printed, _ in story]
-    holds(excerpts(text), "the document shows no command at its head")
-    equal([part for part in excerpts(text) if part not in shown], [], "what is shown and not in the story")
     answers = ran(folder, story)
     for (command, printed, status), (output, ended) in zip(story, answers):
         equal((output.splitlines(), ended), (printed, status), command)

@@ -1,7 +1,6 @@
 """What several scripts share: the account `user` with RFC 4226's secret, a folder with a book, the program on the PATH, the user nobody,
-time limits, the page that is tested, questions about books, locks and logs, and the run of all tests or of some."""
+the words of a login, the page that is tested, questions about books, locks and logs, and the run of all tests or of some."""
 import contextlib
-import faulthandler
 import fcntl
 import functools
 import os
@@ -10,15 +9,17 @@ import pwd
 import random
 import re
 import secrets
-import subprocess
+import signal
 import sys
 import tempfile
-import time
 import tomllib
 import traceback
 
+import checks
 import expected
-from checks import equal, fail
+import runs
+from checks import equal, holds
+from runs import ran
 
 if len(sys.argv) < 2:
     sys.exit(f"usage: {os.path.basename(sys.argv[0])} PROGRAM [TEST ..]")
@@ -29,16 +30,22 @@ TOP = pathlib.Path(__file__).resolve().parent.parent
 # environment repeats them.
 SEED = int(os.environ.get("SEED") or secrets.randbelow(1 << 32))
 
-# The most seconds that a run may take. After that, the test fails, and is named.
-LIMIT = 120
-
-# The most seconds that a test may take. After that, the script shows where the test hangs, and ends.
+# The most seconds that a test may take. After that it fails.
 LIMIT_OF_TEST = 900
 
-# Whether root runs the script, and how it then runs the program as the user nobody in tests of permissions.
+# Whether root runs the script.
 ROOT = os.geteuid() == 0
-NOBODY = pwd.getpwnam("nobody")
-AS_NOBODY = {"user": NOBODY.pw_uid, "group": NOBODY.pw_gid, "extra_groups": []} if ROOT else {}
+
+
+@functools.cache
+def nobody():
+    """The user nobody, as which root runs the program in tests of permissions."""
+    return pwd.getpwnam("nobody")
+
+
+def as_nobody():
+    """How root runs the program as the user nobody. Any other user runs it as that user."""
+    return {"user": nobody().pw_uid, "group": nobody().pw_gid, "extra_groups": []} if ROOT else {}
 
 
 @functools.cache
@@ -61,6 +68,8 @@ SEEDS = {"sha1": SECRET, "sha256": SECRET + SECRET[:24], "sha512": SECRET * 3 + 
 SALT = "4125c247e43ab1e93c6dff76"
 KEYS_OF_PENCIL = "stored=e9d94660c39d65c38fbad91c358f14da0eef2bd6\nserver=0fe09258b3ac852ba502cc62ba903eaacdbf7d31\n"
 NONCES = ["--client-nonce", "fyko+d2lbbFgONRv9qkxdawL", "--server-nonce", "3rfcNHYJY1ZVvWVs7j"]
+# The options with which `login` has the messages of that example.
+PUBLISHED = ["--mechanism", "SCRAM-SHA-1", *NONCES]
 
 # The most bytes of a book, and of the input that a command reads.
 MOST_BYTES = 16777216
@@ -168,43 +177,19 @@ def is_locked(path):
     return False
 
 
-def until(is_so, *about):
-    """Waits at least ten seconds for this to be true, and otherwise fails with what the caller says about it."""
-    for _ in range(1000):
-        if is_so():
-            return
-        time.sleep(0.01)
-    fail(about, ["it does not come to be so in ten seconds"])
-
-
-def sleeps(process):
-    """Whether a process sleeps, as it does while it waits for input."""
-    with open(f"/proc/{process}/stat", encoding="ascii", errors="replace") as file:
-        return file.read().rpartition(") ")[2][0] == "S"
-
-
-def taken(process):
-    """The seconds of processor time that a process itself has taken so far, in steps of a hundredth."""
-    with open(f"/proc/{process}/stat", encoding="ascii", errors="replace") as file:
-        return int(file.read().rpartition(") ")[2].split()[11]) / os.sysconf("SC_CLK_TCK")
-
-
-def processor_time():
-    """The seconds of processor time that this script's runs have taken. A run is counted when it has ended."""
-    times = os.times()
-    return times.children_user + times.children_system
-
-
-def ran(words, data=b"", **how):
-    """Runs a command with this input, a text or bytes. Returns its status, its output and its faults."""
-    given = data.encode() if isinstance(data, str) else data
-    done = subprocess.run(words, input=given, capture_output=True, timeout=LIMIT, **how)
-    return done.returncode, done.stdout.decode(), done.stderr.decode()
-
-
 def prints(words, data, status, output="", fault="", *about):
     """Runs a command with this input, and compares its status, its output and its fault, which is given without its prefix."""
-    equal(ran(words, data), (status, output, fault_text(fault)), *(about or (words, data)))
+    equal(ran(words, data), (status, output, fault_text(fault)), *about)
+
+
+def verify_words(book, moment="5", name="user"):
+    """The words of `verify` for a book."""
+    return [PROGRAM, "verify", "--book", book, "--name", name, "--moment", moment]
+
+
+def login_words(book, socket, *more, name="user"):
+    """The words of `login` for a book and a socket's path."""
+    return [PROGRAM, "login", "--book", book, "--name", name, "--socket", socket, *more]
 
 
 def begins_clean(book, log):
@@ -221,29 +206,60 @@ def audit_says(book, log, answer, *about, text=""):
 
 
 class BookFolder:
-    """A folder with a book that runs of the program use, and a copy of the book as it was before them."""
+    """A folder with a book that runs of the program use, and the text of the book as it was before them."""
 
-    def __init__(self, folder, text):
+    def __init__(self, folder, *texts):
         self.folder = pathlib.Path(folder)
-        self.book, self.before = self.folder / "book", self.folder / "before"
-        self.put(text)
+        self.book, self.next_text, self.socket = (self.folder / name for name in ["book", "book.new", "socket"])
+        self.put(*texts)
 
-    def put(self, text):
-        """Makes this text the book."""
-        self.book.write_text(text)
-        self.before.write_text(text)
+    def put(self, *texts):
+        """Makes the book of these texts, one after another."""
+        self.before = "".join(texts)
+        self.book.write_text(self.before)
 
     def prints(self, words, text, status, log, fault=""):
         """Runs the program on this input, and compares its status, log and fault."""
         prints(words, text, status, log, fault)
 
+    def verifies(self, text, status, printed, fault="", moment="5"):
+        """Gives `verify` these lines at a moment, and compares its status, output and fault."""
+        prints(verify_words(self.book, moment), text, status, printed, fault)
+
+    def token(self, name="user"):
+        """The token of an account."""
+        return token(self.book, name)
+
+    def token_has(self, *about, **fields):
+        """Compares these fields of the token of `user`."""
+        found = self.token()
+        equal({key: found.get(key) for key in fields}, fields, "the token of user", *about)
+
+    def has_only(self, *names):
+        """Checks that the folder has files of these names, and no other."""
+        equal(sorted(os.listdir(self.folder)), sorted(names), "the files in the book's folder")
+
     def seen(self):
         """A value that changes when the book is written or replaced, or another file is left in its folder."""
         return (seen(self.book), sorted(os.listdir(self.folder))) if self.book.exists() else None
 
+    @contextlib.contextmanager
+    def book_before(self):
+        """The path of a file with the text of the book as it was before the runs."""
+        with tempfile.NamedTemporaryFile("w", suffix=".toml") as file:
+            file.write(self.before)
+            file.flush()
+            yield file.name
+
     def audited(self, log, answer):
         """Compares the audit's answer to a log by the book that it began with."""
-        audit_says(self.before, "/dev/stdin", answer, log, text=log)
+        with self.book_before() as book:
+            audit_says(book, "/dev/stdin", answer, text=log)
+
+    def begins_clean(self, log):
+        """Checks that no line of a log, which may be cut, is at fault by the book that it began with."""
+        with self.book_before() as book:
+            holds(begins_clean(book, log), "a line of the log is at fault", log)
 
 
 def chosen(tests):
@@ -251,27 +267,41 @@ def chosen(tests):
     names = sys.argv[2:]
     for name in names:
         if not any(test.__name__ == name for test in tests):
-            sys.exit(f"{os.path.basename(sys.argv[0])}: no test {name}")
+            there = ", ".join(test.__name__ for test in tests)
+            sys.exit(f"{os.path.basename(sys.argv[0])}: no test {name}; there are {there}")
     return [test for test in tests if not names or test.__name__ in names]
 
 
+class TakesTooLong(Exception):
+    """A test has taken longer than a test may."""
+
+
+def end_test(_signal, _frame):
+    """Lets the test that runs fail where it is."""
+    raise TakesTooLong(f"the test takes over {LIMIT_OF_TEST} seconds")
+
+
 def run_all(tests):
-    """Runs each test, or those that the command line names, in an empty folder of its own and from a seed of its own. Prints which fail and
-    how many pass, and exits, with status 1 if one fails."""
+    """Runs each test, or those that the command line names, in an empty folder of its own and from a seed of its own. Prints which fail,
+    each with its last run, and how many pass, and exits, with status 1 if one fails. What a test has started does not outlive it."""
     tests, failed = chosen(tests), 0
+    signal.signal(signal.SIGALRM, end_test)
     for test in tests:
         with tempfile.TemporaryDirectory() as folder:
             random.seed(f"{SEED} {test.__name__}")
-            faulthandler.dump_traceback_later(LIMIT_OF_TEST, exit=True)
             try:
+                signal.alarm(LIMIT_OF_TEST)
                 test(folder)
             except Exception as fault:
                 failed += 1
                 line = (fault.__traceback__.tb_next or fault.__traceback__).tb_lineno
                 print(f"{test.__name__}: line {line}: {type(fault).__name__}: {fault}", file=sys.stderr)
-                print("".join(traceback.format_tb(fault.__traceback__)[1:]), end="", file=sys.stderr)
+                print(runs.last(), end="", file=sys.stderr)
+                calls = [it for it in traceback.extract_tb(fault.__traceback__)[1:] if it.filename != checks.__file__]
+                print("".join(traceback.format_list(calls)), end="", file=sys.stderr)
             finally:
-                faulthandler.cancel_dump_traceback_later()
+                signal.alarm(0)
+                runs.forget_runs()
     print(f"{os.path.basename(sys.argv[0])}: {len(tests) - failed} passed, {failed} failed", file=sys.stderr)
     if failed:
         print(f"{os.path.basename(sys.argv[0])}: SEED={SEED}", file=sys.stderr)

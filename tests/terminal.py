@@ -8,14 +8,14 @@ RFC 4226, appendix D, the login is that of RFC 5802, section 5, and its keys wer
 """
 import os
 import select
-import subprocess
 import time
 from pathlib import Path
 
 import suite
 from checks import equal
 from expected import ACCEPTED, AUDITS, GONE, MECHS
-from suite import BOOK_OF_USER, KEYS_OF_PENCIL, LIMIT, NONCES, PROGRAM, SALT, hotp
+from runs import Running
+from suite import BOOK_OF_USER, KEYS_OF_PENCIL, PROGRAM, PUBLISHED, SALT, hotp
 
 PASSWORD = "Type the password and press Enter; it is shown as you type.\r\n"
 BOTH = "Type the password, press Enter, then one code per line; all is shown as you type. End with Ctrl-D.\r\n"
@@ -35,7 +35,7 @@ def on(folder, command, *more):
 
 
 def login(folder):
-    return on(folder, "login", "--socket", os.path.join(folder, "socket"), "--mechanism", "SCRAM-SHA-1", *NONCES, "--moment", "5")
+    return on(folder, "login", "--socket", os.path.join(folder, "socket"), *PUBLISHED, "--moment", "5")
 
 
 def commands(folder):
@@ -88,8 +88,9 @@ class Terminal:
         return self.shown.removesuffix("!")
 
 
-def start(words, stdin, stderr):
-    return subprocess.Popen([PROGRAM, *words], stdin=stdin, stdout=subprocess.PIPE, stderr=stderr, text=True)
+def start(words, **terminals):
+    """Starts the program at a terminal."""
+    return Running([PROGRAM, *words], **terminals)
 
 
 def both_are_terminals(folder):
@@ -97,14 +98,14 @@ def both_are_terminals(folder):
     for words, typed, printed, said in commands(folder):
         prepare(folder, words)
         with Terminal() as terminal:
-            run = start(words, terminal.end, terminal.end)
+            run = start(words, stdin=terminal.end, stderr=terminal.end)
             until = time.monotonic() + 20
             while terminal.shown != said and time.monotonic() < until:
                 terminal.see(0.05)
-            equal(terminal.shown, said, words)
+            equal(terminal.shown, said, words, "what is shown before anything is typed")
             terminal.type(typed + END)
-            got = (run.communicate(timeout=LIMIT)[0], run.returncode, terminal.all_shown())
-            equal(got, (printed, 0, said + typed.replace("\n", "\r\n")), words)
+            run.ends(0, printed)
+            equal(terminal.all_shown(), said + typed.replace("\n", "\r\n"), words, "what is shown")
 
 
 def input_is_a_terminal(folder):
@@ -112,10 +113,10 @@ def input_is_a_terminal(folder):
     for words, typed, printed, _ in commands(folder):
         prepare(folder, words)
         with Terminal() as terminal:
-            run = start(words, terminal.end, subprocess.PIPE)
+            run = start(words, stdin=terminal.end)
             terminal.type(typed + END)
-            got = (*run.communicate(timeout=LIMIT), run.returncode, terminal.all_shown())
-            equal(got, (printed, "", 0, typed.replace("\n", "\r\n")), words)
+            run.ends(0, printed)
+            equal(terminal.all_shown(), typed.replace("\n", "\r\n"), words, "what is shown")
 
 
 def faults_are_a_terminal(folder):
@@ -123,9 +124,9 @@ def faults_are_a_terminal(folder):
     for words, typed, printed, _ in commands(folder):
         prepare(folder, words)
         with Terminal() as terminal:
-            run = start(words, subprocess.PIPE, terminal.end)
-            got = (run.communicate(typed, timeout=LIMIT)[0], run.returncode, terminal.all_shown())
-            equal(got, (printed, 0, ""), words)
+            run = start(words, stderr=terminal.end)
+            run.ends(0, printed, text=typed)
+            equal(terminal.all_shown(), "", words, "what is shown")
 
 
 def nothing_to_wait_for(folder):
@@ -143,9 +144,9 @@ def nothing_to_wait_for(folder):
     ]:
         book.write_text(BOOK_OF_USER)
         with Terminal() as terminal:
-            run = start(words, terminal.end, terminal.end)
-            got = (run.communicate(timeout=LIMIT)[0], run.returncode, terminal.all_shown())
-            equal(got, (printed, status, said), words)
+            run = start(words, stdin=terminal.end, stderr=terminal.end)
+            run.ends(status, printed)
+            equal(terminal.all_shown(), said, words, "what is shown")
 
 
 suite.run_all([both_are_terminals, input_is_a_terminal, faults_are_a_terminal, nothing_to_wait_for])

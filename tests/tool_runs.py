@@ -1,24 +1,22 @@
 """What the scripts that run the tools share: the folder tools/, and runs of shell blocks, with the program on the PATH, in a folder that
 has a link to it and an account book."""
-import subprocess
 from pathlib import Path
 
+import runs
 from checks import equal
-from suite import LIMIT, program_on_path, read_book
+from suite import program_on_path, read_book
 
 TOOLS = Path(__file__).resolve().parent.parent / "tools"
 
 
 def start(folder, block, **more):
-    streams = dict.fromkeys(["stdin", "stdout", "stderr"], subprocess.PIPE)
-    return subprocess.Popen(["bash", "-c", block], cwd=folder, env=program_on_path(folder, **more), text=True, **streams)
+    """Starts a block with bash."""
+    return runs.Running(["bash", "-c", block], cwd=folder, env=program_on_path(folder, **more))
 
 
 def ran(folder, block, text="", **more):
-    """Runs a block with bash, and returns its status, output and faults."""
-    run = start(folder, block, **more)
-    output, faults = run.communicate(text, timeout=LIMIT)
-    return run.returncode, output, faults
+    """Runs a block with bash, and returns its answer."""
+    return runs.ran(["bash", "-c", block], text, cwd=folder, env=program_on_path(folder, **more))
 
 
 def does(folder, block, text="", printed="", **more):

@@ -6,11 +6,8 @@ Usage: vectors.py PROGRAM [TEST ..]
 In data/vectors, keys.csv has the keys of passwords, made by GNU SASL and Dovecot, and codes.csv has
 one-time codes, made by oathtool. The last column of a row names the program.
 """
-import csv
-
 import suite
-from checks import holds
-from expected import VECTORS
+from expected import VECTORS, rows_of
 from suite import PROGRAM, prints
 
 
@@ -31,13 +28,11 @@ def codes(row):
 
 
 def each_row(name, case):
-    """Compares what is printed for each row of a table, which has at least one."""
-    with open(VECTORS / name, newline="", encoding="utf-8") as table:
-        rows = list(csv.DictReader(table))
-    holds(rows, f"{name} has no rows")
-    for row in rows:
+    """Compares what is printed for each row of a table."""
+    rows = rows_of(VECTORS / name)
+    for number, row in enumerate(rows, 2):
         words, line, want = case(row)
-        prints([PROGRAM, *words], line, 0, want, "", words)
+        prints([PROGRAM, *words], line, 0, want, "", f"{name}: line {number}, by {row['source']}")
     print(f"vectors.py: {name}: {len(rows)} rows as made elsewhere")
 
 

@@ -1,0 +1,193 @@
+"""Runs of commands: whole ones, and ones that wait for more input. Also what can be seen of a process from outside. If a test fails, `last`
+says which command was run last, with which input, and what it answered."""
+import os
+import select
+import shlex
+import subprocess
+import time
+from collections.abc import Callable
+from typing import Any, NamedTuple, NoReturn
+
+from checks import cut, equal, fail, shown
+
+# The most seconds that a run may take. After that, the test fails, and is named.
+LIMIT = 120
+# The most seconds in which a run that goes on has to print its next lines.
+LIMIT_OF_LINES = 60
+
+PIPES = dict.fromkeys(["stdin", "stdout", "stderr"], subprocess.PIPE)
+
+
+class Answer(NamedTuple):
+    """What a run has answered. What goes to a file or a terminal is not in it."""
+
+    status: int
+    output: str
+    faults: str
+
+
+# What `last` says, and the processes that `forget_runs` stops.
+_last: list[str] = []
+_started: list[subprocess.Popen] = []
+
+
+def last() -> str:
+    """The command that was run last, its input and its answer; an empty text if there was none since `forget_runs`."""
+    return "".join(_last)
+
+
+def forget_runs() -> None:
+    """Stops the runs that still go on, and forgets all."""
+    for process in _started:
+        process.kill()
+        process.wait()
+    _started.clear()
+    _last.clear()
+
+
+def _command(words: list) -> str:
+    """A command as one would type it."""
+    return cut(shlex.join(map(os.fsdecode, words)))
+
+
+def _remember(words: list, given: str | bytes, answer: Answer) -> Answer:
+    """Notes a run that has ended, and returns its answer."""
+    parts = {"the last run": _command(words), "  its input": shown(given)}
+    parts |= {f"  its {name}": shown(it) for name, it in answer._asdict().items()}
+    _last[:] = [f"{name}: {text}\n" for name, text in parts.items()]
+    return answer
+
+
+def _fail_late(words: list, given: str | bytes) -> NoReturn:
+    """Fails the test, since a run takes too long."""
+    _last.clear()
+    fail([_command(words), "after the input", shown(given)], [f"the run does not end in {LIMIT} seconds"])
+
+
+def _encoded(text: str | bytes) -> bytes:
+    return text.encode() if isinstance(text, str) else text
+
+
+def ran(words: list, data: str | bytes = b"", **how: Any) -> Answer:
+    """Runs a command with this input, unless another is given as `stdin`. Returns its answer."""
+    given = {} if "stdin" in how else {"input": _encoded(data)}
+    try:
+        done = subprocess.run(words, **{"stdout": subprocess.PIPE, "stderr": subprocess.PIPE, "timeout": LIMIT, **given, **how})
+    except subprocess.TimeoutExpired:
+        _fail_late(words, data)
+    return _remember(words, data, Answer(done.returncode, *((it or b"").decode() for it in (done.stdout, done.stderr))))
+
+
+class Running:
+    """A run that was started, and may wait for more input."""
+
+    def __init__(self, words: list, text: str | bytes = "", **how: Any) -> None:
+        """Starts a command, and sends it this text."""
+        self.words, self.given = words, b""
+        # What was read after the lines that a test has asked for.
+        self.unread = b""
+        self.process = subprocess.Popen(words, **{**PIPES, **how})
+        _started.append(self.process)
+        self.send(text)
+
+    def send(self, text: str | bytes) -> None:
+        """Sends the run more input. A run that has ended does not read it."""
+        self.given += _encoded(text)
+        if text:
+            try:
+                self.process.stdin.write(_encoded(text))
+                self.process.stdin.flush()
+            except BrokenPipeError:
+                pass
+
+    def close(self) -> None:
+        """Ends the input."""
+        try:
+            self.process.stdin.close()
+        except BrokenPipeError:
+            pass
+        self.process.stdin = None
+
+    def next_lines(self, count: int) -> str:
+        """The next `count` lines that the run prints while its input is open, or fewer if it ends or prints no more of them in time."""
+        text, deadline = self.unread, time.monotonic() + LIMIT_OF_LINES
+        while text.count(b"\n") < count and (left := deadline - time.monotonic()) > 0:
+            if select.select([self.process.stdout], [], [], left)[0]:
+                read = os.read(self.process.stdout.fileno(), 65536)
+                if not read:
+                    break
+                text += read
+        lines = text.split(b"\n", count)
+        self.unread = lines[count] if len(lines) > count else b""
+        return text.removesuffix(self.unread).decode()
+
+    def prints(self, lines: str, text: str | bytes = "") -> None:
+        """Sends the run this text, and compares the next lines that it prints."""
+        self.send(text)
+        equal(self.next_lines(lines.count("\n")), lines, "the next lines of", _command(self.words), "after the input", self.given)
+
+    def goes_on(self) -> None:
+        """Checks that the run has not ended."""
+        equal(self.process.poll(), None, "the status of a run that should go on", _command(self.words), "after the input", self.given)
+
+    def waits(self) -> None:
+        """Waits until the run sleeps, as it does while it waits for input or for a lock."""
+        until(lambda: sleeps(self.process.pid), "the run should wait", _command(self.words), "after the input", self.given)
+
+    def end(self, text: str | bytes = b"") -> Answer:
+        """Sends the run the rest of its input, if any, and waits for its end. Returns its answer, with the output that is not read yet."""
+        self.given += _encoded(text)
+        try:
+            output, faults = self.process.communicate(_encoded(text) if self.process.stdin else None, timeout=LIMIT)
+        except subprocess.TimeoutExpired:
+            _fail_late(self.words, self.given)
+        output, self.unread = self.unread + (output or b""), b""
+        return _remember(self.words, self.given, Answer(self.process.returncode, *((it or b"").decode() for it in (output, faults))))
+
+    def ends(self, status: int, output: str = "", faults: str = "", text: str | bytes = b"") -> None:
+        """Sends the run the rest of its input, if any, and compares its answer."""
+        equal(self.end(text), (status, output, faults), "the end of a run")
+
+    def killed(self) -> Answer:
+        """Kills the run, unless it has ended, and returns its answer."""
+        self.process.kill()
+        return self.end()
+
+
+def whole(words: list, text: str | bytes, **how: Any) -> Running:
+    """Starts a command, and gives it all of its input."""
+    run = Running(words, text, **how)
+    run.close()
+    return run
+
+
+def until(is_so: Callable[[], bool], *about: Any) -> None:
+    """Waits at least a minute for this to be true, and otherwise fails with what the caller says about it: what is awaited, as in "the run
+    should hold"."""
+    for _ in range(100 * LIMIT_OF_LINES):
+        if is_so():
+            return
+        time.sleep(0.01)
+    fail(about, [f"it does not come to be so in {LIMIT_OF_LINES} seconds"])
+
+
+def _stat(process: int) -> list[str]:
+    """The fields of /proc/PID/stat after the command's name."""
+    with open(f"/proc/{process}/stat", encoding="ascii", errors="replace") as file:
+        return file.read().rpartition(") ")[2].split()
+
+
+def sleeps(process: int) -> bool:
+    """Whether a process sleeps, as it does while it waits for input."""
+    return _stat(process)[0] == "S"
+
+
+def taken(process: int) -> float:
+    """The seconds of processor time that a process itself has taken so far, in steps of a hundredth."""
+    return int(_stat(process)[11]) / os.sysconf("SC_CLK_TCK")
+
+
+def processor_time() -> float:
+    """The seconds of processor time that this script's runs have taken. A run is counted when it has ended."""
+    times = os.times()
+    return times.children_user + times.children_system
