@@ -15,17 +15,19 @@ use Rattle.book_format.specs.Book.{AreAccounts}
 use Rattle.account_book.specs.Accounts.{with_act_as}
 use Rattle.account_book.specs.Tokens.{with_token}
 
--- what a test or an ordering chooses is in its ranges: of two lists of accounts, of three, and of an account and an optional one:
+-- if the accounts of two lists are in their ranges, so are those of the list that a test chooses
 either_list_is_in_range : (b : Bool) (es fs : List (List ℕ × AccountFields)) → AreAccounts es → AreAccounts fs → AreAccounts (cond b es fs)
 either_list_is_in_range true es fs h k = h
 either_list_is_in_range false es fs h k = k
 
+-- if the accounts of three lists are in their ranges, so are those of the list that an ordering chooses
 chosen_list_is_in_range : (o : Ordering) (es fs gs : List (List ℕ × AccountFields)) → AreAccounts es → AreAccounts fs → AreAccounts gs
     → AreAccounts (match_ordering o es fs gs)
 chosen_list_is_in_range Less es fs gs h k l = h
 chosen_list_is_in_range Equal es fs gs h k l = k
 chosen_list_is_in_range Greater es fs gs h k l = l
 
+-- if an account and an optional one are in their ranges, so is what a test chooses of the two
 either_account_is_in_range : (b : Bool) (account : AccountFields) (o : Option AccountFields) → IsAccount account → IfSome o IsAccount
     → IfSome (cond b (Some account) o) IsAccount
 either_account_is_in_range true account o h k = h

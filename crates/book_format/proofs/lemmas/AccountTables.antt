@@ -29,7 +29,7 @@ use Rattle.book_format.proofs.lemmas.TokenTables.{token_is_exact}
 pub mech_is_exact : (len : ℕ) → IsExactTable (keys_table len)
 mech_is_exact len = record { gives = λ vs. refl; keeps = λ m. refl; rows = search (row_is_exact, bytes_are_exact, number_is_exact) parts 8 }
 
--- the table of an account is exact, and so is the type of such tables:
+-- the table of an account is exact
 account_is_exact : IsExactTable account_table
 account_is_exact = record {
   gives = λ vs. refl;
@@ -40,6 +40,7 @@ account_is_exact = record {
     mechs : (len : ℕ) → IsExactType (table_type (keys_table len))
     mechs len = table_type_is_exact (keys_table len) (mech_is_exact len) (λ ms. tt)
 
+-- the type of the tables of accounts is exact
 account_type_is_exact : IsExactType (table_type account_table)
 account_type_is_exact = table_type_is_exact account_table account_is_exact (λ ms. tt)
 
@@ -71,7 +72,7 @@ entry_follows key d =
 pub entry_name_is_key : (key : List ℕ) (d : Data) (entry : List ℕ × AccountFields) → named_account_of key d ≡ Ok entry → entry.0 ≡ key
 entry_name_is_key key d entry h = sym (read_entry_stands key d entry h).0
 
--- a table is read as accounts if and only if its members are their tables, one by one:
+-- if a table is read as accounts, its members are their tables, one by one
 read_accounts_stand : (index : ℕ) (ms : Members) (entries : List (List ℕ × AccountFields)) → accounts_from index ms ≡ Ok entries
     → AreAccountTrees ms entries
 unfolding accounts_from
@@ -83,6 +84,7 @@ read_accounts_stand index (member key d ms) entries h =
     subst (λ es. AreAccountTrees (member key d ms) es) (same_ok_has_same_value (entry ∷ others) entries h1)
     (same, plain, tree, read_accounts_stand (index + 1) ms others more)
 
+-- a table whose members are the tables of accounts, one by one, is read as these
 pub accounts_are_read : (index : ℕ) (ms : Members) (entries : List (List ℕ × AccountFields)) → AreAccountTrees ms entries
     → accounts_from index ms ≡ Ok entries
 unfolding accounts_from named_account_of
@@ -92,18 +94,19 @@ accounts_are_read index (member name d ms) [] h = absurd h
 accounts_are_read index (member name d ms) (entry ∷ entries) h =
     rw (h.0, name_is_read entry.0 h.1, account_type_is_exact.held d entry.1 h.2, accounts_are_read (index + 1) ms entries h.3) refl
 
--- an optional table is read as accounts if and only if it is theirs, or it is missing and there are none:
+-- if an optional table is read as accounts, it is theirs, or it is missing and there are none
 pub read_optional_accounts_stand : (named : Option Members) (entries : List (List ℕ × AccountFields)) → accounts_of_table named ≡ Ok entries
     → AreAccountsOf named entries
 read_optional_accounts_stand None entries h = sym (same_ok_has_same_value [] entries h)
 read_optional_accounts_stand (Some ms) entries h = read_accounts_stand 0 ms entries h
 
+-- an optional table that is that of accounts is read as these, and a missing one as none
 pub optional_accounts_are_read : (named : Option Members) (entries : List (List ℕ × AccountFields)) → AreAccountsOf named entries
     → accounts_of_table named ≡ Ok entries
 optional_accounts_are_read None entries h = rw h refl
 optional_accounts_are_read (Some ms) entries h = accounts_are_read 0 ms entries h
 
--- reading the accounts of a table follows the demands on them:
+-- reading the accounts of a table follows the demands on them
 accounts_follow : (index : ℕ) (ms : Members) → FollowsDemands (accounts_demands index ms) (accounts_from index ms)
 unfolding accounts_demands accounts_from
 accounts_follow index no_members = refl
@@ -113,6 +116,7 @@ accounts_follow index (member key d ms) =
     (in_account_follows index (account_demands key d) (named_account_of key d) (entry_follows key d))
     (λ entry is. accounts_follow (index + 1) ms ∙ making_keeps_faults (accounts_from (index + 1) ms) (λ entries. entry ∷ entries))
 
+-- reading the accounts of an optional table follows the demands on them, none if it is missing
 pub optional_accounts_follow : (named : Option Members) → FollowsDemands (if_there (accounts_demands 0) named) (accounts_of_table named)
 optional_accounts_follow None = refl
 optional_accounts_follow (Some ms) = accounts_follow 0 ms

@@ -39,7 +39,8 @@ judged-append (demand ∷ demands) others =
 
 -- a step and the next follow two lists of demands, if each follows its own
 pub both_follow : {A B F : Type 0} (demands others : List (Demand F)) (first : Result A F) (next : A → Result B F)
-    → FollowsDemands demands first → ((x : A) → first ≡ Ok x → FollowsDemands others (next x)) → FollowsDemands (demands ++ others) (first >>= next)
+    → FollowsDemands demands first → ((x : A) → first ≡ Ok x → FollowsDemands others (next x))
+    → FollowsDemands (demands ++ others) (first >>= next)
 both_follow demands others (Ok x) next h rest =
     judged-append demands others ∙ ap (λ r. r >>= λ u. judged others) h ∙ rest x refl
 both_follow demands others (Err fault) next h rest = judged-append demands others ∙ ap (λ r. r >>= λ u. judged others) h

@@ -34,12 +34,13 @@ judged-placed place (demand ∷ demands) = step demand.met demand.fault (judged-
     step true why h = h
     step false why h = refl
 
--- a reading follows demands with a place if it follows them without, in an account and at the top:
+-- if a reading follows demands, then with its fault placed in an account it follows the demands placed there
 pub in_account_follows : {A : Type 0} (index : ℕ) (demands : List (Demand BookWhy)) (r : Result A BookWhy) → FollowsDemands demands r
     → FollowsDemands (placed (Some index) demands) (in_account index r)
 in_account_follows index demands (Ok x) h = judged-placed (Some index) demands ∙ ap (located (Some index)) h
 in_account_follows index demands (Err why) h = judged-placed (Some index) demands ∙ ap (located (Some index)) h
 
+-- if a reading follows demands, then with its fault placed in no account it follows the demands placed in none
 pub at_top_follows : {A : Type 0} (demands : List (Demand BookWhy)) (r : Result A BookWhy) → FollowsDemands demands r
     → FollowsDemands (placed None demands) (at_top r)
 at_top_follows demands (Ok x) h = judged-placed None demands ∙ ap (located None) h

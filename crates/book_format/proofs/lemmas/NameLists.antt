@@ -21,21 +21,23 @@ use Rattle.book_format.proofs.lemmas.Rows.{IsExactType}
 use Rattle.book_format.proofs.lemmas.PassedTests.{value_passed_test, number_is_within, number_is_at_most}
 use Rattle.book_format.proofs.lemmas.ValueTypes.{read_text_stands}
 
--- the list of some names is a list of texts, as many as there are names:
+-- the list of some names is a list of texts
 written_names_are_texts : (names : List (List ℕ)) → are_texts (items_of (map string names)) ≡ true
 written_names_are_texts [] = refl
 written_names_are_texts (name ∷ names) = written_names_are_texts names
 
+-- the list of some names has as many items as there are names
 written_names_keep_count : (names : List (List ℕ)) → item_count (items_of (map string names)) ≡ length names
 written_names_keep_count [] = refl
 written_names_keep_count (name ∷ names) =
     let rest = written_names_keep_count names in
     omega (arith, rest)
 
--- a plain name is read as itself, and so is a list of plain names:
+-- a plain name is read as itself
 pub name_is_read : (name : List ℕ) → IsPlainName name → plain_name_of name ≡ Ok name
 name_is_read name h = rw (le-leb 1 (length name) h.at_least, le-leb (length name) 255 h.at_most, h.each) refl
 
+-- the list of some plain names is read as these
 names_are_read : (names : List (List ℕ)) → AreNames names → names_in (items_of (map string names)) ≡ Ok names
 unfolding names_in text_in
 names_are_read [] h = refl
@@ -54,7 +56,7 @@ items_are_same : (d : Data) (ds : Items) (text name : List ℕ) (rest : List (Li
     → ds ≡ items_of (map string rest) → item d ds ≡ items_of (map string (name ∷ rest))
 items_are_same d ds text name rest is same others = rw (is, same, others) refl
 
--- names that were read from a list are plain, and the list is theirs:
+-- if a list is read as names, they are plain, and it is the list of them
 read_names_stand : (list : Items) (names : List (List ℕ)) → names_in list ≡ Ok names → (list ≡ items_of (map string names)) × AreNames names
 unfolding names_in text_in
 read_names_stand no_items names h = subst (λ ns. (no_items ≡ items_of (map string ns)) × AreNames ns) (same_ok_has_same_value [] names h)
@@ -68,6 +70,7 @@ read_names_stand (item d ds) names h =
     subst (λ ns. (item d ds ≡ items_of (map string ns)) × AreNames ns) (same_ok_has_same_value (name ∷ rest) names h2)
     (items_are_same d ds text name rest (read_text_stands d text said) same others, (is_plain_name, plain_others))
 
+-- if a list is read as a list of names, it is one, and of these names
 read_list_stands : (list : Items) (names : List (List ℕ)) → names_of list ≡ Ok names → IsNameList (array list) names
 unfolding names_of
 read_list_stands list names h =
@@ -78,6 +81,7 @@ read_list_stands list names h =
     let most : item_count list ≤ most_names = number_is_at_most (item_count list) most_names (test_was_passed _ Name v few) in
     record { there = ap array same; plain = plain; few = omega (arith, count, most) }
 
+-- if a value is read as a list of names, it is one, and of these names
 read_name_list_stands : (d : Data) (names : List (List ℕ)) → name_list_in d ≡ Ok names → IsNameList d names
 unfolding name_list_in
 read_name_list_stands (array list) names h = read_list_stands list names h
@@ -96,12 +100,13 @@ name_list_is_read d names h =
           h.plain,
     ) refl
 
--- reading names follows the demand that each is plain: one name and those after it, and a list:
+-- if the names after one follow the demand that they be plain, so do these with the one before them
 name_follows : (plain others : Bool) (text : List ℕ) (rest : Result (List (List ℕ)) BookWhy) → FollowsDemands (must others Name ∷ []) rest
     → FollowsDemands (must (plain && others) Name ∷ []) (value_or plain text Name >>= λ name. rest >>= λ names. Ok (name ∷ names))
 name_follows true others text rest h = h ∙ making_keeps_faults rest (λ names. text ∷ names)
 name_follows false others text rest h = refl
 
+-- reading the names of a list of texts follows the demand that they be plain
 names_follow : (list : Items) → are_texts list ≡ true → FollowsDemands (must (are_names list) Name ∷ []) (names_in list)
 unfolding names_in text_in
 names_follow no_items typed = refl

@@ -12,10 +12,11 @@ pub value_passed_test : {V : Type 0} (fits : Bool) (v x : V) (why : BookWhy) →
 value_passed_test true v x why h = (refl, same_ok_has_same_value v x h)
 value_passed_test false v x why h = absurd (cc h)
 
--- two tests of bounds pass if and only if a number is within them:
+-- a number that is within two bounds passes the tests of them
 pub bounds_are_passed : (least n most : ℕ) → least ≤ n → n ≤ most → (nat_le least n && nat_le n most) ≡ true
 bounds_are_passed least n most a b = grind (arith, nat_tests)
 
+-- a number that passes the tests of two bounds is within them
 pub number_is_within : (least n most : ℕ) → (nat_le least n && nat_le n most) ≡ true → (least ≤ n) × (n ≤ most)
 number_is_within least n most h = (low least n most h, high least n most h)
   where

@@ -176,7 +176,7 @@ abbrev pub all_known : (List ℕ → Bool) → Entries → Bool
 all_known test [] = true
 all_known test (e ∷ es) = test e.0 && all_known test es
 
--- a table of known keys has only known keys after a value is put at a known one:
+-- a table of known keys has only known keys after a value is put at a known one
 put_member_keeps_known : (test : List ℕ → Bool) (key : List ℕ) (d : Data) (ms : Members) → test key ≡ true → has_only test ms ≡ true
     → has_only test (put_member key d ms) ≡ true
 unfolding has_only
@@ -190,6 +190,7 @@ put_member_keeps_known test key d (member k e rest) is h =
           let (here, others) = and_parts (test k) (has_only test rest) h in rw here (put_member_keeps_known test key d rest is others)
     ]
 
+-- a table of known keys has only known keys after an optional value, or none, is put at a known one
 put_some_keeps_known : (test : List ℕ → Bool) (key : List ℕ) (o : Option Data) (ms : Members) → test key ≡ true → has_only test ms ≡ true
     → has_only test (put_some key o ms) ≡ true
 put_some_keeps_known test key None ms is h = h

@@ -13,7 +13,7 @@ use Rattle.book_format.specs.Tables.{keys_table, account_table}
 use Rattle.book_format.specs.Trees.{AreAccountTrees, AreAccountsOf, IsBookTree}
 use Rattle.book_format.specs.declared.account.MechKeys.{MechKeys}
 
--- the keys that are read from a mechanism's table are in their ranges:
+-- the keys that are read from a mechanism's table are in their ranges
 keys_are_in_range : (len : ℕ) (d : Data) (keys : MechKeys) → IsTableIn (keys_table len) d keys → AreKeys len keys
 keys_are_in_range len d keys h =
     let salt = h.2.rows.0 in
@@ -28,6 +28,7 @@ keys_are_in_range len d keys h =
       server = omega (arith, server.2.at_least, server.2.at_most);
     }
 
+-- keys that are read from an optional table of a mechanism are in their ranges
 optional_keys_are_in_range : (len : ℕ) (key : List ℕ) (o : Option MechKeys) (ms : Members) → HasSome key (table_type (keys_table len)) ms o
     → (keys : MechKeys) → o ≡ Some keys → AreKeys len keys
 optional_keys_are_in_range len key None ms h keys is = absurd (cc is)
@@ -43,7 +44,7 @@ names_are_in_range : (names : List (List ℕ)) (key : List ℕ) (ms : Members) �
 names_are_in_range names key ms (inl h) = rw h.1 (omega arith)
 names_are_in_range names key ms (inr h) = h.2.few
 
--- each account whose table was read is in its ranges:
+-- an account whose table was read is in its ranges
 account_is_in_range : (d : Data) (a : AccountFields) → IsTableIn account_table d a → IsAccount a
 account_is_in_range d a h = record {
   sha1 = optional_keys_are_in_range (length_by ScramSha1) (codes "sha1") a.sha1 h.0 h.2.rows.0;
@@ -51,12 +52,14 @@ account_is_in_range d a h = record {
   names = names_are_in_range a.act_as (codes "act_as") h.0 h.2.rows.1.1.0;
 }
 
+-- accounts whose tables were read are in their ranges
 accounts_are_in_range : (ms : Members) (entries : List (List ℕ × AccountFields)) → AreAccountTrees ms entries → AreAccounts entries
 accounts_are_in_range no_members [] h = tt
 accounts_are_in_range no_members (entry ∷ entries) h = absurd h
 accounts_are_in_range (member key d ms) [] h = absurd h
 accounts_are_in_range (member key d ms) (entry ∷ entries) h = (account_is_in_range d entry.1 h.2, accounts_are_in_range ms entries h.3)
 
+-- accounts whose optional table was read are in their ranges
 optional_accounts_are_in_range : (named : Option Members) (entries : List (List ℕ × AccountFields)) → AreAccountsOf named entries
     → AreAccounts entries
 optional_accounts_are_in_range None entries h = rw h tt

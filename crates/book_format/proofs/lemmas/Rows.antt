@@ -64,11 +64,12 @@ rows_are_read : {T X : Type 0} (rows : List (Row T)) (make : Maker rows X) (ms :
 rows_are_read [] make ms vs sound h = refl
 rows_are_read (r ∷ rows) make ms vs sound h = rw (sound.0.held ms vs.0 h.0) (rows_are_read rows (make vs.0) ms vs.1 sound.1 h.1)
 
--- having the fields of a value row by row is having the rows of the value, and back:
+-- a table that has the fields of a value row by row has the rows of the value
 fields_fill_rows : {T : Type 0} (rows : List (Row T)) (ms : Members) (x : T) → HasValues rows ms (fields_of rows x) → HasRows rows ms x
 fields_fill_rows [] ms x h = tt
 fields_fill_rows (r ∷ rows) ms x h = (h.0, fields_fill_rows rows ms x h.1)
 
+-- a table that has the rows of a value has its fields row by row
 rows_hold_fields : {T : Type 0} (rows : List (Row T)) (ms : Members) (x : T) → HasRows rows ms x → HasValues rows ms (fields_of rows x)
 rows_hold_fields [] ms x h = tt
 rows_hold_fields (r ∷ rows) ms x h = (h.0, rows_hold_fields rows ms x h.1)

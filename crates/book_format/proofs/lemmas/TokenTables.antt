@@ -21,7 +21,7 @@ use Rattle.book_format.proofs.lemmas.ValueTypes.{number_is_exact, signed_is_exac
 use Rattle.book_format.proofs.lemmas.Rows.{IsExactTable, IsExactType, read_table_stands, table_is_read, table_follows, read_members_stand}
 use Rattle.book_format.proofs.lemmas.RowKinds.{row_is_exact, row_up_to_is_exact, row_or_default_is_exact, optional_is_exact}
 
--- the tables of a HOTP token and of a TOTP token are exact:
+-- the table of a HOTP token is exact
 pub hotp_is_exact : IsExactTable hotp_table
 hotp_is_exact = record {
   gives = λ vs. refl;
@@ -29,6 +29,7 @@ hotp_is_exact = record {
   rows = search (row_is_exact, row_or_default_is_exact, row_up_to_is_exact, bytes_are_exact, number_is_exact) parts 16;
 }
 
+-- the table of a TOTP token is exact
 pub totp_is_exact : IsExactTable totp_table
 totp_is_exact = record {
   gives = λ vs. refl;
@@ -73,7 +74,7 @@ read_token_of_kind_stands d ms name fields is_table there h = elim (cases_Bool (
   ]
 ]
 
--- a value is read as a token if and only if it is that token's table:
+-- if a value is read as a token, it is that token's table
 read_token_stands : (d : Data) (fields : TokenFields) → token_in d ≡ Ok fields → IsToken d fields
 unfolding token_in
 read_token_stands d fields h =
@@ -81,6 +82,7 @@ read_token_stands d fields h =
     let (name, said, h1) = each_step_gives_value (read_or (Err Key) text_in (get_member (codes "kind") ms)) _ fields h0 in
     read_token_of_kind_stands d ms name fields (read_members_stand d ms is_table) (read_text_at_stands _ name said) h1
 
+-- a token's table is read as that token
 token_is_read : (d : Data) (fields : TokenFields) → IsToken d fields → token_in d ≡ Ok fields
 unfolding token_in token_of_kind text_in
 token_is_read d (Hotp t) h = rw (h.1, h.2.marks.0, table_is_read hotp_table hotp_is_exact h.0 t h.2) refl
@@ -108,7 +110,8 @@ token_follows : (d : Data) → FollowsDemands (token_demands d) (token_in d)
 unfolding token_in token_demands
 token_follows d = required_follows Key _ (as_table d) _ (λ ms.
     let kind = get_member (codes "kind") ms in
-    subst (λ r. FollowsDemands (required Key (λ name. kind_demands name ms) (option_and_then as_str kind)) (r >>= λ name. token_of_kind name ms))
+    subst (λ r.
+    FollowsDemands (required Key (λ name. kind_demands name ms) (option_and_then as_str kind)) (r >>= λ name. token_of_kind name ms))
     (text_readings_are_same kind)
     (required_follows Key (λ name. kind_demands name ms) (option_and_then as_str kind) (λ name. token_of_kind name ms)
     (λ name. token_of_kind_follows name ms)))

@@ -94,7 +94,8 @@ module _ (why : BookWhy) (least most : ℕ) where
   unfolding bytes_in
   bytes_follow (string text) = decoded_follows (decode_of text)
     where
-      decoded_follows : {E : Type 0} (r : Result (List ℕ) E) → FollowsDemands (must (are_decoded least most r) why ∷ []) (decoded why least most r)
+      decoded_follows : {E : Type 0} (r : Result (List ℕ) E)
+          → FollowsDemands (must (are_decoded least most r) why ∷ []) (decoded why least most r)
       decoded_follows (Ok bs) = value_or_follows (nat_le least (length bs) && nat_le (length bs) most) bs why
       decoded_follows (Err e) = refl
   bytes_follow d = refl
@@ -117,13 +118,14 @@ pub read_text_stands : (d : Data) (t : List ℕ) → ok_or (as_str d) Key ≡ Ok
 read_text_stands (string s) t h = ap string (same_ok_has_same_value s t h)
 read_text_stands d t h = absurd (cc h)
 
--- a hash function is read from its name and from nothing else:
+-- the name of a hash function is read as this function
 hash_name_is_read : (hash : OtpHash) → hash_in (string (hash_name hash)) ≡ Ok hash
 unfolding hash_in text_in
 hash_name_is_read Sha1 = refl
 hash_name_is_read Sha256 = refl
 hash_name_is_read Sha512 = refl
 
+-- a name that names a hash function is the name of this function
 named_hash_has_name : (name : List ℕ) (hash : OtpHash) → hash_named name ≡ Some hash → name ≡ hash_name hash
 named_hash_has_name name hash h = elim (cases_Bool (bytes_eq name (hash_name Sha1))) [
   | inl is ↦ named Sha1 is (rw is at h)
@@ -143,17 +145,20 @@ named_hash_has_name name hash h = elim (cases_Bool (bytes_eq name (hash_name Sha
     named : (found : OtpHash) → bytes_eq name (hash_name found) ≡ true → Some found ≡ Some hash → name ≡ hash_name hash
     named found is same = subst (λ k. name ≡ hash_name k) (some_same found hash same) ((bytes_eq-Decides name (hash_name found)).0 is)
 
+-- if a value is read as a hash function, it is the text of its name
 read_hash_stands : (d : Data) (hash : OtpHash) → hash_in d ≡ Ok hash → d ≡ string (hash_name hash)
 unfolding hash_in text_in
 read_hash_stands d hash h =
     let (name, said, rest) = each_step_gives_value (ok_or (as_str d) Key) (λ name. ok_or (hash_named name) Token) hash h in
     read_text_stands d name said ∙ ap string (named_hash_has_name name hash (option_holds_value (hash_named name) Token hash rest))
 
+-- reading a hash function follows the demands of its type
 hash_follows : (d : Data) → FollowsDemands (hash_type.demands d) (hash_in d)
 unfolding hash_in text_in
 hash_follows d = required_follows Key (λ name. must (is_some (hash_named name)) Token ∷ []) (as_str d)
     (λ name. ok_or (hash_named name) Token) (λ name. presence_follows Token (hash_named name))
 
+-- the type of hash functions is exact
 pub hash_is_exact : IsExactType hash_type
 hash_is_exact = record { found = read_hash_stands; held = λ d h is. rw is (hash_name_is_read h); follows = hash_follows }
 

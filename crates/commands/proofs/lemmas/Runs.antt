@@ -109,11 +109,12 @@ pub found_command_is_known : (matches : ArgMatches) (name : Text) → NamesComma
 found_command_is_known matches name (command, values, are) is others =
     unknown_name_is_no_word name command others (name_is_word (out-ArgMatches matches).subcommand name (word_of command) values is are)
 
--- the program's app is simple and free of conflicts, so that the contracts of `clap` say everything about it:
+-- the program's app is simple, in `clap`'s sense
 program_is_simple : is_simple program ≡ true
 unfolding clap_on_literals
 program_is_simple = refl
 
+-- the program's app is simple and free of conflicts, in `clap`'s sense
 program_is_free : is_simple_and_free program ≡ true
 unfolding clap_on_literals
 program_is_free = refl

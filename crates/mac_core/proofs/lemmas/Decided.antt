@@ -20,16 +20,19 @@ decided_both P Q (inl p) (inl q) = inl (p, q)
 decided_both P Q (inl p) (inr other) = inr (λ both. other both.1)
 decided_both P Q (inr other) q = inr (λ both. other both.0)
 
--- it is decidable whether a test passes, and whether a number is at most, less than or equal to another:
+-- it is decidable whether a test passes
 pub decided_test : (test : Bool) → Decided (test ≡ true)
 decided_test test = elim (cases_Bool test) [ inl passes ↦ inl passes | inr fails ↦ inr (λ passes. both_ways test fails passes) ]
 
+-- it is decidable whether a number is at most another
 pub decided_le : (m n : ℕ) → Decided (m ≤ n)
 decided_le m n = elim (cases_lt n m) [ inl over ↦ inr (λ h. omega (arith, over, h)) | inr within ↦ inl within ]
 
+-- it is decidable whether a number is less than another
 pub decided_lt : (m n : ℕ) → Decided (m < n)
 decided_lt m n = elim (cases_lt m n) [ inl under ↦ inl under | inr over ↦ inr (λ h. omega (arith, over, h)) ]
 
+-- it is decidable whether two numbers are equal
 pub decided_same_number : (m n : ℕ) → Decided (m ≡ n)
 decided_same_number m n = elim (eqb_tells m n) [ inl same ↦ inl same.1 | inr other ↦ inr other.1 ]
 

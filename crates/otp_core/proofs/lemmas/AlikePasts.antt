@@ -20,17 +20,19 @@ settings_keep_codes : (s : TokenFields) (c : ℕ) → code_text (settings_of s) 
 settings_keep_codes (Hotp s) c = refl
 settings_keep_codes (Totp s) c = refl
 
--- tokens with the same settings have the same limit, and the same codes:
+-- tokens with the same settings have the same limit of failures
 same_settings_give_same_limit : (s t : TokenFields) → settings_of s ≡ settings_of t → limit_of s ≡ limit_of t
 same_settings_give_same_limit s t e = sym (settings_keep_limit s) ∙ (ap limit_of e ∙ settings_keep_limit t)
 
+-- tokens with the same settings have the same code at each counter
 same_settings_give_same_codes : (s t : TokenFields) (c : ℕ) → settings_of s ≡ settings_of t → code_text s c ≡ code_text t c
 same_settings_give_same_codes s t c e = sym (settings_keep_codes s c) ∙ (ap (λ f. code_text f c) e ∙ settings_keep_codes t c)
 
--- an equivalence is also true the other way round, and two that follow one another make one:
+-- an equivalence is also true the other way round
 pub iff_is_symmetric : {A B : Type 0} → A ↔ B → B ↔ A
 iff_is_symmetric one = (one.1, one.0)
 
+-- if one side is equivalent to a second, and that to a third, then the first is equivalent to the third
 pub iff_is_transitive : {A B C : Type 0} → A ↔ B → B ↔ C → A ↔ C
 iff_is_transitive one other = ((λ x. other.0 (one.0 x)), (λ x. one.1 (other.1 x)))
 

@@ -24,11 +24,12 @@ decided_leℤ a b = elim (cases_Bool (le_z a b)) [
   | inr other ↦ inr (λ h. rw other at h.le)
 ]
 
--- it is decidable whether a number is above each counter of a list, or above an optional one:
+-- it is decidable whether a number is above each counter of a list
 decided_above : (counters : List ℕ) (w : ℕ) → Decided (IsAbove counters w)
 decided_above [] w = inl tt
 decided_above (p ∷ counters) w = decided_both (p < w) (IsAbove counters w) (decided_lt p w) (decided_above counters w)
 
+-- it is decidable whether a number is above an optional one, if there is one
 decided_above_last : (last : Option ℕ) (w : ℕ) → Decided (ForSome last (λ l. l < w))
 decided_above_last None w = inl (λ x e. absurd (cc))
 decided_above_last (Some last) w =
@@ -37,7 +38,7 @@ decided_above_last (Some last) w =
     (λ f. f last refl)
     (decided_lt last w)
 
--- it is decidable whether a counter is in HOTP's window, and whether a step is in TOTP's:
+-- it is decidable whether a counter is in HOTP's window
 decided_hotp_window : (first look_ahead c : ℕ) → Decided (IsInHotpWindow first look_ahead c)
 decided_hotp_window first look_ahead c =
     decided_equivalent ((first ≤ c) × ((c ≤ first + look_ahead) × (c ≤ most_counter))) (IsInHotpWindow first look_ahead c)
@@ -45,6 +46,7 @@ decided_hotp_window first look_ahead c =
     (λ d. (d.not_before, (d.within, d.most)))
     (decided_both _ _ (decided_le first c) (decided_both _ _ (decided_le c (first + look_ahead)) (decided_le c most_counter)))
 
+-- it is decidable whether a step is in TOTP's window
 decided_totp_window : (now : ℕ) (drift : ℤ) (back ahead max_drift w : ℕ) → Decided (IsInTotpWindow now drift back ahead max_drift w)
 decided_totp_window now drift back ahead max_drift w =
     decided_equivalent

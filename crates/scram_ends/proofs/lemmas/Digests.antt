@@ -19,11 +19,12 @@ use Rattle.scram_text.proofs.lemmas.ListEnds.{same_cons}
 abbrev pub AreBytes : List ℕ → Type 0
 AreBytes bytes = (i : ℕ) → slice_index bytes i < 256
 
--- each byte of a number is below 256, so a number's bytes, the highest first, are bytes:
+-- each byte of a number is below 256
 byte_at_is_byte : (k n : ℕ) → byte_at k n < 256
 byte_at_is_byte zero n = mod-lt n (omega arith)
 byte_at_is_byte (suc k) n = mod-lt (n / 256 ^ suc k) (omega arith)
 
+-- a number's bytes, the highest first, are bytes
 number_is_bytes : (k n : ℕ) → AreBytes (bytes_high_first k n)
 number_is_bytes zero n i = omega arith
 number_is_bytes (suc k) n zero = byte_at_is_byte k n
@@ -35,25 +36,27 @@ joined_is_bytes [] back is also i = also i
 joined_is_bytes (b ∷ front) back is also zero = is 0
 joined_is_bytes (b ∷ front) back is also (suc i) = joined_is_bytes front back (λ j. is (suc j)) also i
 
--- the digests of SHA-1 and of SHA-256 are bytes:
+-- a digest of SHA-1 is bytes
 sha1_digest_is_bytes : (words : List ℕ) (n : ℕ) → AreBytes (short.digest_bytes words n)
 unfolding short.digest_bytes
 sha1_digest_is_bytes words zero i = omega arith
 sha1_digest_is_bytes words (suc n) i =
     joined_is_bytes (short.digest_bytes words n) _ (sha1_digest_is_bytes words n) (number_is_bytes 4 (slice_index words n)) i
 
+-- a digest of SHA-256 is bytes
 sha256_digest_is_bytes : (words : List ℕ) (n : ℕ) → AreBytes (long.digest_bytes words n)
 unfolding long.digest_bytes
 sha256_digest_is_bytes words zero i = omega arith
 sha256_digest_is_bytes words (suc n) i =
     joined_is_bytes (long.digest_bytes words n) _ (sha256_digest_is_bytes words n) (number_is_bytes 4 (slice_index words n)) i
 
--- a mechanism's digest of a text, and its MAC, are bytes:
+-- a mechanism's digest of a text is bytes
 digest_is_bytes : (m : Mechanism) (text : List ℕ) → AreBytes (hash_by m text)
 unfolding sha1 sha256
 digest_is_bytes ScramSha1 text i = sha1_digest_is_bytes _ 5 i
 digest_is_bytes ScramSha256 text i = sha256_digest_is_bytes _ 8 i
 
+-- a mechanism's MAC of a text is bytes
 pub mac_is_bytes : (m : Mechanism) (key text : List ℕ) → AreBytes (hmac_by m key text)
 unfolding hmac
 mac_is_bytes m key text i = digest_is_bytes m _ i
@@ -65,10 +68,11 @@ length-xor [] ys same = refl
 length-xor (x ∷ xs) [] same = absurd (omega (arith, same))
 length-xor (x ∷ xs) (y ∷ ys) same = ap suc (length-xor xs ys (omega (arith, same)))
 
--- XORing a number with another twice gives the number again, and the same goes for lists of the same length:
+-- a number to which another is XORed twice is the number again
 xor_cancels : (x y : ℕ) → bit_xor (bit_xor x y) y ≡ x
 xor_cancels x y = xor_assoc x y y ∙ (ap (bit_xor x) (xor_self y) ∙ xor_zero_r x)
 
+-- a list to which another of the same length is XORed twice is the list again
 pub xor_bytes_cancels : (a b : List ℕ) → length a ≡ length b → xor_bytes (xor_bytes a b) b ≡ a
 unfolding xor_bytes
 xor_bytes_cancels [] ys same = refl

@@ -26,7 +26,7 @@ slice_after_front_is_text items front text start same at = rw (same, at) (grind 
 pub empty_is_extension_text : IsExtensionText []
 empty_is_extension_text = record { utf8_text = empty_is_text; each = tt }
 
--- a nonce, a salt and a count within their bounds can be written as server-first, and are within the limit:
+-- a nonce, a salt and a count within their bounds can be written as server-first
 pub challenge_can_be_written : (nonce salt : List ℕ) (count : ℕ)
     → IsNonce longest_nonce nonce → IsField longest_salt salt → 1 ≤ count → count < 2 ^ 32 → CanBeServerFirst nonce salt count []
 challenge_can_be_written nonce salt count is_nonce is_salt least most =
@@ -37,6 +37,7 @@ challenge_can_be_written nonce salt count is_nonce is_salt least most =
       extensions_class = empty_is_extension_text;
     }
 
+-- the server-first of a nonce, a salt and a count within their bounds is not longer than the longest message
 pub challenge_fits : (nonce salt : List ℕ) (count : ℕ)
     → IsNonce longest_nonce nonce → IsField longest_salt salt → count < 2 ^ 32
     → longest_message < length (server_first_text (server_first_of nonce salt count []))
@@ -46,15 +47,17 @@ challenge_fits nonce salt count is_nonce is_salt most over =
     let digits : length (decimal count) ≤ 10 = length-decimal-le 10 count (omega arith) (omega arith) (omega arith) in
     omega (arith, composed, digits, over, is_nonce.at_most, is_salt.at_most, length-base64 salt)
 
--- a signature within its bounds can be written as server-final, and is within the limit:
+-- a signature within its bounds can be written as server-final
 pub signature_can_be_written : (signature : List ℕ) → IsField longest_tag signature → CanBeServerFinal (verifier signature) []
 signature_can_be_written signature is_field = record { outcome_class = is_field; extensions_class = empty_is_extension_text }
 
+-- the server-final of a signature of at most the longest tag's length has at most the longest message's length
 pub signature_is_short : (signature : List ℕ)
     → length signature ≤ longest_tag → length (server_final_text (server_final_of (verifier signature) [])) ≤ longest_message
 unfolding server_final_text
 signature_is_short signature most = omega (arith, most, length-base64 signature)
 
+-- the server-final of a signature of at most the longest tag's length is not longer than the longest message
 pub signature_fits : (signature : List ℕ)
     → length signature ≤ longest_tag → longest_message < length (server_final_text (server_final_of (verifier signature) [])) → ⊥
 signature_fits signature most over = omega (arith, over, signature_is_short signature most)

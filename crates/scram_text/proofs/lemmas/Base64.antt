@@ -21,10 +21,11 @@ use Rattle.scram_text.proofs.lemmas.Base64Texts.{base64_passes_test}
 pub base64_lacks_comma : (bytes : List ℕ) → IsBytes bytes → LacksComma (base64 bytes)
 base64_lacks_comma bytes fits = base64_passes_test (λ c. not (is_comma c)) refl refl bytes fits
 
--- a text of base64 with its padding has four characters for each three bytes, or part of three:
+-- the characters of base64 for `n` bytes and their padding are four for each three bytes, or part of three
 padded_length : (n : ℕ) → unpadded_len n + padding_len n ≡ 4 * ((n + 2) / 3)
 padded_length n = omega arith
 
+-- a text of base64 with its padding has four characters for each three bytes, or part of three
 pub length-base64 : (bytes : List ℕ) → length (base64 bytes) ≡ 4 * ((length bytes + 2) / 3)
 unfolding base64
 length-base64 bytes =

@@ -29,7 +29,7 @@ use Rattle.scram_text.proofs.lemmas.Counts.{count_is_below_2_64}
 use Rattle.scram_text.proofs.lemmas.ListEnds.{same_head_and_tail, same_cons}
 use Rattle.scram_text.proofs.lemmas.Places.{AllFit}
 
--- it is decidable whether bytes are a run of a class, and whether they are a text:
+-- it is decidable whether bytes are a run of a class, no longer than a bound
 pub decided_run : (test : ℕ → Bool) (most : ℕ) (bytes : List ℕ) → Decided (IsRunOf test most bytes)
 decided_run test most bytes =
     decided_equivalent ((1 ≤ length bytes) × ((length bytes ≤ most) × (list_all test bytes ≡ true))) (IsRunOf test most bytes)
@@ -37,25 +37,28 @@ decided_run test most bytes =
     (decided_both _ _ (decided_le 1 (length bytes))
     (decided_both _ _ (decided_le (length bytes) most) (decided_test (list_all test bytes))))
 
+-- it is decidable whether bytes are a text in UTF-8
 pub decided_text : (bytes : List ℕ) → Decided (IsUtf8Text bytes)
 decided_text bytes =
     decided_equivalent ((is_utf8 bytes ≡ true) × (list_all (λ c. not (c == 0)) bytes ≡ true)) (IsUtf8Text bytes)
     (λ h. record { utf8 = IsUtf8-from_is_utf8 bytes h.0; no_nul = h.1 }) (λ r. (is_utf8-from_IsUtf8 bytes r.utf8, r.no_nul))
     (decided_both _ _ (decided_test (is_utf8 bytes)) (decided_test _))
 
--- it is decidable whether bytes are a value, a saslname or an extension, and whether a number is a count:
+-- it is decidable whether bytes are a value
 decided_value : (value : List ℕ) → Decided (IsValue value)
 decided_value value =
     decided_equivalent ((1 ≤ length value) × LacksComma value) (IsValue value)
     (λ h. record { at_least = h.0; no_comma = h.1 }) (λ r. (r.at_least, r.no_comma))
     (decided_both _ _ (decided_le 1 (length value)) (decided_test _))
 
+-- it is decidable whether bytes are a saslname
 decided_saslname : (spelled : List ℕ) → Decided (IsSaslName spelled)
 decided_saslname spelled =
     decided_equivalent ((1 ≤ length spelled) × (LacksComma spelled × IsTrue (is_escaped spelled))) (IsSaslName spelled)
     (λ h. record { at_least = h.0; no_comma = h.1.0; escaped = h.1.1 }) (λ r. (r.at_least, (r.no_comma, r.escaped)))
     (decided_both _ _ (decided_le 1 (length spelled)) (decided_both _ _ (decided_test _) (decided_test _)))
 
+-- it is decidable whether a part is an extension
 decided_extension : (part : List ℕ) → Decided (IsExtension part)
 decided_extension part =
     decided_equivalent (IsTrue (is_attribute part) × LacksComma part) (IsExtension part)
@@ -63,6 +66,7 @@ decided_extension part =
     (λ is. let lacks = extension_lacks_comma part is in ((attribute_iff_extension part lacks).1 is, lacks))
     (decided_both _ _ (decided_test _) (decided_test _))
 
+-- it is decidable whether a number is a count
 decided_count : (count : ℕ) → Decided (IsCount count)
 decided_count count =
     decided_equivalent ((1 ≤ count) × (count ≤ most_count)) (IsCount count)
@@ -99,7 +103,7 @@ decided_field most bytes =
     (λ h. record { at_least = h.0; at_most = h.1.0; each = h.1.1 }) (λ is. (is.at_least, (is.at_most, is.each)))
     (decided_both _ _ (decided_le 1 (length bytes)) (decided_both _ _ (decided_le (length bytes) most) (decided_bytes bytes)))
 
--- it is decidable whether a value spells a field: it can only be the base64 of what it decodes to:
+-- it is decidable whether a value spells a field, once it is known what it decodes to
 decided_field_by_decoding : (most : ℕ) (value : List ℕ) (r : Result (List ℕ) DecodeError) → base64_decoded value ≡ r
     → Decided (SpellsField most value)
 unfolding base64_decoded
@@ -109,6 +113,7 @@ decided_field_by_decoding most value (Ok bytes) read =
     (spelled_field_is_decoded most value bytes read)
     (decided_both _ _ (decided_same_text value (base64 bytes)) (decided_field most bytes))
 
+-- it is decidable whether a value spells a field
 decided_spells_field : (most : ℕ) (value : List ℕ) → Decided (SpellsField most value)
 decided_spells_field most value = decided_field_by_decoding most value (base64_decoded value) refl
 
@@ -127,11 +132,12 @@ decided_attr_val letter class (a ∷ b ∷ value) each =
     (first.0, (second.0, subst class (sym second.1) is)))
     (decided_both _ _ (decided_same_number a letter) (decided_both _ _ (decided_same_number b (byte "=")) (each value)))
 
--- a name to act as that is not empty is `a=` and a saslname, and it is decidable whether a part is one:
+-- a part for the name to act as that is not empty is `a=` and a saslname
 authzid_is_attr_val : (a : ℕ) (part : List ℕ) → IsAuthzid (a ∷ part) → IsAttrVal (byte "a") IsSaslName (a ∷ part)
 authzid_is_attr_val a part (None, spelled, is) = absurd (cc spelled)
 authzid_is_attr_val a part (Some name, spelled, is) = (name, spelled, is)
 
+-- it is decidable whether a part is one for the name to act as
 decided_authzid : (part : List ℕ) → Decided (IsAuthzid part)
 decided_authzid [] = inl (None, refl, tt)
 decided_authzid (a ∷ part) =

@@ -82,13 +82,14 @@ rest_misfit_is_part_fault most later pieces rest mext f marked enough misfit =
       rest_misfit_is_of_all_parts most 0 (length (mext_parts mext)) later pieces rest mext f marked (omega arith) misfit,
     )
 
--- a mandatory extension, if there is one, and other parts are together these two, and have no comma if each has none:
+-- an optional mandatory extension and then parts, the first of which is not named `m`, are this extension and the rest
 pub joined_are_mext_and_rest : (mext : Option (List ℕ)) (piece : List ℕ) (rest : List (List ℕ)) → is_named (byte "m") piece ≡ false
     → IfSome mext IsValue
     → IsMextAndRest (mext_parts mext ++ piece ∷ rest) (piece ∷ rest) mext
 joined_are_mext_and_rest None piece rest headed value = record { cut = refl; value = value; headed = headed }
 joined_are_mext_and_rest (Some v) piece rest headed value = record { cut = refl; value = value; headed = refl }
 
+-- an optional mandatory extension and then parts have no comma if none of them has one
 pub mext_and_rest_lack_comma : (mext : Option (List ℕ)) (pieces : List (List ℕ)) → IfSome mext IsValue → AllByRecursion LacksComma pieces
     → AllByRecursion LacksComma (mext_parts mext ++ pieces)
 mext_and_rest_lack_comma None pieces value lack = lack

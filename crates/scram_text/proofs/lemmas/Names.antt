@@ -29,13 +29,14 @@ unescaped_from zero (c ∷ text) = if c == byte "=" then unescaped_from 1 text e
 unescaped_from (suc zero) (c ∷ text) = (if c == 50 then 44 else 61) ∷ unescaped_from 2 text
 unescaped_from (suc (suc k)) (c ∷ text) = unescaped_from 0 text
 
--- the spelling of a byte, and of a name, is unescaped to it:
+-- a text that begins with the spelling of a byte is unescaped to this byte and the rest, unescaped
 unescaped_from-escape : (c : ℕ) (rest : List ℕ) → unescaped_from 0 (escape c ++ rest) ≡ c ∷ unescaped_from 0 rest
 unfolding unescaped_from
 unescaped_from-escape c rest =
     escape_by_cases (λ s. unescaped_from 0 (s ++ rest) ≡ c ∷ unescaped_from 0 rest) c (λ comma. rw comma refl) (λ equals. rw equals refl)
     (λ _ other. rw (ne_eqb c 61 other) refl)
 
+-- the spelling of a name is unescaped to the name
 pub unescaped_from-spelling : (name : List ℕ) → unescaped_from 0 (name_spelling name) ≡ name
 unfolding unescaped_from
 unescaped_from-spelling [] = refl
@@ -68,20 +69,22 @@ rest_spells_rest (b ∷ front) rest (c ∷ name) e =
     let more = rest_spells_rest front rest name first.1 in
     (more.0, same_cons c b name (front ++ more.0) (sym first.0) more.1, more.2)
 
--- the spelling of a byte, and that of a name, have no comma:
+-- the spelling of a byte has no comma
 escape_lacks_comma : (c : ℕ) → LacksComma (escape c)
 escape_lacks_comma c = escape_by_cases LacksComma c (λ _. refl) (λ _. refl) (λ no_comma _. rw (ne_eqb c 44 no_comma) refl)
 
+-- the spelling of a name has no comma
 spelling_lacks_comma : (name : List ℕ) → LacksComma (name_spelling name)
 spelling_lacks_comma [] = refl
 spelling_lacks_comma (c ∷ name) =
     rw (list_all-append (λ b. not (is_comma b)) (escape c) (name_spelling name), escape_lacks_comma c, spelling_lacks_comma name) refl
 
--- whole escapes stay whole with the spelling of a byte before them, and those of a name's spelling are whole:
+-- if each `=` of a text begins an escape, so does each with the spelling of a byte before the text
 escape_keeps_escaped : (c : ℕ) (rest : List ℕ) → is_escaped rest ≡ true → is_escaped (escape c ++ rest) ≡ true
 escape_keeps_escaped c rest is =
     escape_by_cases (λ s. is_escaped (s ++ rest) ≡ true) c (λ _. is) (λ _. is) (λ _ no_equals. rw (ne_eqb c 61 no_equals) is)
 
+-- each `=` of a name's spelling begins an escape
 spelling_is_escaped : (name : List ℕ) → is_escaped (name_spelling name) ≡ true
 spelling_is_escaped [] = refl
 spelling_is_escaped (c ∷ name) = escape_keeps_escaped c (name_spelling name) (spelling_is_escaped name)

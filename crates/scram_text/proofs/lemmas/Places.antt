@@ -23,12 +23,13 @@ use Rattle.scram_text.proofs.lemmas.WithoutByte.{class_lacks_byte}
 unfoldable pub AllFit : ℕ → List TextWhy → List (List ℕ) → Type 0
 AllFit most later pieces = AllByRecursion (λ row. Fits most row.0 row.1) (zip later pieces)
 
--- all parts fit if the first fits the first place and the others theirs, and if there are no places:
+-- all parts fit their places if the first part fits the first place and the others fit the others
 pub AllFit-cons : (most : ℕ) (place : TextWhy) (later : List TextWhy) (part : List ℕ) (pieces : List (List ℕ))
     → Fits most place part → AllFit most later pieces → AllFit most (place ∷ later) (part ∷ pieces)
 unfolding AllFit
 AllFit-cons most place later part pieces fits fit = (fits, fit)
 
+-- all parts fit if there are no places
 pub AllFit-nil : (most : ℕ) (pieces : List (List ℕ)) → AllFit most [] pieces
 unfolding AllFit
 AllFit-nil most pieces = tt
@@ -48,13 +49,14 @@ extensions_and_rest_fit most later [] pieces fit = (tt, fit)
 extensions_and_rest_fit most later (part ∷ extensions) pieces fit =
     let after = extensions_and_rest_fit most later extensions pieces fit.1 in ((fit.0, after.0), after.1)
 
--- parts that fit the places of extensions are extensions, and extensions fit them:
+-- parts that fit the places of extensions are extensions
 pub fitting_are_extensions : (most : ℕ) (extensions : List (List ℕ)) → AllFit most (replicate (length extensions) Extension) extensions
     → AreExtensions extensions
 unfolding AllFit
 fitting_are_extensions most [] fit = tt
 fitting_are_extensions most (part ∷ extensions) fit = (fit.0, fitting_are_extensions most extensions fit.1)
 
+-- extensions fit the places of extensions
 pub extensions_fit : (most : ℕ) (extensions : List (List ℕ)) → AreExtensions extensions
     → AllFit most (replicate (length extensions) Extension) extensions
 unfolding AllFit
@@ -142,15 +144,16 @@ fitting_text_has_no_fault most front back text pieces f short utf8_text cut enou
       ]
 ]
 
--- a nonce has no comma, and no extension does:
+-- a nonce has no comma
 pub nonce_lacks_comma : (most : ℕ) (nonce : List ℕ) → IsNonce most nonce → LacksComma nonce
 nonce_lacks_comma most nonce class = class_lacks_byte (byte ",") is_printable nonce refl class.each
 
+-- no extension of a list of them has a comma
 pub extensions_lack_comma : (extensions : List (List ℕ)) → AreExtensions extensions → AllByRecursion LacksComma extensions
 extensions_lack_comma [] are = tt
 extensions_lack_comma (part ∷ extensions) are = (extension_lacks_comma part are.0, extensions_lack_comma extensions are.1)
 
--- parts without commas are cut as they were joined, by commas:
+-- a part without commas and those after it, joined by commas, are cut into the same parts
 pub parts-joined : (piece : List ℕ) (pieces : List (List ℕ)) → AllByRecursion LacksComma (piece ∷ pieces)
     → parts (joined (piece ∷ pieces)) ≡ piece ∷ pieces
 parts-joined piece [] lack = text_without_comma_is_one_part piece lack.0
@@ -158,6 +161,7 @@ parts-joined piece (next ∷ pieces) lack =
     first_part_precedes_comma piece (joined (next ∷ pieces)) lack.0 ∙ ap (λ (ps : List (List ℕ)). piece ∷ ps)
     (parts-joined next pieces lack.1)
 
+-- parts without commas, at least one, that were joined by commas are cut into the same parts
 pub parts-joined_list : (pieces : List (List ℕ)) → 1 ≤ length pieces → AllByRecursion LacksComma pieces → parts (joined pieces) ≡ pieces
 parts-joined_list [] some lack = absurd (omega (arith, some))
 parts-joined_list (piece ∷ pieces) some lack = parts-joined piece pieces lack

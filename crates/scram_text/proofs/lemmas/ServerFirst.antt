@@ -97,7 +97,8 @@ server_first_parts_fit text p is =
     mext_and_rest_fit longest_nonce (Nonce ∷ Salt ∷ Count ∷ []) (parts text) (server_first_rest p) p.mext
     (server_first_has_mext_and_rest text p is)
     (nonce_salt_count_fit _ _ _ p.extensions (p.nonce, refl, is.nonce)
-    (field_part_spells_field (byte "s") longest_salt _ p.salt refl is.salt) (decimal p.count, refl, (p.count, refl, is.count)) is.extensions)
+    (field_part_spells_field (byte "s") longest_salt _ p.salt refl is.salt) (decimal p.count, refl, (p.count, refl, is.count))
+    is.extensions)
 
 -- a server-first message has no fault
 server_first_has_no_fault : (text : List ℕ) (p : ServerFirstParts) (f : TextFault) → IsServerFirst text p → IsServerFirstFault text f → ⊥

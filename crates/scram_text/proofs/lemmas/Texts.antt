@@ -23,10 +23,11 @@ use Rattle.scram_text.proofs.lemmas.WithoutByte.{class_lacks_byte, digits_lack_b
 abbrev is_no_nul : ℕ → Bool
 is_no_nul c = not (c == 0)
 
--- the empty text is a text, and two texts joined are one:
+-- the empty text is UTF-8
 pub empty_is_text : IsUtf8Text []
 empty_is_text = record { utf8 = IsUtf8-nil; no_nul = refl }
 
+-- two texts in UTF-8, one after the other, are UTF-8
 pub IsUtf8Text-append : (front back : List ℕ) → IsUtf8Text front → IsUtf8Text back → IsUtf8Text (front ++ back)
 IsUtf8Text-append front back is also = record {
   utf8 = IsUtf8-append front back is.utf8 also.utf8;
@@ -51,10 +52,11 @@ class_is_text test bytes below no_nul all = record {
 up_to_tilde_is_ascii : (c : ℕ) → nat_le c 0x7E ≡ true → c < 128
 up_to_tilde_is_ascii c is = omega (arith, leb-true c 0x7E is)
 
--- plain bytes and printable bytes are ASCII:
+-- a plain byte is ASCII
 plain_byte_is_ascii : (c : ℕ) → is_plain c ≡ true → c < 128
 plain_byte_is_ascii c is = up_to_tilde_is_ascii c (and_parts (nat_le 0x20 c) (nat_le c 0x7E) is).1
 
+-- a printable byte is ASCII
 printable_byte_is_ascii : (c : ℕ) → is_printable c ≡ true → c < 128
 printable_byte_is_ascii c is =
     up_to_tilde_is_ascii c (and_parts (nat_le 0x21 c) (nat_le c 0x7E) (and_parts (nat_le 0x21 c && nat_le c 0x7E) (not (is_comma c))
@@ -68,10 +70,11 @@ plain_is_text bytes all = class_is_text is_plain bytes plain_byte_is_ascii refl 
 pub nonce_is_text : (most : ℕ) (nonce : List ℕ) → IsNonce most nonce → IsUtf8Text nonce
 nonce_is_text most nonce is = class_is_text is_printable nonce printable_byte_is_ascii refl is.each
 
--- a plain byte, and a plain name, is spelled by plain bytes:
+-- the spelling of a plain byte has only plain bytes
 escape_is_plain : (c : ℕ) → is_plain c ≡ true → list_all is_plain (escape c) ≡ true
 escape_is_plain c is = escape_by_cases (λ s. list_all is_plain s ≡ true) c (λ _. refl) (λ _. refl) (λ _ _. rw is refl)
 
+-- the spelling of a plain name has only plain bytes
 spelling_is_plain : (name : List ℕ) → list_all is_plain name ≡ true → list_all is_plain (name_spelling name) ≡ true
 spelling_is_plain [] all = refl
 spelling_is_plain (c ∷ name) all =

@@ -28,5 +28,5 @@ returns-clause-ok g c =
 pub returns-in_err-add_and_save-clause-why : goal.returns-in_err-add_and_save-clause-why
 returns-in_err-add_and_save-clause-why g c =
     let e = err_from_is_err_and c.from_residual-in_err-add_and_save.result c.from_residual-in_err-add_and_save.ensures.1 in
-    rw (e.1, e.2) (unsaved_account_ends_enrol _ _ _ _ _ _ _ _ _ c.given-path.ensures c.in_ok-account.ensures.name.0 c.in_ok-book.ensures.book
-    c.in_err-add_and_save.ensures.err)
+    rw (e.1, e.2) (unsaved_account_ends_enrol _ _ _ _ _ _ _ _ _ c.given-path.ensures c.in_ok-account.ensures.name.0
+    c.in_ok-book.ensures.book c.in_err-add_and_save.ensures.err)

@@ -19,7 +19,8 @@ returns c =
     let three = command_has_added_option _ _ (one_value Mechanism) _ _ _ c.in_ok-arg-3.ensures (search rules) c.one_value.ensures.local
     two in
     let four = command_has_added_option _ _ (one_value As) _ _ _ c.in_ok-arg-4.ensures (search rules) c.one_value-2.ensures.local three in
-    let five = command_has_added_option _ _ (required_value Socket) _ _ _ c.in_ok-arg-5.ensures (search rules) c.required.ensures.local four in
+    let five = command_has_added_option _ _ (required_value Socket) _ _ _ c.in_ok-arg-5.ensures (search rules) c.required.ensures.local
+    four in
     let six = command_has_added_option _ _ (with_default Random (codes "/dev/urandom")) _ _ _ c.in_ok-arg-6.ensures
     (search rules) c.random.ensures.local five in
     let seven = command_has_added_option _ _ (one_value ClientNonce) _ _ _ c.in_ok-arg-7.ensures (search rules) c.one_value-3.ensures.local

@@ -37,12 +37,13 @@ pieces_compose_client_first flag authzid name nonce extensions =
     ++ ((codes "n=" ++ name_spelling name) ++ byte "," ∷ t))
     (sym (extensions_join_after_comma (codes "r=" ++ nonce) extensions))
 
--- the spelling of a plain name to act as is a saslname, and a text with its letter:
+-- the spelling of a plain name to act as, if there is one, is a saslname
 authzid_spelling_is_saslname : (authzid : Option (List ℕ)) → IfSome authzid IsPlainName
     → IfSome (option_map name_spelling authzid) IsSaslName
 authzid_spelling_is_saslname None is = tt
 authzid_spelling_is_saslname (Some name) is = spelling_is_saslname name is.at_least
 
+-- the part of a plain name to act as is a text in UTF-8, also if there is none
 authzid_is_text : (authzid : Option (List ℕ)) → IfSome authzid IsPlainName → IsUtf8Text (authzid_text (option_map name_spelling authzid))
 authzid_is_text None is = empty_is_text
 authzid_is_text (Some name) is =

@@ -18,11 +18,12 @@ pub pieces_compose_server_final : (outcome : VerifierOrError) (extensions : List
 unfolding server_final_text
 pieces_compose_server_final outcome extensions = sym (extensions_join_after_comma (verifier_or_error_text outcome) extensions)
 
--- a signature with its letter is a text, and so is an error value with its letter:
+-- `v=` and the base64 of a signature is a text in UTF-8
 pub signature_is_text : (signature : List ℕ) → IsBytes signature → IsUtf8Text (codes "v=" ++ base64 signature)
 signature_is_text signature bytes =
     IsUtf8Text-append (codes "v=") (base64 signature) (plain_is_text (codes "v=") refl) (base64_is_text signature bytes)
 
+-- `e=` and an error value in UTF-8 is a text in UTF-8
 pub error_is_text : (value : List ℕ) → IsUtf8Text value → IsUtf8Text (codes "e=" ++ value)
 error_is_text value is = IsUtf8Text-append (codes "e=") value (plain_is_text (codes "e=") refl) is
 

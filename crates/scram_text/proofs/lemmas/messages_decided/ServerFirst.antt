@@ -19,7 +19,8 @@ use Rattle.scram_text.proofs.lemmas.ServerFirst.{server_first_has_mext_and_rest,
 use Rattle.scram_text.proofs.lemmas.ServerFirst.{server_first_rest_places_unfold}
 use Rattle.scram_text.proofs.lemmas.messages_decided.Fitting.{IsFittingText, decided_fitting_text}
 
--- a short text whose parts are those of server-first is one, with or without a mandatory extension:
+-- a short text is a server-first if, after its optional mandatory extension, it has a nonce, a salt, a count and extensions that fit their
+-- places
 fitting_parts_are_server_first : (text nonce salt count : List ℕ) (extensions : List (List ℕ)) (mext : Option (List ℕ))
     → IsMextAndRest (parts text) (nonce ∷ salt ∷ count ∷ extensions) mext → length text ≤ longest_message → IsUtf8Text text
     → AllFit longest_nonce (places (Nonce ∷ Salt ∷ Count ∷ []) [] (length (nonce ∷ salt ∷ count ∷ extensions)))
@@ -49,6 +50,8 @@ fitting_parts_are_server_first text nonce salt count extensions mext marked shor
       },
     )
 
+-- a short text is a server-first if, after its optional mandatory extension, it has at least three parts, and they fit the places of
+-- server-first
 fitting_rest_is_server_first : (text : List ℕ) (rest : List (List ℕ)) (mext : Option (List ℕ)) → IsMextAndRest (parts text) rest mext
     → 3 ≤ length rest
     → length text ≤ longest_message → IsUtf8Text text → AllFit longest_nonce (places (Nonce ∷ Salt ∷ Count ∷ []) [] (length rest)) rest

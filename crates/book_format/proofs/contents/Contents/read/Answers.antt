@@ -11,12 +11,13 @@ use Rattle.book_format.proofs.lemmas.BookTexts.{read_book_text_stands, book_text
 use Rattle.book_format.proofs.lemmas.Steps.{same_err_has_same_fault}
 use Rattle.book_format.proofs.contents.Contents.read.Goals as goal
 
--- a book that was read from some bytes is one whose text they are, and the only one; a fault is their first, and the only one:
+-- if a book was read from some bytes, they are the text of this book
 result_book_stands : (bytes : List ℕ) (r : Result BookFields BookFault) → IsReadOrFault (λ b. b) r (book_in bytes)
     → IfOk r (λ book. IsBookText bytes book)
 result_book_stands bytes (Ok book) h = read_book_text_stands bytes book h
 result_book_stands bytes (Err fault) h = tt
 
+-- if some bytes are the text of a book, what was read from them is this book, or memory ran out
 result_is_only_book : (bytes : List ℕ) (r : Result BookFields BookFault) → IsReadOrFault (λ b. b) r (book_in bytes) → (book : BookFields)
     → IsBookText bytes book → (r ≡ Ok book) ⊎ IsErrAnd r (λ f. f.why ≡ NoMemory)
 result_is_only_book bytes (Ok other) h book text = inl (sym h ∙ book_text_is_read bytes book text)
@@ -25,12 +26,14 @@ result_is_only_book bytes (Err fault) (inr read) book text =
     let both = sym read ∙ book_text_is_read bytes book text in
     absurd (cc both)
 
+-- if reading some bytes gave a fault, it is their first, or memory ran out
 result_fault_is_first : (bytes : List ℕ) (r : Result BookFields BookFault) → IsReadOrFault (λ b. b) r (book_in bytes)
     → IfErr r (λ f. (f.why ≡ NoMemory) ⊎ IsFirstFault bytes f)
 result_fault_is_first bytes (Ok book) h = tt
 result_fault_is_first bytes (Err fault) (inl memory) = inl memory
 result_fault_is_first bytes (Err fault) (inr read) = inr (text_fault_is_first bytes fault read)
 
+-- if some bytes have a first fault, reading them gave this fault, or memory ran out
 result_is_only_fault : (bytes : List ℕ) (r : Result BookFields BookFault) → IsReadOrFault (λ b. b) r (book_in bytes) → (fault : BookFault)
     → IsFirstFault bytes fault → IsErrAnd r (λ f. (f.why ≡ NoMemory) ⊎ (f ≡ fault))
 result_is_only_fault bytes (Ok book) h fault first =
