@@ -44,15 +44,17 @@ module _ {V : Type 0} (values : ValueType V) (sound : IsExactType values) where
   optional_value_is_read key ms None h = rw h refl
   optional_value_is_read key ms (Some v) h = rw (h.1, sound.held h.0 v h.2) refl
 
-  -- what is read at a key follows the demands there: if the key must be there, if it has a default, and if it is optional:
+  -- reading a value at a key that must be there follows the demands for the key and on the value
   read_at_follows : (o : Option Data) → FollowsDemands (required Key values.demands o) (read_or (Err Key) values.from_tree o)
   read_at_follows None = refl
   read_at_follows (Some d) = sound.follows d
 
+  -- reading a value that has a default follows the demands on it, if it is there
   read_or_follows : (other : V) (o : Option Data) → FollowsDemands (if_there values.demands o) (read_or (Ok other) values.from_tree o)
   read_or_follows other None = refl
   read_or_follows other (Some d) = sound.follows d
 
+  -- reading an optional value follows the demands on it, if it is there
   read_some_follows : (o : Option Data)
       → FollowsDemands (if_there values.demands o) (read_or (Ok None) (λ d. values.from_tree d >>= λ v. Ok (Some v)) o)
   read_some_follows None = refl

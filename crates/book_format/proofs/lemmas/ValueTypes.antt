@@ -21,7 +21,7 @@ use Rattle.book_format.proofs.lemmas.Rows.{IsExactType, read_members_stand}
 use Rattle.book_format.proofs.lemmas.PassedTests.{value_passed_test, bounds_are_passed, number_is_within, number_is_at_most, value_or_follows}
 
 module _ (why : BookWhy) (least most : ℕ) where
-  -- whole numbers are read if and only if they are in their range:
+  -- if a value is read as a whole number, it is that number, in its range
   read_number_stands : (d : Data) (n : ℕ) → number_in why least most d ≡ Ok n → IsNumber least most d n
   unfolding number_in
   read_number_stands (integer (pos m)) n h =
@@ -31,16 +31,19 @@ module _ (why : BookWhy) (least most : ℕ) where
   read_number_stands (integer (negsuc m)) n h = absurd (cc h)
   read_number_stands d n h = absurd (cc h)
 
+  -- a whole number in its range is read as itself
   number_is_read : (d : Data) (n : ℕ) → IsNumber least most d n → number_in why least most d ≡ Ok n
   unfolding number_in
   number_is_read d n h = rw (h.there, bounds_are_passed least n most h.at_least h.at_most) refl
 
+  -- reading a whole number follows the demands of its type
   number_follows : (d : Data) → FollowsDemands ((number_type why least most).demands d) (number_in why least most d)
   unfolding number_in
   number_follows (integer (pos n)) = value_or_follows (nat_le least n && nat_le n most) n why
   number_follows (integer (negsuc n)) = refl
   number_follows d = refl
 
+  -- the type of whole numbers in a range is exact
   pub number_is_exact : IsExactType (number_type why least most)
   number_is_exact = record { found = read_number_stands; held = number_is_read; follows = number_follows }
 
@@ -49,7 +52,7 @@ pub written_number_stands : (least most n : ℕ) → least ≤ n → n ≤ most 
 written_number_stands least most n enough few = record { there = refl; at_least = enough; at_most = few }
 
 module _ (why : BookWhy) (most : ℕ) where
-  -- signed numbers are read if and only if they are in their range:
+  -- if a value is read as a signed number, it is that number, in its range
   read_signed_stands : (d : Data) (z : ℤ) → signed_in why most d ≡ Ok z → IsSigned most d z
   unfolding signed_in
   read_signed_stands (integer y) z h =
@@ -57,20 +60,23 @@ module _ (why : BookWhy) (most : ℕ) where
       subst (λ k. IsSigned most (integer y) k) same (record { there = refl; at_most = number_is_at_most (nat_abs y) most fits })
   read_signed_stands d z h = absurd (cc h)
 
+  -- a signed number in its range is read as itself
   signed_is_read : (d : Data) (z : ℤ) → IsSigned most d z → signed_in why most d ≡ Ok z
   unfolding signed_in
   signed_is_read d z h = rw (h.there, le-leb (nat_abs z) most h.at_most) refl
 
+  -- reading a signed number follows the demands of its type
   signed_follows : (d : Data) → FollowsDemands ((signed_type why most).demands d) (signed_in why most d)
   unfolding signed_in
   signed_follows (integer z) = value_or_follows (nat_le (nat_abs z) most) z why
   signed_follows d = refl
 
+  -- the type of signed numbers in a range is exact
   pub signed_is_exact : IsExactType (signed_type why most)
   signed_is_exact = record { found = read_signed_stands; held = signed_is_read; follows = signed_follows }
 
 module _ (why : BookWhy) (least most : ℕ) where
-  -- bytes are read if and only if they are those of a hexadecimal text, and as many as there may be:
+  -- if a value is read as bytes, it is their hexadecimal text, and they are as many as there may be
   read_bytes_stand : (d : Data) (bytes : List ℕ) → bytes_in why least most d ≡ Ok bytes → IsHexText least most d bytes
   unfolding bytes_in
   read_bytes_stand (string text) bytes h =
@@ -86,10 +92,12 @@ module _ (why : BookWhy) (least most : ℕ) where
       decoded_ok (Err e) bytes h = absurd (cc h)
   read_bytes_stand d bytes h = absurd (cc h)
 
+  -- a hexadecimal text of as many bytes as there may be is read as these bytes
   bytes_are_read : (d : Data) (bytes : List ℕ) → IsHexText least most d bytes → bytes_in why least most d ≡ Ok bytes
   unfolding bytes_in
   bytes_are_read d bytes h = rw (h.there, h.spelled, bounds_are_passed least (length bytes) most h.at_least h.at_most) refl
 
+  -- reading bytes follows the demands of their type
   bytes_follow : (d : Data) → FollowsDemands ((bytes_type why least most).demands d) (bytes_in why least most d)
   unfolding bytes_in
   bytes_follow (string text) = decoded_follows (decode_of text)
@@ -100,6 +108,7 @@ module _ (why : BookWhy) (least most : ℕ) where
       decoded_follows (Err e) = refl
   bytes_follow d = refl
 
+  -- the type of so many bytes in hexadecimal is exact
   pub bytes_are_exact : IsExactType (bytes_type why least most)
   bytes_are_exact = record { found = read_bytes_stand; held = bytes_are_read; follows = bytes_follow }
 

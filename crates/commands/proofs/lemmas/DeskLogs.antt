@@ -90,9 +90,9 @@ pub two_steps_keep_log : {S : Type 0} {facts : S → StoreFacts} {IsStored : Lis
     → StaysItsLogWith facts IsStored IsNow server_nonce old a new c
 two_steps_keep_log first second start before l = second _ start before (first start before l)
 
--- after a turn that was not served the log is still the desk's, or the fault is that it has failed
 module _ {S : Type 0} {facts : S → StoreFacts} {IsStored : List ℕ → Type 0} {IsNow : ℕ → Type 0} (moment : ℕ) (old new : Service S)
     (path : List ℕ) where
+  -- after a turn that was not served the log is still the desk's, or the fault is that it has failed
   pub unserved_turn_leaves_log : (why : ServeFault) (fault : Fault) → (why ≢ Halted → IsNow moment)
       → IsTurnFault facts IsStored moment old new why → IsFaultOfServing path why fault
       → IsLogAfterFault facts IsStored IsNow old.desk old.log new.desk new.log fault

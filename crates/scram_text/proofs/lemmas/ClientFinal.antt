@@ -140,12 +140,13 @@ module _ (text channel nonce proof : List ℕ) (extensions : List (List ℕ)) (s
         rw (client_final_places_unfold channel nonce proof extensions) misfit,
       ))
 
-  -- the first part that does not fit may be the channel field, the nonce, an extension or the proof:
+  -- a channel field that does not fit is the fault of the text
   pub unfit_channel_is_fault : (Fits longest_nonce Channel channel → ⊥) → IsClientFinalFault text (fault 0 Channel)
   unfit_channel_is_fault no_channel =
       client_final_misfit_is_fault _
       (unfit_part_is_misfit longest_nonce 0 Channel _ channel _ no_channel)
 
+  -- if the channel field fits, a nonce that does not is the fault of the text
   pub unfit_nonce_is_fault : Fits longest_nonce Channel channel → (Fits longest_nonce Nonce nonce → ⊥)
       → IsClientFinalFault text (fault 1 Nonce)
   unfit_nonce_is_fault is_channel no_nonce =
@@ -153,6 +154,7 @@ module _ (text channel nonce proof : List ℕ) (extensions : List (List ℕ)) (s
       (fitting_part_keeps_misfit longest_nonce 0 Channel _ channel _ _ is_channel
       (unfit_part_is_misfit longest_nonce 1 Nonce _ nonce _ no_nonce))
 
+  -- if the channel field and the nonce fit, the first extension that does not is the fault of the text
   pub extension_misfit_is_fault : (f : TextFault) → Fits longest_nonce Channel channel → Fits longest_nonce Nonce nonce
       → IsExtensionMisfit 2 extensions f → IsClientFinalFault text f
   extension_misfit_is_fault f is_channel is_nonce misfit =
@@ -162,6 +164,7 @@ module _ (text channel nonce proof : List ℕ) (extensions : List (List ℕ)) (s
       (later_parts_keep_misfit longest_nonce (replicate (length extensions) Extension) (Proof ∷ []) 2 extensions (proof ∷ []) f
       (misfit longest_nonce))))
 
+  -- if all parts before the proof fit, a proof that does not is the fault of the text
   pub unfit_proof_is_fault : (k : ℕ) → Fits longest_nonce Channel channel → Fits longest_nonce Nonce nonce → AreExtensions extensions
       → (Fits longest_nonce Proof proof → ⊥) → k ≡ 2 + length extensions → IsClientFinalFault text (fault k Proof)
   unfit_proof_is_fault k is_channel is_nonce are no_proof at =

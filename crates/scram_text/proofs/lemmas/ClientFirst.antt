@@ -204,11 +204,12 @@ module _ (text flag authzid : List ℕ) (bare : List (List ℕ)) (short : length
             (sym (header_places_unfold (places_with_mext bare (Name ∷ Nonce ∷ [])) (length bare))) misfit,
       ))
 
-  -- the first part that does not fit may be the flag, the name to act as, or one of the bare message:
+  -- a flag that does not fit is the fault of the text
   pub unfit_flag_is_fault : is_flag flag ≡ false → IsClientFirstFault text (fault 0 Flag)
   unfit_flag_is_fault no_flag = client_first_misfit_is_fault _ (unfit_part_is_misfit longest_nonce_part 0 Flag _ flag _
       (λ is. both_ways (is_flag flag) no_flag is))
 
+  -- if the flag fits, a name to act as that does not is the fault of the text
   pub unfit_authzid_is_fault : (f : TextFault) → is_flag flag ≡ true → (IsAuthzid authzid → ⊥) × (f ≡ fault 1 Authzid)
       → IsClientFirstFault text f
   unfit_authzid_is_fault f is_a_flag (no_authzid, is) =
@@ -217,6 +218,7 @@ module _ (text flag authzid : List ℕ) (bare : List (List ℕ)) (short : length
       (fitting_part_keeps_misfit longest_nonce_part 0 Flag _ flag _ _ is_a_flag
       (unfit_part_is_misfit longest_nonce_part 1 Authzid _ authzid _ no_authzid)))
 
+  -- if the flag and the name to act as fit, the first part of the bare message that does not is the fault of the text
   pub bare_misfit_is_fault : (f : TextFault) → is_flag flag ≡ true → IsAuthzid authzid → IsBareMisfit bare f → IsClientFirstFault text f
   bare_misfit_is_fault f is_a_flag is_authzid misfit =
       client_first_misfit_is_fault f
@@ -234,10 +236,11 @@ module _ (pieces : List (List ℕ)) (name nonce : List ℕ) (extensions : List (
       rest_misfit_is_of_all_parts longest_nonce_part 2 k (Name ∷ Nonce ∷ []) pieces (name ∷ nonce ∷ extensions) mext f marked at
       (rw (client_first_rest_places_unfold name nonce extensions) misfit)
 
-  -- the first part that does not fit may be the name, the nonce or an extension:
+  -- a name that does not fit is the misfit of the bare message
   pub unfit_name_is_bare_misfit : (Fits longest_nonce_part Name name → ⊥) → IsBareMisfit pieces (fault k Name)
   unfit_name_is_bare_misfit no_name = rest_misfit_is_bare_misfit _ (unfit_part_is_misfit longest_nonce_part k Name _ name _ no_name)
 
+  -- if the name fits, a nonce that does not is the misfit of the bare message
   pub unfit_nonce_is_bare_misfit : Fits longest_nonce_part Name name → (Fits longest_nonce_part Nonce nonce → ⊥)
       → IsBareMisfit pieces (fault (k + 1) Nonce)
   unfit_nonce_is_bare_misfit is_name no_nonce =
@@ -245,6 +248,7 @@ module _ (pieces : List (List ℕ)) (name nonce : List ℕ) (extensions : List (
       (fitting_part_keeps_misfit longest_nonce_part k Name _ name _ _ is_name (unfit_part_is_misfit longest_nonce_part
       (k + 1) Nonce _ nonce _ no_nonce))
 
+  -- if the name and the nonce fit, the first extension that does not is the misfit of the bare message
   pub extension_misfit_is_bare_misfit : (f : TextFault) → Fits longest_nonce_part Name name → Fits longest_nonce_part Nonce nonce
       → IsExtensionMisfit (k + 2) extensions f → IsBareMisfit pieces f
   extension_misfit_is_bare_misfit f is_name is_nonce misfit =

@@ -106,7 +106,7 @@ module _ (text first : List ℕ) (extensions : List (List ℕ)) (short : length 
       part_fault_is_fault longest_nonce server_final_places [] text (first ∷ extensions) f short utf8_text cut
       (inr (omega arith, rw (server_final_places_unfold first extensions) misfit))
 
-  -- the first part that does not fit may be the outcome, or an extension:
+  -- a first part that does not fit the place of an outcome is the fault of the text
   pub unfit_outcome_is_fault : (f : TextFault) → (Fits longest_nonce (outcome_place first) first → ⊥) × (f ≡ fault 0 (outcome_place first))
       → IsServerFinalFault text f
   unfit_outcome_is_fault f (no_fit, is) =
@@ -114,6 +114,7 @@ module _ (text first : List ℕ) (extensions : List (List ℕ)) (short : length 
       (server_final_misfit_is_fault (fault 0 (outcome_place first))
       (unfit_part_is_misfit longest_nonce 0 (outcome_place first) _ first extensions no_fit))
 
+  -- if the first part fits, the first extension that does not is the fault of the text
   pub extension_misfit_is_fault : (f : TextFault) → Fits longest_nonce (outcome_place first) first → IsExtensionMisfit 1 extensions f
       → IsServerFinalFault text f
   extension_misfit_is_fault f fits misfit =

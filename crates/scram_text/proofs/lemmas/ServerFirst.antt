@@ -135,10 +135,11 @@ module _ (text nonce salt count : List ℕ) (extensions : List (List ℕ)) (mext
             (length (mext_parts mext)) _ _ f at misfit)),
       )
 
-  -- the first part that does not fit may be the nonce, the salt, the count or an extension:
+  -- a nonce that does not fit is the fault of the text
   pub unfit_nonce_is_fault : (Fits longest_nonce Nonce nonce → ⊥) → IsServerFirstFault text (fault k Nonce)
   unfit_nonce_is_fault no_nonce = server_first_rest_misfit_is_fault _ (unfit_part_is_misfit longest_nonce k Nonce _ nonce _ no_nonce)
 
+  -- if the nonce fits, a salt that does not is the fault of the text
   pub unfit_salt_is_fault : Fits longest_nonce Nonce nonce → (Fits longest_nonce Salt salt → ⊥)
       → IsServerFirstFault text (fault (k + 1) Salt)
   unfit_salt_is_fault is_nonce no_salt =
@@ -146,6 +147,7 @@ module _ (text nonce salt count : List ℕ) (extensions : List (List ℕ)) (mext
       (fitting_part_keeps_misfit longest_nonce k Nonce _ nonce _ _ is_nonce (unfit_part_is_misfit longest_nonce
       (k + 1) Salt _ salt _ no_salt))
 
+  -- if the nonce and the salt fit, a count that does not is the fault of the text
   pub unfit_count_is_fault : Fits longest_nonce Nonce nonce → Fits longest_nonce Salt salt → (Fits longest_nonce Count count → ⊥)
       → IsServerFirstFault text (fault (k + 2) Count)
   unfit_count_is_fault is_nonce is_salt no_count =
@@ -155,6 +157,7 @@ module _ (text nonce salt count : List ℕ) (extensions : List (List ℕ)) (mext
       (equal_index_keeps_misfit longest_nonce (k + 2) (k + 1 + 1) _ _ _ (omega arith)
       (unfit_part_is_misfit longest_nonce (k + 2) Count _ count _ no_count))))
 
+  -- if the nonce, the salt and the count fit, the first extension that does not is the fault of the text
   pub extension_misfit_is_fault : (f : TextFault) → Fits longest_nonce Nonce nonce → Fits longest_nonce Salt salt
       → Fits longest_nonce Count count
       → IsExtensionMisfit (k + 3) extensions f → IsServerFirstFault text f
