@@ -94,15 +94,17 @@ pub appended_lists_keep_all : {A : Type 0} (P : A → Type 0) (front back : List
 appended_lists_keep_all P [] back h k = k
 appended_lists_keep_all P (a ∷ front) back h k = (h.0, appended_lists_keep_all P front back h.1 k)
 
--- what is true of each element of a list is true of each element of its front, of each after the front, and of any single one:
+-- what is true of each element of a list is true of each element of its front
 pub front_keeps_all : {A : Type 0} (P : A → Type 0) (front back : List A) → AllByRecursion P (front ++ back) → AllByRecursion P front
 front_keeps_all P [] back each = tt
 front_keeps_all P (a ∷ front) back each = (each.0, front_keeps_all P front back each.1)
 
+-- what is true of each element of a list is true of each element after a front of it
 pub back_keeps_all : {A : Type 0} (P : A → Type 0) (front back : List A) → AllByRecursion P (front ++ back) → AllByRecursion P back
 back_keeps_all P [] back each = each
 back_keeps_all P (a ∷ front) back each = back_keeps_all P front back each.1
 
+-- what is true of each element of a list is true of any single one
 pub all_includes_element : {A : Type 0} (P : A → Type 0) (front : List A) (a : A) (back : List A) → AllByRecursion P (front ++ a ∷ back)
     → P a
 all_includes_element P [] a back each = each.0

@@ -33,17 +33,20 @@ Closes accounts place (line ∷ more) =
 end_is_plain : IsPlain ended
 end_is_plain = record { writable = end_is_writable; room = λ limit before n. tt; follow = λ n m next. tt; has_number = tt }
 
--- `C GONE`, and each `S NO`, `S CONT` and `S OK` that can be written, have room after any lines, and any line may follow them:
+-- `C GONE` can be written, there is room for it after any lines, and any line may follow it
 gone_is_plain : IsPlain gone
 gone_is_plain = record { writable = gone_is_writable; room = λ limit before n. tt; follow = λ n m next. tt; has_number = tt }
 
 module _ (message : List ℕ) where
+  -- an `S NO` that can be written has room after any lines, and any line may follow it
   refusal_is_plain : IsWritable (said (refuses message)) → IsPlain (said (refuses message))
   refusal_is_plain writable = record { writable = writable; room = λ limit before n. tt; follow = λ n m next. tt; has_number = tt }
 
+  -- an `S CONT` that can be written has room after any lines, and any line may follow it
   cont_is_plain : IsWritable (said (cont message)) → IsPlain (said (cont message))
   cont_is_plain writable = record { writable = writable; room = λ limit before n. tt; follow = λ n m next. tt; has_number = tt }
 
+  -- an `S OK` that can be written has room after any lines, and any line may follow it
   ok_is_plain : IsWritable (said (accepts message)) → IsPlain (said (accepts message))
   ok_is_plain writable = record { writable = writable; room = λ limit before n. tt; follow = λ n m next. tt; has_number = tt }
 

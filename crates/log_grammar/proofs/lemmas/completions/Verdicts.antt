@@ -42,7 +42,7 @@ some_verdict verdicts accounts mechanism account first challenge last is =
     let due = verdicts (challenged_login (accounts.entry is.m account) is.m first challenge) last is.opening is.opens in
     (due.0, (is.m, is.offered, due.1))
 
--- the message that accepts with a signature, or refuses for a reason, is a server-final message:
+-- the message that accepts with a signature is a server-final message
 acceptance_is_server_final : (signature : List ℕ) → AreBytes signature → 1 ≤ length signature → length signature ≤ longest_tag
     → IsServerFinal (due_text (accept signature)) (final_due (accept signature))
 acceptance_is_server_final signature fits some within =
@@ -54,6 +54,7 @@ acceptance_is_server_final signature fits some within =
     ] in
     written_is_server_final (verifier signature) [] (signature_is_text signature fits) (signature_can_be_written signature field) short
 
+-- the message that refuses for a reason is a server-final message
 refusal_is_server_final : (why : Refusal) → IsServerFinal (due_text (refuse why)) (final_due (refuse why))
 refusal_is_server_final why =
     let can = refusal_can_be_written why in

@@ -17,20 +17,22 @@ use Rattle.log_grammar.specs.Lines.{IsLogLine, IsNoLogLine, longest_line, longes
 use Rattle.log_grammar.proofs.lemmas.lines.ReadBack.{line_in, line_is_read_back, log_line_in, log_line_is_read_back}
 use Rattle.log_grammar.proofs.lemmas.DecidedFacts.{decided_each}
 
--- it is decidable whether a text is a message, and whether it is a mechanism's name:
+-- it is decidable whether a text is a message
 decided_message : (message : List ℕ) → Decided (IsMessage message)
 decided_message message = decided_each (λ c. c < 256) (λ c. decided_le (suc c) 256) message
 
+-- it is decidable whether a text is a mechanism's name
 decided_mech_name : (name : List ℕ) → Decided (IsMechName name)
 decided_mech_name name = decided_run is_mech_char longest_mech_name name
 
--- it is decidable whether a reply, or a line of each sort, is in its ranges:
+-- it is decidable whether a reply is in its ranges
 decided_reply_range : (reply : Option Reply) → Decided (IsReplyInRange reply)
 decided_reply_range (Some (Pass counter)) = decided_le counter most_counter
 decided_reply_range (Some Fail) = inl tt
 decided_reply_range (Some Locked) = inl tt
 decided_reply_range None = inl tt
 
+-- it is decidable whether a line of the server is in its ranges
 decided_server_range : (line : ServerLine) → Decided (IsServerLineInRange line)
 decided_server_range (mechs names) = decided_each IsMechName decided_mech_name (slice_split is_space names)
 decided_server_range (cont message) = decided_message message
@@ -40,6 +42,7 @@ decided_server_range (replies moment reply) = decided_both _ _ (decided_le momen
 decided_server_range halt = inl tt
 decided_server_range busy = inl tt
 
+-- it is decidable whether a line of the client is in its ranges
 decided_client_range : (line : ClientLine) → Decided (IsClientLineInRange line)
 decided_client_range (auth mechanism) = decided_mech_name mechanism
 decided_client_range (auth_with mechanism message) = decided_both _ _ (decided_mech_name mechanism) (decided_message message)
@@ -49,10 +52,12 @@ decided_client_range (code text) = decided_run is_code_char longest_code text
 decided_client_range (sync first second) = decided_both _ _ (decided_run is_code_char longest_code first)
     (decided_run is_code_char longest_code second)
 
+-- it is decidable whether a line of the protocol is in its ranges
 decided_line_range : (line : Line) → Decided (IsLineInRange line)
 decided_line_range (from_server line) = decided_server_range line
 decided_line_range (from_client line) = decided_client_range line
 
+-- it is decidable whether a line of a log is in its ranges
 decided_log_line_range : (line : LogLine) → Decided (IsLogLineInRange line)
 decided_log_line_range header = inl tt
 decided_log_line_range header_two = inl tt

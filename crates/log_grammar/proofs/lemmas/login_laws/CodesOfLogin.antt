@@ -34,14 +34,16 @@ codes_are_of IsAccount = record {
 abbrev AreCodesOfLogin : Session → Part → Type 0
 AreCodesOfLogin s part = HoldsOf (AreCodesOf (IsLoginOf s)) part
 
--- the codes are of the login if there is no line yet and a code that waits is of it, after a client ends the session, and after a refusal:
+-- if there is no line yet, and a code that waits is of the login, the codes are of it
 place_codes_are_of_login : (s : Session) (place : Place) → (MayEnd place → ⊥) → CodeIsOf (IsLoginOf s) place
     → AreCodesOfLogin s (rests place)
 place_codes_are_of_login s = (codes_are_of (IsLoginOf s)).no_line
 
+-- the codes in the end of a session by its client, of which there are none, are of the login
 quit_codes_are_of_login : (s : Session) (q : Quit) → AreCodesOfLogin s (quitting q)
 quit_codes_are_of_login s = quit_holds (IsLoginOf s) (AreCodesOf (IsLoginOf s)) (codes_are_of (IsLoginOf s))
 
+-- the codes in a refusal, of which there are none, are of the login
 refusal_codes_are_of_login : (s : Session) (IsDemanded : Demands → Type 0) (text : List ℕ) (closed : Bool)
     → AreCodesOfLogin s (refusal IsDemanded text closed)
 refusal_codes_are_of_login s = refusal_holds (IsLoginOf s) (AreCodesOf (IsLoginOf s)) (codes_are_of (IsLoginOf s))

@@ -87,7 +87,7 @@ silent_line_splits_told n numbered_told numbers before order mine =
 of_number-one_reply : (n : ℕ) (m : Numbered LoggedAttempt) → m.number ≡ n → of_number n (m ∷ []) ≡ m.value ∷ []
 of_number-one_reply n m same = rw (eq-eqb n m.number (sym same)) refl
 
--- if a line records one reply, the recorded replies are those recorded before it, then this one:
+-- if a line records one reply, the recorded replies are those recorded before it and then a last one, which is this one
 last_reply_splits_told : (n : ℕ) (t : LoggedAttempt) (front : List (Numbered LoggedAttempt)) (last : Numbered LoggedAttempt)
     (numbers : List ℕ)
     (before : List LoggedAttempt)
@@ -106,6 +106,7 @@ last_reply_splits_told n t front last numbers before order mine =
       mine = also.0;
     }
 
+-- if a line records one reply, the recorded replies are those recorded before it, then this one
 reply_splits_told : (n : ℕ) (t : LoggedAttempt) (numbered_told : List (Numbered LoggedAttempt)) (numbers : List ℕ)
     (before : List LoggedAttempt)
     → numbers_of numbered_told ≡ numbers ++ n ∷ []

@@ -123,7 +123,7 @@ NamesClass (other_outcome due) class = class ≡ of_login_answers
 NamesClass (other_reply moment due) class = class ≡ of_replies
 NamesClass why class = ⊥
 
--- the class that a reason names is that of a line that says what is due, and that of the line at fault:
+-- a line that says what is due by a reason is of the class that the reason names
 due_line_has_class : (why : Why) (line : LogLine) → SaysWhatIsDue why line → NamesClass why (class_of line)
 due_line_has_class is_cut line says = says
 due_line_has_class no_line line says = says
@@ -134,6 +134,7 @@ due_line_has_class (other_outcome (accepted signature)) line says = ap class_of 
 due_line_has_class (other_outcome (refused_with message)) line says = ap class_of says
 due_line_has_class (other_reply moment due) line says = ap class_of says
 
+-- the reason why an answer to a login is wrong names the class of such answers
 wrong_answer_has_class : (accounts : Accounts) (place : Place) (why : Why) → IsReasonForAnswer accounts place why
     → NamesClass why of_login_answers
 wrong_answer_has_class accounts (asks_bare m) why (inl (is, same)) = subst (λ (w : Why). NamesClass w of_login_answers) (sym same) refl
@@ -148,12 +149,14 @@ wrong_answer_has_class accounts (got_final m account first challenge last) why (
 wrong_answer_has_class accounts leaving why same = subst (λ (w : Why). NamesClass w of_login_answers) (sym same) refl
 wrong_answer_has_class accounts place why wrong = absurd wrong
 
+-- the reason why a reply is wrong names the class of replies
 wrong_reply_has_class : (accounts : Accounts) (place : Place) (told : List LoggedAttempt) (moment : ℕ) (why : Why)
     → IsReasonForReply accounts place told moment why → NamesClass why of_replies
 wrong_reply_has_class accounts (got_code account sent) told moment why (due, is, same) =
     subst (λ (w : Why). NamesClass w of_replies) (sym same) refl
 wrong_reply_has_class accounts place told moment why wrong = absurd wrong
 
+-- the reason why a line is wrong names the class of the line
 wrong_line_has_class : (accounts : Accounts) (place : Place) (told : List LoggedAttempt) (line : LogLine) (why : Why)
     → IsReasonForLine accounts place told line why → NamesClass why (class_of line)
 wrong_line_has_class accounts place told (said (mechs names)) why wrong = subst (λ (w : Why). NamesClass w of_mechs) (sym wrong) refl

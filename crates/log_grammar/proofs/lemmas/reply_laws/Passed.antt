@@ -95,7 +95,7 @@ number_is_above_fewer t (Some (Pass c)) attempts d above = (number_is_above_used
 number_is_above_fewer t (Some Fail) attempts d above = above
 number_is_above_fewer t (Some Locked) attempts d above = above
 
--- a number above all counters that passed in some replies is above those that passed in the earlier ones:
+-- a number above all counters that passed in some replies is above those that passed before the latest of them
 number_is_above_before : (account : List ℕ) (t : LoggedAttempt) (before : List LoggedAttempt) (d : ℕ)
     → IsAbove (used_in (attempts_of account (t ∷ before))) d → IsAbove (used_in (attempts_of account before)) d
 number_is_above_before account t before d above = elim (account_is_same_or_other t account) [
@@ -103,6 +103,7 @@ number_is_above_before account t before d above = elim (account_is_same_or_other
   | inr other ↦ rw other.0 at above
 ]
 
+-- a number above all counters that passed in some replies is above those that passed in the earlier of them
 number_is_above_earlier : (account : List ℕ) (late early : List LoggedAttempt) (d : ℕ)
     → IsAbove (used_in (attempts_of account (late ++ early))) d → IsAbove (used_in (attempts_of account early)) d
 number_is_above_earlier account [] early d above = above
@@ -158,10 +159,11 @@ counters_rise one_first names new replied accounts log more account moment count
     later_pass_is_greater new two.token two.account two.sent two.told at greater two.fits one.account moment counter one.sent one.told
     front.2 mine tells
 
--- a digit, and a text of digits, can be sent as a code:
+-- a digit can be a character of a code
 digit_is_code_char : (c : ℕ) → IsAsciiDigit c → is_code_char c ≡ true
 digit_is_code_char c is = rw (le-leb (byte "!") c (omega (arith, is)), le-leb c (byte "~") (omega (arith, is))) refl
 
+-- each digit of a text of digits can be a character of a code
 digits_are_code_chars : (text : List ℕ) → All IsAsciiDigit text → list_all is_code_char text ≡ true
 digits_are_code_chars text all = list_all-from_AllPass is_code_char text
     (λ k d within. digit_is_code_char (get_or text k d) (All-get_or IsAsciiDigit text k d within all))

@@ -31,8 +31,7 @@ module _ (fresh : CandidatesAreNew) where
           let first_above = subst (IsAbove (used_in attempts)) (sym before) (fresh token attempts t.moment fits.0 (inr fits.2)) in
           ((omega (arith, fits.1), above), (first_above, rising))
 
-  -- after any reply that is due, the counters that an account's codes use still rise, for a token, for an account that may have none,
-  -- and among replies to other accounts:
+  -- after a reply that is due by a token, the counters that an account's codes use still rise
   reply_keeps_counters_rising : (token : TokenFields) (attempts : List Attempt) (t : LoggedAttempt) (reply : Reply)
       → IsDueReply token attempts t.moment t.sent reply → AreRising (used_in attempts)
       → AreRising (used_in (attempts_by t (Some reply) attempts))
@@ -40,6 +39,7 @@ module _ (fresh : CandidatesAreNew) where
   reply_keeps_counters_rising token attempts t Fail due rising = rising
   reply_keeps_counters_rising token attempts t Locked due rising = rising
 
+  -- after a reply that is due by an optional token, the counters that an account's codes use still rise
   due_reply_keeps_counters_rising : (o : Option TokenFields) (attempts : List Attempt) (t : LoggedAttempt)
       → IsReplyDueBy o attempts t.moment t.sent t.reply → AreRising (used_in attempts)
       → AreRising (used_in (attempts_by t t.reply attempts))
@@ -49,6 +49,7 @@ module _ (fresh : CandidatesAreNew) where
       subst (λ (r : Option Reply). AreRising (used_in (attempts_by t r attempts))) (sym due.1)
       (reply_keeps_counters_rising token attempts t due.0 due.2 rising)
 
+  -- after a reply that is due to any account, the counters that an account's codes use still rise
   told_reply_keeps_counters_rising : (accounts : Accounts) (account : List ℕ) (before : List LoggedAttempt) (t : LoggedAttempt)
       → (demands accounts).replied before t → AreRising (used_in (attempts_of account before))
       → AreRising (used_in (attempts_of account (t ∷ before)))

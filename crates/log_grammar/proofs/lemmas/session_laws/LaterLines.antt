@@ -54,25 +54,28 @@ HoldsOf Holds part = Holds part.lines part.place part.told
 
 module _ (IsAccount : List ℕ → Type 0) (Holds : List LogLine → Place → List LoggedAttempt → Type 0)
     (each : HoldsFromTheLastOf IsAccount Holds) where
-  -- what holds from the last line on holds of each part of a session, from its end to what follows its first line, if its codes are of
-  -- these accounts:
+  -- what holds from the last line of a session on holds of its end
   closing_holds : (closed : Bool) → HoldsOf Holds (closing closed)
   closing_holds true = each.last_end
   closing_holds false = each.no_line over (λ none. none) tt
 
+  -- what holds from the last line of a session on holds of a refusal
   pub refusal_holds : (IsDemanded : Demands → Type 0) (text : List ℕ) (closed : Bool) → HoldsOf Holds (refusal IsDemanded text closed)
   refusal_holds IsDemanded text true = each.inner_line (said (refuses text)) tt _ _ _ (closing_holds true)
   refusal_holds IsDemanded text false = each.inner_line (said (refuses text)) tt _ _ _ (closing_holds false)
 
+  -- what holds from the last line of a session on holds of what follows the client's line that ends it
   farewell_holds : (f : Farewell) → HoldsOf Holds (parting f)
   farewell_holds no_farewell = each.no_line leaving (λ none. none) tt
   farewell_holds (farewell text closed) = refusal_holds (λ d. d.farewell text) text closed
 
+  -- what holds from the last line of a session on holds of its end by its client
   pub quit_holds : (q : Quit) → HoldsOf Holds (quitting q)
   quit_holds (goes_away closed) = each.inner_line gone tt _ _ _ (closing_holds closed)
   quit_holds (aborts f) = each.inner_line (heard abort) tt _ _ _ (farewell_holds f)
   quit_holds (sends_bad f) = each.inner_line bad tt _ _ _ (farewell_holds f)
 
+  -- what holds from the last line of a session on holds of its codes, if they are of one of these accounts
   after_ok_holds : (account : List ℕ) → IsAccount account → (c : AfterOk) → HoldsOf Holds (after_ok account c)
   after_ok_holds account is no_code = each.no_line (waits_code account) (λ none. none) tt
   after_ok_holds account is (quits_codes q) = quit_holds q
@@ -82,6 +85,7 @@ module _ (IsAccount : List ℕ → Type 0) (Holds : List LogLine → Place → L
       each.inner_line (heard (code_line sent)) tt _ _ _ (each.reply account is sent moment reply _ _ _ (after_ok_holds account is more))
   after_ok_holds account is (halted_at sent) = each.inner_line (heard (code_line sent)) tt _ _ _ each.last_halt
 
+  -- what holds from the last line of a session on holds of what follows its client-final message, if its account is one of these
   after_final_holds : (m account first challenge last : List ℕ) → IsAccount account → (j : AfterFinal)
       → HoldsOf Holds (after_final m account first challenge last j)
   after_final_holds m account first challenge last is no_verdict =
@@ -91,6 +95,7 @@ module _ (IsAccount : List ℕ → Type 0) (Holds : List LogLine → Place → L
   after_final_holds m account first challenge last is (granted text c) =
       each.inner_line (said (accepts text)) tt _ _ _ (after_ok_holds account is c)
 
+  -- what holds from the last line of a session on holds of what follows its challenge, if its account is one of these
   pub after_challenge_holds : (m account first challenge : List ℕ) → IsAccount account → (p : AfterChallenge)
       → HoldsOf Holds (after_challenge m account first challenge p)
   after_challenge_holds m account first challenge is no_final = each.no_line (waits_final m account first challenge) (λ none. none) tt
@@ -98,22 +103,27 @@ module _ (IsAccount : List ℕ → Type 0) (Holds : List LogLine → Place → L
   after_challenge_holds m account first challenge is (sends_final last j) =
       each.inner_line (heard (resp last)) tt _ _ _ (after_final_holds m account first challenge last is j)
 
+  -- what holds from the last line of a session on holds of what follows its client-first message, if every account is one of these
   after_first_holds : ((account : List ℕ) → IsAccount account) → (m first : List ℕ) (a : AfterFirst) → HoldsOf Holds (after_first m first a)
   after_first_holds any m first no_answer = each.no_line (got_first m first) (λ none. none) tt
   after_first_holds any m first (refused text closed) = refusal_holds (λ d. d.refused m first text) text closed
   after_first_holds any m first (challenged account text p) =
       each.inner_line (said (cont text)) tt _ _ _ (after_challenge_holds m account first text (any account) p)
 
+  -- what holds from the last line of a session on holds of what follows its empty challenge, if every account is one of these
   after_empty_holds : ((account : List ℕ) → IsAccount account) → (m : List ℕ) (f : AfterEmpty) → HoldsOf Holds (after_empty m f)
   after_empty_holds any m no_first = each.no_line (waits_first m) (λ none. none) tt
   after_empty_holds any m (quits_first q) = quit_holds q
   after_empty_holds any m (sends_first first a) = each.inner_line (heard (resp first)) tt _ _ _ (after_first_holds any m first a)
 
+  -- what holds from the last line of a session on holds of what follows its `C AUTH` without a message, if every account is one
+  -- of these
   after_auth_holds : ((account : List ℕ) → IsAccount account) → (m : List ℕ) (i : AfterAuth) → HoldsOf Holds (after_auth m i)
   after_auth_holds any m no_invitation = each.no_line (asks_bare m) (λ none. none) tt
   after_auth_holds any m (unoffered text closed) = refusal_holds (λ d. d.unoffered m text) text closed
   after_auth_holds any m (invited text f) = each.inner_line (said (cont text)) tt _ _ _ (after_empty_holds any m f)
 
+  -- what holds from the last line of a session on holds of what follows its `S MECHS`, if every account is one of these
   after_mechs_holds : ((account : List ℕ) → IsAccount account) → (l : AfterMechs) → HoldsOf Holds (after_mechs l)
   after_mechs_holds any no_login = each.no_line offered (λ none. none) tt
   after_mechs_holds any (quits_login q) = quit_holds q

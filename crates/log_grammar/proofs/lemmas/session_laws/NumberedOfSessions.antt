@@ -75,33 +75,37 @@ numbered_log_tells_in_time log visit numbered_told written lines told_of_each =
     all_are_told_in_time numbered_told (λ n. subst Timed (sym (told_of_each n))
     (visit_tells_in_time (visit n) (subst Ranged (lines n) (lines_of_number_are_in_range n log written))))
 
--- a number that was turned away, before its `E`, does not end with `E`; one that was turned away never ends with a halt:
+-- a number that was turned away, before its `E`, does not end with `E`
 busy_is_no_end : EndsWith (said busy ∷ []) (ended ∷ []) → ⊥
 busy_is_no_end (before, same) = let wrong = (same_from_push [] before (said busy) ended same).1 in cc wrong
 
+-- a number that was turned away does not end with a halt
 turned_away_ends_with_no_halt : (closed : Bool) → EndsWith (said busy ∷ (closing closed).lines) (said halt ∷ []) → ⊥
 turned_away_ends_with_no_halt true (before, same) =
     let wrong = (same_from_push (said busy ∷ []) before ended (said halt) same).1 in cc wrong
 turned_away_ends_with_no_halt false (before, same) = let wrong = (same_from_push [] before (said busy) (said halt) same).1 in cc wrong
 
--- a number is between sessions if and only if its visit is closed, and halted if and only if the visit ends with `S HALT`:
+-- the number of a closed visit is between sessions
 closed_visit_is_between : (o : Option Visit) → IsClosedVisit o → visit_place o ≡ between
 closed_visit_is_between None is = refl
 closed_visit_is_between (Some (let_in s)) is = closed_session_is_between s is
 closed_visit_is_between (Some (turned_away true)) is = refl
 closed_visit_is_between (Some (turned_away false)) is = absurd (busy_is_no_end is)
 
+-- the visit of a number that is between sessions is closed
 visit_between_is_closed : (o : Option Visit) → visit_place o ≡ between → IsClosedVisit o
 visit_between_is_closed None is = tt
 visit_between_is_closed (Some (let_in s)) is = session_between_is_closed s is
 visit_between_is_closed (Some (turned_away true)) is = (said busy ∷ [], refl)
 visit_between_is_closed (Some (turned_away false)) is = absurd (cc is)
 
+-- the number of a visit that ends with `S HALT` is halted
 halted_visit_is_at_halt : (o : Option Visit) → IsHaltedVisit o → visit_place o ≡ halted
 halted_visit_is_at_halt None is = absurd is
 halted_visit_is_at_halt (Some (let_in s)) is = halted_session_is_at_halt s is
 halted_visit_is_at_halt (Some (turned_away closed)) is = absurd (turned_away_ends_with_no_halt closed is)
 
+-- the visit of a number that is halted ends with `S HALT`
 visit_at_halt_is_halted : (o : Option Visit) → visit_place o ≡ halted → IsHaltedVisit o
 visit_at_halt_is_halted None is = absurd (cc is)
 visit_at_halt_is_halted (Some (let_in s)) is = session_at_halt_is_halted s is

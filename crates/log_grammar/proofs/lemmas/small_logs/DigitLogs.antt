@@ -50,13 +50,14 @@ upgraded_bytes_are_digit_log lines few =
 few_lines_can_be_numbered : (lines : List LogLine) → AllByRecursion IsWritable lines → 1 + length lines ≤ 9 → CanBeUpgraded lines
 few_lines_can_be_numbered lines each few = record { each = each; few = (omega arith, omega (arith, few)) }
 
--- the log of version 2 of a few lines is clean if that of version 1 is, and at fault if it is, in the same line and for the same reason:
+-- the log of version 2 of a few lines is clean if that of version 1 is
 pub digit_log_is_clean : (accounts : Accounts) (lines : List LogLine) → AllByRecursion IsWritable lines → 1 + length lines ≤ 9
     → IsClean accounts (log_bytes (header ∷ lines)) → IsClean accounts (digit_log lines)
 digit_log_is_clean accounts lines each few clean =
     subst (IsClean accounts) (upgraded_bytes_are_digit_log lines few) ((upgraded_logs_are_clean accounts lines
     (few_lines_can_be_numbered lines each few)).0 clean)
 
+-- the log of version 2 of a few lines is at fault if that of version 1 is, in the same line and for the same reason
 pub digit_log_is_at_fault : (accounts : Accounts) (lines : List LogLine) (k : ℕ) (why : Why) → AllByRecursion IsWritable lines
     → AllByRecursion IsNoFirstLine lines → 1 + length lines ≤ 9
     → IsWhy accounts (log_bytes (header ∷ lines)) k why → IsWhy accounts (digit_log lines) k why
@@ -64,14 +65,14 @@ digit_log_is_at_fault accounts lines k why each have few w =
     subst (λ (b : List ℕ). IsWhy accounts b k why) (upgraded_bytes_are_digit_log lines few)
     (upgraded_log_has_same_fault accounts lines k why (few_lines_can_be_numbered lines each few) have w)
 
--- the log of version 2 of `S MECHS` and a few lines is clean if that of version 1 is, and at fault if it is, in the same line and for the
--- same reason:
+-- the log of version 2 of `S MECHS` and a few lines is clean if that of version 1 is
 pub digit_session_is_clean : (accounts : Accounts) (lines : List LogLine) → AllByRecursion IsWritable lines → 2 + length lines ≤ 9
     → IsClean accounts (log_bytes (header ∷ said (mechs offered_names) ∷ lines))
     → IsClean accounts (digit_log (said (mechs offered_names) ∷ lines))
 digit_session_is_clean accounts lines each few clean =
     digit_log_is_clean accounts (said (mechs offered_names) ∷ lines) (offer_is_writable, each) (omega (arith, few)) clean
 
+-- the log of version 2 of `S MECHS` and a few lines is at fault if that of version 1 is, in the same line and for the same reason
 pub digit_session_is_at_fault : (accounts : Accounts) (lines : List LogLine) (k : ℕ) (why : Why) → AllByRecursion IsWritable lines
     → AllByRecursion IsNoFirstLine lines → 2 + length lines ≤ 9
     → IsWhy accounts (log_bytes (header ∷ said (mechs offered_names) ∷ lines)) k why

@@ -26,7 +26,7 @@ abort_is_no_header : IsFirstText (codes "C ABORT") → ⊥
 abort_is_no_header (inl is) = let wrong : byte "C" ≡ byte "S" = ap (λ (l : List ℕ). get_or l 0 0) is in omega (arith, wrong)
 abort_is_no_header (inr is) = let wrong : byte "C" ≡ byte "S" = ap (λ (l : List ℕ). get_or l 0 0) is in omega (arith, wrong)
 
--- the first line of version 1 under a number is no numbered line, and no first line either:
+-- the first line of version 1 under a number is no numbered line
 header_bears_no_number : IsNoNumberedLine (codes "1 SCRAMLOG 1")
 header_bears_no_number x is =
     let spelled : decimal 1 ++ (byte " " ∷ log_line_text header)
@@ -36,10 +36,11 @@ header_bears_no_number x is =
     let same : log_line_text header ≡ log_line_text x.value =
     sym (after_space-word (decimal 1) (log_line_text header) word) ∙ ap after_space spelled ∙ after_space-word (decimal x.number)
     (log_line_text x.value) also in
-    let value = each_text_is_at_most_one_log_line (log_line_text header) x.value header (subst (λ (t : List ℕ). IsLogLine t x.value) (sym same) is.line)
-    header_is_writable in
+    let value = each_text_is_at_most_one_log_line (log_line_text header) x.value header
+    (subst (λ (t : List ℕ). IsLogLine t x.value) (sym same) is.line) header_is_writable in
     subst IsNoFirstLine value is.has_number
 
+-- the first line of version 1 under a number is no first line
 numbered_header_is_no_header : IsFirstText (codes "1 SCRAMLOG 1") → ⊥
 numbered_header_is_no_header (inl is) = let wrong : byte "1" ≡ byte "S" = ap (λ (l : List ℕ). get_or l 0 0) is in omega (arith, wrong)
 numbered_header_is_no_header (inr is) = let wrong : byte "1" ≡ byte "S" = ap (λ (l : List ℕ). get_or l 0 0) is in omega (arith, wrong)

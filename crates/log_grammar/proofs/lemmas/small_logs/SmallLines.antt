@@ -17,10 +17,11 @@ use Rattle.log_grammar.proofs.lemmas.kinds.ShownByLines.{LinesWereRead, no_lines
 use Rattle.log_grammar.proofs.lemmas.lines.Written.{abort_is_writable, bad_is_writable, bare_cont_is_writable, bare_refusal_is_writable}
 use Rattle.log_grammar.proofs.lemmas.lines.Written.{each_name_is_mech_name, gone_is_writable, header_is_writable, offer_is_writable}
 
--- each of these is the text of its line of a log, which is in its ranges and is not too long:
+-- `S MECHS` with the name of only one mechanism is a line of a log
 pub other_offer_is_line : IsLogLine (codes "S MECHS SCRAM-SHA-1") (said (mechs (codes "SCRAM-SHA-1")))
 other_offer_is_line = record { spelled = refl; ranges = (each_name_is_mech_name ScramSha1, tt); short = omega arith }
 
+-- `C AUTH PLAIN` is a line of a log
 pub plain_auth_is_line : IsLogLine (codes "C AUTH PLAIN") (heard (auth (codes "PLAIN")))
 plain_auth_is_line = record {
   spelled = refl;
@@ -28,9 +29,11 @@ plain_auth_is_line = record {
   short = omega arith;
 }
 
+-- `C AUTH SCRAM-SHA-1` without a message is a line of a log
 pub auth_is_line : IsLogLine (codes "C AUTH SCRAM-SHA-1") (heard (auth (codes "SCRAM-SHA-1")))
 auth_is_line = record { spelled = refl; ranges = each_name_is_mech_name ScramSha1; short = omega arith }
 
+-- `C AUTH SCRAM-SHA-1` with an empty message is a line of a log
 pub auth_with_is_line : IsLogLine (codes "C AUTH SCRAM-SHA-1 :") (heard (auth_with (codes "SCRAM-SHA-1") []))
 auth_with_is_line = record { spelled = refl; ranges = (each_name_is_mech_name ScramSha1, tt); short = omega arith }
 
@@ -71,11 +74,12 @@ plain_is_not_offered ScramSha1 is =
 plain_is_not_offered ScramSha256 is =
     let wrong : byte "P" ≡ byte "S" = ap (λ (l : List ℕ). get_or l 0 0) is in absurd (omega (arith, wrong))
 
--- a text with a comma, such as a client-first message, is not empty:
+-- a text with a comma is not empty
 text_with_comma_is_some : (flag after rest : List ℕ) → [] ≡ (flag ++ byte "," ∷ after) ++ rest → ⊥
 text_with_comma_is_some [] after rest e = cc e
 text_with_comma_is_some (c ∷ flag) after rest e = cc e
 
+-- the empty text is no client-first message
 pub empty_is_no_client_first : (p : ClientFirstParts) → [] ≡ client_first_text p → ⊥
 unfolding client_first_text gs2_header
 empty_is_no_client_first p e = text_with_comma_is_some p.flag (authzid_text p.authzid ++ 44 ∷ []) (client_first_bare p) e

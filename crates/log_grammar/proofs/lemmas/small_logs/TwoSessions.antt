@@ -58,7 +58,7 @@ places_of_all =
     numbered 2 between ∷ numbered 2 over ∷ numbered 1 between ∷ numbered 2 leaving ∷ numbered 3 between ∷ numbered 3 over ∷ numbered 1 over
     ∷ numbered 2 offered ∷ numbered 1 offered ∷ []
 
--- their numbers are at most three, and after them all are between sessions:
+-- the numbers of the lines of two sessions, and of the third that is turned away, are at most three
 all_numbers_are_small : AllByRecursion (λ (x : Numbered Place). x.number ≤ 3) places_of_all
 all_numbers_are_small = (
   omega arith,
@@ -71,6 +71,7 @@ all_numbers_are_small = (
   ),
 )
 
+-- after the lines of two sessions, and of the third that is turned away, each number is between sessions
 all_numbers_are_between : (n : ℕ) → places_after places_of_all n ≡ between
 all_numbers_are_between zero = refl
 all_numbers_are_between (suc zero) = refl

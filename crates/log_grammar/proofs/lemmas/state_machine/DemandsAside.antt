@@ -32,28 +32,32 @@ accountless_place leaving = leaving
 accountless_place over = over
 accountless_place halted = halted
 
--- the parts of a session, and a session, with no account named:
+-- what follows a client-first message, with no account named
 abbrev accountless_after_first : AfterFirst → AfterFirst
 accountless_after_first no_answer = no_answer
 accountless_after_first (refused text closed) = refused text closed
 accountless_after_first (challenged account text p) = challenged [] text p
 
+-- what follows the empty challenge, with no account named
 abbrev accountless_after_empty : AfterEmpty → AfterEmpty
 accountless_after_empty no_first = no_first
 accountless_after_empty (quits_first q) = quits_first q
 accountless_after_empty (sends_first first a) = sends_first first (accountless_after_first a)
 
+-- what follows `C AUTH` without a message, with no account named
 abbrev accountless_after_auth : AfterAuth → AfterAuth
 accountless_after_auth no_invitation = no_invitation
 accountless_after_auth (unoffered text closed) = unoffered text closed
 accountless_after_auth (invited text f) = invited text (accountless_after_empty f)
 
+-- what follows `S MECHS`, with no account named
 abbrev accountless_after_mechs : AfterMechs → AfterMechs
 accountless_after_mechs no_login = no_login
 accountless_after_mechs (quits_login q) = quits_login q
 accountless_after_mechs (with_first m first a) = with_first m first (accountless_after_first a)
 accountless_after_mechs (without_first m i) = without_first m (accountless_after_auth i)
 
+-- a session with no account named
 abbrev pub accountless_session : Session → Session
 accountless_session (session names l) = session names (accountless_after_mechs l)
 
@@ -77,12 +81,13 @@ pub next_line_is_same_aside : (l : LogLine) (b own : Part) → IsAccountlessOf b
 next_line_is_same_aside l b own is =
     record { lines = ap (λ (t : List LogLine). l ∷ t) is.lines; place = is.place; told = is.told; meets = is.meets }
 
--- if a part stays the same with no account named, so does the part with a line before it that meets a demand, or that records a reply:
+-- if a part stays the same with no account named, so does the part with a line before it that meets a demand
 due_line_is_same_aside : (B Own : Demands → Type 0) (l : LogLine) (b own : Part) → B no_demands → IsAccountlessOf b own
     → IsAccountlessOf (due_line B l b) (due_line Own l own)
 due_line_is_same_aside B Own l b own due is =
     record { lines = ap (λ (t : List LogLine). l ∷ t) is.lines; place = is.place; told = is.told; meets = (due, is.meets) }
 
+-- if a part stays the same with no account named, so does the part with a line before it that records a reply
 telling_line_is_same_aside : (t : LoggedAttempt) (l : LogLine) (b own : Part) → IsAccountlessOf b own
     → IsAccountlessOf (telling_line (accountless_reply t) l b) (telling_line t l own)
 telling_line_is_same_aside t l b own is =
@@ -98,21 +103,24 @@ pub closing_is_same_aside : (closed : Bool) → IsAccountlessOf (closing closed)
 closing_is_same_aside true = record { lines = refl; place = refl; told = refl; meets = tt }
 closing_is_same_aside false = record { lines = refl; place = refl; told = refl; meets = tt }
 
--- a refusal, the end of a session by its client, and its codes stay the same with no account named:
+-- a refusal stays the same with no account named
 refusal_is_same_aside : (B Own : Demands → Type 0) (text : List ℕ) (closed : Bool) → B no_demands
     → IsAccountlessOf (refusal B text closed) (refusal Own text closed)
 refusal_is_same_aside B Own text closed due =
     record { lines = refl; place = (closing_is_same_aside closed).place; told = refl; meets = due }
 
+-- what follows the client's line that ends a session stays the same with no account named
 farewell_is_same_aside : (f : Farewell) → IsAccountlessOf (parting f) (parting f)
 farewell_is_same_aside no_farewell = record { lines = refl; place = refl; told = refl; meets = tt }
 farewell_is_same_aside (farewell text closed) = refusal_is_same_aside (λ d. d.farewell text) (λ d. d.farewell text) text closed tt
 
+-- the end of a session by its client stays the same with no account named
 quit_is_same_aside : (q : Quit) → IsAccountlessOf (quitting q) (quitting q)
 quit_is_same_aside (goes_away closed) = next_line_is_same_aside gone _ _ (closing_is_same_aside closed)
 quit_is_same_aside (aborts f) = next_line_is_same_aside (heard abort) _ _ (farewell_is_same_aside f)
 quit_is_same_aside (sends_bad f) = next_line_is_same_aside bad _ _ (farewell_is_same_aside f)
 
+-- the codes of a session stay the same with no account named
 after_ok_is_same_aside : (account : List ℕ) (c : AfterOk) → IsAccountlessOf (after_ok [] c) (after_ok account c)
 after_ok_is_same_aside account no_code = record { lines = refl; place = refl; told = refl; meets = tt }
 after_ok_is_same_aside account (quits_codes q) = quit_is_same_aside q
@@ -123,7 +131,7 @@ after_ok_is_same_aside account (replied sent moment reply more) =
     (after_ok_is_same_aside account more))
 after_ok_is_same_aside account (halted_at sent) = record { lines = refl; place = refl; told = refl; meets = tt }
 
--- each part of a session, from the verdict to the whole session, stays the same with no account named:
+-- what follows the client-final message stays the same with no account named
 after_final_is_same_aside : (m account first challenge last : List ℕ) (j : AfterFinal)
     → IsAccountlessOf (after_final m [] first challenge last j) (after_final m account first challenge last j)
 after_final_is_same_aside m account first challenge last no_verdict = record { lines = refl; place = refl; told = refl; meets = tt }
@@ -134,6 +142,7 @@ after_final_is_same_aside m account first challenge last (granted text c) =
     (said (accepts text)) _ _ tt
     (after_ok_is_same_aside account c)
 
+-- what follows the challenge stays the same with no account named
 after_challenge_is_same_aside : (m account first challenge : List ℕ) (p : AfterChallenge)
     → IsAccountlessOf (after_challenge m [] first challenge p) (after_challenge m account first challenge p)
 after_challenge_is_same_aside m account first challenge no_final = record { lines = refl; place = refl; told = refl; meets = tt }
@@ -141,6 +150,7 @@ after_challenge_is_same_aside m account first challenge (quits_final q) = quit_i
 after_challenge_is_same_aside m account first challenge (sends_final last j) =
     next_line_is_same_aside (heard (resp last)) _ _ (after_final_is_same_aside m account first challenge last j)
 
+-- what follows a client-first message stays the same with no account named
 after_first_is_same_aside : (m first : List ℕ) (a : AfterFirst)
     → IsAccountlessOf (after_first m first (accountless_after_first a)) (after_first m first a)
 after_first_is_same_aside m first no_answer = record { lines = refl; place = refl; told = refl; meets = tt }
@@ -150,11 +160,13 @@ after_first_is_same_aside m first (challenged account text p) =
     due_line_is_same_aside (λ d. d.challenged m [] first text) (λ d. d.challenged m account first text) (said (cont text)) _ _ refl
     (after_challenge_is_same_aside m account first text p)
 
+-- what follows the empty challenge stays the same with no account named
 after_empty_is_same_aside : (m : List ℕ) (f : AfterEmpty) → IsAccountlessOf (after_empty m (accountless_after_empty f)) (after_empty m f)
 after_empty_is_same_aside m no_first = record { lines = refl; place = refl; told = refl; meets = tt }
 after_empty_is_same_aside m (quits_first q) = quit_is_same_aside q
 after_empty_is_same_aside m (sends_first first a) = next_line_is_same_aside (heard (resp first)) _ _ (after_first_is_same_aside m first a)
 
+-- what follows `C AUTH` without a message stays the same with no account named
 after_auth_is_same_aside : (m : List ℕ) (i : AfterAuth) → IsAccountlessOf (after_auth m (accountless_after_auth i)) (after_auth m i)
 after_auth_is_same_aside m no_invitation = record { lines = refl; place = refl; told = refl; meets = tt }
 after_auth_is_same_aside m (unoffered text closed) =
@@ -162,6 +174,7 @@ after_auth_is_same_aside m (unoffered text closed) =
 after_auth_is_same_aside m (invited text f) =
     due_line_is_same_aside (λ d. d.invited m text) (λ d. d.invited m text) (said (cont text)) _ _ tt (after_empty_is_same_aside m f)
 
+-- what follows `S MECHS` stays the same with no account named
 after_mechs_is_same_aside : (l : AfterMechs) → IsAccountlessOf (after_mechs (accountless_after_mechs l)) (after_mechs l)
 after_mechs_is_same_aside no_login = record { lines = refl; place = refl; told = refl; meets = tt }
 after_mechs_is_same_aside (quits_login q) = quit_is_same_aside q
@@ -174,8 +187,7 @@ pub session_is_same_aside : (s : Session) → IsAccountlessOf (session_part (acc
 session_is_same_aside (session names l) =
     due_line_is_same_aside (λ d. d.mechs names) (λ d. d.mechs names) (said (mechs names)) _ _ tt (after_mechs_is_same_aside l)
 
--- sessions with no account named have the same lines, meet `no_demands`, are open if the others are, and lead to the same place with
--- no account named:
+-- sessions with no account named have the same lines
 sessions_have_same_lines : (sessions : List Session)
     → flat_map session_lines (map accountless_session sessions) ≡ flat_map session_lines sessions
 sessions_have_same_lines [] = refl
@@ -183,16 +195,19 @@ sessions_have_same_lines (s ∷ sessions) =
     ap (λ (l : List LogLine). l ++ flat_map session_lines (map accountless_session sessions)) (session_is_same_aside s).lines
     ∙ ap (λ (l : List LogLine). session_lines s ++ l) (sessions_have_same_lines sessions)
 
+-- sessions with no account named meet `no_demands`
 sessions_meet_no_demands : (sessions : List Session) → AllByRecursion (SessionMeets no_demands) (map accountless_session sessions)
 sessions_meet_no_demands [] = tt
 sessions_meet_no_demands (s ∷ sessions) = ((session_is_same_aside s).meets, sessions_meet_no_demands sessions)
 
+-- of sessions with no account named only the last may be open, if this is so of the others
 only_last_stays_open_aside : (sessions : List Session) → OnlyLastOpen sessions → OnlyLastOpen (map accountless_session sessions)
 only_last_stays_open_aside [] closed = tt
 only_last_stays_open_aside (s ∷ []) closed = tt
 only_last_stays_open_aside (s ∷ t ∷ more) closed =
     ((session_is_same_aside s).place ∙ ap accountless_place closed.0, only_last_stays_open_aside (t ∷ more) closed.1)
 
+-- sessions with no account named lead to the same place with no account named
 sessions_lead_to_same_place_aside : (sessions : List Session)
     → place_after (map accountless_session sessions) ≡ accountless_place (place_after sessions)
 sessions_lead_to_same_place_aside [] = refl

@@ -36,7 +36,7 @@ pub record Grown {X : Type 0} (d : Demands) (part : X → Part) (old : X) (line 
 abbrev pub GoesOn : {X : Type 0} → Demands → (X → Part) → X → LogLine → Place → Type 0
 GoesOn d part old line next = ((part old).place ≡ between) ⊎ Grown d part old line next (told_at (part old).place line)
 
--- if a part within another continues, so does the other, and if it has ended, so has the other:
+-- if a part continues with a line, so does the part around it
 outer_grows : {X Y : Type 0} (d : Demands) (inner : X → Part) (outer : Y → Part) (wrap : X → Y) → IsWithin d inner outer wrap
     → (old : X) (line : LogLine) (next : Place) (more : List LoggedAttempt)
     → Grown d inner old line next more → Grown d outer (wrap old) line next more
@@ -50,6 +50,7 @@ outer_grows d inner outer wrap w old line next more g = record {
   good = (w.around g.tree).3 g.good;
 }
 
+-- if a part has ended, or continues with a line, so has, or does, the part around it
 outer_goes_on : {X Y : Type 0} (d : Demands) {inner : X → Part} {outer : Y → Part} {wrap : X → Y} → IsWithin d inner outer wrap
     → (old : X) (line : LogLine) (next : Place) → GoesOn d inner old line next
     → ((outer (wrap old)).place ≡ between) ⊎ Grown d outer (wrap old) line next (told_at (inner old).place line)
@@ -58,7 +59,7 @@ outer_goes_on d {inner} {outer} {wrap} w old line next (inr g) =
     inr (outer_grows d inner outer wrap w old line next (told_at (inner old).place line) g)
 
 module _ (d : Demands) where
-  -- each part of a session, from its end to its beginning, has ended or continues with a line that may stand at its place:
+  -- what follows the client's line that ends a session goes on with a line that may stand at its place, or has ended
   farewell_goes_on : (t : Farewell) (line : LogLine) (next : Place) → (parting t).Meets d → IsTransition d (parting t).place line next
       → GoesOn d parting t line next
   farewell_goes_on no_farewell (said (refuses text)) next meets h =
@@ -69,6 +70,7 @@ module _ (d : Demands) where
       inr (record { tree = farewell text true; lines = refl; at = sym h; tells = refl; good = meets })
   farewell_goes_on (farewell text false) line next meets h = absurd h
 
+  -- the end of a session by its client goes on with a line that may stand at its place, or has ended
   quit_goes_on : (t : Quit) (line : LogLine) (next : Place) → (quitting t).Meets d → IsTransition d (quitting t).place line next
       → GoesOn d quitting t line next
   quit_goes_on (goes_away true) line next meets h = inl refl
@@ -83,6 +85,7 @@ module _ (d : Demands) where
   quit_goes_on (aborts f) line next meets h = outer_goes_on d (aborts_is_within d) f line next (farewell_goes_on f line next meets h)
   quit_goes_on (sends_bad f) line next meets h = outer_goes_on d (sends_bad_is_within d) f line next (farewell_goes_on f line next meets h)
 
+  -- the codes of a session go on with a line that may stand at their place, or have ended
   after_ok_goes_on : (account : List ℕ) (t : AfterOk) (line : LogLine) (next : Place) → (after_ok account t).Meets d
       → IsTransition d (after_ok account t).place line next → GoesOn d (after_ok account) t line next
   after_ok_goes_on account no_code (heard (code text)) next meets h =
@@ -107,6 +110,7 @@ module _ (d : Demands) where
       outer_goes_on d (replied_is_within d account sent moment reply) more line next (after_ok_goes_on account more line next meets h)
   after_ok_goes_on account (halted_at sent) line next meets h = absurd h
 
+  -- what follows the client-final message goes on with a line that may stand at its place, or has ended
   after_final_goes_on : (m account first challenge last : List ℕ) (t : AfterFinal) (line : LogLine) (next : Place)
       → (after_final m account first challenge last t).Meets d
       → IsTransition d (after_final m account first challenge last t).place line next
@@ -124,6 +128,7 @@ module _ (d : Demands) where
       outer_goes_on d (granted_is_within d m account first challenge last text meets.0) c line next
       (after_ok_goes_on account c line next meets.1 h)
 
+  -- what follows the challenge goes on with a line that may stand at its place, or has ended
   after_challenge_goes_on : (m account first challenge : List ℕ) (t : AfterChallenge) (line : LogLine) (next : Place)
       → (after_challenge m account first challenge t).Meets d → IsTransition d (after_challenge m account first challenge t).place line next
       → GoesOn d (after_challenge m account first challenge) t line next
@@ -142,6 +147,7 @@ module _ (d : Demands) where
       outer_goes_on d (sends_final_is_within d m account first challenge last) j line next
       (after_final_goes_on m account first challenge last j line next meets h)
 
+  -- what follows a client-first message goes on with a line that may stand at its place, or has ended
   after_first_goes_on : (m first : List ℕ) (t : AfterFirst) (line : LogLine) (next : Place) → (after_first m first t).Meets d
       → IsTransition d (after_first m first t).place line next → GoesOn d (after_first m first) t line next
   after_first_goes_on m first no_answer (said (refuses text)) next meets h =
@@ -157,6 +163,7 @@ module _ (d : Demands) where
       outer_goes_on d (challenged_is_within d m first account text meets.0) p line next
       (after_challenge_goes_on m account first text p line next meets.1 h)
 
+  -- what follows the empty challenge goes on with a line that may stand at its place, or has ended
   after_empty_goes_on : (m : List ℕ) (t : AfterEmpty) (line : LogLine) (next : Place) → (after_empty m t).Meets d
       → IsTransition d (after_empty m t).place line next → GoesOn d (after_empty m) t line next
   after_empty_goes_on m no_first (heard (resp first)) next meets h =
@@ -173,6 +180,7 @@ module _ (d : Demands) where
   after_empty_goes_on m (sends_first first a) line next meets h =
       outer_goes_on d (sends_first_is_within d m first) a line next (after_first_goes_on m first a line next meets h)
 
+  -- what follows `C AUTH` without a message goes on with a line that may stand at its place, or has ended
   after_auth_goes_on : (m : List ℕ) (t : AfterAuth) (line : LogLine) (next : Place) → (after_auth m t).Meets d
       → IsTransition d (after_auth m t).place line next → GoesOn d (after_auth m) t line next
   after_auth_goes_on m no_invitation (said (refuses text)) next meets h =
@@ -187,6 +195,7 @@ module _ (d : Demands) where
   after_auth_goes_on m (invited text f) line next meets h =
       outer_goes_on d (invited_is_within d m text meets.0) f line next (after_empty_goes_on m f line next meets.1 h)
 
+  -- what follows `S MECHS` goes on with a line that may stand at its place, or has ended
   after_mechs_goes_on : (t : AfterMechs) (line : LogLine) (next : Place) → (after_mechs t).Meets d
       → IsTransition d (after_mechs t).place line next → GoesOn d after_mechs t line next
   after_mechs_goes_on no_login (heard (auth m)) next meets h =

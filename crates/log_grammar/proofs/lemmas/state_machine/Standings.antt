@@ -69,11 +69,12 @@ other_class_is_not_due_for_codes class no_code no_sync no_abort no_bad no_gone (
 other_class_is_not_due_for_codes class no_code no_sync no_abort no_bad no_gone (inr other) =
     other_class_is_not_due_at_turn class of_sync no_sync no_abort no_bad no_gone other
 
--- if something has a property or nothing has it, it is decidable whether something has it, and whether nothing has it:
+-- if something has a property or nothing has it, it is decidable whether something has it
 decided_some : {A : Type 0} {P : A → Type 0} → ((a : A) × P a) ⊎ ((a : A) → P a → ⊥) → Decided ((a : A) × P a)
 decided_some (inl is) = inl is
 decided_some (inr none) = inr (λ is. none is.0 is.1)
 
+-- if something has a property or nothing has it, it is decidable whether nothing has it
 decided_none : {A : Type 0} {P : A → Type 0} → ((a : A) × P a) ⊎ ((a : A) → P a → ⊥) → Decided ((a : A) → P a → ⊥)
 decided_none (inl is) = inr (λ none. none is.0 is.1)
 decided_none (inr none) = inl none
@@ -101,7 +102,7 @@ some_why_after_code laws accounts account sent told moment =
     (other_reply moment due.0, (due.0, due.1, refl))
 
 module _ (accounts : Accounts) (told : List LoggedAttempt) where
-  -- a line stands at each place in one of the three ways:
+  -- before all lines, a line stands in one of the three ways
   before_all_gives_standing : (line : LogLine) → Standing accounts before_all told line
   before_all_gives_standing header = inl (record { next = between; goes = refl; due = tt })
   -- (for the prover: docs/PROVING.md, "A last clause over a variable")
@@ -109,6 +110,7 @@ module _ (accounts : Accounts) (told : List LoggedAttempt) where
   before_all_gives_standing (heard abort) = inr (inl (λ is. cc is))
   before_all_gives_standing line = inr (inl (λ is. cc is))
 
+  -- between sessions, a line stands in one of the three ways
   between_gives_standing : (line : LogLine) → Standing accounts between told line
   between_gives_standing (said (mechs names)) =
       demand_gives_standing accounts between told (said (mechs names)) (names ≡ offered_names) refl (other_mechs, refl)
@@ -118,6 +120,7 @@ module _ (accounts : Accounts) (told : List LoggedAttempt) where
   between_gives_standing (heard abort) = inr (inl (λ is. cc is))
   between_gives_standing line = inr (inl (λ is. cc is))
 
+  -- after `S MECHS`, a line stands in one of the three ways
   offered_gives_standing : (line : LogLine) → Standing accounts offered told line
   offered_gives_standing (heard (auth m)) = inl (record { next = asks_bare m; goes = refl; due = tt })
   offered_gives_standing (heard (auth_with m first)) = inl (record { next = got_first m first; goes = refl; due = tt })
@@ -128,7 +131,7 @@ module _ (accounts : Accounts) (told : List LoggedAttempt) where
   offered_gives_standing (said halt) = inr (inl (other_class_is_not_due_at_turn _ _ (λ e. cc e) (λ e. cc e) (λ e. cc e) (λ e. cc e)))
   offered_gives_standing line = inr (inl (other_class_is_not_due_at_turn _ _ (λ e. cc e) (λ e. cc e) (λ e. cc e) (λ e. cc e)))
 
-  -- a line stands in one of the three ways after `C AUTH` without a message, and when a client-first message is due:
+  -- after `C AUTH` without a message, a line stands in one of the three ways
   asks_bare_gives_standing : (m : List ℕ) (line : LogLine) → Standing accounts (asks_bare m) told line
   asks_bare_gives_standing m (said (refuses text)) =
       demand_gives_standing accounts (asks_bare m) told (said (refuses text)) _ refl (some_why_after_auth accounts m)
@@ -143,6 +146,7 @@ module _ (accounts : Accounts) (told : List LoggedAttempt) where
   asks_bare_gives_standing m (heard abort) = inr (inl (λ is. cc is))
   asks_bare_gives_standing m line = inr (inl (λ is. cc is))
 
+  -- when a client-first message is due, a line stands in one of the three ways
   waits_first_gives_standing : (m : List ℕ) (line : LogLine) → Standing accounts (waits_first m) told line
   waits_first_gives_standing m (heard (resp first)) = inl (record { next = got_first m first; goes = refl; due = tt })
   waits_first_gives_standing m (heard abort) = inl (record { next = leaving; goes = refl; due = tt })
@@ -151,6 +155,7 @@ module _ (accounts : Accounts) (told : List LoggedAttempt) where
   waits_first_gives_standing m (said halt) = inr (inl (other_class_is_not_due_at_turn _ _ (λ e. cc e) (λ e. cc e) (λ e. cc e) (λ e. cc e)))
   waits_first_gives_standing m line = inr (inl (other_class_is_not_due_at_turn _ _ (λ e. cc e) (λ e. cc e) (λ e. cc e) (λ e. cc e)))
 
+  -- after a challenge, a line stands in one of the three ways
   waits_final_gives_standing : (m account first challenge : List ℕ) (line : LogLine)
       → Standing accounts (waits_final m account first challenge) told line
   waits_final_gives_standing m account first challenge (heard (resp last)) =
@@ -163,6 +168,7 @@ module _ (accounts : Accounts) (told : List LoggedAttempt) where
   waits_final_gives_standing m account first challenge line =
       inr (inl (other_class_is_not_due_at_turn _ _ (λ e. cc e) (λ e. cc e) (λ e. cc e) (λ e. cc e)))
 
+  -- when a code is due, a line stands in one of the three ways
   waits_code_gives_standing : (account : List ℕ) (line : LogLine) → Standing accounts (waits_code account) told line
   waits_code_gives_standing account (heard (code text)) = inl (record { next = got_code account (one_text text); goes = refl; due = tt })
   waits_code_gives_standing account (heard (sync first second)) =
@@ -175,6 +181,7 @@ module _ (accounts : Accounts) (told : List LoggedAttempt) where
   waits_code_gives_standing account line =
       inr (inl (other_class_is_not_due_for_codes _ (λ e. cc e) (λ e. cc e) (λ e. cc e) (λ e. cc e) (λ e. cc e)))
 
+  -- after a client that leaves, a line stands in one of the three ways
   leaving_gives_standing : (line : LogLine) → Standing accounts leaving told line
   leaving_gives_standing (said (refuses text)) =
       demand_gives_standing accounts leaving told (said (refuses text)) (text ≡ []) refl (other_outcome (refused_with []), refl)
@@ -186,6 +193,7 @@ module _ (accounts : Accounts) (told : List LoggedAttempt) where
   leaving_gives_standing (heard abort) = inr (inl (λ is. cc is))
   leaving_gives_standing line = inr (inl (λ is. cc is))
 
+  -- when `E` is due, a line stands in one of the three ways
   over_gives_standing : (line : LogLine) → Standing accounts over told line
   over_gives_standing ended = inl (record { next = between; goes = refl; due = tt })
   over_gives_standing (said halt) = inr (inl (λ is. cc is))
@@ -193,7 +201,7 @@ module _ (accounts : Accounts) (told : List LoggedAttempt) where
   over_gives_standing line = inr (inl (λ is. cc is))
 
 module _ (laws : DecisionLaws) (accounts : Accounts) (told : List LoggedAttempt) where
-  -- a line stands in one of the three ways after a client-first message, a challenge or a client-final message, and when a code is due:
+  -- after a client-first message, a line stands in one of the three ways
   got_first_gives_standing : (m first : List ℕ) (line : LogLine) → Standing accounts (got_first m first) told line
   got_first_gives_standing m first (said (refuses text)) =
       demand_gives_standing accounts (got_first m first) told (said (refuses text)) _ refl (some_why_after_first laws accounts m first)
@@ -210,6 +218,7 @@ module _ (laws : DecisionLaws) (accounts : Accounts) (told : List LoggedAttempt)
   got_first_gives_standing m first (heard abort) = inr (inl (λ is. cc is))
   got_first_gives_standing m first line = inr (inl (λ is. cc is))
 
+  -- after a client-final message for which a verdict is due, a line stands in one of the three ways
   got_final_gives_standing : (m account first challenge last : List ℕ)
       → (due : Due) × IsVerdictDue accounts m account first challenge last due → (line : LogLine)
       → Standing accounts (got_final m account first challenge last) told line
@@ -230,7 +239,7 @@ module _ (laws : DecisionLaws) (accounts : Accounts) (told : List LoggedAttempt)
   got_final_gives_standing m account first challenge last (due, is) (heard abort) = inr (inl (λ e. cc e))
   got_final_gives_standing m account first challenge last (due, is) line = inr (inl (λ e. cc e))
 
-  -- a line stands in one of the three ways after a code, after a client that leaves, and when `E` is due:
+  -- after a code, a line stands in one of the three ways
   got_code_gives_standing : (account : List ℕ) (sent : CodeTexts) (line : LogLine) → Standing accounts (got_code account sent) told line
   got_code_gives_standing account sent (said (replies moment reply)) =
       demand_gives_standing accounts (got_code account sent) told (said (replies moment reply))

@@ -19,17 +19,19 @@ pub record IsWithin {X Y : Type 0} (d : Demands) (inner : X → Part) (outer : Y
       × ((outer (wrap t)).told ≡ before ++ (inner t).told) × ((inner t).Meets d → (outer (wrap t)).Meets d)
 
 module _ (d : Demands) where
-  -- what stands after `C ABORT` or `C BAD` is within the end of a session by its client:
+  -- what stands after `C ABORT` is within the end of a session by its client
   pub aborts_is_within : IsWithin d parting quitting aborts
   aborts_is_within = record { front = heard abort ∷ []; before = []; around = λ t. (refl, refl, refl, λ m. m) }
 
+  -- what stands after `C BAD` is within the end of a session by its client
   pub sends_bad_is_within : IsWithin d parting quitting sends_bad
   sends_bad_is_within = record { front = bad ∷ []; before = []; around = λ t. (refl, refl, refl, λ m. m) }
 
-  -- the end by the client, and what stands after a reply, are within what stands after `S OK` or another reply:
+  -- the end by the client is within what stands after `S OK`
   pub quits_codes_is_within : (account : List ℕ) → IsWithin d quitting (after_ok account) quits_codes
   quits_codes_is_within account = record { front = []; before = []; around = λ t. (refl, refl, refl, λ m. m) }
 
+  -- what stands after a reply is within what stands after `S OK` or another reply
   pub replied_is_within : (account : List ℕ) (sent : CodeTexts) (moment : ℕ) (reply : Option Reply)
       → IsWithin d (after_ok account) (after_ok account) (replied sent moment reply)
   replied_is_within account sent moment reply =
@@ -39,48 +41,53 @@ module _ (d : Demands) where
         around = λ t. (refl, refl, refl, λ m. m);
       }
 
-  -- what stands after `S OK` is within what stands after the client-final message:
+  -- what stands after `S OK` is within what stands after the client-final message
   pub granted_is_within : (m account first challenge last text : List ℕ) → d.granted m account first challenge last text
       → IsWithin d (after_ok account) (after_final m account first challenge last) (granted text)
   granted_is_within m account first challenge last text is =
       record { front = said (accepts text) ∷ []; before = []; around = λ t. (refl, refl, refl, λ more. (is, more)) }
 
-  -- the end by the client, and what stands after the client-final message, are within what stands after the challenge:
+  -- the end by the client is within what stands after the challenge
   pub quits_final_is_within : (m account first challenge : List ℕ)
       → IsWithin d quitting (after_challenge m account first challenge) quits_final
   quits_final_is_within m account first challenge = record { front = []; before = []; around = λ t. (refl, refl, refl, λ m. m) }
 
+  -- what stands after the client-final message is within what stands after the challenge
   pub sends_final_is_within : (m account first challenge last : List ℕ)
       → IsWithin d (after_final m account first challenge last) (after_challenge m account first challenge) (sends_final last)
   sends_final_is_within m account first challenge last =
       record { front = heard (resp last) ∷ []; before = []; around = λ t. (refl, refl, refl, λ m. m) }
 
-  -- what stands after the challenge is within what stands after the client-first message:
+  -- what stands after the challenge is within what stands after the client-first message
   pub challenged_is_within : (m first account text : List ℕ) → d.challenged m account first text
       → IsWithin d (after_challenge m account first text) (after_first m first) (challenged account text)
   challenged_is_within m first account text is =
       record { front = said (cont text) ∷ []; before = []; around = λ t. (refl, refl, refl, λ more. (is, more)) }
 
-  -- the end by the client, and what stands after the client-first message, are within what stands after the empty challenge:
+  -- the end by the client is within what stands after the empty challenge
   pub quits_first_is_within : (m : List ℕ) → IsWithin d quitting (after_empty m) quits_first
   quits_first_is_within m = record { front = []; before = []; around = λ t. (refl, refl, refl, λ m. m) }
 
+  -- what stands after the client-first message is within what stands after the empty challenge
   pub sends_first_is_within : (m first : List ℕ) → IsWithin d (after_first m first) (after_empty m) (sends_first first)
   sends_first_is_within m first = record { front = heard (resp first) ∷ []; before = []; around = λ t. (refl, refl, refl, λ m. m) }
 
-  -- what stands after the empty challenge is within what stands after `C AUTH` without a message:
+  -- what stands after the empty challenge is within what stands after `C AUTH` without a message
   pub invited_is_within : (m text : List ℕ) → d.invited m text → IsWithin d (after_empty m) (after_auth m) (invited text)
   invited_is_within m text is = record { front = said (cont text) ∷ []; before = []; around = λ t. (refl, refl, refl, λ more. (is, more)) }
 
-  -- the end by the client, and what stands after `C AUTH`, are within what stands after `S MECHS`, which is within a session:
+  -- the end by the client is within what stands after `S MECHS`
   pub quits_login_is_within : IsWithin d quitting after_mechs quits_login
   quits_login_is_within = record { front = []; before = []; around = λ t. (refl, refl, refl, λ m. m) }
 
+  -- what stands after `C AUTH` with a client-first message is within what stands after `S MECHS`
   pub with_first_is_within : (m first : List ℕ) → IsWithin d (after_first m first) after_mechs (with_first m first)
   with_first_is_within m first = record { front = heard (auth_with m first) ∷ []; before = []; around = λ t. (refl, refl, refl, λ m. m) }
 
+  -- what stands after `C AUTH` without a message is within what stands after `S MECHS`
   pub without_first_is_within : (m : List ℕ) → IsWithin d (after_auth m) after_mechs (without_first m)
   without_first_is_within m = record { front = heard (auth m) ∷ []; before = []; around = λ t. (refl, refl, refl, λ m. m) }
 
+  -- what stands after `S MECHS` is within a session
   pub session_is_within : (names : List ℕ) → d.mechs names → IsWithin d after_mechs session_part (session names)
   session_is_within names is = record { front = said (mechs names) ∷ []; before = []; around = λ t. (refl, refl, refl, λ more. (is, more)) }

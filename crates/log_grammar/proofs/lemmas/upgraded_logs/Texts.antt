@@ -46,7 +46,7 @@ later_lines_may_have_numbers = record {
   reply = λ account is sent moment reply lines place told have. (tt, have);
 }
 
--- so may each line of a session
+-- each line of a session may have a number
 session_may_have_numbers : (s : Session) → AllMayHaveNumber (session_lines s)
 session_may_have_numbers (session names l) =
     (tt, later_lines_hold (λ lines place told. AllMayHaveNumber lines) later_lines_may_have_numbers l)
@@ -77,16 +77,17 @@ next_number_stays_or_rises n line = elim (cases_Bool (is_end line)) [
 abbrev FitNumbers : ℕ → List LogLine → Type 0
 FitNumbers n lines = (1 ≤ n) × (n + length lines ≤ last_session_number)
 
--- if the numbers from this one on fit the lines, it is a session's number, and those after it fit the lines after the first;
--- the numbers from 1 on fit lines that can be numbered:
+-- if the numbers from this one on fit the lines, it is a session's number
 first_number_fits : (n : ℕ) (lines : List LogLine) → FitNumbers n lines → IsSessionNumber n
 first_number_fits n lines few = (few.0, omega (arith, few.1))
 
+-- if the numbers from this one on fit the lines, those from the next line's on fit the lines after the first
 rest_fits_numbers : (n : ℕ) (line : LogLine) (lines : List LogLine) → FitNumbers n (line ∷ lines)
     → FitNumbers (if is_end line then n + 1 else n) lines
 rest_fits_numbers n line lines few =
     let next = next_number_stays_or_rises n line in (omega (arith, few.0, next.0), omega (arith, few.1, next.1))
 
+-- the numbers from 1 on fit lines that can be upgraded
 lines_fit_from_one : (lines : List LogLine) → CanBeUpgraded lines → FitNumbers 1 lines
 lines_fit_from_one lines can = (omega arith, omega (arith, can.few.1))
 
@@ -120,7 +121,7 @@ pub upgraded_texts_lack_lf : (lines : List LogLine) → CanBeUpgraded lines
     → AllByRecursion LacksLf (log_line_text header_two ∷ map numbered_text (with_numbers 1 lines))
 upgraded_texts_lack_lf lines can = (refl, numbered_texts_lack_lf 1 lines (lines_fit_from_one lines can) can.each)
 
--- a text of an upgraded log is read as no other than its number and its line, and so are the texts of many lines:
+-- a text of an upgraded log is read as no other than its number and its line
 upgraded_text_has_one_line : (n : ℕ) (line : LogLine) (x : Numbered LogLine) → IsSessionNumber n → IsWritable line
     → IsNumberedLine (numbered_text (numbered n line)) x → x ≡ numbered n line
 upgraded_text_has_one_line n line x number is read =
@@ -130,9 +131,11 @@ upgraded_text_has_one_line n line x number is read =
     let same : log_line_text line ≡ log_line_text x.value = sym
     (after_space-word (decimal n) (log_line_text line) word) ∙ ap after_space read.spelled ∙ after_space-word (decimal x.number)
     (log_line_text x.value) also in
-    let value = each_text_is_at_most_one_log_line (log_line_text line) x.value line (subst (λ (t : List ℕ). IsLogLine t x.value) (sym same) read.line) is in
+    let value = each_text_is_at_most_one_log_line (log_line_text line) x.value line
+    (subst (λ (t : List ℕ). IsLogLine t x.value) (sym same) read.line) is in
     equal_parts_are_same_numbered x.number n x.value line same_number value
 
+-- the texts of an upgraded log are read as no other than their numbers and their lines
 numbered_texts_have_one_reading : (n : ℕ) (lines : List LogLine) (log : List (Numbered LogLine)) → FitNumbers n lines
     → AllByRecursion IsWritable lines → AllZip IsNumberedLine (map numbered_text (with_numbers n lines)) log → log ≡ with_numbers n lines
 numbered_texts_have_one_reading n [] [] few each read = refl

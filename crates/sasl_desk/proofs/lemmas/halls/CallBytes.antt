@@ -29,7 +29,8 @@ pub of_number-hall_lines : (n : ℕ) (calls : List (Numbered Call)) → of_numbe
 of_number-hall_lines n [] = refl
 of_number-hall_lines n (c ∷ before) = elim (eqb_tells n c.number) [
   | inl same ↦
-      let here = subst (λ (m : ℕ). of_number n (map (numbered m) c.value.lines) ≡ c.value.lines) same.1 (of_number-own_items n c.value.lines) in
+      let here = subst (λ (m : ℕ). of_number n (map (numbered m) c.value.lines) ≡ c.value.lines) same.1
+      (of_number-own_items n c.value.lines) in
       rw same.0 (of_number-append n (hall_lines before) (map (numbered c.number) c.value.lines)
       ∙ ap (λ (l : List LogLine). of_number n (hall_lines before) ++ l) here ∙ ap (λ (l : List LogLine). l ++ c.value.lines)
       (of_number-hall_lines n before))

@@ -20,18 +20,20 @@ use Rattle.sasl_desk.proofs.lemmas.Lists.{none_is_counted_if_none_found, found_h
 use Rattle.sasl_desk.proofs.lemmas.halls.Calls.{session_phase_fits_place}
 use Rattle.sasl_desk.proofs.lemmas.halls.Working.{open_place_counts_one, closed_place_counts_none}
 
--- after a call, a run and a hall's session, nothing is left to be said at the place:
+-- after a call with its answer, nothing is left to be said at the place
 answered_call_rests : (accounts : Accounts) (server_nonce : List ℕ) (request : Request) (place at : Place) (lines : List LogLine)
     → IsAnsweredBy accounts server_nonce request place lines at
     → IsAtRest at
 answered_call_rests accounts server_nonce (greets new) place at lines greeting = rw greeting.waits refl
 answered_call_rests accounts server_nonce (hears event moment) place at lines turn = turn.rests
 
+-- after a run, nothing is left to be said at the place
 run_rests : (accounts : Accounts) (calls : List Call) (at : Place) → IsRun accounts calls at → IsAtRest at
 run_rests accounts [] at run = rw run tt
 run_rests accounts (c ∷ calls) at (place, run, answered) =
     answered_call_rests accounts (server_nonce_of calls) c.request place at c.lines answered
 
+-- after a run of a hall's session, nothing is left to be said at the place
 session_run_rests : (accounts : Accounts) (calls : List Call) (at : Place) → IsSessionRun accounts calls at → IsAtRest at
 session_run_rests accounts calls at (inl run) = run_rests accounts calls at run
 session_run_rests accounts calls at (inr (turned, is)) = rw is tt
@@ -45,7 +47,7 @@ resting_closed_is_between at is rests = absurd (cc is)
 -- a hall that has answered these calls, and a number
 module _ {S : Type 0} {facts : S → StoreFacts} {IsStored : List ℕ → Type 0} {start : BookFields} {calls : List (Numbered Call)}
     {hall : HallFields S} (s : IsHallAfter facts IsStored start calls hall) (n : ℕ) where
-  -- a number without a guest is between sessions, and one with a guest is not:
+  -- a number without a guest is between sessions
   pub number_without_guest_is_between : find (is_of n) hall.guests ≡ None → s.places n ≡ between
   number_without_guest_is_between none = elim (cases_Bool (is_closed (s.places n))) [
     | inl is ↦ resting_closed_is_between (s.places n) is (session_run_rests (accounts_in start) (of_number n calls) (s.places n)
@@ -58,6 +60,7 @@ module _ {S : Type 0} {facts : S → StoreFacts} {IsStored : List ℕ → Type 0
     ))
   ]
 
+  -- a number with a guest is not between sessions
   number_with_guest_is_not_between : (guest : Guest) → find (is_of n) hall.guests ≡ Some guest → s.places n ≡ between → ⊥
   number_with_guest_is_not_between guest some at =
       found_is_counted (is_of n) hall.guests guest some (s.guests n ∙ closed_place_counts_none (s.places n) (rw at refl))

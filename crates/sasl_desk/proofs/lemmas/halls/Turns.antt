@@ -56,7 +56,7 @@ numbered_turn_is_writable n number (line ∷ lines) turns written = (
 module _ {S : Type 0} {facts : S → StoreFacts} {IsStored : List ℕ → Type 0} {start : BookFields} {calls : List (Numbered Call)}
     {old : Keeper S} {n : ℕ} {going : Session} {server_nonce : List ℕ} {others : List Guest} {given : ℕ}
     (s : IsHallAfter facts IsStored start calls (hall_of old (guest_of n going server_nonce ∷ others) given false)) where
-  -- what the turn gives
+  -- what a hall's turn gives: the lines, the place to which they lead, and the keeper with which the hall goes on
   pub record IsHallStep (event : ClientEvent) (moment : ℕ) (lines : List LogLine) (left : AfterTurn) (new : Keeper S) : Type 0 where
     -- the place to which the turn leads
     pub next : Place

@@ -52,11 +52,12 @@ open_session_has_run accounts calls at is_open (inr (turned, same)) =
 abbrev pub IsClosedOrClientTurn : Place → Type 0
 IsClosedOrClientTurn at = (is_closed at ≡ true) ⊎ (is_client_turn at ≡ true)
 
--- a place where the log is halted, or where `E` is due, is neither:
+-- a place where the log is halted is neither closed nor a client's turn
 halted_place_is_neither_closed_nor_turn : (at : Place) → at ≡ halted → IsClosedOrClientTurn at → ⊥
 halted_place_is_neither_closed_nor_turn at is (inl closed) = false≢true (subst (λ (p : Place). is_closed p ≡ true) is closed)
 halted_place_is_neither_closed_nor_turn at is (inr turn) = false≢true (subst (λ (p : Place). is_client_turn p ≡ true) is turn)
 
+-- a place where `E` is due is neither closed nor a client's turn
 over_place_is_neither_closed_nor_turn : (at : Place) → at ≡ over → IsClosedOrClientTurn at → ⊥
 over_place_is_neither_closed_nor_turn at is (inl closed) = false≢true (subst (λ (p : Place). is_closed p ≡ true) is closed)
 over_place_is_neither_closed_nor_turn at is (inr turn) = false≢true (subst (λ (p : Place). is_client_turn p ≡ true) is turn)
@@ -114,9 +115,9 @@ module _ {S : Type 0} {facts : S → StoreFacts} {IsStored : List ℕ → Type 0
       unhalted_hall_holds_book IsStored (accounts_in start) calls s.places hall.keeper.book (facts hall.keeper.store)
       (λ n is. halted_place_is_neither_closed_nor_turn (s.places n) is (each_place_is_closed_or_client_turn n)) s.is_stored
 
--- a hall stands for the same calls with its guests in another order
 module _ {S : Type 0} {facts : S → StoreFacts} {IsStored : List ℕ → Type 0} {start : BookFields} {calls : List (Numbered Call)}
     {keeper : Keeper S} {guests others : List Guest} {given : ℕ} {is_halted : Bool} (same : IsPermutation guests others) where
+  -- a hall stands for the same calls with its guests in another order
   unfoldable pub reordered_hall_stands : IsHallAfter facts IsStored start calls (hall_of keeper guests given is_halted)
       → IsHallAfter facts IsStored start calls (hall_of keeper others given is_halted)
   reordered_hall_stands s = record {

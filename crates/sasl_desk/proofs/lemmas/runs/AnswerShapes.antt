@@ -41,7 +41,7 @@ module _ (d : Demands) where
       (ap (λ (l : List LogLine). ended ∷ l) rest.0, rest.1)
   over_path_is_end (line ∷ lines) next (middle, goes, path) all rests = absurd goes
 
-  -- no line of an answer may stand at a client's turn, and a path of such lines from there has none:
+  -- no line of an answer may stand at a client's turn
   no_answer_stands_at_client_turn : (at next : Place) (line : LogLine) → is_client_turn at ≡ true → IsAnswerLine line
       → IsTransition d at line next → ⊥
   no_answer_stands_at_client_turn at next header turn is goes = is
@@ -59,6 +59,7 @@ module _ (d : Demands) where
   no_answer_stands_at_client_turn (waits_code account) next ended turn is goes = goes
   no_answer_stands_at_client_turn at next line turn is goes = absurd (cc turn)
 
+  -- a path of lines of an answer that leads from a client's turn has no line
   client_turn_path_is_empty : (at : Place) (lines : List LogLine) (next : Place) → is_client_turn at ≡ true → IsPath d at lines next
       → AllByRecursion IsAnswerLine lines → (lines ≡ []) × (next ≡ at)
   client_turn_path_is_empty at [] next turn path all = (refl, path)

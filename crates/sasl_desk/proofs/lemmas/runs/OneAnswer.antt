@@ -38,7 +38,7 @@ pub record AnswerUniquenessLaws : Type 0 where
   -- a text is at most one line of the protocol
   pub lines : EachTextIsAtMostOneLine
 
--- a server has one challenge to a client-first message, by its entry and its part of the nonce:
+-- there is at most one challenge to a client-first message for an entry and a server's own part of the nonce
 one_challenge : HasOneClientFirst → (e : Entry) (first server_nonce text other : List ℕ) → IsChallengeTo e first server_nonce text
     → IsChallengeTo e first server_nonce other
     → text ≡ other
@@ -48,6 +48,7 @@ one_challenge one_first e first server_nonce text other a b =
     (one_first first a.first b.first a.is_first b.is_first)
     ∙ sym b.is_challenge.spelled
 
+-- a server has at most one challenge to a client-first message for its accounts and its own part of the nonce
 one_server_challenge : HasOneClientFirst → (accounts : Accounts) (server_nonce mechanism account first text other : List ℕ)
     → IsChallengeWith accounts server_nonce (waits_final mechanism account first text)
     → IsChallengeWith accounts server_nonce (waits_final mechanism account first other)

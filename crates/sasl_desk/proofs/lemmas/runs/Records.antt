@@ -56,7 +56,7 @@ record_is_no_offer (sends text) at kept is = absurd is
 record_is_no_offer goes_away at gone is = refl
 record_is_no_offer goes_away at kept is = absurd is
 
--- the lines of a turn have one record, the event's, and no offer:
+-- the lines of a turn have one record, the event's
 turn_has_one_record : (accounts : Accounts) (server_nonce : List ℕ) (event : ClientEvent) (moment : ℕ) (at : Place) (lines : List LogLine)
     (next : Place)
     (t : IsTurnTaken accounts server_nonce event moment at lines next) → filter is_record lines ≡ t.recorded ∷ []
@@ -65,6 +65,7 @@ turn_has_one_record accounts server_nonce event moment at lines next t =
     ∙ rw (record_counts_as_record event at t.recorded t.is_record) (ap (λ (l : List LogLine). t.recorded ∷ l)
     (answer_records_nothing t.answered t.answers))
 
+-- the lines of a turn have no offer
 turn_has_no_offer : (accounts : Accounts) (server_nonce : List ℕ) (event : ClientEvent) (moment : ℕ) (at : Place) (lines : List LogLine)
     (next : Place)
     → IsTurnTaken accounts server_nonce event moment at lines next → filter is_offer lines ≡ []

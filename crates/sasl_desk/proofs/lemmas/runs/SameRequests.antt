@@ -17,13 +17,14 @@ use Rattle.sasl_desk.specs.DueLines.{IsPath}
 use Rattle.sasl_desk.proofs.lemmas.runs.Acceptances.{has_acceptance, front_brings_acceptance, rest_brings_acceptance, acceptance_cuts_rest}
 use Rattle.sasl_desk.proofs.lemmas.runs.OneAnswer.{AnswerUniquenessLaws, one_answer_to_call}
 
--- after calls that asked the same, sessions have the same part of the nonce:
+-- if two sessions have the same part of the nonce, they still do after calls that asked the same
 same_request_has_same_nonce : (request other : Request) (server_nonce theirs : List ℕ) → IsSameRequest request other → server_nonce ≡ theirs
     → server_nonce_after request server_nonce ≡ server_nonce_after other theirs
 same_request_has_same_nonce (greets one) (greets two) server_nonce theirs same alike = same
 same_request_has_same_nonce (hears event moment) (hears other later) server_nonce theirs same alike = alike
 same_request_has_same_nonce request other server_nonce theirs same alike = absurd same
 
+-- after calls that asked the same, one by one, two sessions have the same part of the nonce
 same_requests_have_same_nonce : (calls others : List Call) → HaveSameRequests calls others → server_nonce_of calls ≡ server_nonce_of others
 same_requests_have_same_nonce [] [] same = refl
 same_requests_have_same_nonce (c ∷ calls) (d ∷ others) same = same_request_has_same_nonce c.request d.request (server_nonce_of calls)
@@ -65,13 +66,15 @@ runs_are_same_or_accepted t accounts (c ∷ calls) (d ∷ others) at also (place
     ]
 runs_are_same_or_accepted t accounts calls others at also run runs same = absurd same
 
--- accounts with the same entries: what is demanded of a session by the ones is demanded by the others, and its whole run is one
+-- two sets of accounts, `one` and `other`, with the same entries
 module _ (one other : Accounts) (same : HaveSameEntries other one) where
+  -- a verdict that is due by `other` is due by `one`
   entries_fix_verdict : (mechanism name first challenge last : List ℕ) (due : Due)
       → IsVerdictDue other mechanism name first challenge last due → IsVerdictDue one mechanism name first challenge last due
   entries_fix_verdict mechanism name first challenge last due (m, named, is) =
       (m, named, subst (λ (e : Entry). IsDue (challenged_login e m first challenge) last due) (same m name) is)
 
+  -- a line that may stand at a place by `other` may stand there by `one`, and leads to the same place
   entries_fix_transition : (at : Place) (line : LogLine) (next : Place)
       → IsTransition (demands other) at line next → IsTransition (demands one) at line next
   entries_fix_transition (got_first m first) (said (cont text)) next (account, c, at) = (
@@ -94,18 +97,21 @@ module _ (one other : Accounts) (same : HaveSameEntries other one) where
   entries_fix_transition (got_final m account first challenge last) line next goes = goes
   entries_fix_transition at line next goes = goes
 
+  -- a path by `other` is a path by `one`
   entries_fix_path : (at : Place) (lines : List LogLine) (next : Place)
       → IsPath (demands other) at lines next → IsPath (demands one) at lines next
   entries_fix_path at [] next path = path
   entries_fix_path at (line ∷ lines) next (middle, goes, path) =
       (middle, entries_fix_transition at line middle goes, entries_fix_path middle lines next path)
 
+  -- the challenge of a place that is one by `other` is one by `one`
   entries_fix_challenge : (server_nonce : List ℕ) (at : Place) → IsChallengeWith other server_nonce at
       → IsChallengeWith one server_nonce at
   entries_fix_challenge server_nonce (waits_final mechanism account first challenge) (m, named, is) =
       (m, named, subst (λ (e : Entry). IsChallengeTo e first server_nonce challenge) (same m account) is)
   entries_fix_challenge server_nonce at is = tt
 
+  -- an answer to a request by `other` is one by `one`
   entries_fix_answer : (server_nonce : List ℕ) (request : Request) (at : Place) (lines : List LogLine) (next : Place)
       → IsAnsweredBy other server_nonce request at lines next → IsAnsweredBy one server_nonce request at lines next
   entries_fix_answer server_nonce (greets new) at lines next g = g
@@ -122,6 +128,7 @@ module _ (one other : Accounts) (same : HaveSameEntries other one) where
     moments = t.moments;
   }
 
+  -- a run by `other` is a run by `one`
   entries_fix_run : (calls : List Call) (at : Place) → IsRun other calls at → IsRun one calls at
   entries_fix_run [] at run = run
   entries_fix_run (c ∷ calls) at (place, run, answered) = (

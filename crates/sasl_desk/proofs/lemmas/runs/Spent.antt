@@ -83,7 +83,7 @@ counter_above_candidate_is_not_spent old name start counter c moment has is can 
 
 -- a book before and after one more reply
 module _ (join : LegalHistoriesJoin) (old new : BookFields) (t : LoggedAttempt) (after : IsBookAfter (accounts_in old) (t ∷ []) new) where
-  -- a counter that is spent stays so when one more reply is given, and so do all that are spent:
+  -- a counter that is spent stays so when one more reply is given
   reply_keeps_spent_counter : (name : List ℕ) (counter : ℕ) → IsCounterSpent old name counter → IsCounterSpent new name counter
   reply_keeps_spent_counter name counter used =
       let leads = subst (λ (o : Option TokenFields). LeadsTo o (attempts_of name (t ∷ [])) (token_at new name)) used.has
@@ -91,6 +91,7 @@ module _ (join : LegalHistoriesJoin) (old new : BookFields) (t : LoggedAttempt) 
       let later = attempts_lead_to_token used.token (attempts_of name (t ∷ [])) (token_at new name) leads in
       record { token = later.0; has = later.1; below = attempts_keep_below join used.token _ later.0 later.2 counter used.below }
 
+  -- counters that are spent stay so when one more reply is given
   reply_keeps_spent_counters : (ps : List (List ℕ × ℕ)) → AreSpent ps old → AreSpent ps new
   reply_keeps_spent_counters ps spent = record {
     different = spent.different;
@@ -123,7 +124,7 @@ module _ (join : LegalHistoriesJoin) (fresh : CandidatesAreNew) (old new : BookF
       each_follows (λ p. IsCounterSpent old p.0 p.1) (λ q. (name, counter) ≢ q)
       (counter_above_candidate_is_not_spent old name start counter passed moment has is can at) ps spent.spent
 
-  -- the counter of a pass is spent after it, and so are both of a pass of two codes in a row:
+  -- the counter of a pass of one code is spent after it
   code_pass_spends_counter : (text : List ℕ) → IsFitting start [] moment (one_text text) c
       → IsBookAfter (accounts_in old) (logged_attempt_of name moment (one_text text) (Some (Pass c)) ∷ []) new
       → AreSpent ((name, c) ∷ ps) new
@@ -138,6 +139,7 @@ module _ (join : LegalHistoriesJoin) (fresh : CandidatesAreNew) (old new : BookF
         );
       }
 
+  -- both counters of a pass of two codes in a row are spent after it
   pair_pass_spends_counters : (first second : List ℕ) → IsFitting start [] moment (two_texts first second) c
       → IsBookAfter (accounts_in old) (logged_attempt_of name moment (two_texts first second) (Some (Pass c)) ∷ []) new
       → AreSpent ((name, c) ∷ (name, c - 1) ∷ ps) new
@@ -163,19 +165,20 @@ module _ (join : LegalHistoriesJoin) (fresh : CandidatesAreNew) (old new : BookF
         );
       }
 
--- the reply of a token without attempts is the one due, and there is none without a token:
+-- a reply that is due to an account with a token, before any attempt, is due by the token
 reply_by_token_is_due : (start : TokenFields) (moment : ℕ) (sent : CodeTexts) (r : Reply)
     → IsReplyDueBy (Some start) [] moment sent (Some r)
     → IsDueReply start [] moment sent r
 reply_by_token_is_due start moment sent r (reply, same, due) = subst (λ (x : Reply). IsDueReply start [] moment sent x)
     (sym (same_Some r reply same)) due
 
+-- no reply is due to an account without a token
 no_reply_without_token : (moment : ℕ) (sent : CodeTexts) (r : Reply) → IsReplyDueBy None [] moment sent (Some r) → ⊥
 no_reply_without_token moment sent r same = cc
 
--- with each reply that is due, what it used is spent, and what was spent before
 module _ (join : LegalHistoriesJoin) (fresh : CandidatesAreNew) (old new : BookFields) (name : List ℕ) (moment : ℕ) (is : IsMoment moment)
     (ps : List (List ℕ × ℕ)) (spent : AreSpent ps old) where
+  -- after a reply that is due, what it used is spent, and what was spent before
   due_reply_spends_counters : (sent : CodeTexts) (reply : Option Reply) (o : Option TokenFields) → token_at old name ≡ o
       → IsReplyDueBy o [] moment sent reply → IsBookAfter (accounts_in old) (logged_attempt_of name moment sent reply ∷ []) new
       → AreSpent (of_account name (used_by_reply sent reply) ++ ps) new

@@ -28,12 +28,13 @@ use Rattle.sasl_desk.proofs.lemmas.Lists.{each_follows}
 abbrev IsBelowAfter : TokenFields → List Attempt → ℕ → Type 0
 IsBelowAfter token history counter = (moment c : ℕ) → IsMoment moment → CanPass token history moment c → counter < c
 
--- what can pass after FAIL, or after LOCKED, could pass before it:
+-- what can pass after FAIL could pass before it
 fail_admits_no_more : (token : TokenFields) (before : List Attempt) (at : ℕ) (sent : CodeTexts) (moment c : ℕ)
     → CanPass token (attempt_of at sent Fail ∷ before) moment c → CanPass token before moment c
 fail_admits_no_more (Hotp t) before at sent moment c can = can
 fail_admits_no_more (Totp t) before at sent moment c can = can
 
+-- what can pass after LOCKED could pass before it
 locked_admits_no_more : (token : TokenFields) (before : List Attempt) (at : ℕ) (sent : CodeTexts) (moment c : ℕ)
     → CanPass token (attempt_of at sent Locked ∷ before) moment c → CanPass token before moment c
 locked_admits_no_more (Hotp t) before at sent moment c can = can
@@ -54,7 +55,8 @@ attempt_keeps_below fresh token counter before at (one_text text) (Pass w) is du
 attempt_keeps_below fresh token counter before at (two_texts first second) (Pass w) is due below moment c later can =
     let (first_one, next, can_pair, one, other) = due.1 in
     let passed : counter < first_one = below at first_one is (inr can_pair) in
-    let apart = (fresh token (attempt_of at (two_texts first second) (Pass w) ∷ before) moment c can).0 in omega (arith, passed, next, apart)
+    let apart = (fresh token (attempt_of at (two_texts first second) (Pass w) ∷ before) moment c can).0 in
+    omega (arith, passed, next, apart)
 
 -- a counter below each that can pass now is below each that can pass ever
 history_keeps_below : CandidatesAreNew → (token : TokenFields) (counter : ℕ) → IsBelowAfter token [] counter → (history : List Attempt)

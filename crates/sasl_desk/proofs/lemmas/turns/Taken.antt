@@ -20,7 +20,7 @@ use Rattle.sasl_desk.proofs.lemmas.turns.Paths.{turn_is_path, left_session_rests
 
 -- a turn on this event, at this moment, of a session that stands at this place
 module _ (accounts : Accounts) (server_nonce : List ℕ) (event : ClientEvent) (moment : ℕ) (at : Place) where
-  -- the session answered
+  -- a turn that the session itself answers is taken as a run says it
   pub session_turn_is_taken : (kept : List ℕ) (going : Session) (turn : Turn) (message : List ℕ) → kept ≡ server_nonce
       → IsSessionAt accounts at going → (t : IsTurnOnEvent accounts kept event at turn message)
       → IsTurnTaken accounts server_nonce event moment at (turn_lines turn message) t.is_answer.next
@@ -37,7 +37,7 @@ module _ (accounts : Accounts) (server_nonce : List ℕ) (event : ClientEvent) (
     moments = answer_lines_have (BearsMoment moment) (λ text. tt) (λ text. tt) (λ text. tt) tt turn.answer.says turn.answer.session message;
   }
 
-  -- a code, or two in a row, with its reply
+  -- a turn with a code, or two in a row, and its reply is taken as a run says it
   pub reply_turn_is_taken : (name : List ℕ) (sent : CodeTexts) (reply : Option Reply) → IsCodeDue event at name sent
       → IsTurnTaken accounts server_nonce event moment at (judged_lines moment sent (Replied reply)) (waits_code name)
   reply_turn_is_taken name sent reply due = record {
@@ -54,7 +54,7 @@ module _ (accounts : Accounts) (server_nonce : List ℕ) (event : ClientEvent) (
     moments = (refl, tt);
   }
 
-  -- a code, or two in a row, whose save failed
+  -- a turn with a code, or two in a row, whose save failed is taken as a run says it
   pub halt_turn_is_taken : (name : List ℕ) (sent : CodeTexts) → IsCodeDue event at name sent
       → IsTurnTaken accounts server_nonce event moment at (judged_lines moment sent NotSaved) halted
   halt_turn_is_taken name sent due = record {
