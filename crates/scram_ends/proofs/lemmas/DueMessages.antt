@@ -22,8 +22,8 @@ acceptance_due_is_authentic l client_final signature due =
     (omega (arith, long, range.0)) (omega (arith, long, range.1))
 
 -- a verdict that refuses is not the one that accepts
-refused_is_not_accepted : (r : Refusal) → verdict.Refused r ≡ verdict.Accepted → ⊥
-refused_is_not_accepted r same = cc
+refused_verdict_is_not_accepted : (r : Refusal) → verdict.Refused r ≡ verdict.Accepted → ⊥
+refused_verdict_is_not_accepted r same = cc
 
 -- acceptance with the message due makes a valid login, and a refusal makes none
 pub accepted_iff_valid : (l : Challenged) (client_final : List ℕ) (d : Due)
@@ -34,7 +34,7 @@ accepted_iff_valid l client_final (accept signature) due = (
   λ _. refl,
 )
 accepted_iff_valid l client_final (refuse r) due = (
-  (λ same. absurd (refused_is_not_accepted r same)),
+  (λ same. absurd (refused_verdict_is_not_accepted r same)),
   λ valid. let accepted = (accepts_exactly_valid l client_final (due_text (refuse r))).1 valid in
       absurd (refusal_is_not_acceptance r accepted.0
       (at_most_one_verdict_is_due l client_final (refuse r) (accept accepted.0) due accepted.1)),

@@ -15,7 +15,7 @@ use Rattle.scram_ends.specs.declared.verdict.Refusal.TheVariants.{InvalidEncodin
 use Rattle.scram_ends.proofs.lemmas.Opening.{one_opening}
 use Rattle.scram_text.proofs.lemmas.FirstUnmet.{met_rows_have_no_first_unmet, one_first_unmet}
 
--- a refusal is no acceptance
+-- of what may be due to a client-final message, a refusal is not an acceptance
 pub refusal_is_not_acceptance : (r : Refusal) (signature : List ℕ) → refuse r ≡ accept signature → ⊥
 refusal_is_not_acceptance r signature same = cc
 
