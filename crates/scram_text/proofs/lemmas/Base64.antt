@@ -22,15 +22,15 @@ pub base64_lacks_comma : (bytes : List ℕ) → IsBytes bytes → LacksComma (ba
 base64_lacks_comma bytes fits = base64_passes_test (λ c. not (is_comma c)) refl refl bytes fits
 
 -- the characters of base64 for `n` bytes and their padding are four for each three bytes, or part of three
-padded_length : (n : ℕ) → unpadded_len n + padding_len n ≡ 4 * ((n + 2) / 3)
-padded_length n = omega arith
+padding_fills_fours : (n : ℕ) → unpadded_len n + padding_len n ≡ 4 * ((n + 2) / 3)
+padding_fills_fours n = omega arith
 
 -- a text of base64 with its padding has four characters for each three bytes, or part of three
 pub length-base64 : (bytes : List ℕ) → length (base64 bytes) ≡ 4 * ((length bytes + 2) / 3)
 unfolding base64
 length-base64 bytes =
     length-append (encode_symbols standard.encode_table bytes) (replicate (padding_len (length bytes)) 61)
-    ∙ rw (length-encode_symbols standard.encode_table bytes, length-replicate) (padded_length (length bytes))
+    ∙ rw (length-encode_symbols standard.encode_table bytes, length-replicate) (padding_fills_fours (length bytes))
 
 -- the base64 of bytes decodes to them
 pub base64_decodes_back : (bytes : List ℕ) → IsBytes bytes → base64_decoded (base64 bytes) ≡ Ok bytes
