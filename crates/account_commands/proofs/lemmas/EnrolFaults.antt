@@ -13,14 +13,14 @@ use Rattle.command_words.specs.Values.{given_value}
 use Rattle.account_commands.specs.Enrol.{CannotBeChanged, CannotEnrol, IsReadOrNew, IsNameTakenIn, IsThisOrReadBook}
 use Rattle.command_io.specs.HeldBook.{IsReadBook}
 
--- the fault if an account was not added and saved: its name is taken, or the book can't be changed
-name_taken_or_book_unchangeable : {File Other : Type 0} (bytes_of : File → Option (List ℕ)) (path name : List ℕ) (this book : BookFields)
+-- if an account was not added and saved, the fault is that its name is taken, or that the book can't be changed
+unadded_account_has_reason : {File Other : Type 0} (bytes_of : File → Option (List ℕ)) (path name : List ℕ) (this book : BookFields)
     (found : Option AccountFields) (fault : Fault) → account_at book name ≡ found → IsThisOrReadBook bytes_of this book
     → (Other → IsFileUnwrittenOrNoMemory path fault) → MatchOption found Other (λ account. fault ≡ NameTaken)
     → IsNameTakenIn bytes_of this name fault
     ⊎ CannotBeChanged bytes_of path fault
-name_taken_or_book_unchangeable bytes_of path name this book None fault is there unwritten other = inr (inr (unwritten other))
-name_taken_or_book_unchangeable bytes_of path name this book (Some account) fault is there unwritten taken =
+unadded_account_has_reason bytes_of path name this book None fault is there unwritten other = inr (inr (unwritten other))
+unadded_account_has_reason bytes_of path name this book (Some account) fault is there unwritten taken =
     inl (taken, book, there, ap is_some is)
 
 -- if an account was not added to the book that was seen, its name is taken or the book can't be changed
@@ -28,7 +28,7 @@ pub failed_adding_has_reason : {File : Type 0} (bytes_of : File → Option (List
     → MatchOption (account_at this name) (fault ≡ NoMemory) (λ account. fault ≡ NameTaken)
     → IsNameTakenIn bytes_of this name fault ⊎ CannotBeChanged bytes_of path fault
 failed_adding_has_reason bytes_of path name this fault other =
-    name_taken_or_book_unchangeable bytes_of path name this this (account_at this name) fault refl (inl refl)
+    unadded_account_has_reason bytes_of path name this this (account_at this name) fault refl (inl refl)
     (λ memory. subst (IsFileUnwrittenOrNoMemory path) (sym memory) refl) other
 
 -- if an account was not added to the book that was read from its file, its name is taken or the book can't be changed
@@ -38,7 +38,7 @@ pub failed_saving_has_reason : {File : Type 0} (bytes_of : File → Option (List
     (λ account. fault ≡ NameTaken)
     → IsNameTakenIn bytes_of this name fault ⊎ CannotBeChanged bytes_of path fault
 failed_saving_has_reason bytes_of path name text this book fault read other =
-    name_taken_or_book_unchangeable bytes_of path name this book (account_at book name) fault refl (inr (text, read))
+    unadded_account_has_reason bytes_of path name this book (account_at book name) fault refl (inr (text, read))
     (λ unwritten. unwritten) other
 
 -- a name that is taken in a book, new or read, is taken in one that was read: a new book has no accounts
