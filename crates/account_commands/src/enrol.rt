@@ -146,7 +146,11 @@ where
         Some(_) => BookFile::hold(rt, path),
         None => BookFile::hold_or_make(rt, path),
     };
-    let (file, found) = open_book::file_and_text(rt, path, held, faults)?;
+    let mut file = match held {
+        Ok(file) => file,
+        Err(fault) => return Err(open_book::hold_fault(alloc, path, fault, faults)),
+    };
+    let found = open_book::text_of(alloc, &mut file, path)?;
     match found {
         Some(found) if text.as_ref() != Some(&found) => {
             let mut held = open_book::read_held(alloc, file, found, path)?;

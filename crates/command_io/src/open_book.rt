@@ -12,7 +12,7 @@ use crate::held_book::HeldBook;
 use account_book::{Book, BookStore, BookWhy};
 use book_file::{BookFile, BookFileExt, FileStore, HoldFault};
 use command_line::{Fault, TerminalText};
-use std::alloc::{AllocError, Global};
+use std::alloc::Global;
 use std::fs::Files;
 use std::io::Write;
 use std::time::Clock;
@@ -42,7 +42,7 @@ where
     let mut file = match BookFile::hold(rt, path) {
         Ok(file) => file,
         Err(HoldFault::Missing) => return Ok(None),
-        Err(fault) => return Err(hold_fault(rt.alloc(), path, fault, faults)?),
+        Err(fault) => return Err(hold_fault(rt.alloc(), path, fault, faults)),
     };
     // Not reached: `hold` returns Missing if there is no file. No contract says so.
     let Some(text) = text_of(rt.alloc(), &mut file, path)? else {
@@ -67,8 +67,11 @@ where
     ensures path { IfOk result (λ held. held.path.now ≡ path.now) }
     ensures err { IfErr result (CannotOpenBook R.File.remaining path.now) }
 {
-    let (file, text) = file_and_text(rt, path, BookFile::hold(rt, path), faults)?;
-    match text {
+    let mut file = match BookFile::hold(rt, path) {
+        Ok(file) => file,
+        Err(fault) => return Err(hold_fault(rt.alloc(), path, fault, faults)),
+    };
+    match text_of(rt.alloc(), &mut file, path)? {
         Some(text) => read_held(rt.alloc(), file, text, path),
 
         // Not reached: `hold` returns Missing if there is no file. No contract says so.
@@ -76,42 +79,16 @@ where
     }
 }
 
-/// Returns the held file and its text, or None for the text if there is no file yet. `held` is the outcome of holding the file at
-/// `path`. Faults: CannotRead, CannotWrite, BadBook if the text is not UTF-8, and NoMemory.
-pub fn file_and_text<'r, R, E>(
-    rt: &'r R,
-    path: &str,
-    held: Result<BookFile<'r, R>, HoldFault>,
-    faults: &mut E,
-) -> Result<(BookFile<'r, R>, Option<String>), Fault>
-where
-    R: Files + Clock + AllocGlobal,
-    R::File: BookFileExt,
-    E: Write,
-    ensures read { IfOk result (λ found. IfSome found.1 (λ text. IsRead R.File.remaining (string_bytes text))) }
-    ensures err { IfErr result (CannotOpenBook R.File.remaining path.now) }
-{
-    let mut file = match held {
-        Ok(file) => file,
-        Err(fault) => return Err(hold_fault(rt.alloc(), path, fault, faults)?),
-    };
-    let text = text_of(rt.alloc(), &mut file, path)?;
-    Ok((file, text))
-}
-
-// The fault of a command that could not hold the book at `path`: CannotRead, CannotWrite or NoMemory. If other runs held the book,
-// or it belongs to another user, a line on `faults` says so first. The error: memory ran out for a copy of the path.
+/// The fault of a command that could not hold the book at `path`: CannotRead, CannotWrite or NoMemory. If other runs held the book,
+/// or it belongs to another user, a line on `faults` says so first.
 #[tactic(auto, using(crate::proofs::lemmas::HeldFaults::failed_read_prevents_holding))]
-fn hold_fault<E: Write>(
-    alloc: Global,
-    path: &str,
-    fault: HoldFault,
-    faults: &mut E,
-) -> Result<Fault, AllocError>
-    ensures { IfOk result (CannotHoldOrNoMemory path.now) }
+pub fn hold_fault<E: Write>(alloc: Global, path: &str, fault: HoldFault, faults: &mut E) -> Fault
+    ensures { CannotHoldOrNoMemory path.now result }
 {
-    let file = String::from_str(alloc, path)?;
-    Ok(match fault {
+    let Ok(file) = String::from_str(alloc, path) else {
+        return Fault::NoMemory;
+    };
+    match fault {
         HoldFault::Unreadable(error) => Fault::of_reading(file, &error),
         HoldFault::Missing => Fault::CannotRead(file),
         HoldFault::Unwritable(_) => Fault::CannotWrite(file),
@@ -129,12 +106,12 @@ fn hold_fault<E: Write>(
             let _ = writeln!(faults, "scramotp: other runs held {shown} for 30 seconds");
             Fault::CannotRead(file)
         }
-    })
+    }
 }
 
-// The text of a book's file, or None if there is no file. Faults: CannotRead, BadBook if the text is not UTF-8, and NoMemory.
+/// The text of a held book's file, or None if there is no file yet. Faults: CannotRead, BadBook if the text is not UTF-8, and NoMemory.
 #[tactic(auto, using(crate::proofs::lemmas::HeldFaults::unread_file_prevents_holding))]
-fn text_of<R>(
+pub fn text_of<R>(
     alloc: Global,
     file: &mut BookFile<'_, R>,
     path: &str,

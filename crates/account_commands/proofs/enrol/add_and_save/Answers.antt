@@ -7,7 +7,7 @@ use Rattle.account_commands.proofs.enrol.add_and_save.Goals as goal
 -- the book's file has changed, and the account is added to the book that it holds now
 pub returns-in_ok-held-in-Some-found-clause-saved : goal.returns-in_ok-held-in-Some-found-clause-saved
 returns-in_ok-held-in-Some-found-clause-saved g c =
-    let read = rw c.in-Some-found.is at c.in_ok-file.ensures.read in
+    let read = rw c.in-Some-found.is at c.in_ok-found.ensures.read in
     let saved = rw (sym c.in_ok-held-in-Some-found.ensures.saved) at read in
     on_ok_from_both c.enrol.result c.enrol.ensures.added c.enrol.ensures.saved
     (λ added done. record {
@@ -32,7 +32,7 @@ returns-in_default-clause-saved g c =
 
 pub returns-in_ok-held-in-Some-found-clause-err : goal.returns-in_ok-held-in-Some-found-clause-err
 returns-in_ok-held-in-Some-found-clause-err g c =
-    let read = rw c.in-Some-found.is at c.in_ok-file.ensures.read in
+    let read = rw c.in-Some-found.is at c.in_ok-found.ensures.read in
     let saved = rw (sym c.in_ok-held-in-Some-found.ensures.saved) at read in
     IfErr-weaker c.enrol.result _ _
     (λ fault other. failed_saving_has_reason _ _ _ _ _ _ _ (record { is_text = c.in_ok-held-in-Some-found.ensures.text; is_read = saved })
