@@ -30,7 +30,7 @@ use std::fs::Files;
 use std::io::{Read, Write};
 use std::time::Clock;
 
-/// The iteration count of a new book's decoys, which is also the default of `--count`.
+// The iteration count of a new book's decoys, which is also the default of `--count`.
 const DECOY_COUNT: u32 = 4096;
 
 /// Checks the options in their order, reads the password, the book and the random bytes, and adds the account. If there is no file,
@@ -65,6 +65,32 @@ where
     print_done("enrolled", account.name.text(), output)
 }
 
+// Checks the options that describe the account, and reads the password.
+fn read_account<I: TerminalInput, E: TerminalOutput>(
+    alloc: Global,
+    matches: &ArgMatches<'_>,
+    input: &mut I,
+    faults: &mut E,
+) -> Result<NewAccount, Fault>
+    ensures name { IfOk result (λ account. (account.name ≡ given_value matches.now OptionName.Name) × IsPlainName account.name) }
+    ensures count { IfOk result (λ account. (given_value matches.now OptionName.Count ≡ decimal account.count) × IsCount account.count) }
+    ensures password { IfOk result (λ account. IsFirstLine (I.remaining input.old) account.password × IsPassword account.password) }
+    ensures err { IfErr result (DescribesNoAccount matches.now (I.remaining input.old)) }
+{
+    let name = value::name(given(matches, OptionName::Name))?;
+    let count = value::count(given(matches, OptionName::Count))?;
+    ask(input, faults, PASSWORD);
+    let line = input::first_line(alloc, input)?;
+    match Password::new(line.as_slice()) {
+        Some(password) => Ok(NewAccount {
+            name,
+            password,
+            count,
+        }),
+        None => Err(Fault::BadPassword),
+    }
+}
+
 // The book that was read and its text; or, if there was no file, a new book, whose decoy key is the next random bytes.
 fn read_or_new<F: Read + Drop>(
     alloc: Global,
@@ -95,30 +121,14 @@ fn two_salts<F: Read + Drop>(random: &mut RandomFile<'_, F>) -> Result<Salts, Fa
     Ok(Salts { sha1, sha256 })
 }
 
-// Checks the options that describe the account, and reads the password.
-fn read_account<I: TerminalInput, E: TerminalOutput>(
-    alloc: Global,
-    matches: &ArgMatches<'_>,
-    input: &mut I,
-    faults: &mut E,
-) -> Result<NewAccount, Fault>
-    ensures name { IfOk result (λ account. (account.name ≡ given_value matches.now OptionName.Name) × IsPlainName account.name) }
-    ensures count { IfOk result (λ account. (given_value matches.now OptionName.Count ≡ decimal account.count) × IsCount account.count) }
-    ensures password { IfOk result (λ account. IsFirstLine (I.remaining input.old) account.password × IsPassword account.password) }
-    ensures err { IfErr result (DescribesNoAccount matches.now (I.remaining input.old)) }
+// The salt of these bytes.
+fn salt(bytes: [u8; SALT_LEN]) -> Salt
+    ensures { result ≡ bytes }
 {
-    let name = value::name(given(matches, OptionName::Name))?;
-    let count = value::count(given(matches, OptionName::Count))?;
-    ask(input, faults, PASSWORD);
-    let line = input::first_line(alloc, input)?;
-    match Password::new(line.as_slice()) {
-        Some(password) => Ok(NewAccount {
-            name,
-            password,
-            count,
-        }),
-        None => Err(Fault::BadPassword),
-    }
+    let Some(salt) = Salt::new(&bytes) else {
+        unreachable!()
+    };
+    salt
 }
 
 // Adds the account to the book. `text` is the text that its file had, or None if there was no file. Then holds the file and saves
@@ -161,14 +171,4 @@ where
             HeldBook::new(book, store, path).save(alloc)
         }
     }
-}
-
-// The salt of these bytes.
-fn salt(bytes: [u8; SALT_LEN]) -> Salt
-    ensures { result ≡ bytes }
-{
-    let Some(salt) = Salt::new(&bytes) else {
-        unreachable!()
-    };
-    salt
 }

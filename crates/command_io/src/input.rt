@@ -8,50 +8,8 @@ use command_line::Fault;
 use std::alloc::Global;
 use std::io::{BufRead, ErrorKind, Read};
 
-/// The most bytes of its input that a command reads (16 MiB).
+// The most bytes of its input that a command reads (16 MiB).
 const MOST_INPUT: usize = 16_777_216;
-
-// The next byte of `input`, or None at its end. A read that a signal interrupts is tried again. Faults: CannotReadInput if a read
-// fails, and NoMemory if it fails because memory ran out.
-fn next_byte<I: Read>(input: &mut I) -> Result<Option<u8>, Fault>
-    ensures some { IfOk result (λ found. IfSome found (λ byte. Consumes (I.remaining input.old) (I.remaining input.new) (byte ∷ []))) }
-    ensures none { IfOk result (λ found. IfNone found (Consumes (I.remaining input.old) (I.remaining input.new) []
-        × IsAtEnd (I.remaining input.new))) }
-    ensures err { IfErr result IsInputUnreadOrNoMemory }
-{
-    let mut byte = [0];
-    // The bound is there only because every function has to return; in practice the body ends the loop.
-    for _ in 0..u64::MAX {
-        match input.read(&mut byte) {
-            Ok(0) => return Ok(None),
-            Ok(_) => return Ok(Some(byte[0])),
-            Err(error) if error.kind() == ErrorKind::Interrupted => {}
-            Err(error) if error.kind() == ErrorKind::OutOfMemory => return Err(Fault::NoMemory),
-            Err(_) => break,
-        }
-    }
-    Err(Fault::CannotReadInput)
-}
-
-// The next line of `input` without its LF, and whether it had one; at the end of the input, an empty line that had none. Faults:
-// CannotReadInput if a read fails or the line and its LF have more than `most` bytes, and NoMemory.
-fn read_line<I: Read>(alloc: Global, input: &mut I, most: usize) -> Result<(Vec<u8>, bool), Fault>
-    ensures line { IfOk result (λ line. TakesLine (I.remaining input.old) line.0.items line.1 (I.remaining input.new)) }
-    ensures most { IfOk result (λ line. length (line_bytes line.0.items line.1) ≤ most) }
-    ensures err { IfErr result IsInputUnreadOrNoMemory }
-{
-    let mut line = Vec::new(alloc);
-    while let Some(byte) = next_byte(input)? {
-        if line.len() == most {
-            return Err(Fault::CannotReadInput);
-        }
-        if byte == b'\n' {
-            return Ok((line, true));
-        }
-        line.extend_from_slice(&[byte])?;
-    }
-    Ok((line, false))
-}
 
 /// The first line of `input` without its LF, or all of `input` if it has no LF. Takes nothing after the line from `input`. Faults:
 /// CannotReadInput if a read fails or the line and its LF have more than 16777216 bytes, and NoMemory.
@@ -109,4 +67,46 @@ impl<'a, I: BufRead> Lines<'a, I> {
         self.left -= taken;
         Ok(Some(line))
     }
+}
+
+// The next line of `input` without its LF, and whether it had one; at the end of the input, an empty line that had none. Faults:
+// CannotReadInput if a read fails or the line and its LF have more than `most` bytes, and NoMemory.
+fn read_line<I: Read>(alloc: Global, input: &mut I, most: usize) -> Result<(Vec<u8>, bool), Fault>
+    ensures line { IfOk result (λ line. TakesLine (I.remaining input.old) line.0.items line.1 (I.remaining input.new)) }
+    ensures most { IfOk result (λ line. length (line_bytes line.0.items line.1) ≤ most) }
+    ensures err { IfErr result IsInputUnreadOrNoMemory }
+{
+    let mut line = Vec::new(alloc);
+    while let Some(byte) = next_byte(input)? {
+        if line.len() == most {
+            return Err(Fault::CannotReadInput);
+        }
+        if byte == b'\n' {
+            return Ok((line, true));
+        }
+        line.extend_from_slice(&[byte])?;
+    }
+    Ok((line, false))
+}
+
+// The next byte of `input`, or None at its end. A read that a signal interrupts is tried again. Faults: CannotReadInput if a read
+// fails, and NoMemory if it fails because memory ran out.
+fn next_byte<I: Read>(input: &mut I) -> Result<Option<u8>, Fault>
+    ensures some { IfOk result (λ found. IfSome found (λ byte. Consumes (I.remaining input.old) (I.remaining input.new) (byte ∷ []))) }
+    ensures none { IfOk result (λ found. IfNone found (Consumes (I.remaining input.old) (I.remaining input.new) []
+        × IsAtEnd (I.remaining input.new))) }
+    ensures err { IfErr result IsInputUnreadOrNoMemory }
+{
+    let mut byte = [0];
+    // The bound is there only because every function has to return; in practice the body ends the loop.
+    for _ in 0..u64::MAX {
+        match input.read(&mut byte) {
+            Ok(0) => return Ok(None),
+            Ok(_) => return Ok(Some(byte[0])),
+            Err(error) if error.kind() == ErrorKind::Interrupted => {}
+            Err(error) if error.kind() == ErrorKind::OutOfMemory => return Err(Fault::NoMemory),
+            Err(_) => break,
+        }
+    }
+    Err(Fault::CannotReadInput)
 }

@@ -79,6 +79,51 @@ where
     }
 }
 
+/// Reads the book of `file` from its text, `text`. Faults: BadBook if the text is not a book, and NoMemory.
+pub fn read_held<'a, 'r, R>(
+    alloc: Global,
+    file: BookFile<'r, R>,
+    text: String,
+    path: &'a str,
+) -> Result<HeldBook<'a, FileStore<'r, R>>, Fault>
+where
+    R: Files + Clock + AllocGlobal,
+    R::File: BookFileExt,
+    ensures text { IfOk result (λ held. IsBookText (⟦<FileStore<'r, R> as BookStore>⟧.facts held.store).saved held.book) }
+    ensures saved { IfOk result (λ held. (⟦<FileStore<'r, R> as BookStore>⟧.facts held.store).saved ≡ string_bytes text) }
+    ensures path { IfOk result (λ held. held.path.now ≡ path.now) }
+    ensures err { IfErr result (λ fault. (fault ≡ Fault.NoMemory)
+        ⊎ ((found : BookFault) × (fault ≡ fault_of_book found) × IsFirstFault (string_bytes text) found)) }
+{
+    let book = Book::read(alloc, text.as_bytes())?;
+    let store = FileStore::new(file, text);
+    Ok(HeldBook::new(book, store, path))
+}
+
+/// The text of a held book's file, or None if there is no file yet. Faults: CannotRead, BadBook if the text is not UTF-8, and NoMemory.
+#[tactic(auto, using(crate::proofs::lemmas::HeldFaults::unread_file_prevents_holding))]
+pub fn text_of<R>(
+    alloc: Global,
+    file: &mut BookFile<'_, R>,
+    path: &str,
+) -> Result<Option<String>, Fault>
+where
+    R: Files + Clock + AllocGlobal,
+    R::File: BookFileExt,
+    ensures read { IfOk result (λ found. IfSome found (λ text. IsRead R.File.remaining (string_bytes text))) }
+    ensures err { IfErr result (CannotOpenBook R.File.remaining path.now) }
+{
+    let bytes = match file.read() {
+        Ok(Some(bytes)) => bytes,
+        Ok(None) => return Ok(None),
+        Err(error) => return Err(read_fault(alloc, path, &error)),
+    };
+    match String::from_utf8(bytes) {
+        Ok(text) => Ok(Some(text)),
+        Err(_) => Err(Fault::BadBook(BookWhy::Toml.number())),
+    }
+}
+
 /// The fault of a command that could not hold the book at `path`: CannotRead, CannotWrite or NoMemory. If other runs held the book,
 /// or it belongs to another user, a line on `faults` says so first.
 #[tactic(auto, using(crate::proofs::lemmas::HeldFaults::failed_read_prevents_holding))]
@@ -107,49 +152,4 @@ pub fn hold_fault<E: Write>(alloc: Global, path: &str, fault: HoldFault, faults:
             Fault::CannotRead(file)
         }
     }
-}
-
-/// The text of a held book's file, or None if there is no file yet. Faults: CannotRead, BadBook if the text is not UTF-8, and NoMemory.
-#[tactic(auto, using(crate::proofs::lemmas::HeldFaults::unread_file_prevents_holding))]
-pub fn text_of<R>(
-    alloc: Global,
-    file: &mut BookFile<'_, R>,
-    path: &str,
-) -> Result<Option<String>, Fault>
-where
-    R: Files + Clock + AllocGlobal,
-    R::File: BookFileExt,
-    ensures read { IfOk result (λ found. IfSome found (λ text. IsRead R.File.remaining (string_bytes text))) }
-    ensures err { IfErr result (CannotOpenBook R.File.remaining path.now) }
-{
-    let bytes = match file.read() {
-        Ok(Some(bytes)) => bytes,
-        Ok(None) => return Ok(None),
-        Err(error) => return Err(read_fault(alloc, path, &error)),
-    };
-    match String::from_utf8(bytes) {
-        Ok(text) => Ok(Some(text)),
-        Err(_) => Err(Fault::BadBook(BookWhy::Toml.number())),
-    }
-}
-
-/// Reads the book of `file` from its text, `text`. Faults: BadBook if the text is not a book, and NoMemory.
-pub fn read_held<'a, 'r, R>(
-    alloc: Global,
-    file: BookFile<'r, R>,
-    text: String,
-    path: &'a str,
-) -> Result<HeldBook<'a, FileStore<'r, R>>, Fault>
-where
-    R: Files + Clock + AllocGlobal,
-    R::File: BookFileExt,
-    ensures text { IfOk result (λ held. IsBookText (⟦<FileStore<'r, R> as BookStore>⟧.facts held.store).saved held.book) }
-    ensures saved { IfOk result (λ held. (⟦<FileStore<'r, R> as BookStore>⟧.facts held.store).saved ≡ string_bytes text) }
-    ensures path { IfOk result (λ held. held.path.now ≡ path.now) }
-    ensures err { IfErr result (λ fault. (fault ≡ Fault.NoMemory)
-        ⊎ ((found : BookFault) × (fault ≡ fault_of_book found) × IsFirstFault (string_bytes text) found)) }
-{
-    let book = Book::read(alloc, text.as_bytes())?;
-    let store = FileStore::new(file, text);
-    Ok(HeldBook::new(book, store, path))
 }

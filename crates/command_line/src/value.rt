@@ -83,15 +83,6 @@ pub fn authzid(text: &str) -> Result<PlainName, Fault>
     plain_name(OptionName::As, text)
 }
 
-// The name that is this text, 1 to 255 bytes from 0x20 to 0x7E. Errors: BadValue with the option for any other text.
-fn plain_name(option: OptionName, text: &str) -> Result<PlainName, Fault>
-    ensures ok { IfOk result (λ name. (name ≡ text.now) × IsPlainName text.now) }
-    ensures err { IfErr result (λ fault. (fault ≡ Fault.BadValue option)
-        × (IsPlainName text.now → ⊥)) }
-{
-    PlainName::new(text.as_bytes()).ok_or(Fault::BadValue(option))
-}
-
 /// One end's part of the nonce, which is this text: 1 to 256 bytes from 0x21 to 0x7E, without a comma. Errors: BadValue with the
 /// option for any other text.
 pub fn nonce(option: OptionName, text: &str) -> Result<NoncePart, Fault>
@@ -120,20 +111,6 @@ pub fn hash(name: &str) -> Result<OtpHash, Fault>
     OtpHash::of_name(name).ok_or(Fault::BadValue(OptionName::Hash))
 }
 
-// The bytes that `text` spells in hexadecimal, in either case. Errors: BadValue with the option for any other text; NoMemory if
-// memory runs out.
-fn bytes(alloc: Global, option: OptionName, text: &str) -> Result<Vec<u8>, Fault>
-    ensures ok { IfOk result (λ bytes. decode_of text.now ≡ Ok bytes.items) }
-    ensures err { IfErr result (λ fault. (fault ≡ Fault.NoMemory)
-        ⊎ ((fault ≡ Fault.BadValue option) × ((bytes : List ℕ) → decode_of text.now ≢ Ok bytes))) }
-{
-    match hex::decode(alloc, text) {
-        Ok(bytes) => Ok(bytes),
-        Err(hex::FromHexError::OutOfMemory) => Err(Fault::NoMemory),
-        Err(_) => Err(Fault::BadValue(option)),
-    }
-}
-
 /// The salt that `text` spells in hexadecimal, in either case, 1 to 64 bytes. Errors: BadValue for any other text; NoMemory if
 /// memory runs out.
 pub fn salt(alloc: Global, text: &str) -> Result<Salt, Fault>
@@ -154,4 +131,27 @@ pub fn secret(alloc: Global, text: &str) -> Result<Secret, Fault>
 {
     let bytes = bytes(alloc, OptionName::Secret, text)?;
     Secret::new(bytes.as_slice()).map_err(|_| Fault::BadValue(OptionName::Secret))
+}
+
+// The name that is this text, 1 to 255 bytes from 0x20 to 0x7E. Errors: BadValue with the option for any other text.
+fn plain_name(option: OptionName, text: &str) -> Result<PlainName, Fault>
+    ensures ok { IfOk result (λ name. (name ≡ text.now) × IsPlainName text.now) }
+    ensures err { IfErr result (λ fault. (fault ≡ Fault.BadValue option)
+        × (IsPlainName text.now → ⊥)) }
+{
+    PlainName::new(text.as_bytes()).ok_or(Fault::BadValue(option))
+}
+
+// The bytes that `text` spells in hexadecimal, in either case. Errors: BadValue with the option for any other text; NoMemory if
+// memory runs out.
+fn bytes(alloc: Global, option: OptionName, text: &str) -> Result<Vec<u8>, Fault>
+    ensures ok { IfOk result (λ bytes. decode_of text.now ≡ Ok bytes.items) }
+    ensures err { IfErr result (λ fault. (fault ≡ Fault.NoMemory)
+        ⊎ ((fault ≡ Fault.BadValue option) × ((bytes : List ℕ) → decode_of text.now ≢ Ok bytes))) }
+{
+    match hex::decode(alloc, text) {
+        Ok(bytes) => Ok(bytes),
+        Err(hex::FromHexError::OutOfMemory) => Err(Fault::NoMemory),
+        Err(_) => Err(Fault::BadValue(option)),
+    }
 }

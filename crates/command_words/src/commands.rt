@@ -15,74 +15,28 @@ use clap::{Arg, ArgAction, Command};
 use command_line::OptionName;
 use std::alloc::{AllocError, Global};
 
-// An option that takes one value.
-fn one_value<'a>(alloc: Global, name: OptionName, value: &'a str, help: &'a str) -> Arg<'a>
-    ensures rule { rule_of result ≡ one_value name }
-    ensures local { result.global ≡ false }
+/// The program's commands and their options, with their help. Errors: `AllocError` if memory runs out.
+pub fn program_commands<'a>(alloc: Global) -> Result<Command<'a>, AllocError>
+    ensures { IfOk result (λ command. app_of command ≡ program) }
 {
-    let name: &'a str = name.name();
-    Arg::new(alloc, name)
-        .long(name)
-        .value_name(value)
-        .help(help)
-        .action(ArgAction::Set)
-}
-
-// A required option.
-fn required<'a>(alloc: Global, name: OptionName, value: &'a str, help: &'a str) -> Arg<'a>
-    ensures rule { rule_of result ≡ required_value name }
-    ensures local { result.global ≡ false }
-{
-    one_value(alloc, name, value, help).required(true)
-}
-
-// An option that has a default.
-fn with_default<'a>(
-    alloc: Global,
-    name: OptionName,
-    value: &'a str,
-    help: &'a str,
-    default: &'a str,
-) -> Arg<'a>
-    ensures rule { rule_of result ≡ with_default name default.now }
-    ensures local { result.global ≡ false }
-{
-    one_value(alloc, name, value, help).default_value(default)
-}
-
-// `--book`, which is required.
-fn book<'a>(alloc: Global) -> Arg<'a>
-    ensures rule { rule_of result ≡ required_value OptionName.Book }
-    ensures local { result.global ≡ false }
-{
-    required(alloc, OptionName::Book, "FILE", "The account book")
-}
-
-// `--name`, which is required.
-fn name<'a>(alloc: Global) -> Arg<'a>
-    ensures rule { rule_of result ≡ required_value OptionName.Name }
-    ensures local { result.global ≡ false }
-{
-    required(
-        alloc,
-        OptionName::Name,
-        "NAME",
-        "The account's name, 1 to 255 printable ASCII characters",
-    )
-}
-
-// `--random`, whose default is /dev/urandom.
-fn random<'a>(alloc: Global) -> Arg<'a>
-    ensures rule { rule_of result ≡ with_default OptionName.Random (codes "/dev/urandom") }
-    ensures local { result.global ≡ false }
-{
-    with_default(
-        alloc,
-        OptionName::Random,
-        "FILE",
-        "The file to read random bytes from",
-        "/dev/urandom",
-    )
+    Command::new(alloc, "scramotp")
+        .bin_name("scramotp")?
+        .version("0.1.0")
+        .about(
+            "Check SCRAM logins and one-time codes against a book of accounts, and audit their logs",
+        )
+        .after_help(STATUSES)
+        .subcommand_required(true)
+        .disable_help_subcommand(true)
+        .subcommand(keys(alloc)?)?
+        .subcommand(enrol(alloc)?)?
+        .subcommand(code(alloc)?)?
+        .subcommand(verify(alloc)?)?
+        .subcommand(unlock(alloc)?)?
+        .subcommand(login(alloc)?)?
+        .subcommand(hall(alloc)?)?
+        .subcommand(audit(alloc)?)?
+        .subcommand(upgrade(alloc)?)
 }
 
 // The command `keys`. Errors: `AllocError` if memory runs out.
@@ -189,27 +143,6 @@ fn unlock<'a>(alloc: Global) -> Result<Command<'a>, AllocError>
         .arg(name(alloc))
 }
 
-// The command `audit`. Errors: `AllocError` if memory runs out.
-fn audit<'a>(alloc: Global) -> Result<Command<'a>, AllocError>
-    ensures { IfOk result (HasOptions (codes "audit") audit_options) }
-{
-    Command::new(alloc, "audit")
-        .about("Check a log against the book that it began with")
-        .after_help(AUDIT_NOTES)
-        .arg(book(alloc))?
-        .arg(required(alloc, OptionName::Log, "FILE", "The log to check"))
-}
-
-// The command `upgrade`. Errors: `AllocError` if memory runs out.
-fn upgrade<'a>(alloc: Global) -> Result<Command<'a>, AllocError>
-    ensures { IfOk result (HasOptions (codes "upgrade") upgrade_options) }
-{
-    Command::new(alloc, "upgrade")
-        .about("Convert a log from version 1 to version 2, which numbers its sessions")
-        .after_help(UPGRADE_NOTES)
-        .arg(required(alloc, OptionName::Log, "FILE", "The log to convert"))
-}
-
 // The command `login`. Errors: `AllocError` if memory runs out.
 fn login<'a>(alloc: Global) -> Result<Command<'a>, AllocError>
     ensures { IfOk result (HasOptions (codes "login") login_options) }
@@ -260,26 +193,93 @@ fn hall<'a>(alloc: Global) -> Result<Command<'a>, AllocError>
         .arg(book(alloc))
 }
 
-/// The program's commands and their options, with their help. Errors: `AllocError` if memory runs out.
-pub fn program_commands<'a>(alloc: Global) -> Result<Command<'a>, AllocError>
-    ensures { IfOk result (λ command. app_of command ≡ program) }
+// The command `audit`. Errors: `AllocError` if memory runs out.
+fn audit<'a>(alloc: Global) -> Result<Command<'a>, AllocError>
+    ensures { IfOk result (HasOptions (codes "audit") audit_options) }
 {
-    Command::new(alloc, "scramotp")
-        .bin_name("scramotp")?
-        .version("0.1.0")
-        .about(
-            "Check SCRAM logins and one-time codes against a book of accounts, and audit their logs",
-        )
-        .after_help(STATUSES)
-        .subcommand_required(true)
-        .disable_help_subcommand(true)
-        .subcommand(keys(alloc)?)?
-        .subcommand(enrol(alloc)?)?
-        .subcommand(code(alloc)?)?
-        .subcommand(verify(alloc)?)?
-        .subcommand(unlock(alloc)?)?
-        .subcommand(login(alloc)?)?
-        .subcommand(hall(alloc)?)?
-        .subcommand(audit(alloc)?)?
-        .subcommand(upgrade(alloc)?)
+    Command::new(alloc, "audit")
+        .about("Check a log against the book that it began with")
+        .after_help(AUDIT_NOTES)
+        .arg(book(alloc))?
+        .arg(required(alloc, OptionName::Log, "FILE", "The log to check"))
+}
+
+// The command `upgrade`. Errors: `AllocError` if memory runs out.
+fn upgrade<'a>(alloc: Global) -> Result<Command<'a>, AllocError>
+    ensures { IfOk result (HasOptions (codes "upgrade") upgrade_options) }
+{
+    Command::new(alloc, "upgrade")
+        .about("Convert a log from version 1 to version 2, which numbers its sessions")
+        .after_help(UPGRADE_NOTES)
+        .arg(required(alloc, OptionName::Log, "FILE", "The log to convert"))
+}
+
+// `--book`, which is required.
+fn book<'a>(alloc: Global) -> Arg<'a>
+    ensures rule { rule_of result ≡ required_value OptionName.Book }
+    ensures local { result.global ≡ false }
+{
+    required(alloc, OptionName::Book, "FILE", "The account book")
+}
+
+// `--name`, which is required.
+fn name<'a>(alloc: Global) -> Arg<'a>
+    ensures rule { rule_of result ≡ required_value OptionName.Name }
+    ensures local { result.global ≡ false }
+{
+    required(
+        alloc,
+        OptionName::Name,
+        "NAME",
+        "The account's name, 1 to 255 printable ASCII characters",
+    )
+}
+
+// `--random`, whose default is /dev/urandom.
+fn random<'a>(alloc: Global) -> Arg<'a>
+    ensures rule { rule_of result ≡ with_default OptionName.Random (codes "/dev/urandom") }
+    ensures local { result.global ≡ false }
+{
+    with_default(
+        alloc,
+        OptionName::Random,
+        "FILE",
+        "The file to read random bytes from",
+        "/dev/urandom",
+    )
+}
+
+// A required option.
+fn required<'a>(alloc: Global, name: OptionName, value: &'a str, help: &'a str) -> Arg<'a>
+    ensures rule { rule_of result ≡ required_value name }
+    ensures local { result.global ≡ false }
+{
+    one_value(alloc, name, value, help).required(true)
+}
+
+// An option that has a default.
+fn with_default<'a>(
+    alloc: Global,
+    name: OptionName,
+    value: &'a str,
+    help: &'a str,
+    default: &'a str,
+) -> Arg<'a>
+    ensures rule { rule_of result ≡ with_default name default.now }
+    ensures local { result.global ≡ false }
+{
+    one_value(alloc, name, value, help).default_value(default)
+}
+
+// An option that takes one value.
+fn one_value<'a>(alloc: Global, name: OptionName, value: &'a str, help: &'a str) -> Arg<'a>
+    ensures rule { rule_of result ≡ one_value name }
+    ensures local { result.global ≡ false }
+{
+    let name: &'a str = name.name();
+    Arg::new(alloc, name)
+        .long(name)
+        .value_name(value)
+        .help(help)
+        .action(ArgAction::Set)
 }
