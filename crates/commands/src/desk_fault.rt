@@ -7,17 +7,6 @@ use command_line::Fault;
 use sasl_desk::{DeskFault, ServeFault};
 use std::alloc::Global;
 
-/// The fault of a book that can't be saved to the file at `path`: CannotWrite, or NoMemory if memory runs out for a copy of the
-/// path.
-pub(crate) fn save_fault(alloc: Global, path: &str) -> Fault
-    ensures { IsFileUnwrittenOrNoMemory path.now result }
-{
-    match String::from_str(alloc, path) {
-        Ok(file) => Fault::CannotWrite(file),
-        Err(_) => Fault::NoMemory,
-    }
-}
-
 /// The fault of a command whose desk or hall refuses a call. Halted becomes CannotWrite of the book: a command calls no desk or
 /// hall that has halted, so only `begin` returns Halted, when its save fails. NoNumber becomes CannotWrite too, but never occurs,
 /// since an input has fewer lines than there are session numbers.
@@ -44,5 +33,16 @@ pub(crate) fn serve_fault(alloc: Global, path: &str, fault: ServeFault) -> Fault
         ServeFault::Unwritable => unreachable!(),
         ServeFault::NoMemory | ServeFault::WriteFault => Fault::NoMemory,
         ServeFault::LogFault => Fault::CannotWriteOutput,
+    }
+}
+
+/// The fault of a book that can't be saved to the file at `path`: CannotWrite, or NoMemory if memory runs out for a copy of the
+/// path.
+pub(crate) fn save_fault(alloc: Global, path: &str) -> Fault
+    ensures { IsFileUnwrittenOrNoMemory path.now result }
+{
+    match String::from_str(alloc, path) {
+        Ok(file) => Fault::CannotWrite(file),
+        Err(_) => Fault::NoMemory,
     }
 }

@@ -54,7 +54,7 @@ use std::net::Net;
 use std::time::Clock;
 use talk::Talk;
 
-/// The most bytes of a line of the protocol with its LF. No more are read.
+// The most bytes of a line of the protocol with its LF. No more are read.
 const MOST_WITH_LF: usize = LONGEST_LINE + 1;
 
 // What a login begins with: the book, the client and the lines that it is to send, the server's part of the nonce, and the moment
@@ -155,6 +155,23 @@ where
         server_nonce: nonces.server,
         moment: options.moment,
     })
+}
+
+// Reads the first line, which is the password. Faults: BadPassword if it is not a password or there is no line; CannotReadInput; and
+// NoMemory.
+fn read_password<I: BufRead>(alloc: Global, lines: &mut Lines<'_, I>) -> Result<Password, Fault>
+    ensures ok { IfOk result (λ password. (has_lf : Bool)
+        × TakesLine (I.remaining lines.old.input.now) password has_lf (I.remaining lines.new.input.now)) }
+    ensures is_password { IfOk result IsPassword }
+    ensures err { IfErr result (λ fault. IsInputUnreadOrNoMemory fault ⊎ HasBadPassword (I.remaining lines.old.input.now) fault) }
+{
+    let Some(line) = lines.next(alloc)? else {
+        return Err(Fault::BadPassword);
+    };
+    match Password::new(line.as_slice()) {
+        Some(password) => Ok(password),
+        None => Err(Fault::BadPassword),
+    }
 }
 
 // Lets the client of a login talk to a desk over the book, and prints the desk's log. Returns whether the client was logged in and
@@ -285,21 +302,4 @@ where
         return Err(Fault::Socket);
     }
     Ok(())
-}
-
-// Reads the first line, which is the password. Faults: BadPassword if it is not a password or there is no line; CannotReadInput; and
-// NoMemory.
-fn read_password<I: BufRead>(alloc: Global, lines: &mut Lines<'_, I>) -> Result<Password, Fault>
-    ensures ok { IfOk result (λ password. (has_lf : Bool)
-        × TakesLine (I.remaining lines.old.input.now) password has_lf (I.remaining lines.new.input.now)) }
-    ensures is_password { IfOk result IsPassword }
-    ensures err { IfErr result (λ fault. IsInputUnreadOrNoMemory fault ⊎ HasBadPassword (I.remaining lines.old.input.now) fault) }
-{
-    let Some(line) = lines.next(alloc)? else {
-        return Err(Fault::BadPassword);
-    };
-    match Password::new(line.as_slice()) {
-        Some(password) => Ok(password),
-        None => Err(Fault::BadPassword),
-    }
 }

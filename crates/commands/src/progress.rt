@@ -6,7 +6,7 @@ use std::io;
 use std::io::{Read, Write};
 use std::time::{Clock, Instant};
 
-/// For how many seconds nothing is shown at first.
+// For how many seconds nothing is shown at first.
 const QUIET_SECONDS: u64 = 2;
 
 /// Shows at a terminal how many lines and bytes have been read: on one line, after two seconds and then once a second.
@@ -46,6 +46,14 @@ impl<'a, R: Clock, E: TerminalOutput> Progress<'a, R, E> {
         }
     }
 
+    /// Clears the counts from the terminal, if they were shown.
+    pub(crate) fn end(self) {
+        if self.shown_at.is_some() {
+            let _ = self.faults.write_all(b"\r\x1b[K");
+            let _ = self.faults.flush();
+        }
+    }
+
     // Counts these bytes if the counts are to be shown, and shows the counts when it is time.
     fn add(&mut self, bytes: &[u8]) {
         let Some(begun) = self.begun else {
@@ -60,14 +68,6 @@ impl<'a, R: Clock, E: TerminalOutput> Progress<'a, R, E> {
         if seconds >= QUIET_SECONDS && self.shown_at != Some(seconds) {
             self.shown_at = Some(seconds);
             let _ = write!(self.faults, "\r{} lines, {} bytes", self.lines, self.bytes);
-            let _ = self.faults.flush();
-        }
-    }
-
-    /// Clears the counts from the terminal, if they were shown.
-    pub(crate) fn end(self) {
-        if self.shown_at.is_some() {
-            let _ = self.faults.write_all(b"\r\x1b[K");
             let _ = self.faults.flush();
         }
     }
