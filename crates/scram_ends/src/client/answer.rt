@@ -113,10 +113,10 @@ impl ClientOne {
         let header = self.header.as_slice();
         law_of_bytes(header);
         let without_proof = ClientFinalWithoutProof::new(header, challenge.nonce, b"")?;
-        let answer = self.prove(password, server_first, challenge, without_proof.as_slice());
-        without_proof.write_with_proof(&answer.proof, out)?;
+        let proved = self.prove(password, server_first, challenge, without_proof.as_slice());
+        without_proof.write_with_proof(&proved.proof, out)?;
         Ok(ClientTwo {
-            expected: answer.expected,
+            expected: proved.expected,
         })
     }
 
@@ -127,7 +127,7 @@ impl ClientOne {
         server_first: &[u8],
         challenge: &ServerFirst<'_>,
         client_final_without_proof: &[u8],
-    ) -> Answer
+    ) -> ProofAndSignature
         requires { 1 ≤ challenge.now.count }
         ensures proof { (first : ClientFirstParts) → self.now.bare.items ≡ client_first_bare first
             → result.proof.items ≡ proof_of self.now.mechanism password.now challenge.now.salt
@@ -146,7 +146,7 @@ impl ClientOne {
         let proof = xor(&client_key, &signature);
         law_of_bytes(proof.as_slice());
         let server_key = mechanism.server_key(&salted);
-        Answer {
+        ProofAndSignature {
             proof,
             expected: self.sign(&server_key, server_first, client_final_without_proof),
         }
@@ -167,7 +167,7 @@ impl ClientOne {
 
 // ClientProof, and the ServerSignature that the client expects (RFC 5802, section 3).
 #[derive(Drop)]
-struct Answer {
+struct ProofAndSignature {
     proof: Tag,
     expected: Tag,
 }

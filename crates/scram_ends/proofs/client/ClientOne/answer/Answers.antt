@@ -31,12 +31,12 @@ returns-in_err-write_with_proof-clause-no_memory g c =
     let e = err_from_is_err_and c.from_residual-in_err-write_with_proof.result c.from_residual-in_err-write_with_proof.ensures.1 in
     rw (e.1, e.2) (λ l p started is shows.
     let header = c.as_slice-header.result.now in
-    let proof = c.prove-answer.result.proof.items in
+    let proof = c.prove-proved.result.proof.items in
     let final : ClientFinalParts = client_final_of header c.args.challenge.now.nonce.now [] proof in
     let range = kept_header_is_in_range c.args.self.now l header started c.as_slice-header.ensures.value in
     let size = digest_length_is_in_range c.args.self.now.mechanism in
-    let field = bytes_are_field longest_tag proof c.prove-answer.ensures.bytes (omega (arith, c.prove-answer.ensures.len, size.0))
-    (omega (arith, c.prove-answer.ensures.len, size.1)) in
+    let field = bytes_are_field longest_tag proof c.prove-proved.ensures.bytes (omega (arith, c.prove-proved.ensures.len, size.0))
+    (omega (arith, c.prove-proved.ensures.len, size.1)) in
     let composed = c.in_ok-without_proof.ensures.ok proof in
     let full = client_final_fault_is_memory c.write_with_proof.result _ c.in_ok-without_proof.without_proof header
     c.args.challenge.now.nonce.now proof c.in_err-write_with_proof.was
@@ -47,12 +47,12 @@ returns-in_err-write_with_proof-clause-no_memory g c =
       full,
       (
         client_final_text final,
-        (client_expects_signature c.args.self.now (record { expected = c.prove-answer.result.expected }) l c.args.server_first.now
+        (client_expects_signature c.args.self.now (record { expected = c.prove-proved.result.expected }) l c.args.server_first.now
             c.args.password.now
             header c.args.challenge.now.nonce.now c.args.challenge.now.salt c.as_slice.result.now proof c.args.challenge.now.count p
             started is c.as_slice-header.ensures.value shows.nonce shows.salt shows.count (c.as_slice.ensures final composed)
-            (c.prove-answer.ensures.proof started.first started.bare)
-            (c.prove-answer.ensures.expected started.first started.bare) room.0).honest,
+            (c.prove-proved.ensures.proof started.first started.bare)
+            (c.prove-proved.ensures.expected started.first started.bare) room.0).honest,
         room.1,
       ),
     ))
@@ -60,15 +60,15 @@ returns-in_err-write_with_proof-clause-no_memory g c =
 pub returns-clause-ok : goal.returns-clause-ok
 returns-clause-ok g c = λ l p started is shows.
     let header = c.as_slice-header.result.now in
-    let proof = c.prove-answer.result.proof.items in
+    let proof = c.prove-proved.result.proof.items in
     let final : ClientFinalParts = client_final_of header c.args.challenge.now.nonce.now [] proof in
     let composed = c.in_ok-without_proof.ensures.ok proof in (
       client_final_text final,
       c.in_ok-write_with_proof.ensures.ok final composed refl,
-      client_expects_signature c.args.self.now (record { expected = c.prove-answer.result.expected }) l c.args.server_first.now
+      client_expects_signature c.args.self.now (record { expected = c.prove-proved.result.expected }) l c.args.server_first.now
           c.args.password.now
           header c.args.challenge.now.nonce.now c.args.challenge.now.salt c.as_slice.result.now proof c.args.challenge.now.count p started
           is c.as_slice-header.ensures.value shows.nonce shows.salt shows.count (c.as_slice.ensures final composed)
-          (c.prove-answer.ensures.proof started.first started.bare) (c.prove-answer.ensures.expected started.first started.bare)
+          (c.prove-proved.ensures.proof started.first started.bare) (c.prove-proved.ensures.expected started.first started.bare)
           (c.in_ok-write_with_proof.ensures.is_message final composed refl),
     )
