@@ -2,9 +2,9 @@ use Rattle.std.proofs.Common.{◌≡◌, ◌<◌, ◌+◌, inl, inr, ℕ, refl, 
 use Rattle.std.proofs.lemmas.Bool.{both_ways, cases_lt}
 use Rattle.otp_core.specs.Hash.{hotp_text_by}
 use Rattle.otp_core.specs.declared.hash.OtpHash.TheVariants.{Sha1}
-use Rattle.otp_core.proofs.token.reply.find_pair_with.Goals.{else-follows_first-via-then-follows_first+else-code_is}
-use Rattle.otp_core.proofs.token.reply.find_pair_with.Goals.{else-follows_first-via-else-follows_first}
-use Rattle.otp_core.proofs.token.reply.find_pair_with.Goals as goal
+use Rattle.otp_core.proofs.token.reply.find_pair_among.Goals.{else-follows_first-via-then-follows_first+else-code_is}
+use Rattle.otp_core.proofs.token.reply.find_pair_among.Goals.{else-follows_first-via-else-follows_first}
+use Rattle.otp_core.proofs.token.reply.find_pair_among.Goals as goal
 
 pub returns-then-code_is : goal.returns-then-code_is
 returns-then-code_is c =

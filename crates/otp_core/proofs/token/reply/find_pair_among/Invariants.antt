@@ -2,7 +2,7 @@ use Rattle.std.proofs.Common.{◌≡◌, ◌≤◌, ◌<◌, ◌+◌, ◌↔◌,
 use Rattle.std.specs.Prelude.{IsTrue}
 use Rattle.otp_core.specs.Hash.{hotp_text_by}
 use Rattle.otp_core.specs.declared.hash.OtpHash.TheVariants.{Sha1}
-use Rattle.otp_core.proofs.token.reply.find_pair_with.Given as goal
+use Rattle.otp_core.proofs.token.reply.find_pair_among.Given as goal
 
 -- no pair so far has the texts, and the flag says whether the counter before has the first text
 pub record NoPairSoFar (text_of : ℕ → List ℕ) (from counter : ℕ) (first second : List ℕ) (follows : Bool) : Type 0 where
