@@ -1,11 +1,12 @@
 //! The client's end of a login: what it sends next, depending on what it has received.
-ghost use Rattle.std.specs.Prelude.{◌≡◌, ◌≢◌, [], ◌∷◌, ◌++◌, IfOk, IfErr};
+ghost use Rattle.std.specs.Prelude.{◌≡◌, ◌≢◌, [], ◌∷◌, ◌++◌, codes, IfOk, IfErr};
 ghost use Rattle.std.specs.Str.{byte};
 ghost use Rattle.log_grammar.specs.Payload.{escaped};
 ghost use Rattle.scram_ends.specs.Client.{StandsForStarted, IsAnswerable, StandsForAnswered};
 ghost use Rattle.scram_ends.specs.Login.{IsAuthentic};
 ghost use Rattle.scram_ends.specs.Stages.{Started, Answered};
 ghost use Rattle.scram_text.specs.Messages.{ServerFirstParts};
+ghost use Rattle.mac_core.specs.Mechanism.{name_of};
 ghost use Rattle.mac_core.specs.declared.mechanism.Mechanism.{Mechanism};
 ghost use Rattle.commands.specs.ClientEnd.{IfSays, IsChosen, BeginsLogin, AnswersChallenge, MaySay, ShowsKeys, HasToLeave};
 
@@ -129,8 +130,8 @@ impl ClientEnd {
             return Err(Fault::NoMemory);
         };
         self.stage = Stage::Begun(client);
-        let word = format!(in alloc; "AUTH {} :", mechanism.name())?;
-        Ok(Next::Says(message_line(alloc, word.as_bytes(), message.as_slice())?))
+        let front = auth_front(alloc, mechanism)?;
+        Ok(Next::Says(message_line(alloc, front.as_slice(), message.as_slice())?))
     }
 
     // Answers a challenge with the proof.
@@ -178,6 +179,18 @@ fn check_signature(alloc: Global, client: ClientTwo, message: Payload<'_>) -> Re
         Ok(_) => Ok(Next::LoggedIn),
         Err(_) => Ok(Next::Leaves),
     }
+}
+
+// What precedes a client-first message in its line: `AUTH` and the name of the mechanism. The only fault is NoMemory.
+fn auth_front(alloc: Global, mechanism: Mechanism) -> Result<Vec<u8>, Fault>
+    ensures ok { IfOk result (λ front. front.items ≡ codes "AUTH " ++ (name_of mechanism ++ codes " :")) }
+    ensures err { IfErr result (λ fault. fault ≡ Fault.NoMemory) }
+{
+    let mut front = Vec::new(alloc);
+    front.extend_from_slice(word::AUTH)?;
+    front.extend_from_slice(mechanism.name().as_bytes())?;
+    front.extend_from_slice(word::WITH_MESSAGE)?;
+    Ok(front)
 }
 
 // A line with this front and this message, escaped, and an LF. The only fault is NoMemory.

@@ -9,6 +9,7 @@ use crate::login::MOST_WITH_LF;
 use crate::sent_codes::codes_in;
 use command_line::Fault;
 use otp_core::Sent;
+use sasl_log::word;
 use std::alloc::Global;
 
 /// The line to send for an input line, with its LF: the input line itself if it is a SYNC line of the protocol; otherwise a CODE
@@ -18,7 +19,7 @@ pub(crate) fn code_line(alloc: Global, line: &[u8]) -> Result<Vec<u8>, Fault>
     ensures err { IfErr result (λ fault. fault ≡ Fault.NoMemory) }
 {
     match codes_in(line) {
-        Sent::One(_) => code_text_line(alloc, b"CODE ", line),
+        Sent::One(_) => code_text_line(alloc, word::CODE, line),
         Sent::Two(_, _) => code_text_line(alloc, b"", line),
     }
 }

@@ -8,7 +8,7 @@ pub returns-clause-says : goal.returns-clause-says
 returns-clause-says c =
     let (client_first, is, started_by) = c.in-Ok.ensures.ok in
     let message : c.as_slice.result.now ≡ client_first = search (rules, is) in
-    let word : c.as_bytes.result.now ≡ codes "AUTH " ++ (name_of c.in-Some.mechanism ++ codes " :") = search rules in
+    let front : c.as_slice-front.result.now ≡ codes "AUTH " ++ (name_of c.in-Some.mechanism ++ codes " :") = search rules in
     record {
       login = _;
       is_mechanism = asked_or_best_is_chosen c.args.self.now.user.mechanism c.choose.result c.args.names.now c.in-Some.mechanism
@@ -19,7 +19,7 @@ returns-clause-says c =
       is_authzid = search rules;
       is_nonce = search rules;
       waits = started_by;
-      line = search (rules, message, word);
+      line = search (rules, message, front);
     }
 
 pub returns-in_default-clause-leaves : goal.returns-in_default-clause-leaves
