@@ -2,6 +2,7 @@
 pub mod Cases
 pub mod ClientLines
 pub mod DeskLogs
+pub mod DueLines
 pub mod EventWords
 pub mod Faults
 pub mod HallLogs
@@ -13,4 +14,3 @@ pub mod Nonces
 pub mod OneEvent
 pub mod Printed
 pub mod Runs
-pub mod Spellings

@@ -1,13 +1,14 @@
 //! The line printed for the answer of an audit or an upgrade, and the exit status for it.
-ghost use Rattle.std.specs.Prelude.{◌≡◌, ◌≢◌, ◌++◌, Err, IfErr, IfOk, OnOk, string_bytes};
+ghost use Rattle.std.specs.Prelude.{◌≡◌, ◌≢◌, ◌++◌, Err, IfErr, IfOk, OnOk};
 ghost use Rattle.log_grammar.specs.Lines.{line_text};
+ghost use Rattle.log_grammar.specs.Payload.{escaped};
 ghost use Rattle.commands.specs.Audit.{acceptance_line, audit_status, fault_status, outcome_line, printed_audit, printed_clean};
 ghost use Rattle.commands.specs.Audit.{printed_fault, printed_why, refusal_line};
 
 use base64::engine::general_purpose::STANDARD;
 use command_line::Fault;
 use command_line::status::{DONE, FAILED, REFUSED};
-use sasl_log::{AuditFault, AuditWhy, Clean, DueOutcome, NoText, write_reply};
+use sasl_log::{AuditFault, AuditWhy, Clean, DueOutcome, NoText, escape, word, write_reply};
 use std::alloc::Global;
 
 /// The exit status for an answer of an audit.
@@ -86,7 +87,7 @@ fn add_why(alloc: Global, why: &AuditWhy, text: &mut Vec<u8>) -> Result<(), Faul
         AuditWhy::Challenge => text.extend_from_slice(b"challenge")?,
         AuditWhy::Outcome(due) => {
             text.extend_from_slice(b"outcome, due ")?;
-            text.extend_from_slice(outcome_text(alloc, due)?.as_bytes())?;
+            add_outcome(alloc, due, text)?;
         }
         AuditWhy::Reply(due) => {
             text.extend_from_slice(b"reply, due ")?;
@@ -96,34 +97,46 @@ fn add_why(alloc: Global, why: &AuditWhy, text: &mut Vec<u8>) -> Result<(), Faul
     Ok(())
 }
 
-// The line, without an LF, of the outcome that is due.
-fn outcome_text(alloc: Global, due: &DueOutcome) -> Result<String, Fault>
-    ensures ok { IfOk result (λ text. string_bytes text ≡ line_text (outcome_line due.now)) }
+// Appends the line of the outcome that is due, without an LF.
+fn add_outcome(alloc: Global, due: &DueOutcome, text: &mut Vec<u8>) -> Result<(), Fault>
+    ensures ok { OnOk result (text.new.items ≡ text.old.items ++ line_text (outcome_line due.now)) }
     ensures err { IfErr result (λ fault. fault ≡ Fault.NoMemory) }
 {
     match due {
-        DueOutcome::Accept(signature) => acceptance(alloc, signature.as_slice()),
-        DueOutcome::Refuse(text) => refusal(alloc, *text),
+        DueOutcome::Accept(signature) => add_acceptance(alloc, signature.as_slice(), text),
+        DueOutcome::Refuse(message) => add_refusal(alloc, *message, text),
     }
 }
 
-// The line, without an LF, of an acceptance with this signature.
-fn acceptance(alloc: Global, signature: &[u8]) -> Result<String, Fault>
-    ensures ok { IfOk result (λ text. string_bytes text ≡ line_text (acceptance_line signature.now)) }
+// Appends the line of an acceptance with this signature, without an LF.
+fn add_acceptance(alloc: Global, signature: &[u8], text: &mut Vec<u8>) -> Result<(), Fault>
+    ensures ok { OnOk result (text.new.items ≡ text.old.items ++ line_text (acceptance_line signature.now)) }
     ensures err { IfErr result (λ fault. fault ≡ Fault.NoMemory) }
 {
     let verifier = STANDARD.encode(alloc, signature)?;
-    Ok(format!(in alloc; "OK :v={verifier}")?)
+    let message = format!(in alloc; "v={verifier}")?;
+    add_message(word::ACCEPTS, message.as_bytes(), text)
 }
 
-// The line, without an LF, of the refusal that is due. No byte of its message has to be escaped.
-#[tactic(auto, using(crate::proofs::lemmas::Spellings::refusal_line_is_spelled, crate::proofs::lemmas::Spellings::bare_refusal_line_is_spelled))]
-fn refusal(alloc: Global, text: NoText) -> Result<String, Fault>
-    ensures ok { IfOk result (λ line. string_bytes line ≡ line_text (refusal_line text)) }
+// Appends the line of this refusal, without an LF.
+fn add_refusal(alloc: Global, refusal: NoText, text: &mut Vec<u8>) -> Result<(), Fault>
+    ensures ok { OnOk result (text.new.items ≡ text.old.items ++ line_text (refusal_line refusal)) }
     ensures err { IfErr result (λ fault. fault ≡ Fault.NoMemory) }
 {
-    match text.error_value() {
-        Some(value) => Ok(format!(in alloc; "NO :e={value}")?),
-        None => Ok(String::from_str(alloc, "NO :")?),
+    match refusal.error_value() {
+        Some(value) => {
+            let message = format!(in alloc; "e={value}")?;
+            add_message(word::REFUSES, message.as_bytes(), text)
+        }
+        None => add_message(word::REFUSES, b"", text),
     }
+}
+
+// Appends a line with this front and this message, escaped, without an LF.
+fn add_message(front: &[u8], message: &[u8], text: &mut Vec<u8>) -> Result<(), Fault>
+    ensures ok { OnOk result (text.new.items ≡ text.old.items ++ (front.now ++ escaped message.now)) }
+    ensures err { IfErr result (λ fault. fault ≡ Fault.NoMemory) }
+{
+    text.extend_from_slice(front)?;
+    escape(message, text).map_err(|_| Fault::NoMemory)
 }
