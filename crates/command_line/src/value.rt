@@ -65,7 +65,7 @@ pub fn moment(option: OptionName, text: &str) -> Result<Moment, Fault>
     Ok(moment)
 }
 
-/// The account name that is this text, 1 to 255 bytes from 0x20 to 0x7E. Errors: BadValue for any other text.
+/// The account name, which is this text: 1 to 255 bytes from 0x20 to 0x7E. Errors: BadValue for any other text.
 pub fn name(text: &str) -> Result<PlainName, Fault>
     ensures ok { IfOk result (λ name. (name ≡ text.now) × IsPlainName text.now) }
     ensures err { IfErr result (λ fault. (fault ≡ Fault.BadValue OptionName.Name)
@@ -74,7 +74,7 @@ pub fn name(text: &str) -> Result<PlainName, Fault>
     plain_name(OptionName::Name, text)
 }
 
-/// The name to act as that is this text, 1 to 255 bytes from 0x20 to 0x7E. Errors: BadValue for any other text.
+/// The name to act as, which is this text: 1 to 255 bytes from 0x20 to 0x7E. Errors: BadValue for any other text.
 pub fn authzid(text: &str) -> Result<PlainName, Fault>
     ensures ok { IfOk result (λ name. (name ≡ text.now) × IsPlainName text.now) }
     ensures err { IfErr result (λ fault. (fault ≡ Fault.BadValue OptionName.As)
@@ -111,7 +111,7 @@ pub fn hash(name: &str) -> Result<OtpHash, Fault>
     OtpHash::of_name(name).ok_or(Fault::BadValue(OptionName::Hash))
 }
 
-/// The salt that `text` spells in hexadecimal, in either case, 1 to 64 bytes. Errors: BadValue for any other text; NoMemory if
+/// The salt, 1 to 64 bytes, that `text` spells in hexadecimal, in either case. Errors: BadValue for any other text; NoMemory if
 /// memory runs out.
 pub fn salt(alloc: Global, text: &str) -> Result<Salt, Fault>
     ensures ok { IfOk result (λ salt. (decode_of text.now ≡ Ok salt) × IsSalt salt) }
@@ -122,7 +122,7 @@ pub fn salt(alloc: Global, text: &str) -> Result<Salt, Fault>
     Salt::new(bytes.as_slice()).ok_or(Fault::BadValue(OptionName::Salt))
 }
 
-/// The secret that `text` spells in hexadecimal, in either case, 10 to 64 bytes. Errors: BadValue for any other text; NoMemory if
+/// The secret, 10 to 64 bytes, that `text` spells in hexadecimal, in either case. Errors: BadValue for any other text; NoMemory if
 /// memory runs out.
 pub fn secret(alloc: Global, text: &str) -> Result<Secret, Fault>
     ensures ok { IfOk result (λ secret. (decode_of text.now ≡ Ok secret) × IsSecretLength (length secret)) }
@@ -133,7 +133,7 @@ pub fn secret(alloc: Global, text: &str) -> Result<Secret, Fault>
     Secret::new(bytes.as_slice()).map_err(|_| Fault::BadValue(OptionName::Secret))
 }
 
-// The name that is this text, 1 to 255 bytes from 0x20 to 0x7E. Errors: BadValue with the option for any other text.
+// The name, which is this text: 1 to 255 bytes from 0x20 to 0x7E. Errors: BadValue with the option for any other text.
 fn plain_name(option: OptionName, text: &str) -> Result<PlainName, Fault>
     ensures ok { IfOk result (λ name. (name ≡ text.now) × IsPlainName text.now) }
     ensures err { IfErr result (λ fault. (fault ≡ Fault.BadValue option)
