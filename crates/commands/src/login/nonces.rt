@@ -3,6 +3,7 @@ ghost use Rattle.std.specs.Prelude.{◌≡◌, IfOk, IfErr, length};
 ghost use Rattle.scram_text.specs.Base64Field.{base64};
 ghost use Rattle.command_io.specs.File.{IsFileUnreadOrNoMemory};
 ghost use Rattle.commands.specs.Nonces.{AreGivenOrFresh, TakesNonce, TakesNonces};
+ghost use Rattle.commands.specs.declared.login.nonces.TheConstants.{NONCE_BYTES};
 
 use base64::engine::general_purpose::STANDARD;
 use command_io::random::RandomFile;
@@ -11,6 +12,9 @@ use scram_text::NoncePart;
 use std::alloc::Global;
 use std::fs::Files;
 use std::io::Read;
+
+// How many random bytes a nonce is made of.
+const NONCE_BYTES: usize = 18;
 
 /// The two nonces of a login.
 #[derive(Drop)]
@@ -71,15 +75,15 @@ fn given_or_random<F: Read + Drop>(
     match given {
         Some(nonce) => Ok(nonce),
         None => {
-            let bytes: [u8; 18] = random.bytes()?;
+            let bytes: [u8; NONCE_BYTES] = random.bytes()?;
             nonce_of_bytes(alloc, bytes.as_slice())
         }
     }
 }
 
-// The nonce of these 18 bytes: their base64 text (RFC 4648, section 4), which is printable and has no comma.
+// The nonce that is made of these NONCE_BYTES bytes: their base64 text (RFC 4648, section 4), which is printable and has no comma.
 fn nonce_of_bytes(alloc: Global, bytes: &[u8]) -> Result<NoncePart, Fault>
-    requires { length bytes.now ≡ 18 }
+    requires { length bytes.now ≡ NONCE_BYTES }
     ensures ok { IfOk result (λ nonce. nonce ≡ base64 bytes.now) }
     ensures err { IfErr result (λ fault. fault ≡ Fault.NoMemory) }
 {
