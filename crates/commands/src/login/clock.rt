@@ -25,6 +25,8 @@ pub(crate) struct LoginClock<'a, R, G: GivenMoment> {
 
     // The moment that was returned last; the start of 1970 if none was.
     last: Moment,
+
+    // The given moment, as contracts name it.
     of: PhantomData<G>,
 
     ghost is_given: { given ≡ G.moment },
