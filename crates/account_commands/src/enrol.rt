@@ -163,7 +163,7 @@ where
     let found = open_book::text_of(alloc, &mut file, path)?;
     match found {
         Some(found) if text.as_ref() != Some(&found) => {
-            let mut held = open_book::read_held(alloc, file, found, path)?;
+            let mut held = open_book::parse_held(alloc, file, found, path)?;
             held.enrol(alloc, account, salts)
         }
         _ => {

@@ -34,7 +34,7 @@ use crate::refused::{
     print_book, print_calls, print_hall, print_service, print_texts, print_turns,
 };
 use crate::service::{print_codes_served, print_logins};
-use mac_core::{HSha1, PreparedKey};
+use mac_core::{HSha1, Prepared};
 use otp_core::{Digits, Secret, hotp_with};
 use scram_text::{read_client_final, read_client_first, read_server_final, read_server_first};
 use std::io::ErrorKind;
@@ -68,7 +68,7 @@ fn print_codes(rt: &(impl Print + Alloc), secret: &[u8], count: u32) -> io::Resu
     let (Ok(secret), Ok(digits)) = (Secret::new(secret), Digits::new(6)) else {
         return Err(io::Error::from(ErrorKind::InvalidInput));
     };
-    let key = PreparedKey::<HSha1>::new(secret.bytes());
+    let key = Prepared::<HSha1>::new(secret.bytes());
     let mut last = hotp_with(&key, 0, digits);
     for counter in 1..count {
         last = hotp_with(&key, u64::from(counter), digits);

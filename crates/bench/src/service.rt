@@ -1,7 +1,7 @@
 //! Serves clients in memory: logins of RFC 7677's example, section 3, and codes after one of them.
 use crate::memory::{CountingSink, MemoryStore, StillClock};
 use account_book::Book;
-use mac_core::{HSha1, PreparedKey};
+use mac_core::{HSha1, Prepared};
 use otp_core::{Digits, Moment, Secret, hotp_with};
 use sasl_desk::{Desk, Phase, ServeFault, serve};
 use sasl_log::OverRead;
@@ -38,7 +38,7 @@ pub(crate) fn login_and_codes(alloc: Global, count: u32) -> io::Result<String> {
     let (Ok(secret), Ok(digits)) = (Secret::new(b"12345678901234567890"), Digits::new(6)) else {
         return Err(refusal());
     };
-    let key = PreparedKey::<HSha1>::new(secret.bytes());
+    let key = Prepared::<HSha1>::new(secret.bytes());
     let mut text = String::new(alloc);
     text.push_str(LOGIN)?;
     for counter in 0..count {

@@ -16,7 +16,7 @@ use std::time::Clock;
 use std::{fs, io};
 
 /// The greatest length of a book's text, in bytes.
-pub const MOST_BOOK: usize = 16_777_216;
+pub const LONGEST_BOOK: usize = 16_777_216;
 
 /// The permission bits of the owner in a file's mode.
 const OWNER_BITS: u32 = 0o700;
@@ -143,7 +143,7 @@ where
     /// The file's bytes, or None if there is no file. Errors: FileTooLarge if there are more than 16777216; else the error of the
     /// file system call that failed, or out of memory.
     pub fn read(&mut self) -> io::Result<Option<Vec<u8>>>
-        ensures most { IfOk result (λ found. IfSome found (λ bytes. vec_len bytes ≤ MOST_BOOK)) }
+        ensures most { IfOk result (λ found. IfSome found (λ bytes. vec_len bytes ≤ LONGEST_BOOK)) }
         ensures all { IfOk result (λ found. IfSome found (λ bytes. IsRead R.File.remaining bytes.items)) }
     {
         match &mut self.book {
@@ -165,9 +165,9 @@ where
     /// - else the error of the file system call that failed.
     pub fn replace(&mut self, text: &str) -> io::Result<()>
         ensures written { OnOk result (IsWritten R.File.contents text.now) }
-        ensures long { MOST_BOOK < length text.now → IsErrAnd result (λ error. error_kind error ≡ ErrorKind.FileTooLarge) }
+        ensures long { LONGEST_BOOK < length text.now → IsErrAnd result (λ error. error_kind error ≡ ErrorKind.FileTooLarge) }
     {
-        if text.len() > MOST_BOOK {
+        if text.len() > LONGEST_BOOK {
             return Err(io::Error::from(ErrorKind::FileTooLarge));
         }
         self.check_unchanged()?;
@@ -249,7 +249,7 @@ where
 /// Reads the bytes of the book at `path` without a lock: a save replaces the file as a whole. Errors: FileTooLarge if there are
 /// more than 16777216; else the error of the file system call that failed, or out of memory.
 pub fn read_without_lock<R: Files + AllocGlobal>(rt: &R, path: &str) -> io::Result<Vec<u8>>
-    ensures most { IfOk result (λ bytes. vec_len bytes ≤ MOST_BOOK) }
+    ensures most { IfOk result (λ bytes. vec_len bytes ≤ LONGEST_BOOK) }
     // They are all the bytes of a file, if these are known.
     ensures all { IfOk result (λ bytes. IsRead R.File.remaining bytes.items) }
 {
@@ -259,12 +259,12 @@ pub fn read_without_lock<R: Files + AllocGlobal>(rt: &R, path: &str) -> io::Resu
 
 // Reads the rest of a file. Errors: FileTooLarge if that is more bytes than a book may have.
 fn read_all<R: AllocGlobal, F: Read>(rt: &R, file: &mut F) -> io::Result<Vec<u8>>
-    ensures most { IfOk result (λ bytes. vec_len bytes ≤ MOST_BOOK) }
+    ensures most { IfOk result (λ bytes. vec_len bytes ≤ LONGEST_BOOK) }
     ensures all { IfOk result (λ bytes. IfSome (F.remaining file.old) (λ all. bytes.items ≡ all)) }
 {
     let mut bytes = Vec::new(rt.alloc());
-    file.take(MOST_BOOK as u64 + 1).read_to_end(&mut bytes)?;
-    if bytes.len() <= MOST_BOOK {
+    file.take(LONGEST_BOOK as u64 + 1).read_to_end(&mut bytes)?;
+    if bytes.len() <= LONGEST_BOOK {
         Ok(bytes)
     } else {
         Err(io::Error::from(ErrorKind::FileTooLarge))

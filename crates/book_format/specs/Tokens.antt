@@ -2,7 +2,7 @@
 use Rattle.std.specs.Prelude.{ℕ, ◌+◌, ◌||◌, List, [], ◌∷◌, codes, if◌then◌else◌, option_and_then}
 use Rattle.std.specs.Str.{bytes_eq}
 use Rattle.toml.specs.Data.{Data, string, table, Members, get_member, as_str, as_table}
-use Rattle.otp_core.specs.Ranges.{least_secret, most_secret, least_digits, most_digits, last_moment, most_counter, most_look_ahead, most_sync_ahead}
+use Rattle.otp_core.specs.Ranges.{shortest_secret, longest_secret, least_digits, most_digits, last_moment, most_counter, most_look_ahead, most_sync_ahead}
 use Rattle.otp_core.specs.Ranges.{longest_step, most_steps_aside, most_drift, most_limit}
 use Rattle.otp_core.specs.declared.token.kinds.TokenFields.{TokenFields}
 use Rattle.otp_core.specs.declared.token.kinds.TokenFields.TheVariants.{Hotp, Totp}
@@ -20,7 +20,7 @@ abbrev pub hotp_table : Table HotpFields
 hotp_table = record {
   marks = (codes "kind", string (codes "hotp")) ∷ [];
   rows =
-      row "secret" (bytes_type Token least_secret most_secret) (λ t. t.secret)
+      row "secret" (bytes_type Token shortest_secret longest_secret) (λ t. t.secret)
       ∷ row "digits" (number_type Token least_digits most_digits) (λ t. t.digits)
       ∷ row "next" (number_type Token 0 (most_counter + 1)) (λ t. t.next)
       ∷ row "look_ahead" (number_type Token 0 most_look_ahead) (λ t. t.look_ahead)
@@ -45,7 +45,7 @@ totp_table = record {
   marks = (codes "kind", string (codes "totp")) ∷ [];
   rows =
       row "hash" hash_type (λ t. t.hash)
-      ∷ row "secret" (bytes_type Token least_secret most_secret) (λ t. t.secret)
+      ∷ row "secret" (bytes_type Token shortest_secret longest_secret) (λ t. t.secret)
       ∷ row "digits" (number_type Token least_digits most_digits) (λ t. t.digits)
       ∷ row "t0" (number_type Token 0 last_moment) (λ t. t.t0)
       ∷ row "step" (number_type Token 1 longest_step) (λ t. t.step)

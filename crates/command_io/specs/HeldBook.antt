@@ -13,7 +13,7 @@ use Rattle.account_book.specs.SavedBooks.{needs_save, SavesBook}
 use Rattle.account_book.specs.Store.{StoreFacts, IsFailedSave}
 use Rattle.account_book.specs.Tokens.{IsBookAttempt, IsUnlocked, token_at}
 use Rattle.book_file.specs.Text.{IsRead}
-use Rattle.book_file.specs.declared.file.TheConstants.{MOST_BOOK}
+use Rattle.book_file.specs.declared.file.TheConstants.{LONGEST_BOOK}
 use Rattle.command_line.specs.Fault.{fault_of_book}
 use Rattle.command_line.specs.declared.fault.Fault.{Fault}
 use Rattle.command_line.specs.declared.fault.Fault.TheVariants.{NoSuchAccount, NoToken, CannotRead, CannotWrite, NoMemory}
@@ -32,7 +32,7 @@ held_shown facts held = record { book = held.book; store = facts held.store }
 
 -- a text is stored, and is not longer than the text of a book may be
 abbrev pub IsStoredShort : (IsStored : List ℕ → Type 0) → List ℕ → Type 0
-IsStoredShort IsStored text = (length text ≤ MOST_BOOK) × IsStored text
+IsStoredShort IsStored text = (length text ≤ LONGEST_BOOK) × IsStored text
 
 -- the store has saved the book
 abbrev pub IsBookSaved : (IsStored : List ℕ → Type 0) → (old : StoreFacts) → BookFields → (new : StoreFacts) → Type 0
@@ -48,7 +48,7 @@ IsChangeUnsaved old Changes new = (new ≡ old) ⊎ (Changes old.book new.book �
 
 -- a book of this text can't be saved: the text is too long, or the store has failed
 abbrev pub CannotBeSaved : (text : List ℕ) → StoreFacts → Type 0
-CannotBeSaved text store = (MOST_BOOK < length text) ⊎ (store.failed ≡ true)
+CannotBeSaved text store = (LONGEST_BOOK < length text) ⊎ (store.failed ≡ true)
 
 -- a text was read from a file and is not a book: the fault is that of its first fault
 abbrev pub IsFaultOfText : {File : Type 0} → (bytes_of : File → Option (List ℕ)) → Fault → Type 0

@@ -10,7 +10,7 @@ ghost use Rattle.command_io.specs.HeldBook.{IsEnrolled, IsReplySaved, IsReplyUns
 
 use crate::new_account::{NewAccount, Salts};
 use account_book::{Book, BookStore, Reply};
-use book_file::MOST_BOOK;
+use book_file::LONGEST_BOOK;
 use command_line::Fault;
 use otp_core::{Moment, Sent};
 use scram_text::PlainName;
@@ -129,7 +129,7 @@ impl<'a, S: BookStore> HeldBook<'a, S> {
     {
         let text = self.book.write(alloc)?;
         let file = String::from_str(alloc, self.path)?;
-        if text.len() > MOST_BOOK {
+        if text.len() > LONGEST_BOOK {
             return Err(Fault::CannotWrite(file));
         }
         match self.store.save(text) {

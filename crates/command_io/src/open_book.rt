@@ -72,7 +72,7 @@ where
         Err(fault) => return Err(hold_fault(rt.alloc(), path, fault, faults)),
     };
     match text_of(rt.alloc(), &mut file, path)? {
-        Some(text) => read_held(rt.alloc(), file, text, path),
+        Some(text) => parse_held(rt.alloc(), file, text, path),
 
         // Not reached: `hold` returns Missing if there is no file. No contract says so.
         None => Err(Fault::CannotRead(String::from_str(rt.alloc(), path)?)),
@@ -80,7 +80,7 @@ where
 }
 
 /// Reads the book of `file` from its text, `text`. Faults: BadBook if the text is not a book, and NoMemory.
-pub fn read_held<'a, 'r, R>(
+pub fn parse_held<'a, 'r, R>(
     alloc: Global,
     file: BookFile<'r, R>,
     text: String,

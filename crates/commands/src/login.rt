@@ -55,7 +55,7 @@ use std::time::Clock;
 use talk::Talk;
 
 // The most bytes of a line of the protocol with its LF. No more are read.
-const MOST_WITH_LF: usize = LONGEST_LINE + 1;
+const LONGEST_WITH_LF: usize = LONGEST_LINE + 1;
 
 // What a login begins with: the book, the client and the lines that it is to send, the server's part of the nonce, and the moment
 // of all codes, if one was given.

@@ -13,11 +13,11 @@ ghost use Rattle.log_grammar.specs.Versions.{IsLogFront, IsClean, IsFaultLine, I
 ghost use Rattle.log_grammar.specs.Why.{Why};
 
 use crate::laws::{
-    bytes_are_split, bytes_are_split_one_way, clean_logs_are_fronts, each_account_has_its_history,
-    each_fault_has_one_reason, each_log_is_judged, each_text_is_at_most_one_line,
-    each_text_is_at_most_one_log_line, escapes_one_message, fronts_begin_with_fronts,
-    goes_on_by_a_line, goes_on_by_no_other, has_one_fault_line, line_is_decided,
-    log_line_is_decided, logs_have_one_reading, moments_are_in_range,
+    bytes_have_a_split, bytes_have_one_split_at_most, clean_logs_are_fronts,
+    each_account_has_its_history, each_fault_has_one_reason, each_log_is_judged,
+    each_text_is_at_most_one_line, each_text_is_at_most_one_log_line, escapes_one_message,
+    fronts_begin_with_fronts, goes_on_by_a_line, goes_on_by_no_other, has_one_fault_line,
+    line_is_decided, log_line_is_decided, logs_have_one_reading, moments_are_in_range,
 };
 
 /// Each text is one line of the protocol or none, and one line of a log or none.
@@ -34,12 +34,12 @@ pub fn each_text_is_one_line_or_none()
 }
 
 /// All bytes are split into lines in exactly one way.
-pub fn bytes_are_split_in_exactly_one_way()
+pub fn bytes_have_exactly_one_split()
     ensures { (bytes : List ℕ) → (texts : List (List ℕ)) × (rest : List ℕ) × IsSplit bytes texts rest
         × ((others : List (List ℕ)) (other : List ℕ) → IsSplit bytes others other → (others ≡ texts) × (other ≡ rest)) }
 {
-    bytes_are_split();
-    bytes_are_split_one_way();
+    bytes_have_a_split();
+    bytes_have_one_split_at_most();
 }
 
 /// A RESP line has one message: no two messages have the same spelling in one.
@@ -77,7 +77,7 @@ pub fn first_lines_of_clean_logs_are_fronts()
 pub fn clean_logs_have_no_fault()
     ensures { (accounts : Accounts) (bytes : List ℕ) (k : ℕ) → IsClean accounts bytes → IsFaultLine accounts bytes k → ⊥ }
 {
-    bytes_are_split_one_way();
+    bytes_have_one_split_at_most();
     first_lines_of_clean_logs_are_fronts();
 }
 

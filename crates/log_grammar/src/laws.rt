@@ -44,12 +44,12 @@ pub fn lines_lack_lf()
 {}
 
 /// Any bytes are lines, each with its LF, and what follows the last LF.
-pub fn bytes_are_split()
+pub fn bytes_have_a_split()
     ensures { BytesAreSplit }
 {}
 
 /// Bytes are split into lines in at most one way.
-pub fn bytes_are_split_one_way()
+pub fn bytes_have_one_split_at_most()
     ensures { BytesAreSplitOneWay }
 {}
 

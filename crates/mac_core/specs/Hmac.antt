@@ -2,7 +2,7 @@
 -- `block` is the length of its blocks in bytes.
 use Rattle.std.specs.Prelude.{ℕ, ◌-◌, List, [], ◌++◌, length, map, replicate, bit_xor, nat_lt, if◌then◌else◌}
 use Rattle.mac_core.specs.declared.hmac.Mac.{Mac}
-use Rattle.mac_core.specs.declared.hmac.PreparedKey.{PreparedKey}
+use Rattle.mac_core.specs.declared.hmac.Prepared.{Prepared}
 
 -- K0: the key, or its digest if the key is longer than a block, padded with zeros to the length of a block
 abbrev pub padded_key : (hash : List ℕ → List ℕ) → (block : ℕ) → (key : List ℕ) → List ℕ
@@ -35,6 +35,6 @@ pub record IsMacOf {H : Type 0} (holds : H → List ℕ → Type 0) (hash : List
   pub outer : holds mac.outer (outer_block hash block key)
 
 -- the prepared key is a running MAC of that key that has read no text
-abbrev pub IsPreparedFor : {H : Type 0} → (holds : H → List ℕ → Type 0) → (hash : List ℕ → List ℕ) → (block : ℕ) → PreparedKey H
+abbrev pub IsPreparedFor : {H : Type 0} → (holds : H → List ℕ → Type 0) → (hash : List ℕ → List ℕ) → (block : ℕ) → Prepared H
     → (key : List ℕ) → Type 0
 IsPreparedFor holds hash block prepared key = IsMacOf holds hash block prepared.empty key []

@@ -13,15 +13,15 @@ const IPAD: u8 = 0x36;
 const OPAD: u8 = 0x5C;
 
 // The longest block of the hash functions here, that of SHA-512.
-const MOST_BLOCK: usize = 128;
+const LONGEST_BLOCK: usize = 128;
 
 // A padded key: K0 of FIPS 198-1, section 4.
-type Block = ArrayVec<u8, MOST_BLOCK>;
+type Block = ArrayVec<u8, LONGEST_BLOCK>;
 
 // The key, padded with zeros to the length of a block. It must not be longer than a block.
 fn zero_filled(key: &[u8], block: usize) -> Block
     requires fits { length key.now ≤ block }
-    requires most { block ≤ MOST_BLOCK }
+    requires most { block ≤ LONGEST_BLOCK }
     ensures { result.items ≡ key.now ++ replicate (block - length key.now) 0 }
 {
     let mut filled: Block = copy_of(key);
@@ -109,16 +109,16 @@ impl<H: HashFn> Mac<H> {
 
 /// An HMAC key whose two padded blocks are already hashed, so that a MAC of a short text takes two compressions instead of four.
 #[derive(Drop)]
-pub struct PreparedKey<H> {
+pub struct Prepared<H> {
     empty: Mac<H>,
 }
 
-impl<H: HashFn> PreparedKey<H> {
+impl<H: HashFn> Prepared<H> {
     /// Prepares `key`, which may have any length.
     pub fn new(key: &[u8]) -> Self
         ensures { IsPreparedFor H.holds H.digest_of H.BLOCK result key.now }
     {
-        PreparedKey {
+        Prepared {
             empty: Mac::new(key),
         }
     }

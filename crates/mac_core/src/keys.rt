@@ -6,7 +6,7 @@ ghost use Rattle.mac_core.specs.Keys.{password_stored_key, password_server_key};
 
 use crate::bytes::copy_of;
 use crate::digest::{HashFn, Tag};
-use crate::hmac::PreparedKey;
+use crate::hmac::Prepared;
 use crate::mac;
 
 /// The xor of `a` and `b`, byte by byte. They must have the same length; the result has it too.
@@ -24,7 +24,7 @@ pub fn xor(a: &Tag, b: &Tag) -> Tag
 }
 
 // U1 of Hi (RFC 5802, section 2.2): the MAC of the salt followed by INT(1).
-fn first_round<H: HashFn>(key: &PreparedKey<H>, salt: &[u8]) -> Tag
+fn first_round<H: HashFn>(key: &Prepared<H>, salt: &[u8]) -> Tag
     ensures value { (str : List ℕ) → IsPreparedFor H.holds H.digest_of H.BLOCK key.now str
         → result.items ≡ hmac H.digest_of H.BLOCK str (salt.now ++ int_one) }
     ensures len { length result.items ≡ H.LEN }
@@ -42,7 +42,7 @@ pub fn hi<H: HashFn>(password: &[u8], salt: &[u8], count: u32) -> Tag
     ensures value { result.items ≡ hi H.digest_of H.BLOCK password.now salt.now count }
     ensures len { length result.items ≡ H.LEN }
 {
-    let key = PreparedKey::<H>::new(password);
+    let key = Prepared::<H>::new(password);
     let mut last = first_round(&key, salt);
     let mut sum = copy_of(last.as_slice());
     for round in 1..count {

@@ -21,7 +21,7 @@ mod mechanism;
 
 pub use bytes::{copy_of, law_of_bytes};
 pub use digest::{HSha1, HSha256, HSha512, HashFn, Tag};
-pub use hmac::PreparedKey;
+pub use hmac::Prepared;
 pub use keys::{ScramKeys, client_key, hi, scram_keys, server_key, stored_key, xor};
 pub use mechanism::{Mechanism, ScramMac};
 

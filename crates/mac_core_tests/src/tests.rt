@@ -3,7 +3,7 @@
 //! with Python's hashlib.
 use mac_core::hmac::Mac;
 use mac_core::{
-    HSha1, HSha256, HSha512, HashFn, Mechanism, PreparedKey, ScramMac, Tag, client_key, hi, mac,
+    HSha1, HSha256, HSha512, HashFn, Mechanism, Prepared, ScramMac, Tag, client_key, hi, mac,
     scram_keys, server_key, stored_key, xor,
 };
 use std::alloc::{AllocError, Global};
@@ -201,7 +201,7 @@ fn check_mac<H: HashFn>(
     want: &str,
 ) -> Result<(), AllocError> {
     let alloc = rt.alloc();
-    let prepared = PreparedKey::<H>::new(key);
+    let prepared = Prepared::<H>::new(key);
     for tag in [mac::<H>(key, text), prepared.mac(text)] {
         let found = hex_of(alloc, &tag)?;
         assert_eq!(rt; tag.len(), H::LEN, "want {want}");

@@ -2,16 +2,16 @@
 use Rattle.std.specs.Prelude.{ℕ, ◌-◌, ◌^◌, ◌≤◌}
 
 -- the least number of bytes of a secret
-abbrev pub least_secret : ℕ
-least_secret = 10
+abbrev pub shortest_secret : ℕ
+shortest_secret = 10
 
 -- the greatest number of bytes of a secret
-abbrev pub most_secret : ℕ
-most_secret = 64
+abbrev pub longest_secret : ℕ
+longest_secret = 64
 
 -- a secret has 10 to 64 bytes; RFC 4226, section 4, requires at least 16
 abbrev pub IsSecretLength : ℕ → Type 0
-IsSecretLength length = (least_secret ≤ length) × (length ≤ most_secret)
+IsSecretLength length = (shortest_secret ≤ length) × (length ≤ longest_secret)
 
 -- the least number of digits of a code (RFC 4226, section 5.3)
 abbrev pub least_digits : ℕ

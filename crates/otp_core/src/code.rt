@@ -8,7 +8,7 @@ use crate::digits::Digits;
 use crate::moment::Moment;
 use crate::secret::Secret;
 use arrayvec::ArrayVec;
-use mac_core::{HashFn, PreparedKey, Tag};
+use mac_core::{HashFn, Prepared, Tag};
 use std::marker::Model;
 
 /// A one-time code: 6 to 8 ASCII digits. Contracts see it as the list of their bytes.
@@ -75,7 +75,7 @@ pub fn truncate(tag: &Tag, digits: Digits) -> Code
 
 /// The HOTP value of `counter` under a key that was prepared once (RFC 4226, section 5.3). If `counter` is a result of `step` and
 /// `H` is the token's hash function, it is the TOTP value (RFC 6238, section 4.2).
-pub fn hotp_with<H: HashFn>(prepared: &PreparedKey<H>, counter: u64, digits: Digits) -> Code
+pub fn hotp_with<H: HashFn>(prepared: &Prepared<H>, counter: u64, digits: Digits) -> Code
     ensures { (key : List ℕ) → IsPreparedFor H.holds H.digest_of H.BLOCK prepared.now key
         → result ≡ hotp_text H.digest_of H.BLOCK digits key counter }
 {
@@ -86,7 +86,7 @@ pub fn hotp_with<H: HashFn>(prepared: &PreparedKey<H>, counter: u64, digits: Dig
 pub fn hotp<H: HashFn>(secret: &Secret, counter: u64, digits: Digits) -> Code
     ensures { result ≡ hotp_text H.digest_of H.BLOCK digits secret.now counter }
 {
-    hotp_with(&PreparedKey::<H>::new(secret.bytes()), counter, digits)
+    hotp_with(&Prepared::<H>::new(secret.bytes()), counter, digits)
 }
 
 /// The TOTP counter of a moment (RFC 6238, section 4.2): the number of whole steps of `x` seconds since `t0`, or None if and only

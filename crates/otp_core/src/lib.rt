@@ -28,7 +28,7 @@ pub use digits::{Digits, LEAST_DIGITS, MOST_DIGITS};
 pub use fault::{OtpFault, Setting};
 pub use hash::OtpHash;
 pub use moment::{LAST_MOMENT, Moment};
-pub use secret::{LEAST_SECRET, MOST_SECRET, Secret};
+pub use secret::{LONGEST_SECRET, SHORTEST_SECRET, Secret};
 pub use sent::Sent;
 pub use token::{
     HotpFields, LONGEST_STEP, MOST_COUNTER, MOST_DRIFT, MOST_LIMIT, MOST_LOOK_AHEAD,

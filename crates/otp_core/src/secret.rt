@@ -9,15 +9,15 @@ use mac_core::copy_of;
 use std::marker::Model;
 
 /// The least length of a secret, in bytes.
-pub const LEAST_SECRET: usize = 10;
+pub const SHORTEST_SECRET: usize = 10;
 
 /// The greatest length of a secret, in bytes.
-pub const MOST_SECRET: usize = 64;
+pub const LONGEST_SECRET: usize = 64;
 
 /// The key of a token's HMAC: 10 to 64 bytes. Contracts see it as the list of its bytes.
 #[derive(Drop)]
 pub struct Secret {
-    bytes: ArrayVec<u8, MOST_SECRET>,
+    bytes: ArrayVec<u8, LONGEST_SECRET>,
 }
 
 impl Model for Secret {
@@ -35,7 +35,7 @@ impl Secret {
             (λ secret. (secret ≡ bytes.now) × IsSecretLength (length bytes.now))
             (λ fault. (fault ≡ SecretLength) × (IsSecretLength (length bytes.now) → ⊥)) }
     {
-        if bytes.len() < LEAST_SECRET {
+        if bytes.len() < SHORTEST_SECRET {
             return Err(OtpFault::SecretLength);
         }
         match ArrayVec::try_from(bytes) {

@@ -1,6 +1,6 @@
 //! Expected values from outside: RFC 4226, section 5.4 and appendix D, and RFC 6238, appendix B; the codes
 //! of a few other counters are computed with Python's hmac.
-use mac_core::{HSha1, HSha256, HSha512, HashFn, PreparedKey, Tag};
+use mac_core::{HSha1, HSha256, HSha512, HashFn, Prepared, Tag};
 use otp_core::{
     Code, Digits, HotpFields, Moment, OtpFault, OtpHash, Reply, Secret, Sent, Setting, Token,
     TokenFields, TotpFields, hotp, hotp_with, step, truncate,
@@ -29,7 +29,7 @@ fn check_code<H: HashFn>(
 ) -> Result<(), OtpFault> {
     let secret = Secret::new(key)?;
     let digits = Digits::new(count)?;
-    let prepared = PreparedKey::<H>::new(key);
+    let prepared = Prepared::<H>::new(key);
     for code in [
         hotp::<H>(&secret, counter, digits),
         hotp_with(&prepared, counter, digits),

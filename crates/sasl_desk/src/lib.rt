@@ -51,4 +51,4 @@ pub use keeper::{CodeJudged, Keeper};
 pub use otp_core::{Moment, Reply, Sent};
 pub use serving::{serve, serve_turn};
 pub use session::{Event, Phase};
-pub use write::{MOST_CALL_BYTES, MOST_NUMBERED_CALL_BYTES};
+pub use write::{MOST_CALL_BYTES, MOST_HALL_CALL_BYTES};

@@ -7,7 +7,7 @@ use Rattle.mac_core.specs.Mechanism.{length_by}
 use Rattle.mac_core.specs.declared.mechanism.Mechanism.TheVariants.{ScramSha256}
 use Rattle.scram_text.specs.Class.{IsPlainName}
 use Rattle.scram_text.specs.Limits.{most_count, longest_salt}
-use Rattle.otp_core.specs.Ranges.{IsSecretLength, IsDigitCount, IsMoment, least_secret, most_secret, least_digits, most_digits, last_moment}
+use Rattle.otp_core.specs.Ranges.{IsSecretLength, IsDigitCount, IsMoment, shortest_secret, longest_secret, least_digits, most_digits, last_moment}
 use Rattle.otp_core.specs.Ranges.{most_counter, most_look_ahead, most_sync_ahead, longest_step, most_steps_aside, most_drift, most_limit}
 use Rattle.otp_core.specs.TokenRanges.{IsHotpInRange, IsTotpInRange}
 use Rattle.otp_core.specs.declared.token.kinds.HotpFields.{HotpFields}
@@ -86,7 +86,7 @@ hotp_writes_itself t (next, (look_ahead, (sync_ahead, (limit, (failures, end))))
   table_writes_itself hotp_table t refl refl (λ ms at.
       let rows = at.1 in (
         (at.0, tt),
-        (_, rows.0, written_bytes_stand least_secret most_secret t.secret back secret.0 secret.1)
+        (_, rows.0, written_bytes_stand shortest_secret longest_secret t.secret back secret.0 secret.1)
             & (_, rows.1.0, written_number_stands least_digits most_digits t.digits digits.0 digits.1)
             & (_, rows.1.1.0, written_number_stands 0 _ t.next (omega arith) next)
             & (_, rows.1.1.1.0, written_number_stands 0 most_look_ahead t.look_ahead (omega arith) look_ahead)
@@ -114,7 +114,7 @@ totp_writes_itself t (step, (back, (ahead, (max_drift, (last, (drift, (limit, (f
       let then = first.1.1.1.1.1.1.1 in (
         (at.0, tt),
         (_, first.0, refl)
-            & (_, first.1.0, written_bytes_stand least_secret most_secret t.secret hex secret.0 secret.1)
+            & (_, first.1.0, written_bytes_stand shortest_secret longest_secret t.secret hex secret.0 secret.1)
             & (_, first.1.1.0, written_number_stands least_digits most_digits t.digits digits.0 digits.1)
             & (_, first.1.1.1.0, written_number_stands 0 last_moment t.t0 (omega arith) t0)
             & (_, first.1.1.1.1.0, written_number_stands 1 longest_step t.step step.0 step.1)

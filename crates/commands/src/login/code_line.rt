@@ -3,9 +3,9 @@ ghost use Rattle.std.specs.Prelude.{◌≡◌, [], ◌∷◌, ◌++◌, IfOk, If
 ghost use Rattle.std.specs.Str.{byte};
 ghost use Rattle.otp_core.specs.Attempt.{CodeTexts};
 ghost use Rattle.commands.specs.SentCodes.{sent_for, SaysCodes};
-ghost use Rattle.commands.specs.declared.login.TheConstants.{MOST_WITH_LF};
+ghost use Rattle.commands.specs.declared.login.TheConstants.{LONGEST_WITH_LF};
 
-use crate::login::MOST_WITH_LF;
+use crate::login::LONGEST_WITH_LF;
 use crate::sent_codes::codes_in;
 use command_line::Fault;
 use otp_core::Sent;
@@ -24,9 +24,9 @@ pub(crate) fn code_line(alloc: Global, line: &[u8]) -> Result<Vec<u8>, Fault>
     }
 }
 
-// The front, then at most MOST_WITH_LF bytes of the text, then an LF. A server reads no more of a line.
+// The front, then at most LONGEST_WITH_LF bytes of the text, then an LF. A server reads no more of a line.
 fn code_text_line(alloc: Global, front: &[u8], text: &[u8]) -> Result<Vec<u8>, Fault>
-    ensures ok { IfOk result (λ line. line.items ≡ front.now ++ (take MOST_WITH_LF text.now ++ byte "\n" ∷ [])) }
+    ensures ok { IfOk result (λ line. line.items ≡ front.now ++ (take LONGEST_WITH_LF text.now ++ byte "\n" ∷ [])) }
     ensures err { IfErr result (λ fault. fault ≡ Fault.NoMemory) }
 {
     let mut line = Vec::new(alloc);
@@ -36,11 +36,11 @@ fn code_text_line(alloc: Global, front: &[u8], text: &[u8]) -> Result<Vec<u8>, F
     Ok(line)
 }
 
-// The first MOST_WITH_LF bytes of the text, or all of it if it has fewer.
+// The first LONGEST_WITH_LF bytes of the text, or all of it if it has fewer.
 fn first_bytes(text: &[u8]) -> &[u8]
-    ensures { result.now ≡ take MOST_WITH_LF text.now }
+    ensures { result.now ≡ take LONGEST_WITH_LF text.now }
 {
-    match text.get(..MOST_WITH_LF) {
+    match text.get(..LONGEST_WITH_LF) {
         Some(front) => front,
         None => text,
     }

@@ -10,8 +10,8 @@ use crate::fault::BookWhy;
 use crate::read::field::{bytes_at, check_keys, number_at, number_or_zero};
 use crate::read::token::setting::{digits_of, secret_of};
 use otp_core::{
-    HotpFields, LEAST_DIGITS, LEAST_SECRET, MOST_COUNTER, MOST_DIGITS, MOST_LIMIT, MOST_LOOK_AHEAD,
-    MOST_SECRET, MOST_SYNC_AHEAD, Token,
+    HotpFields, LEAST_DIGITS, LONGEST_SECRET, MOST_COUNTER, MOST_DIGITS, MOST_LIMIT,
+    MOST_LOOK_AHEAD, MOST_SYNC_AHEAD, SHORTEST_SECRET, Token,
 };
 use toml::Table;
 
@@ -36,7 +36,13 @@ pub(crate) fn hotp_of(table: &Table) -> Result<HotpFields, BookWhy>
             "failures",
         ],
     )?;
-    let secret = bytes_at(table, "secret", LEAST_SECRET, MOST_SECRET, BookWhy::Token)?;
+    let secret = bytes_at(
+        table,
+        "secret",
+        SHORTEST_SECRET,
+        LONGEST_SECRET,
+        BookWhy::Token,
+    )?;
     let digits = number_at(
         table,
         "digits",

@@ -18,8 +18,8 @@ use crate::fault::BookWhy;
 use crate::read::field::{at, bytes_at, check_keys, number_at, number_of, required, text_at};
 use crate::read::token::setting::{digits_of, moment_of, secret_of};
 use otp_core::{
-    LAST_MOMENT, LEAST_DIGITS, LEAST_SECRET, LONGEST_STEP, MOST_COUNTER, MOST_DIGITS, MOST_DRIFT,
-    MOST_LIMIT, MOST_SECRET, MOST_STEPS_ASIDE, OtpHash, Token, TotpFields,
+    LAST_MOMENT, LEAST_DIGITS, LONGEST_SECRET, LONGEST_STEP, MOST_COUNTER, MOST_DIGITS, MOST_DRIFT,
+    MOST_LIMIT, MOST_STEPS_ASIDE, OtpHash, SHORTEST_SECRET, Token, TotpFields,
 };
 use toml::Table;
 
@@ -33,7 +33,13 @@ pub(crate) fn totp_of(table: &Table) -> Result<TotpFields, BookWhy>
 {
     check_totp_keys(table)?;
     let hash = hash_at(table, "hash")?;
-    let secret = bytes_at(table, "secret", LEAST_SECRET, MOST_SECRET, BookWhy::Token)?;
+    let secret = bytes_at(
+        table,
+        "secret",
+        SHORTEST_SECRET,
+        LONGEST_SECRET,
+        BookWhy::Token,
+    )?;
     let digits = number_at(
         table,
         "digits",

@@ -6,7 +6,7 @@ use Rattle.log_grammar.proofs.consequences.clean_logs_have_no_fault.Goals as goa
 pub returns : goal.returns
 returns c = λ accounts bytes k clean fault.
     let (texts, all, ends) = clean in
-    let same = c.bytes_are_split_one_way.ensures bytes texts fault.texts [] fault.rest all fault.are_split in
+    let same = c.bytes_have_one_split_at_most.ensures bytes texts fault.texts [] fault.rest all fault.are_split in
     let cut = subst (λ (rest : List ℕ). IsSplit bytes fault.texts rest) (sym same.1) fault.are_split in
     elim (cases_lt (length fault.texts) k) [
       | inl after ↦ fault.unclean (omega (arith, after, fault.at_most)) clean

@@ -1,5 +1,5 @@
 use Rattle.log_grammar.proofs.lemmas.lines.Cuts.{one_split}
-use Rattle.log_grammar.proofs.laws.bytes_are_split_one_way.Goals as goal
+use Rattle.log_grammar.proofs.laws.bytes_have_one_split_at_most.Goals as goal
 
 pub returns : goal.returns
 returns c = one_split
