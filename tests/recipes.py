@@ -1,13 +1,15 @@
 #!/usr/bin/env python3
-"""Runs each block of docs/OPERATING.md as it stands, except `useradd`, paths and the user, and checks what it leaves and prints.
+"""Runs each block of docs/OPERATING.md as it stands, except `make install`, `useradd`, paths and the user, and checks what it leaves and
+prints.
 
 Usage: recipes.py PROGRAM [TEST ..]
 
 Blocks are found by their section and their language. bash runs each in a folder of its own, which has an account book and a link to
 tools/, with the program on the PATH, and then all but the first in one folder, in their order. Of a systemd unit, the command and the
-credentials are used. So each of the tools is tried, except `serve-hall`: serve_hall.py runs its block, and no test runs its unit. Codes,
-keys and verifiers are those of RFC 4226 and RFC 7677, from keys.csv (made by Dovecot), or from Python's hashlib. Any other block that no
-test runs is a fault. Takes the 30 seconds for which an edit waits for a book. DOCUMENT=PATH in the environment names another page.
+credentials are used. So each of the tools is tried; the block of `serve-hall` is run by serve_hall.py. `make install`, `useradd`, sudo and
+systemd are not run. Codes, keys and verifiers are those of RFC 4226 and RFC 7677, from keys.csv (made by Dovecot), or from Python's
+hashlib. Any other block that no test runs is a fault. Takes the 30 seconds for which an edit waits for a book. DOCUMENT=PATH in the
+environment names another page.
 """
 import base64
 import fcntl
@@ -18,6 +20,7 @@ import re
 import shlex
 import shutil
 import signal
+import socket
 import time
 from concurrent.futures import ThreadPoolExecutor
 from pathlib import Path
@@ -50,14 +53,13 @@ compgen -v | grep -vxF "$before"; [ "$(umask)" = 0022 ] || umask
 exit $status
 """
 
-# The sections on `serve-hall`: its block runs until an interrupt, and its unit is not run.
+# The section whose block runs until an interrupt.
 SERVED = "Serve many logins with `hall`"
-UNIT_OF_HALL = "A unit for `serve-hall`"
 
 
 def all_blocks():
-    """Each block of the document except the two of `serve-hall`: its section's title, its language and its text."""
-    return [block for block in suite.blocks_of(DOCUMENT) if block[0] not in (SERVED, UNIT_OF_HALL)]
+    """Each block of the document except that of `serve-hall`: its section's title, its language and its text."""
+    return [block for block in suite.blocks_of(DOCUMENT) if block[0] != SERVED]
 
 
 def blocks(title, language="sh"):
@@ -71,6 +73,14 @@ def enrolled(folder):
     for name in [NAME, "other"]:
         enrol = f"scramotp enrol --book book.toml --name {name}"
         does(folder, enrol, "pencil\n", f"enrolled {name}\n")
+
+
+def adding():
+    """The block that adds an account: those lines of the start that ask for a password."""
+    _, first = blocks("Start")
+    link, block = first.split("\n", 1)
+    equal(link, f"ln -s {INSTALLED} tools", "the line that makes the link to the tools")
+    return block
 
 
 def with_fob(folder):
@@ -330,9 +340,22 @@ def a_fob_that_ran_ahead(folder):
     does(folder, verify(FOB, code(10)), printed="PASS 5 10\n")
 
 
+def a_locked_token(folder):
+    """A token that is locked takes the next code again once the recipe has run, and no code that was spent before."""
+    enrolled(folder)
+    does(folder, blocks("Give a user one-time codes")[-1])
+    [unlock] = blocks("Free a locked token")
+    limit = book_of(folder)["accounts"][FOB]["token"]["limit"]
+    wrong = ["000000"] * limit
+    found = ran(folder, verify(FOB, CODES[0], *wrong, CODES[1]))[:2]
+    equal(found, (1, "PASS 5 0\n" + "FAIL 5\n" * limit + "LOCKED 5\n"), "the answers to codes until the token is locked")
+    does(folder, unlock, printed=f"unlocked {FOB}\n")
+    equal(ran(folder, verify(FOB, CODES[0], CODES[1]))[:2], (1, "FAIL 5\nPASS 5 1\n"), "the answers to codes after the token is freed")
+
+
 def an_account(folder):
     """A name gets its account, even in a new book, and may act as another. A name that has an account keeps it unchanged."""
-    [add] = blocks("Add an account")
+    add = adding()
     with_tools(folder, "").unlink()
     does(folder, add, "pencil\n", f"enrolled {NAME}\n")
     before = book_of(folder)
@@ -497,7 +520,7 @@ def what_accounts_have(folder):
     equal((status, set(output.splitlines()), faults), (0, started | told, ""), "what accounts have before any code")
     does(folder, verify("counts", CODES[0]), printed="PASS 5 0\n")
     equal(ran(folder, verify("counts", "000000", "000000"))[:2], (1, "FAIL 5\nFAIL 5\n"), "the answer to codes that lock the token")
-    does(folder, verify("timed", "94287082", moment=59), printed="PASS 59 1\n")
+    does(folder, verify("timed", "94287082", moment=59), printed="PASS 59 1\n")  # RFC 6238, appendix B
     equal(ran(folder, verify("timed", "00000000", moment=59))[:2], (1, "FAIL 59\n"), "the answer to a code that fails")
     told = {"counts: hotp token (next 1, locked)", "timed: totp token (last 1, 1 failures)"}
     status, output, faults = ran(folder, tell)
@@ -523,6 +546,29 @@ def texts(mechanism, count, salt, stored, server):
     """The verifiers of PostgreSQL and of Dovecot."""
     salt, stored, server = (base64.b64encode(bytes.fromhex(text)).decode() for text in (salt, stored, server))
     return f"{mechanism}${count}:{salt}${stored}:{server}", f"{{{mechanism}}}{count},{salt},{stored},{server}"
+
+
+def a_book_that_a_tool_cannot_read(folder):
+    """A tool that only reads a book says why it can't: there is no file, it is not TOML or not a book, or lacks the account or the keys."""
+    with_tools(folder, BOOK_OF_USER)
+    texts_of_faults = [
+        (None, r"\[Errno 2\] No such file or directory: 'faulty\.toml'"),
+        (b"x = \n", "not TOML: .*"),
+        (b"x = '\xff'\n", "not TOML: .*"),
+        (b"accounts = 1\n", "not an account book: find-key says what is wrong"),
+        (b"decoy_count = 4096\n[accounts.user]\nsha256 = 1\ntoken = 1\n", "not an account book: find-key says what is wrong"),
+    ]
+    for text, fault in texts_of_faults:
+        if text is not None:
+            Path(folder, "faulty.toml").write_bytes(text)
+        for name, words in [("list-accounts", ""), ("list-unlike-decoys", ""), ("to-verifier", " user")]:
+            status, output, faults = ran(folder, f"tools/{name} faulty.toml{words}")
+            equal((status, output), (1, ""), name, text, faults)
+            holds(re.fullmatch(f"{name}: {fault}\n", faults), "another fault is due", fault, faults, name, text)
+    found = ran(folder, "tools/find-key none.toml")
+    equal(found, (1, "", "find-key: [Errno 2] No such file or directory: 'none.toml'\n"), "a book that is not there")
+    for name, fault in [("none", "no such account"), ("user", "the account has no keys for SCRAM-SHA-256")]:
+        equal(ran(folder, f"tools/to-verifier book.toml {name}"), (1, "", f"to-verifier: {fault}\n"), name)
 
 
 def keys_of_dovecot(folder):
@@ -663,9 +709,9 @@ def a_backup(folder):
 def a_shell(folder):
     """Only as root, and with nobody instead of the user that is made: the folder belongs to the user and is closed to others, and the
     shell runs as the user in the folder."""
-    shell, _ = blocks("Set up")
-    make_user, block = shell.split("\n", 1)
-    equal(make_user, "useradd --system --user-group scramotp", "the line that makes the user")
+    shell, _ = blocks("Start")
+    *made, block = shell.split("\n", 2)
+    equal(made, ["make install", "useradd --system --user-group scramotp"], "the lines that install and make the user")
     if not is_root():
         return
     os.chmod(folder, 0o711)
@@ -678,9 +724,8 @@ def a_shell(folder):
 
 
 def every_tool(folder):
-    """The table of tools lists each of them, with its usage, and the link leads to them. Without words, a tool prints its usage."""
-    _, link = blocks("Set up")
-    does(folder, link.replace(INSTALLED, str(TOOLS)))
+    """The table of tools lists each of them, with its usage. Without words, a tool prints its usage."""
+    Path(folder, "tools").symlink_to(TOOLS)
     told = re.findall(r"^\| `(\S+) (.*?)` \|", DOCUMENT.read_text(encoding="utf-8").partition("## Folder and rights")[0], re.M)
     equal({name for name, _ in told}, set(os.listdir(Path(folder, "tools"))), told)
     for name, words in told:
@@ -697,15 +742,15 @@ def all_in_order(folder):
     as it was."""
     salt = bytes(range(16))
     both = texts("SCRAM-SHA-256", 4096, salt.hex(), *keys_of("sha256", b"pencil", salt, 4096))
-    inputs = {"Add an account": "pencil\n", "Change a password": "another one\n", "Keys from PostgreSQL and Dovecot": both[0] + "\n"}
+    inputs = {"Start": "pencil\n", "Change a password": "another one\n", "Keys from PostgreSQL and Dovecot": both[0] + "\n"}
     _, *found = [(title, block) for title, language, block in all_blocks() if language == "sh"]
     printed = []
     for title, block in found:
         status, output, faults = ran(folder, LEAVES_NOTHING.format(block.replace(INSTALLED, str(TOOLS))), inputs.get(title, ""))
         equal((status, faults), (0, ""), title, output)
         printed += output.splitlines()
-    added, secret, ahead, *told, changed, first, of_postgresql, of_dovecot = printed
-    equal((added, changed, first), (f"enrolled {NAME}", f"enrolled {NAME}", f"enrolled {FOB}"), printed)
+    added, secret, ahead, freed, *told, changed, first, of_postgresql, of_dovecot = printed
+    equal((added, freed, changed, first), (f"enrolled {NAME}", f"unlocked {FOB}", f"enrolled {NAME}", f"enrolled {FOB}"), printed)
     equal(set(told), {f"{NAME}: sha1 keys, sha256 keys", f"{FOB}: hotp token (next 10, 0 failures)"}, printed)
     equal((of_postgresql, of_dovecot), both, printed)
     equal(len(base64.b32decode(secret)), 20, printed)
@@ -738,10 +783,47 @@ def units(folder):
     equal(keys["stored"], stored, "the stored key of the account that the unit made")
 
 
+def a_unit_of_a_hall(folder):
+    """The unit's command, with other folders, serves: the log has the name that the unit gives, and after TERM it is clean by the book
+    beside it."""
+    [unit] = blocks("A unit for `serve-hall`", "ini")
+    [command] = re.findall(r"^ExecStart=(.*)$", unit, re.M)
+    with_tools(folder, BOOK_OF_USER)
+    for old, new in [("$$", "$"), ("%%", "%"), (INSTALLED, str(TOOLS)), ("/run/scramotp/", f"{folder}/")]:
+        holds(old in command, "the command does not have what is replaced in it", old, command)
+        command = command.replace(old, new)
+    serving = start(folder, f"exec {command}")
+    with socket.socket(socket.AF_UNIX) as client:
+        client.settimeout(20)
+        until(lambda: client.connect_ex(f"{folder}/hall.sock") == 0, "a client should be able to connect")
+        equal(client.recv(1), b"M", "the beginning of the greeting")
+    serving.process.send_signal(signal.SIGTERM)
+    serving.ends(0)
+    [log] = Path(folder).glob("hall-*.log")
+    holds(re.fullmatch(r"hall-\d+\.log", log.name), "the log has another name", log.name)
+    audit = f"scramotp audit --book {log.name}.toml --log {log.name}"
+    does(folder, audit, printed="clean sessions=1 accepted=0 codes=0\n")
+
+
+def what_is_watched(folder):
+    """The commands of the section on watching count what their rows say, in a log of a hall."""
+    page = DOCUMENT.read_text(encoding="utf-8")
+    section = page.partition("## Watch a server\n")[2].partition("\n## ")[0]
+    counts = re.findall(r"^\| [^|]* \| `((?:grep|wc) [^`]*hall\.log)`", section, re.M)
+    lines = ["SCRAMLOG 2", "1 S MECHS SCRAM-SHA-256 SCRAM-SHA-1", "1 S NO :e=invalid-proof", "1 E", "2 S BUSY", "2 E", "3 S LOCKED 59"]
+    lines += ["4 S NO :e=invalid-proof", "5 C CODE BUSY", "6 S NO :e=invalid-encoding"]
+    Path(folder, "hall.log").write_text("".join(f"{line}\n" for line in lines))
+    due = {"wc -l <hall.log": "10", "NO :e=invalid-proof": "2", "LOCKED": "1", "BUSY": "1"}
+    for command in counts:
+        [count] = [count for words, count in due.items() if words in command]
+        equal(ran(folder, command), (0, f"{count}\n", ""), command)
+    equal(len(counts), len(due), "the commands of the section", counts)
+
+
 def every_block(folder):
-    """No block of the document is left out, except the shell block and the unit of `serve-hall`."""
+    """No block of the document is left out, except the shell block of `serve-hall`."""
     left_out = [block[:2] for block in suite.blocks_of(DOCUMENT) if block not in all_blocks()]
-    equal(left_out, [(SERVED, "sh"), (UNIT_OF_HALL, "ini")], "the blocks that are left out")
+    equal(left_out, [(SERVED, "sh")], "the blocks that are left out")
     calls = re.findall(r'\bblocks\("([^"]+)"(?:, "(\w+)")?\)', Path(__file__).read_text(encoding="utf-8"))
     taken = {(title, language or "sh") for title, language in calls}
     equal({block[:2] for block in all_blocks()}, taken, "the blocks of the document, and those that a test takes")
@@ -760,6 +842,7 @@ TESTS = [
     a_token,
     a_hotp_token,
     a_fob_that_ran_ahead,
+    a_locked_token,
     an_account,
     a_password,
     a_password_of_one_mechanism,
@@ -769,6 +852,7 @@ TESTS = [
     a_renamed_account,
     what_accounts_have,
     decoys,
+    a_book_that_a_tool_cannot_read,
     keys_of_dovecot,
     a_verifier_there_and_back,
     a_code_in_a_script,
@@ -779,6 +863,8 @@ TESTS = [
     every_tool,
     all_in_order,
     units,
+    a_unit_of_a_hall,
+    what_is_watched,
     every_block,
 ]
 
