@@ -3,7 +3,8 @@
 
 Usage: book_faults.py PROGRAM [TEST ..]
 
-The table is data/book_faults/cases.csv. A book is judged before a name is looked up, and a book that is refused is left as it is.
+The table is data/book_faults/cases.csv. Each fault number occurs at each place that can have it, and of a book with two faults, the table
+says which is named. A book is judged before a name is looked up, and a book that is refused is left as it is.
 """
 import pathlib
 

@@ -4,6 +4,11 @@ killed, links, modes, access lists, a save that can't be made, a lock that anoth
 files that take the book's place, and how paths are shown.
 
 Usage: books.py PROGRAM [TEST ..]
+
+Twenty runs at once with one code, of which one passes; six at once that make one book, of which two are killed; two hundred runs that are
+killed at any moment. A book that another run holds, and that it is held until the last save; files, links and pipes that take its place
+while a run waits; keys that are made before the book is held; a text that is too long; paths with control characters; and a reply that is
+printed while the input is still open.
 """
 import ctypes
 import errno

@@ -4,8 +4,9 @@ place.
 
 Usage: failed_saves.py PROGRAM [TEST ..]
 
-The run halts there: it prints no reply that is not saved. Another run, which goes on from the saved book, is sent the same codes, and
-no code passes again that has passed. Each log is audited by the book that it began with. Needs `cc`.
+In 108 runs of `verify`, `login` and `hall`, the save of the first, second or third code fails; and in runs of each command that saves, the
+first save. The run halts there: it prints no reply that is not saved. Another run, which goes on from the saved book, is sent the same
+codes, and no code passes again that has passed. Each log is audited by the book that it began with. Needs `cc`.
 """
 import os
 import pathlib

@@ -5,7 +5,8 @@ due, and the program itself audits each log by the book that the hall began with
 Usage: hall.py PROGRAM [TEST ..]
 
 The tests: published logins and codes; 64 sessions and those that come after them; three sessions in all 1680 orders of their turns, each
-with the same lines as when it runs by itself; and 64 logins with codes, in a thousand random orders.
+with the same lines as when it runs by itself; codes of one account by many sessions; texts that are not lines; and 64 logins with codes, in
+a thousand random orders.
 """
 import itertools
 import os

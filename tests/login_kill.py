@@ -3,6 +3,8 @@
 book can always be read, and each log is the beginning of a clean one.
 
 Usage: login_kill.py PROGRAM [TEST ..]
+
+Two thousand logins. RUNS in the environment is another number of them.
 """
 import pathlib
 import re

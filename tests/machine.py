@@ -4,7 +4,8 @@
 Usage: machine.py PROGRAM [TEST ..]
 
 A full device, streams that are closed, a pipe that nobody reads, a folder in which nothing can be written, a device without room for the
-book, a clock that is set back, a random file that ends, and too few descriptors; signals at any moment; and twenty runs at once. Each
+book, a clock that is set back, or is before 1970 or after the year 9999, a random file that ends, and too few descriptors. In 120 runs of
+each command, TERM, INT, HUP or KILL at a random moment; twenty runs of each command at once, and ten times twenty of all together. Each
 run ends with the status and the fault in the table, has printed what it says, and leaves that book and no other file. When root runs
 the script, the program runs as the user nobody in tests of permissions. Needs `cc`.
 """

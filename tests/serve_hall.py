@@ -4,7 +4,9 @@
 Usage: serve_hall.py PROGRAM [TEST ..]
 
 The tool is started as in the block of docs/OPERATING.md. What the clients send and have to receive is computed with Python's hashlib and
-hmac.
+hmac. The tool goes on if a client is gone before it is greeted, is the 65th, or sends no whole line. If its hall is killed, it ends at the
+next event, and says why. It ends with status 0 at INT and at TERM, and with status 1 and a fault if a code can't be saved. No hall begins
+if the log or the socket is there already, as after a run that was killed.
 """
 import os
 import re
