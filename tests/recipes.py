@@ -1,6 +1,6 @@
 #!/usr/bin/env python3
-"""Runs each block of docs/OPERATING.md as it stands, except `make install`, `useradd`, paths and the user, and checks what it leaves and
-prints.
+"""Runs each block of docs/OPERATING.md and docs/SYSTEMD.md as it stands, except `make install`, `useradd`, paths and the user, and checks
+what it leaves and prints.
 
 Usage: recipes.py PROGRAM [TEST ..]
 
@@ -9,7 +9,7 @@ tools/, with the program on the PATH, and then all but the first in one folder, 
 credentials are used. So each of the tools is tried; the block of `serve-hall` is run by serve_hall.py. `make install`, `useradd`, sudo and
 systemd are not run. Codes, keys and verifiers are those of RFC 4226 and RFC 7677, from keys.csv (made by Dovecot), or from Python's
 hashlib. Any other block that no test runs is a fault. Takes the 30 seconds for which an edit waits for a book. DOCUMENT=PATH in the
-environment names another page.
+environment names another page than OPERATING.md.
 """
 import base64
 import fcntl
@@ -35,6 +35,7 @@ from suite import BOOK_OF_USER, CODES, ROOT, code, document, hotp, is_locked, is
 from tool_runs import TOOLS, book_of, does, ran, start, with_tools
 
 DOCUMENT = document("docs/OPERATING.md")
+UNITS = TOOLS.parent / "docs" / "SYSTEMD.md"
 # The folder of the tools in the document, and the folder that it makes.
 INSTALLED = "/usr/local/share/scramotp"
 PLACE = "/var/lib/scramotp"
@@ -58,8 +59,8 @@ SERVED = "Serve many logins with `hall`"
 
 
 def all_blocks():
-    """Each block of the document except that of `serve-hall`: its section's title, its language and its text."""
-    return [block for block in suite.blocks_of(DOCUMENT) if block[0] != SERVED]
+    """Each block of the two documents except that of `serve-hall`: its section's title, its language and its text."""
+    return [block for page in (DOCUMENT, UNITS) for block in suite.blocks_of(page) if block[0] != SERVED]
 
 
 def blocks(title, language="sh"):
@@ -769,7 +770,7 @@ def units(folder):
     password.write_text("pencil\n")
     where = {"STATE_DIRECTORY": str(state), "CREDENTIALS_DIRECTORY": str(credentials)}
     answers = []
-    for unit in blocks("systemd", "ini"):
+    for unit in blocks("Enrol a user, audit a log", "ini"):
         for name in re.findall(r"^LoadCredential\w*=([\w.]+):", unit, re.M):
             source = AUDITS / {"before.toml": "hotp.toml", "log.txt": "sha1.log"}.get(name, "")
             if source.is_file():
@@ -826,7 +827,7 @@ def every_block(folder):
     equal(left_out, [(SERVED, "sh")], "the blocks that are left out")
     calls = re.findall(r'\bblocks\("([^"]+)"(?:, "(\w+)")?\)', Path(__file__).read_text(encoding="utf-8"))
     taken = {(title, language or "sh") for title, language in calls}
-    equal({block[:2] for block in all_blocks()}, taken, "the blocks of the document, and those that a test takes")
+    equal({block[:2] for block in all_blocks()}, taken, "the blocks of the documents, and those that a test takes")
 
 
 TESTS = [
