@@ -89,9 +89,6 @@ def with_fob(folder):
     does(folder, blocks("Give a user one-time codes")[-1].replace(FOB, NAME).replace("no such account", "no token"))
 
 
-# The tools that have no texts of their own.
-SILENT = {"check-code", "drop-tables"}
-
 # The tables of an account's keys.
 MECHANISMS = ["sha1", "sha256"]
 
@@ -732,10 +729,9 @@ def every_tool(folder):
     for name, words in told:
         usage = f"{name} {words}: "
         holds(usage in Path(folder, "tools", name).read_text(encoding="utf-8"), "the usage is not in the tool", name, words)
-        if name not in SILENT:
-            status, output, faults = ran(folder, f"tools/{name}")
-            equal((status, output), (1, ""), name, faults)
-            holds(faults.startswith(usage) and faults.count("\n") == 1, "the tool without words does not print its usage", name, faults)
+        status, output, faults = ran(folder, f"tools/{name}")
+        equal((status, output), (1, ""), name, faults)
+        holds(faults.startswith(usage) and faults.count("\n") == 1, "the tool without words does not print its usage", name, faults)
 
 
 def all_in_order(folder):
