@@ -506,7 +506,7 @@ def a_renamed_account(folder):
 
 def what_accounts_have(folder):
     """The recipe prints which keys each account has, and the state of its token, also of one that has passed codes and one that is
-    locked."""
+    locked. It waits for no lock."""
     enrolled(folder)
     [tell] = blocks("See what accounts have")
     tokens = hotp(look_ahead=0, limit=2, name="counts") + totp(limit=3).replace("accounts.user", "accounts.timed") + "\n[accounts.bare]\n"
@@ -521,7 +521,9 @@ def what_accounts_have(folder):
     does(folder, verify("timed", "94287082", moment=59), printed="PASS 59 1\n")  # RFC 6238, appendix B
     equal(ran(folder, verify("timed", "00000000", moment=59))[:2], (1, "FAIL 59\n"), "the answer to a code that fails")
     told = {"counts: hotp token (next 1, locked)", "timed: totp token (last 1, 1 failures)"}
-    status, output, faults = ran(folder, tell)
+    with open(Path(folder, "book.toml"), "rb") as held:
+        fcntl.flock(held, fcntl.LOCK_EX)
+        status, output, faults = ran(folder, tell)
     equal((status, set(output.splitlines()), faults), (0, started | told, ""), "what accounts have after the codes")
 
 
