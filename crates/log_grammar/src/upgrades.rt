@@ -19,8 +19,8 @@ pub fn upgraded_logs_are_clean()
     ensures { UpgradedLogsAreClean }
 {}
 
-/// If its lines can be upgraded, and no first line stands among the others, line k of a log of version 1 is at fault for a reason
-/// if and only if line k of the upgraded log is at fault for the same reason. A second first line is out of order in the old log;
+/// If its lines can be upgraded, line k of a log of version 1 is at fault for a reason if and only if line k of the upgraded log is
+/// at fault, for the same reason. The only reason that changes is that of a first line again, which is out of order in the old log:
 /// with a number it is not a line.
 pub fn upgraded_logs_have_the_same_fault()
     ensures { UpgradedLogsHaveTheSameFault }

@@ -14,7 +14,7 @@ use Rattle.log_grammar.specs.Upgrades.{with_numbers, upgraded_bytes, CanBeUpgrad
 use Rattle.log_grammar.proofs.lemmas.lines.Written.{offer_is_writable}
 use Rattle.scram_text.proofs.lemmas.ListEnds.{same_cons}
 use Rattle.log_grammar.proofs.lemmas.upgraded_logs.SameClean.{upgraded_logs_are_clean}
-use Rattle.log_grammar.proofs.lemmas.upgraded_logs.SameFault.{upgraded_log_has_same_fault}
+use Rattle.log_grammar.proofs.lemmas.upgraded_logs.SameFault.{upgraded_log_has_same_fault, numbered_lines_keep_reason}
 use Rattle.log_grammar.proofs.lemmas.upgraded_logs.Texts.{next_number_stays_or_rises}
 use Rattle.log_grammar.specs.Numbered.{is_end as closes}
 use Rattle.log_grammar.specs.Words.{offered_names}
@@ -63,7 +63,8 @@ pub digit_log_is_at_fault : (accounts : Accounts) (lines : List LogLine) (k : �
     → IsWhy accounts (log_bytes (header ∷ lines)) k why → IsWhy accounts (digit_log lines) k why
 digit_log_is_at_fault accounts lines k why each have few w =
     subst (λ (b : List ℕ). IsWhy accounts b k why) (upgraded_bytes_are_digit_log lines few)
-    (upgraded_log_has_same_fault accounts lines k why (few_lines_can_be_numbered lines each few) have w)
+    (upgraded_log_has_same_fault accounts lines k why why (few_lines_can_be_numbered lines each few)
+    (numbered_lines_keep_reason lines k why have) w)
 
 -- the log of version 2 of `S MECHS` and a few lines is clean if that of version 1 is
 pub digit_session_is_clean : (accounts : Accounts) (lines : List LogLine) → AllByRecursion IsWritable lines → 2 + length lines ≤ 9

@@ -122,7 +122,7 @@ pub upgraded_texts_lack_lf : (lines : List LogLine) → CanBeUpgraded lines
 upgraded_texts_lack_lf lines can = (refl, numbered_texts_lack_lf 1 lines (lines_fit_from_one lines can) can.each)
 
 -- a text of an upgraded log is read as no other than its number and its line
-upgraded_text_has_one_line : (n : ℕ) (line : LogLine) (x : Numbered LogLine) → IsSessionNumber n → IsWritable line
+pub upgraded_text_has_one_line : (n : ℕ) (line : LogLine) (x : Numbered LogLine) → IsSessionNumber n → IsWritable line
     → IsNumberedLine (numbered_text (numbered n line)) x → x ≡ numbered n line
 upgraded_text_has_one_line n line x number is read =
     let same_number = numbered_text_shows_number n (log_line_text line) x number read in
