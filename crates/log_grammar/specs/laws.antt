@@ -2,6 +2,7 @@
 -- by a function that does nothing.
 pub mod LineLaws
 pub mod Histories
+pub mod KindLaws
 pub mod LogLaws
 pub mod Logins
 pub mod Outcomes

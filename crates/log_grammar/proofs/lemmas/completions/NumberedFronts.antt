@@ -16,7 +16,7 @@ use Rattle.log_grammar.specs.VersionTwo.{version_two}
 use Rattle.log_grammar.proofs.lemmas.completions.Verdicts.{CompletionLaws}
 use Rattle.log_grammar.proofs.lemmas.lines.Written.{end_is_writable}
 use Rattle.log_grammar.proofs.lemmas.lines.Cuts.{joined_lines_are_split}
-use Rattle.log_grammar.proofs.lemmas.kinds.FaultLines.{FrontsBeginCleanOf}
+use Rattle.log_grammar.specs.laws.KindLaws.{FrontsBeginCleanOf}
 use Rattle.log_grammar.proofs.lemmas.completions.OpenSessions.{IsNumberedCompletable, ended_numbered_log_is_completable}
 use Rattle.log_grammar.proofs.lemmas.completions.OpenSessions.{shorter_numbered_log_is_completable, Free, log_is_free_after, OpenInRange}
 use Rattle.log_grammar.proofs.lemmas.completions.OpenSessions.{closing_all_completes_log}

@@ -5,7 +5,8 @@ use Rattle.log_grammar.specs.Why.{Why, no_line}
 use Rattle.log_grammar.specs.LogKinds.{LogKind, either}
 use Rattle.log_grammar.proofs.lemmas.kinds.Sound.{CanBeShortened, CleanLinesStand, HasOneReason, NextIsJudged, IsSound}
 use Rattle.log_grammar.proofs.lemmas.kinds.Fronts.{first_lines_stand}
-use Rattle.log_grammar.proofs.lemmas.kinds.FaultLines.{FrontsBeginCleanOf, FaultText}
+use Rattle.log_grammar.specs.laws.KindLaws.{FrontsBeginCleanOf}
+use Rattle.log_grammar.proofs.lemmas.kinds.FaultLines.{FaultText}
 
 -- each log of the kind begins with this line, and it may be alone
 pub record IsHeaded (kind : LogKind) (first : List ℕ) : Type 0 where

@@ -9,16 +9,13 @@ use Rattle.log_grammar.specs.Bytes.{LacksLf, ended_by_lf, IsSplit}
 use Rattle.log_grammar.specs.Why.{Why}
 use Rattle.log_grammar.specs.LogKinds.{LogKind, IsLogFrontOf, IsCleanOf, IsFaultLineOf, IsReasonForNextOf, IsWhyOf, BeginsCleanOf}
 use Rattle.log_grammar.specs.LogKinds.{IsFirstOutsideCleanLogsOf}
+use Rattle.log_grammar.specs.laws.KindLaws.{FrontsBeginCleanOf, FrontsAreWhatBeginsCleanOf}
 use Rattle.log_grammar.proofs.lemmas.lines.Cuts.{one_split, longer_bytes_are_split, lines_up_to_lack_lf, whole_lines_are_split}
 use Rattle.log_grammar.proofs.lemmas.ListEnds.{take-append_next, index_has_element, front_keeps_all}
 use Rattle.log_grammar.proofs.lemmas.kinds.Sound.{CanBeShortened, CleanLinesStand}
 use Rattle.log_grammar.proofs.lemmas.kinds.Fronts.{first_lines_stand, front_lines_stand, standing_lines_are_front}
 use Rattle.log_grammar.proofs.lemmas.kinds.AtFault.{text_is_at_fault, end_is_fault_line, text_is_fault_line}
 use Rattle.log_grammar.proofs.lemmas.kinds.OneFault.{reason_is_of_next}
-
--- each front of the kind begins a clean log
-abbrev pub FrontsBeginCleanOf : LogKind → Type 0
-FrontsBeginCleanOf kind = (bytes : List ℕ) → IsLogFrontOf kind bytes → BeginsCleanOf kind bytes
 
 -- what is known of a fault line, among the lines of these bytes
 record IsFaultAmong (kind : LogKind) (bytes : List ℕ) (texts : List (List ℕ)) (k : ℕ) : Type 0 where
@@ -139,8 +136,7 @@ module _ (kind : LogKind) where
 
       module _ (completes : FrontsBeginCleanOf kind) where
         -- in a kind in which each front begins a clean log, whole lines are a front if and only if they begin one
-        pub front_iff_begins_clean : (bytes : List ℕ) (texts : List (List ℕ)) → IsSplit bytes texts []
-            → IsLogFrontOf kind bytes ↔ BeginsCleanOf kind bytes
+        pub front_iff_begins_clean : FrontsAreWhatBeginsCleanOf kind
         front_iff_begins_clean bytes texts cut =
             (λ front. completes bytes front, λ begins. (texts, cut, begun_lines_stand bytes texts cut begins))
 

@@ -4,5 +4,4 @@ use Rattle.log_grammar.proofs.lemmas.kinds.VersionTwo.{version_two_can_be_shorte
 use Rattle.log_grammar.proofs.numbered_logs.numbered_fronts_begin_with_fronts.Goals as goal
 
 pub returns : goal.returns
-returns c = λ limit accounts bytes texts k front cut. fronts_begin_with_fronts (version_two limit accounts)
-    (version_two_can_be_shortened limit accounts) bytes texts k front cut
+returns c = λ limit accounts. fronts_begin_with_fronts (version_two limit accounts) (version_two_can_be_shortened limit accounts)
