@@ -22,7 +22,7 @@ from audit_cases import TABLE, cases
 from checks import equal
 from expected import AUDITS, SESSION_LEFT, login_keys, proved
 from runs import LIMIT, Running
-from suite import MOST_BYTES, PROGRAM, SALT, audit_says, prints
+from suite import MOST_BYTES, PROGRAM, SALT, audit_says, each, prints
 
 KEYS = AUDITS / "keys.toml"
 LOGIN = AUDITS / "sha1.log"
@@ -46,11 +46,12 @@ def rows_of_table(folder):
     """Each row has its answer, and leaves the book unchanged. Each reason has a row."""
     rows, log = cases(), pathlib.Path(folder, "log")
     equal({reason(row.answer) for row in rows} - {None}, REASONS, "the reasons that have a row")
-    for line, (book, text, answer, shows) in enumerate(rows, 2):
-        log.write_bytes(text)
-        before, where = book.read_bytes(), f"{TABLE.name}: line {line}: {shows}"
-        audit_says(book, log, answer, where)
-        equal(book.read_bytes(), before, f"{where}: the book")
+    for trial, (line, (book, text, answer, shows)) in each(enumerate(rows, 2)):
+        with trial:
+            log.write_bytes(text)
+            before, where = book.read_bytes(), f"{TABLE.name}: line {line}: {shows}"
+            audit_says(book, log, answer, where)
+            equal(book.read_bytes(), before, f"{where}: the book")
 
 
 def signed(challenge):
@@ -68,21 +69,22 @@ def other_challenges(folder):
     proof, signature = signed(first)
     text = LOGIN.read_text()
     equal((text.count(f"p={proof}\n"), text.count(f"v={signature}\n")), (1, 1), "the login's own proof and signature")
-    for what, challenge, answer in [
+    for trial, (what, challenge, answer) in each([
         ("an extension", first + ",x=1", CLEAN),
         ("an extension with no value", first + ",X=,y=b", "line 4: challenge"),
         ("two extensions", first + ",X==,y=a=b", CLEAN),
         ("an extension that is mandatory", first + ",m=1", "line 4: challenge"),
         ("an own part of 488 characters", first.replace("3rfcNHYJY1ZVvWVs7j", "3" * 488), CLEAN),
         ("an own part of 489 characters", first.replace("3rfcNHYJY1ZVvWVs7j", "3" * 489), "line 4: challenge"),
-    ]:
-        other_proof, other_signature = signed(challenge)
-        edited = text.replace(f"S CONT :{first}", f"S CONT :{challenge}")
-        nonce = challenge.split(",")[0]
-        edited = edited.replace("c=biws,r=fyko+d2lbbFgONRv9qkxdawL3rfcNHYJY1ZVvWVs7j", f"c=biws,{nonce}")
-        edited = edited.replace(f"p={proof}\n", f"p={other_proof}\n").replace(f"v={signature}\n", f"v={other_signature}\n")
-        log.write_text(edited)
-        audit_says(KEYS, log, answer, what)
+    ]):
+        with trial:
+            other_proof, other_signature = signed(challenge)
+            edited = text.replace(f"S CONT :{first}", f"S CONT :{challenge}")
+            nonce = challenge.split(",")[0]
+            edited = edited.replace("c=biws,r=fyko+d2lbbFgONRv9qkxdawL3rfcNHYJY1ZVvWVs7j", f"c=biws,{nonce}")
+            edited = edited.replace(f"p={proof}\n", f"p={other_proof}\n").replace(f"v={signature}\n", f"v={other_signature}\n")
+            log.write_text(edited)
+            audit_says(KEYS, log, answer, what)
     log.write_text(text.replace(f"S CONT :{first}", f"S CONT :{first},x=1"))
     audit_says(KEYS, log, "line 6: outcome, due NO :e=invalid-proof", "a proof without the extension")
 
@@ -148,14 +150,15 @@ def long_logs(folder):
     log = pathlib.Path(folder, "log")
     sessions = HEADER + SESSION_LEFT * 333333
     unfinished = HEADER + ABORTED + SESSION_LEFT * 333332
-    for name, text, answer in [
+    for trial, (name, text, answer) in each([
         ("1000000 lines", sessions, "clean sessions=333333 accepted=0 codes=0"),
         ("1000000 lines and a byte", sessions + b"S", "too many lines"),
         ("1000000 unfinished lines", unfinished.removesuffix(b"E\n"), "line 1000001: cut"),
         ("1000001 lines", unfinished, "too many lines"),
-    ]:
-        log.write_bytes(text)
-        audit_says(KEYS, log, answer, name)
+    ]):
+        with trial:
+            log.write_bytes(text)
+            audit_says(KEYS, log, answer, name)
 
 
 def refuses(what, book, log, status, fault):

@@ -8,6 +8,7 @@ to quote; each line's reply; which random bytes go where. When root runs it, the
 Takes the 30 seconds for which runs wait for a lock.
 """
 import fcntl
+import itertools
 import json
 import os
 import pathlib
@@ -19,7 +20,7 @@ from concurrent.futures import ThreadPoolExecutor
 import suite
 from checks import equal, holds
 from runs import ran
-from suite import BOOK_OF_USER, CODES, MOST_BYTES, ROOT, as_nobody, fault_text, hotp, is_root, nobody, read_book, seen, token
+from suite import BOOK_OF_USER, CODES, MOST_BYTES, ROOT, as_nobody, each, fault_text, hotp, is_root, nobody, read_book, seen, token
 
 # A copy of the program that the user nobody can run, wherever the program is.
 COPY = tempfile.TemporaryDirectory()
@@ -110,10 +111,11 @@ def order_of_a_new_book(folder):
     equal(os.listdir(folder), [], "the folder")
     says("no random file", run("enrol", options, "pencil"), 3, "", f"cannot read {random}")
     equal(os.listdir(folder), [], "the folder")
-    for length in [0, 63]:
-        random.write_bytes(bytes(length))
-        says(f"{length} random bytes", run("enrol", options, "pencil"), 3, "", f"cannot read {random}")
-        equal(os.listdir(folder), ["random"], "the folder")
+    for trial, length in each([0, 63]):
+        with trial:
+            random.write_bytes(bytes(length))
+            says(f"{length} random bytes", run("enrol", options, "pencil"), 3, "", f"cannot read {random}")
+            equal(os.listdir(folder), ["random"], "the folder")
     random.write_bytes(bytes(64))
     says("64 random bytes", run("enrol", options, "pencil"), 0, "enrolled user\n")
 
@@ -156,10 +158,11 @@ def bad_values(folder):
     bad += [("verify", "moment", value) for value in [*numbers, "253402300800"]]
     for name in ["", "n" * 256, "a\tb", "a\x7f", "\u00e9"]:
         bad += [(command, "name", name) for command in GOOD]
-    for command, option, value in bad:
-        options, text, _ = GOOD[command]
-        done = run(command, {"book": book, **options, option: value}, text)
-        says(f"{command} --{option}={value!r}", done, 2, "", f"bad value for --{option}")
+    for trial, (command, option, value) in each(bad):
+        with trial:
+            options, text, _ = GOOD[command]
+            done = run(command, {"book": book, **options, option: value}, text)
+            says(f"{command} --{option}={value!r}", done, 2, "", f"bad value for --{option}")
 
 
 def values_at_their_limits(folder):
@@ -167,9 +170,10 @@ def values_at_their_limits(folder):
     book = put(os.path.join(folder, "book"))
     done = run("enrol", {"book": book, "name": "n" * 255, "count": "4294967295"}, "")
     says("the greatest count", done, 2, "", "bad password")
-    for counter, moment in enumerate(["0", "253402300799"]):
-        done = run("verify", {"book": book, "name": "user", "moment": moment}, CODES[counter])
-        says(f"moment {moment}", done, 0, f"PASS {moment} {counter}\n")
+    for trial, (counter, moment) in each(enumerate(["0", "253402300799"])):
+        with trial:
+            done = run("verify", {"book": book, "name": "user", "moment": moment}, CODES[counter])
+            says(f"moment {moment}", done, 0, f"PASS {moment} {counter}\n")
 
 
 def no_file(folder):
@@ -181,8 +185,8 @@ def no_file(folder):
     os.symlink("nothing", link)
     nowhere = [os.path.join(folder, "no", name) for name in ["book", ".."]]
     folders = [os.path.join(folder, "new" + end) for end in ["/", "//", "/."]]
-    for command in GOOD:
-        for book in [inner, pipe, link, *nowhere, *folders, ""]:
+    for trial, (command, book) in each(itertools.product(GOOD, [inner, pipe, link, *nowhere, *folders, ""])):
+        with trial:
             says(f"{command} on {book}", well(command, book), 3, "", f"cannot read {book}")
     equal(sorted(os.listdir(folder)), ["inner", "link", "pipe"], "folder")
 
@@ -191,24 +195,26 @@ def unreadable(folder):
     """A book that may not be read, and a book in a folder that may not be read."""
     os.chmod(folder, 0o755)
     book = put(os.path.join(folder, "book"))
-    for path, mode in [(book, 0o000), (folder, 0o311)]:
-        before = os.stat(path).st_mode
-        os.chmod(path, mode)
-        for command in GOOD:
-            says(f"{command}: {path}", well(command, book, **as_nobody()), 3, "", f"cannot read {book}")
-        os.chmod(path, before)
+    for trial, ((path, mode), command) in each(itertools.product([(book, 0o000), (folder, 0o311)], GOOD)):
+        with trial:
+            before = os.stat(path).st_mode
+            os.chmod(path, mode)
+            done = well(command, book, **as_nobody())
+            os.chmod(path, before)
+            says(f"{command}: {path}", done, 3, "", f"cannot read {book}")
     equal(pathlib.Path(book).read_text(), BOOK, "the book")
 
 
 def longest(folder):
     """A book of 16777216 bytes is read, and a book of one more byte is not."""
     book = os.path.join(folder, "book")
-    for command in GOOD:
-        text = BOOK + "#" * (MOST_BYTES - len(BOOK))
-        put(book, text + "#")
-        says(f"{command} on one byte more", well(command, book), 3, "", f"cannot read {book}")
-        put(book, text)
-        succeeds(command, book)
+    for trial, command in each(GOOD):
+        with trial:
+            text = BOOK + "#" * (MOST_BYTES - len(BOOK))
+            put(book, text + "#")
+            says(f"{command} on one byte more", well(command, book), 3, "", f"cannot read {book}")
+            put(book, text)
+            succeeds(command, book)
 
 
 def unwritable(folder):
@@ -219,29 +225,32 @@ def unwritable(folder):
             os.chown(path, nobody().pw_uid, nobody().pw_gid)
     before = seen(book)
     os.chmod(folder, 0o555)
-    for command in GOOD:
-        says(command, well(command, book, **as_nobody()), 3, "", f"cannot write {book}")
+    for trial, command in each(GOOD):
+        with trial:
+            says(command, well(command, book, **as_nobody()), 3, "", f"cannot write {book}")
     says("a new book", well("enrol", new, **as_nobody()), 3, "", f"cannot write {new}")
     equal(seen(book), before, "the book")
     equal(os.listdir(folder), ["book"], "the folder")
     os.chmod(folder, 0o755)
-    for command in GOOD:
-        succeeds(command, book, **as_nobody())
+    for trial, command in each(GOOD):
+        with trial:
+            succeeds(command, book, **as_nobody())
 
 
 def each_line(folder):
     """Each line is judged as a code as it stands, whatever came before it. If one is refused, the status says so."""
     book, right = os.path.join(folder, "book"), CODES[0]
-    for text, status, printed in [
+    for trial, (text, status, printed) in each([
         (f"000000\n{right}\n", 1, "FAIL 5\nPASS 5 0\n"),
         (f"{right}\n000000", 1, "PASS 5 0\nFAIL 5\n"),
         (f"{right}\r\n", 1, "FAIL 5\n"),
         (f"\n{right}\n", 1, "FAIL 5\nPASS 5 0\n"),
         (f"{right}\n", 0, "PASS 5 0\n"),
         ("", 0, ""),
-    ]:
-        done = run("verify", {"book": put(book), **GOOD["verify"][0]}, text)
-        says(f"verify of {text!r}", done, status, printed)
+    ]):
+        with trial:
+            done = run("verify", {"book": put(book), **GOOD["verify"][0]}, text)
+            says(f"verify of {text!r}", done, status, printed)
 
 
 def random_bytes(folder):
@@ -285,9 +294,10 @@ def owner(folder):
     os.chown(book, 1234, 4321)
     os.chmod(book, 0o600)
     before = access(book)
-    for command in GOOD:
-        succeeds(command, book)
-        equal(access(book), before, f"access after {command}")
+    for trial, command in each(GOOD):
+        with trial:
+            succeeds(command, book)
+            equal(access(book), before, f"access after {command}")
     put(book)
     os.chown(book, 0, 0)
     os.chmod(book, 0o666)
@@ -312,20 +322,22 @@ def group_of_others(folder):
     the owner may read it. Only root can try this."""
     book = put(os.path.join(folder, "book"))
     os.chown(folder, nobody().pw_uid, nobody().pw_gid)
-    for command in GOOD:
-        os.chown(book, nobody().pw_uid, 0)
-        os.chmod(book, 0o640)
-        succeeds(command, book, **as_nobody())
-        found = os.stat(book)
-        equal((found.st_uid, found.st_gid, found.st_mode & 0o7777), (nobody().pw_uid, nobody().pw_gid, 0o600), "access")
+    for trial, command in each(GOOD):
+        with trial:
+            os.chown(book, nobody().pw_uid, 0)
+            os.chmod(book, 0o640)
+            succeeds(command, book, **as_nobody())
+            found = os.stat(book)
+            equal((found.st_uid, found.st_gid, found.st_mode & 0o7777), (nobody().pw_uid, nobody().pw_gid, 0o600), "access")
 
 
 def check_refused(book, runner):
     """Each command on another user's book says why it can't be used, and leaves it as it was."""
     before = seen(book)
-    for command in GOOD:
-        fault = f"{book} belongs to another user: only that user and root can save it\nscramotp: cannot write {book}"
-        says(command, well(command, book, **runner), 3, "", fault)
+    for trial, command in each(GOOD):
+        with trial:
+            fault = f"{book} belongs to another user: only that user and root can save it\nscramotp: cannot write {book}"
+            says(command, well(command, book, **runner), 3, "", fault)
     equal(seen(book), before, "the book of another")
     equal(os.listdir(os.path.dirname(book)), ["book"], "its folder")
 
@@ -337,17 +349,18 @@ def others_book(folder):
     os.chown(book, 1234, 4321)
     os.chmod(book, 0o666)
     before = seen(book)
-    for owner, mode in [(0, 0o777), (0, 0o1777), (0, 0o775), (1234, 0o755)]:
-        os.chown(folder, owner, owner)
-        os.chmod(folder, mode)
-        for command in GOOD:
-            for user in [{}, as_nobody()]:
-                says(f"{command} in {mode:o}", well(command, book, **user), 3, "", f"cannot read {book}")
+    folders = [(0, 0o777), (0, 0o1777), (0, 0o775), (1234, 0o755)]
+    for trial, ((owner, mode), command, user) in each(itertools.product(folders, GOOD, [{}, as_nobody()])):
+        with trial:
+            os.chown(folder, owner, owner)
+            os.chmod(folder, mode)
+            says(f"{command} in {mode:o}", well(command, book, **user), 3, "", f"cannot read {book}")
     equal(seen(book), before, "another's book")
     os.chown(folder, 0, 0)
     os.chmod(folder, 0o755)
-    for command in GOOD:
-        succeeds(command, book)
+    for trial, command in each(GOOD):
+        with trial:
+            succeeds(command, book)
 
 
 def others_next(folder):
@@ -359,8 +372,9 @@ def others_next(folder):
     os.chmod(next_text, 0o600)
     os.chmod(folder, 0o1777)
     before = seen(book)
-    for command in GOOD:
-        says(command, well(command, book, **as_nobody()), 3, "", f"cannot write {next_text}")
+    for trial, command in each(GOOD):
+        with trial:
+            says(command, well(command, book, **as_nobody()), 3, "", f"cannot write {next_text}")
     equal(seen(book), before, "the book")
     os.remove(book)
     says("a new book", well("enrol", book, **as_nobody()), 3, "", f"cannot write {next_text}")
@@ -376,12 +390,14 @@ def closed_next(folder):
             os.chown(path, nobody().pw_uid, nobody().pw_gid)
     os.chmod(next_text, 0)
     before = seen(book), access(next_text)
-    for command in GOOD:
-        says(command, well(command, book, **as_nobody()), 3, "", f"cannot write {next_text}")
+    for trial, command in each(GOOD):
+        with trial:
+            says(command, well(command, book, **as_nobody()), 3, "", f"cannot write {next_text}")
     equal((seen(book), access(next_text)), before, "the book and the next text")
     os.chmod(next_text, 0o600)
-    for command in GOOD:
-        succeeds(command, book, **as_nobody())
+    for trial, command in each(GOOD):
+        with trial:
+            succeeds(command, book, **as_nobody())
     equal(os.listdir(folder), ["book"], "the folder")
 
 
@@ -397,17 +413,19 @@ NAMES = [
 def names(folder):
     """Each name is in the book as it was given, and is found there, even if a person quoted it in another way."""
     book = put(os.path.join(folder, "book"), EMPTY)
-    for name in NAMES:
-        options = {"book": book, "name": name}
-        says(f"unlock of {name!r}", run("unlock", options), 1, "", "no such account")
-        says(f"enrol of {name!r}", run("enrol", {**options, "count": "1"}, "pencil"), 0, f"enrolled {name}\n")
-        says(f"unlock of {name!r}", run("unlock", options), 1, "", "no token")
+    for trial, name in each(NAMES):
+        with trial:
+            options = {"book": book, "name": name}
+            says(f"unlock of {name!r}", run("unlock", options), 1, "", "no such account")
+            says(f"enrol of {name!r}", run("enrol", {**options, "count": "1"}, "pencil"), 0, f"enrolled {name}\n")
+            says(f"unlock of {name!r}", run("unlock", options), 1, "", "no token")
     equal(list(read_book(book)["accounts"]), sorted(NAMES), "names")
     with open(book, "a") as text:
         text.writelines(hotp(3, 3, name=json.dumps(name)) for name in NAMES)
-    for name in NAMES:
-        done = run("verify", {"book": book, "name": name, "moment": "5"}, CODES[0])
-        says(f"verify of {name!r}", done, 0, "PASS 5 0\n")
+    for trial, name in each(NAMES):
+        with trial:
+            done = run("verify", {"book": book, "name": name, "moment": "5"}, CODES[0])
+            says(f"verify of {name!r}", done, 0, "PASS 5 0\n")
     equal(list(read_book(book)["accounts"]), sorted(NAMES), "names")
     equal({token(book, name)["next"] for name in NAMES}, {1}, "counters")
 
@@ -417,14 +435,15 @@ def hard_links(folder):
     book, other = put(os.path.join(folder, "book")), os.path.join(folder, "other")
     os.link(book, other)
     before = seen(book)
-    for command in GOOD:
-        for path in [book, other]:
+    for trial, (command, path) in each(itertools.product(GOOD, [book, other])):
+        with trial:
             says(f"{command} on a file of two names", well(command, path), 3, "", f"cannot read {path}")
     equal((seen(book), seen(other)), (before, before), "both names")
     equal(sorted(os.listdir(folder)), ["book", "other"], "the folder")
     os.remove(other)
-    for command in GOOD:
-        succeeds(command, book)
+    for trial, command in each(GOOD):
+        with trial:
+            succeeds(command, book)
 
 
 def held_by_another(folder):
@@ -435,9 +454,10 @@ def held_by_another(folder):
         for held in [old, next_text]:
             fcntl.flock(held, fcntl.LOCK_EX)
         waiting = [pool.submit(well, *run) for run in runs]
-    for (command, path), run in zip(runs, waiting):
-        fault = f"other runs held {path} for 30 seconds\nscramotp: cannot read {path}"
-        says(f"{command} on a held book", run.result(), 3, "", fault)
+    for trial, ((command, path), run) in each(zip(runs, waiting)):
+        with trial:
+            fault = f"other runs held {path} for 30 seconds\nscramotp: cannot read {path}"
+            says(f"{command} on a held book", run.result(), 3, "", fault)
     equal(sorted(os.listdir(folder)), ["book", "new.new"], "the folder")
     equal(pathlib.Path(book).read_text(), BOOK, "the book")
 

@@ -11,7 +11,7 @@ import pathlib
 import suite
 from book_cases import TABLE, cases
 from checks import equal
-from suite import PROGRAM, prints
+from suite import PROGRAM, each, prints
 
 NUMBERS = {str(number) for number in range(60, 68)}
 
@@ -35,8 +35,9 @@ def check(where, path, case):
 def rows_of_table(folder):
     """Each row has its answer, and each fault's number has a row."""
     rows = cases()
-    for line, case in enumerate(rows, 2):
-        check(f"{TABLE.name}: line {line}: {case.shows}", pathlib.Path(folder, "book"), case)
+    for trial, (line, case) in each(enumerate(rows, 2)):
+        with trial:
+            check(f"{TABLE.name}: line {line}: {case.shows}", pathlib.Path(folder, "book"), case)
     equal(NUMBERS - {case.answer for case in rows}, set(), "the numbers that have no row")
     print(f"book_faults.py: {len(rows)} books as they should be")
 

@@ -28,7 +28,7 @@ from checks import equal, holds
 from kills import kill_at_any_moment
 from runs import Running, ran, taken, until, whole
 from suite import (
-    BOOK_OF_USER, CODES, MOST_BYTES, PROGRAM, BookFolder, code, fault_text, hotp, is_locked, prints, read_book, seen, verify_words,
+    BOOK_OF_USER, CODES, MOST_BYTES, PROGRAM, BookFolder, code, each, fault_text, hotp, is_locked, prints, read_book, seen, verify_words,
 )
 
 BOOK = BOOK_OF_USER + hotp(look_ahead=3, limit=100)
@@ -95,20 +95,22 @@ def killed_at_any_moment(folder):
 def modes(folder):
     """Only its owner can read a new book, whatever the umask. A rewritten book keeps only the owner's bits of its mode."""
     here = BookFolder(folder, BOOK)
-    for mask in [0o000, 0o022, 0o077]:
-        here.book.unlink()
-        old = os.umask(mask)
-        try:
-            enrolling = start_enrol(here.book, "user", 1)
-        finally:
-            os.umask(old)
-        enrolling.ends(0, "enrolled user\n")
-        equal(mode_of(here.book), "600", f"the mode of a new book, with umask {mask:03o}")
-    for before, after in [(0o640, "600"), (0o604, "600"), (0o600, "600"), (0o444, "400")]:
-        here.put(BOOK)
-        here.book.chmod(before)
-        here.verifies(FIRST_CODE, *PASSES)
-        equal(mode_of(here.book), after, f"the mode after a save, which was {before:o}")
+    for trial, mask in each([0o000, 0o022, 0o077]):
+        with trial:
+            here.book.unlink(missing_ok=True)
+            old = os.umask(mask)
+            try:
+                enrolling = start_enrol(here.book, "user", 1)
+            finally:
+                os.umask(old)
+            enrolling.ends(0, "enrolled user\n")
+            equal(mode_of(here.book), "600", f"the mode of a new book, with umask {mask:03o}")
+    for trial, (before, after) in each([(0o640, "600"), (0o604, "600"), (0o600, "600"), (0o444, "400")]):
+        with trial:
+            here.put(BOOK)
+            here.book.chmod(before)
+            here.verifies(FIRST_CODE, *PASSES)
+            equal(mode_of(here.book), after, f"the mode after a save, which was {before:o}")
 
 
 def access_lists(folder):
@@ -218,18 +220,19 @@ def swapped(folder):
         held.mkdir()
         shutil.copy(old / "book", here.book)
 
-    for turn in [move, link, copy, edit, rename_folder]:
-        here.put(BOOK)
-        other.write_text(BOOK)
-        other.chmod(0o644)
-        run = waiting_verify(here.book)
-        turn()
-        before = {name: seen(held / name) for name in os.listdir(held)}
-        run.ends(3, "", fault_text(f"cannot write {here.book}"), FIRST_CODE)
-        after = {name: seen(held / name) for name in os.listdir(held)}
-        equal(after, before, "the files after", turn.__name__)
-        for path in [here.book, away]:
-            path.unlink(missing_ok=True)
+    for trial, turn in each([move, link, copy, edit, rename_folder]):
+        with trial:
+            for path in [here.book, away]:
+                path.unlink(missing_ok=True)
+            here.put(BOOK)
+            other.write_text(BOOK)
+            other.chmod(0o644)
+            run = waiting_verify(here.book)
+            turn()
+            before = {name: seen(held / name) for name in os.listdir(held)}
+            run.ends(3, "", fault_text(f"cannot write {here.book}"), FIRST_CODE)
+            after = {name: seen(held / name) for name in os.listdir(held)}
+            equal(after, before, "the files after", turn.__name__)
 
 
 def keys_before_the_lock(folder):
@@ -338,12 +341,13 @@ def shown_texts(folder):
     lock = locked(book)
     prints(verify_words(book), "", 3, "", f"other runs held {shown} for 30 seconds\nscramotp: cannot read {shown}")
     os.close(lock)
-    for words in [["a\n\x1b[2J"], ["verify", "--\x1b[2J\n"], ["verify", "--book", "x", "\x1b[2J\nscramotp: no token"]]:
-        status, _, faults = ran([PROGRAM, *words])
-        equal(status, 2, words, faults)
-        holds("\\x1b[2J" in faults, "the word is not shown", words, faults)
-        holds("\x1b" not in faults, "a control character is shown", words, faults)
-        holds("\nscramotp" not in faults, "the word starts a line", words, faults)
+    for trial, words in each([["a\n\x1b[2J"], ["verify", "--\x1b[2J\n"], ["verify", "--book", "x", "\x1b[2J\nscramotp: no token"]]):
+        with trial:
+            status, _, faults = ran([PROGRAM, *words])
+            equal(status, 2, words, faults)
+            holds("\\x1b[2J" in faults, "the word is not shown", words, faults)
+            holds("\x1b" not in faults, "a control character is shown", words, faults)
+            holds("\nscramotp" not in faults, "the word starts a line", words, faults)
 
 
 def input_limit(folder):

@@ -3,6 +3,7 @@
 
 Usage: commands.py PROGRAM [TEST ..]
 """
+import itertools
 import os
 import re
 import stat
@@ -16,7 +17,7 @@ from checks import equal, holds
 from expected import DATA, keys_of
 from runs import ran
 from suite import (
-    BOOK_OF_USER, KEYS_OF_PENCIL, MOST_BYTES, PROGRAM, SALT, SECRET, SEEDS, BookFolder, fault_text, hotp, prints, program_on_path,
+    BOOK_OF_USER, KEYS_OF_PENCIL, MOST_BYTES, PROGRAM, SALT, SECRET, SEEDS, BookFolder, each, fault_text, hotp, prints, program_on_path,
     read_book, totp,
 )
 
@@ -68,10 +69,12 @@ def words_on(book, command, *more):
 def passwords(folder):
     """The first line is the password: 1 to 1024 bytes from space to tilde."""
     words = keys("SCRAM-SHA-1", SALT, "4096")
-    for text in [b"pencil\n", b"pencil", b"pencil\nanother\n", b"pencil\n\x7f", b"pencil\n\xff"]:
-        check(words, text, 0, KEYS_OF_PENCIL)
-    for text in ["", "\n", "\npencil\n", "pen\x7fcil\n", "pen\tcil\n", "pencil\r\n", "p\xe9ncil\n", "a" * 1025]:
-        check(words, text, 2, fault="bad password")
+    for trial, text in each([b"pencil\n", b"pencil", b"pencil\nanother\n", b"pencil\n\x7f", b"pencil\n\xff"]):
+        with trial:
+            check(words, text, 0, KEYS_OF_PENCIL)
+    for trial, text in each(["", "\n", "\npencil\n", "pen\x7fcil\n", "pen\tcil\n", "pencil\r\n", "p\xe9ncil\n", "a" * 1025]):
+        with trial:
+            check(words, text, 2, fault="bad password")
 
 
 def key_lines(name, password, salt, count):
@@ -82,16 +85,19 @@ def key_lines(name, password, salt, count):
 
 def values_at_their_limits(folder):
     """The longest password and salts, and the least count. The greatest count takes too long, so it is only seen to be accepted."""
-    for mechanism in ["SCRAM-SHA-1", "SCRAM-SHA-256"]:
-        for salt, count in [("00", 1), (LONGEST, 2)]:
+    mechanisms = ["SCRAM-SHA-1", "SCRAM-SHA-256"]
+    for trial, (mechanism, (salt, count)) in each(itertools.product(mechanisms, [("00", 1), (LONGEST, 2)])):
+        with trial:
             printed = key_lines(mechanism, b"a" * 1024, bytes.fromhex(salt), count)
             check(keys(mechanism, salt, str(count)), "a" * 1024, 0, printed)
-        check(keys(mechanism, "00", "4294967295"), "", 2, fault="bad password")
+    for trial, mechanism in each(mechanisms):
+        with trial:
+            check(keys(mechanism, "00", "4294967295"), "", 2, fault="bad password")
 
 
 def bad_values(folder):
     """Options are checked in the order mechanism, salt, count, and before the password."""
-    for mechanism, salt, count, option in [
+    for trial, (mechanism, salt, count, option) in each([
         ("SCRAM-SHA-512", SALT, "4096", "mechanism"),
         ("scram-sha-1", "", "0", "mechanism"),
         ("", SALT, "4096", "mechanism"),
@@ -109,13 +115,14 @@ def bad_values(folder):
         ("SCRAM-SHA-1", SALT, "4_096", "count"),
         ("SCRAM-SHA-1", SALT, "4294967296", "count"),
         ("SCRAM-SHA-1", SALT, "18446744073709551617", "count"),
-    ]:
-        check(keys(mechanism, salt, count), "", 2, fault=f"bad value for --{option}")
+    ]):
+        with trial:
+            check(keys(mechanism, salt, count), "", 2, fault=f"bad value for --{option}")
 
 
 def codes(folder):
     """RFC 4226, appendix D, and RFC 6238, appendix B."""
-    for secret, words, printed in [
+    for trial, (secret, words, printed) in each([
         (SECRET, "--counter 0", "755224"),
         (SECRET, "--counter 9 --hash sha512 --moment 59", "520489"),
         (SECRET, "--digits 8 --moment 59", "94287082"),
@@ -124,8 +131,9 @@ def codes(folder):
         (SECRET, "--digits 8 --moment 119 --step 60", "94287082"),
         (SEEDS["sha256"], "--digits 8 --moment 1111111109 --hash sha256", "68084774"),
         (SEEDS["sha512"], "--digits 8 --moment 1111111109 --hash sha512", "25091201"),
-    ]:
-        check(["code", "--secret", secret, *words.split()], "", 0, printed + "\n")
+    ]):
+        with trial:
+            check(["code", "--secret", secret, *words.split()], "", 0, printed + "\n")
 
 
 def bad_codes(folder):
@@ -136,21 +144,22 @@ def bad_codes(folder):
     refused("", 2, "needs --counter or --moment")
     refused("--moment 5 --t0 10", 1, "before the first step")
     refused("--digits 9", 2, "bad value for --secret", secret=SECRET[:18])
-    for option, texts in {
-        "digits": ["--digits 9 --counter 0", "--digits 9 --counter x", "--digits 5", "--digits 06"],
-        "counter": ["--counter 9223372036854775807 --moment x", "--counter=-1"],
-        "moment": ["--moment 253402300800 --hash md5"],
-        "hash": ["--hash SHA1 --t0 x"],
-        "t0": ["--t0 253402300800 --step 0"],
-        "step": ["--step 0", "--step 3601", "--counter 1 --step 0"],
-    }.items():
-        for words in texts:
+    for trial, (option, words) in each([
+        *[("digits", it) for it in ["--digits 9 --counter 0", "--digits 9 --counter x", "--digits 5", "--digits 06"]],
+        ("counter", "--counter 9223372036854775807 --moment x"),
+        ("counter", "--counter=-1"),
+        ("moment", "--moment 253402300800 --hash md5"),
+        ("hash", "--hash SHA1 --t0 x"),
+        ("t0", "--t0 253402300800 --step 0"),
+        *[("step", it) for it in ["--step 0", "--step 3601", "--counter 1 --step 0"]],
+    ]):
+        with trial:
             refused(words, 2, f"bad value for --{option}")
 
 
 def usage(folder):
     """Words that name no command or no option, or that leave out what is needed."""
-    for words, begin in [
+    for trial, (words, begin) in each([
         ("", "error: 'scramotp' requires a subcommand but one was not provided"),
         ("nothing", "error: unrecognized subcommand 'nothing'"),
         ("help", "error: unrecognized subcommand 'help'"),
@@ -169,8 +178,9 @@ def usage(folder):
         ("keys --salt 00 --salt 01", "error: the argument '--salt <HEX>' cannot be used multiple times"),
         ("keys --rounds 1", "error: unexpected argument '--rounds' found"),
         (f"code --secret {SECRET} --counter -1", "error: unexpected argument '-1' found"),
-    ]:
-        check_usage(words.split(), begin)
+    ]):
+        with trial:
+            check_usage(words.split(), begin)
 
 
 def help_of(words):
@@ -186,8 +196,9 @@ def help_and_version(folder):
     check(["--version"], "", 0, "scramotp 0.1.0\n")
     pages = {"scramotp": [], **{command: [command] for command, _ in EXAMPLES}}
     equal({path.stem for path in HELP.iterdir()}, set(pages), "the pages in data/help")
-    for name, words in pages.items():
-        equal(help_of(words), (HELP / f"{name}.txt").read_text(), f"{name}.txt")
+    for trial, (name, words) in each(pages.items()):
+        with trial:
+            equal(help_of(words), (HELP / f"{name}.txt").read_text(), f"{name}.txt")
     listed = re.findall(r"^  ([a-z]+) +[A-Z]", help_of([]).split("Commands:\n")[1].split("\n\n")[0], re.M)
     equal(sorted(listed), sorted(command for command, _ in EXAMPLES), "the commands that the help lists")
 
@@ -222,12 +233,13 @@ def examples(folder):
 
 def examples_alone(folder):
     """Each example needs only those that it names."""
-    for command, _ in EXAMPLES:
-        before, _ = example_of(command)
-        place = Path(folder, command)
-        place.mkdir()
-        for each in [*before, command]:
-            runs_example(place, each)
+    for trial, (command, _) in each(EXAMPLES):
+        with trial:
+            before, _ = example_of(command)
+            place = Path(folder, command)
+            place.mkdir()
+            for needed in [*before, command]:
+                runs_example(place, needed)
 
 
 def input_limit(folder):
@@ -281,10 +293,11 @@ def pairs_of_codes(folder):
         (0, "SYNC 287082 359152\nSYNC 755224 287082\n", "FAIL 5\nPASS 5 1\n"),
         (None, "SYNC 287082 359152\nSYNC 755224 287082\n", "FAIL 5\nPASS 5 1\n"),
     ]
-    for sync_ahead, text, printed in runs:
-        here.put(BOOK_OF_USER, hotp(3, 3, sync_ahead))
-        here.verifies(text, 1, printed)
-        here.token_has(sync_ahead=sync_ahead or 0)
+    for trial, (sync_ahead, text, printed) in each(runs):
+        with trial:
+            here.put(BOOK_OF_USER, hotp(3, 3, sync_ahead))
+            here.verifies(text, 1, printed)
+            here.token_has(sync_ahead=sync_ahead or 0)
 
 
 def a_far_pair(folder):
@@ -297,10 +310,11 @@ def a_far_pair(folder):
 def texts_that_are_no_pair(folder):
     """Lines that only look like `SYNC text text` are codes that fail."""
     here = BookFolder(folder, BOOK_OF_USER, hotp(3, 100, 8))
-    for line in ["SYNC 755224", "SYNC 755224  287082", "SYNC  755224 287082", "SYNC 755224 287082 ", " SYNC 755224 287082",
+    for trial, line in each(["SYNC 755224", "SYNC 755224  287082", "SYNC  755224 287082", "SYNC 755224 287082 ", " SYNC 755224 287082",
                  "sync 755224 287082", "SYNC 755224 287082\r", "SYNC 755224 287082 359152", "SYNC\t755224 287082",
-                 "C SYNC 755224 287082", "CODE 755224"]:
-        here.verifies(line, 1, "FAIL 5\n")
+                 "C SYNC 755224 287082", "CODE 755224"]):
+        with trial:
+            here.verifies(line, 1, "FAIL 5\n")
     here.verifies("SYNC 755224 287082", 0, "PASS 5 1\n")
 
 
@@ -330,12 +344,13 @@ def totp_codes_of_each_hash(folder):
     """Codes of RFC 6238, appendix B, at tokens with each hash function: each passes once, and none at a token with another one."""
     here, moment = BookFolder(folder), "1111111109"
     codes_of = {"sha1": "07081804", "sha256": "68084774", "sha512": "25091201"}
-    for function, passes in codes_of.items():
-        here.put(BOOK_OF_USER, totp(5, function))
-        others = [other for other in codes_of.values() if other != passes]
-        printed = "FAIL {0}\nFAIL {0}\nPASS {0} 37037036\nFAIL {0}\n".format(moment)
-        here.verifies("\n".join([*others, passes, passes]), 1, printed, moment=moment)
-        here.token_has(hash=function, last=37037036, failures=1)
+    for trial, (function, passes) in each(codes_of.items()):
+        with trial:
+            here.put(BOOK_OF_USER, totp(5, function))
+            others = [other for other in codes_of.values() if other != passes]
+            printed = "FAIL {0}\nFAIL {0}\nPASS {0} 37037036\nFAIL {0}\n".format(moment)
+            here.verifies("\n".join([*others, passes, passes]), 1, printed, moment=moment)
+            here.token_has(hash=function, last=37037036, failures=1)
 
 
 def locked_tokens(folder):
@@ -359,11 +374,12 @@ def enrolling(folder):
     check(words, "pencil\n", 0, "enrolled user\n")
     made = read_book(book)
     equal((made["decoy_key"], made["decoy_count"]), (bytes(range(32)).hex(), 4096), "the decoy key and the count of decoys", made)
-    for mechanism, table, at in [("SCRAM-SHA-1", "sha1", 32), ("SCRAM-SHA-256", "sha256", 48)]:
-        salt, found = bytes(range(at, at + 16)), made["accounts"]["user"][table]
-        equal((found["salt"], found["count"]), (salt.hex(), 4096), f"the salt and the count of {table}", made)
-        lines = f"stored={found['stored']}\nserver={found['server']}\n"
-        equal(lines, key_lines(mechanism, b"pencil", salt, 4096), f"the keys of {table}", made)
+    for trial, (mechanism, table, at) in each([("SCRAM-SHA-1", "sha1", 32), ("SCRAM-SHA-256", "sha256", 48)]):
+        with trial:
+            salt, found = bytes(range(at, at + 16)), made["accounts"]["user"][table]
+            equal((found["salt"], found["count"]), (salt.hex(), 4096), f"the salt and the count of {table}", made)
+            lines = f"stored={found['stored']}\nserver={found['server']}\n"
+            equal(lines, key_lines(mechanism, b"pencil", salt, 4096), f"the keys of {table}", made)
     check(words, "pencil\n", 1, fault="name is taken")
     check(words_on(book, "verify", "--moment", "5"), "755224\n", 1, fault="no token")
     equal(sorted(os.listdir(folder)), ["book", "random"], "the files in the folder")

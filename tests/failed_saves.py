@@ -8,6 +8,7 @@ In 108 runs of `verify`, `login` and `hall`, the save of the first, second or th
 first save. The run halts there: it prints no reply that is not saved. Another run, which goes on from the saved book, is sent the same
 codes, and no code passes again that has passed. Each log is audited by the book that it began with. Needs `cc`.
 """
+import itertools
 import os
 import pathlib
 
@@ -16,7 +17,7 @@ import suite
 from checks import equal, holds
 from command_table import BOOK, LIMIT_100, audited, book_of, commands, left, new_book, prepare, run
 from expected import ACCEPTED, GONE, numbered
-from suite import CODES, token
+from suite import CODES, each, token
 
 # For the token of BOOK (RFC 4226, appendix D), a single code may be up to three counters ahead, and the first of two in a row has to be
 # the next one.
@@ -86,8 +87,8 @@ class Saves:
 
     def fails(self, command, number, way):
         """Runs a command whose save with this number fails, and returns its answer."""
-        call, how, each, before, _ = way
-        more = {"LD_PRELOAD": self.shim, "CALLS": call, "REFUSED": str(number * each - before), "HOW": how}
+        call, how, calls, before, _ = way
+        more = {"LD_PRELOAD": self.shim, "CALLS": call, "REFUSED": str(number * calls - before), "HOW": how}
         self.count += 1
         return run(command, self.folder, env={**os.environ, **more})
 
@@ -124,13 +125,11 @@ def twice(here, command, lines, number, way):
 def codes_of_two_runs(folder):
     """Whichever save of a code fails, no counter passes in that run and again in the next."""
     here = Saves(folder)
-    for command in commands(0):
-        if command.name in ("verify", "login", "hall"):
+    taking_codes = [command for command in commands(0) if command.name in ("verify", "login", "hall")]
+    for trial, (command, lines, code, way) in each(itertools.product(taking_codes, SENT, range(3), Saves.WAYS)):
+        with trial:
             first = 1 if command.name == "verify" else 2
-            for lines in SENT:
-                for number in range(first, first + 3):
-                    for way in Saves.WAYS:
-                        twice(here, command, lines, number, way)
+            twice(here, command, lines, first + code, way)
     equal(here.count, 3 * 3 * 3 * 4, "how many saves fail")
     print(f"failed_saves.py: {here.count} saves of a code fail, and no counter passes twice")
 
@@ -138,20 +137,21 @@ def codes_of_two_runs(folder):
 def first_saves(folder):
     """If the first save fails, nothing is printed, and the book has the old text or the new one."""
     here = Saves(folder)
-    for command in commands():
-        if len(command.books) > 1:
-            for way in Saves.WAYS:
-                prepare(here.folder, command)
-                equal(here.fails(command, 1, way), here.unsaved(""), command.name, way)
-                equal(book_of(here.folder), command.books[way[-1]], command.name, way, "the book")
-                equal(left(here.folder), set(), command.name, way, "the files that are left")
-                holds(way[-1] or here.book.read_text() == BOOK, "the old text is not kept", way, here.book.read_text())
+    saving = [command for command in commands() if len(command.books) > 1]
+    for trial, (command, way) in each(itertools.product(saving, Saves.WAYS)):
+        with trial:
+            prepare(here.folder, command)
+            equal(here.fails(command, 1, way), here.unsaved(""), command.name, way)
+            equal(book_of(here.folder), command.books[way[-1]], command.name, way, "the book")
+            equal(left(here.folder), set(), command.name, way, "the files that are left")
+            holds(way[-1] or here.book.read_text() == BOOK, "the old text is not kept", way, here.book.read_text())
     command = new_book()
-    for call, how, is_made in [("link", "refused", False), ("fsync", "refused", False), ("link", "late", True)]:
-        prepare(here.folder, command)
-        equal(here.fails(command, 1, (call, how, 1, 0, is_made)), here.unsaved(""), call)
-        equal(book_of(here.folder), command.books[is_made], call, "the book")
-        equal(left(here.folder), set(), call, "the files that are left")
+    for trial, (call, how, is_made) in each([("link", "refused", False), ("fsync", "refused", False), ("link", "late", True)]):
+        with trial:
+            prepare(here.folder, command)
+            equal(here.fails(command, 1, (call, how, 1, 0, is_made)), here.unsaved(""), call)
+            equal(book_of(here.folder), command.books[is_made], call, "the book")
+            equal(left(here.folder), set(), call, "the files that are left")
     print(f"failed_saves.py: {here.count} first saves fail")
 
 

@@ -18,7 +18,7 @@ import runs
 import suite
 from checks import equal, holds
 from expected import AUDITS
-from suite import PROGRAM, blocks_of, document, program_on_path
+from suite import PROGRAM, blocks_of, document, each, program_on_path
 
 DOCUMENT = document("docs/FORMATS.md")
 LOGIN, TWO_SESSIONS = "clean sessions=1 accepted=1 codes=0", "clean sessions=2 accepted=0 codes=0"
@@ -98,11 +98,11 @@ def many_logs(folder):
     """Each log has its answer, and the status is 123 if one is at fault. A compressed log is read from a pipe."""
     lines = COMMANDS.splitlines(keepends=True)
     [at] = [at for at, line in enumerate(lines) if line.startswith("parallel ")]
-    each, zipped = "".join(lines[:at]), "".join(lines[at + 1:])
+    each_log, zipped = "".join(lines[:at]), "".join(lines[at + 1:])
     environment = with_files(folder, a=LOG, b=NUMBERED)
-    equal(ran(folder, each, environment), (0, [f"a.log: {LOGIN}", f"b.log: {TWO_SESSIONS}"], ""), each)
+    equal(ran(folder, each_log, environment), (0, [f"a.log: {LOGIN}", f"b.log: {TWO_SESSIONS}"], ""), each_log)
     Path(folder, "b.log").write_text(NUMBERED.removesuffix("1 E\n"))
-    equal(ran(folder, each, environment), (123, [f"a.log: {LOGIN}", "b.log: line 8: cut"], ""), each)
+    equal(ran(folder, each_log, environment), (123, [f"a.log: {LOGIN}", "b.log: line 8: cut"], ""), each_log)
     Path(folder, "old.toml").write_text(BOOK)
     Path(folder, "old.log.gz").write_bytes(gzip.compress(LOG.encode()))
     equal(ran(folder, zipped, environment), (0, [LOGIN], ""), zipped)
@@ -162,13 +162,14 @@ def the_grammar(folder):
     equal([text for rule, texts in GOOD.items() for text in texts if not has(rule, text)], [], "lines that the grammar lacks")
     faulty = {rule: texts + [text.swapcase() for text in GOOD[rule]] for rule, texts in BAD.items()}
     equal([text for rule, texts in faulty.items() for text in texts if has(rule, text)], [], "lines that the grammar has")
-    for _, log, answer, shows in audit_cases.cases():
-        at_fault = re.match(r"line (\d+): (.*)", answer)
-        number = int(at_fault[1]) if at_fault else 0
-        if at_fault and at_fault[2] == "not a line":
-            equal(no_line(log), number, shows)
-        else:
-            holds(no_line(log) > (number or log.count(b"\n")), "the grammar lacks a line of the log", shows)
+    for trial, (_, log, answer, shows) in each(audit_cases.cases()):
+        with trial:
+            at_fault = re.match(r"line (\d+): (.*)", answer)
+            number = int(at_fault[1]) if at_fault else 0
+            if at_fault and at_fault[2] == "not a line":
+                equal(no_line(log), number, shows)
+            else:
+                holds(no_line(log) > (number or log.count(b"\n")), "the grammar lacks a line of the log", shows)
 
 
 def every_block(folder):

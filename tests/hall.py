@@ -19,7 +19,7 @@ from checks import equal
 from clients import Account, book, dealt, gone, logged_in, of_session, opened, said, turned_away
 from expected import AUDITS, AUTH, MECHS, RESP, orders_of_turns
 from halls import HOTP_BOOK, OWN, Hall, clean, login
-from suite import read_book
+from suite import each, read_book
 
 # How many random orders of all turns are tried.
 SHUFFLES = int(os.environ.get("RUNS") or 1000)
@@ -41,10 +41,11 @@ def two_sessions(folder):
     ]
     text, log = "\n".join(events), (AUDITS / "interleaved.log").read_text()
     equal(log.count("\n"), 14, "the lines of the recorded log")
-    for end in ["\n", ""]:
-        here.put(HOTP_BOOK)
-        here.prints(text + end, 0, log)
-        here.token_has(repr(end), next=1, failures=0)
+    for trial, end in each(["\n", ""]):
+        with trial:
+            here.put(HOTP_BOOK)
+            here.prints(text + end, 0, log)
+            here.token_has(repr(end), next=1, failures=0)
     here.audited(log, clean(2, 1, 1))
     here.put(HOTP_BOOK)
     here.prints("", 0, clients.FIRST_LINE)
@@ -71,12 +72,14 @@ def sixty_four(folder):
 def bounds(folder):
     """The longest nonce, and the first and the last moment."""
     here = Hall(folder)
-    for own in ["z" * 256, "!", "~", "open"]:
-        here.hears(opened(own), said("AUTH SCRAM-SHA-1", "S CONT :"))
-    for moment in [0, 253402300799]:
-        here.put(HOTP_BOOK)
-        log = here.hears(*login(), said("CODE 000000", f"S FAIL {moment}", moment=moment), gone(moment))
-        here.audited(log, clean(1, 1))
+    for trial, own in each(["z" * 256, "!", "~", "open"]):
+        with trial:
+            here.hears(opened(own), said("AUTH SCRAM-SHA-1", "S CONT :"))
+    for trial, moment in each([0, 253402300799]):
+        with trial:
+            here.put(HOTP_BOOK)
+            log = here.hears(*login(), said("CODE 000000", f"S FAIL {moment}", moment=moment), gone(moment))
+            here.audited(log, clean(1, 1))
 
 
 # Texts that are no protocol line, or that are not due at the beginning of a session.
@@ -90,10 +93,11 @@ BAD_LINES = [
 def lines_that_are_none(folder):
     """A text that is no protocol line, or is not due, is recorded as bad, and ends only the session of its client."""
     here = Hall(folder)
-    for line in BAD_LINES:
-        log = f"{clients.FIRST_LINE}1 {MECHS}\n2 {MECHS}\n1 C BAD\n1 S NO :\n1 E\n2 C ABORT\n2 S NO :\n2 E\n"
-        here.prints(b"open zz\nopen zz\nline 1 5 " + line + b"\nline 2 5 ABORT", 0, log)
-        here.audited(log, clean(2))
+    for trial, line in each(BAD_LINES):
+        with trial:
+            log = f"{clients.FIRST_LINE}1 {MECHS}\n2 {MECHS}\n1 C BAD\n1 S NO :\n1 E\n2 C ABORT\n2 S NO :\n2 E\n"
+            here.prints(b"open zz\nopen zz\nline 1 5 " + line + b"\nline 2 5 ABORT", 0, log)
+            here.audited(log, clean(2))
     longest = "AUTH PLAIN :" + "x" * 6188
     log = f"{clients.FIRST_LINE}1 {MECHS}\n1 C {longest}\n1 S NO :\n1 E\n"
     here.prints(f"open zz\nline 1 5 {longest}\n", 0, log)
@@ -141,12 +145,13 @@ def all_orders(folder):
     for visit in visits:
         here.put(text)
         alone.append(of_session(here.hears(*visit), 1))
-    for order, begun in zip(orders_of_turns(), itertools.cycle(itertools.permutations([0, 1, 2]))):
-        here.put(text)
-        events, log = dealt(begun + order + (0, 2), visits)
-        here.prints(events, 0, log)
-        equal([of_session(log, number) for number in [1, 2, 3]], [alone[which] for which in begun], begun, order, log)
-        here.audited(log, clean(3, 2, 2))
+    for trial, (order, begun) in each(zip(orders_of_turns(), itertools.cycle(itertools.permutations([0, 1, 2])))):
+        with trial:
+            here.put(text)
+            events, log = dealt(begun + order + (0, 2), visits)
+            here.prints(events, 0, log)
+            equal([of_session(log, number) for number in [1, 2, 3]], [alone[which] for which in begun], begun, order, log)
+            here.audited(log, clean(3, 2, 2))
 
 
 def shuffled(_):

@@ -16,7 +16,7 @@ from checks import equal, holds
 from clients import Account, book, dealt, gone, logged_in, opened, said
 from halls import HOTP_BOOK, Hall, clean, login
 from runs import whole
-from suite import MOST_BYTES, verify_words
+from suite import MOST_BYTES, each, verify_words
 
 # Input lines that state no event when sessions 2 and 3 are open, session 1 has ended and no other has begun.
 NO_EVENTS = [
@@ -46,8 +46,9 @@ def bad_events(folder):
     lines = [*NO_EVENTS]
     lines += [line for number in NO_NUMBERS for line in [b"line " + number + b" 5 ABORT", b"gone " + number + b" 5"]]
     lines += [line for moment in NO_MOMENTS for line in [b"line 2 " + moment + b" ABORT", b"gone 2 " + moment]]
-    for line in lines:
-        for end in [b"\nopen cc\ngone 2 5\n", b"\n"] + [b""] * (line != b""):
+    ends = [b"\nopen cc\ngone 2 5\n", b"\n", b""]
+    for trial, (line, end) in each((line, end) for line in lines for end in ends if line + end):
+        with trial:
             here.put(HOTP_BOOK)
             here.prints(text.encode() + line + end, 1, log, "bad event")
             here.token_has(line, next=1)
@@ -71,39 +72,40 @@ def failed_saves(folder):
     here = Hall(folder, book([anne, bob]))
     visits = [logged_in(anne, "abc", "def"), logged_in(bob, "uvw", "xyz"), [opened("zz")]]
     text, log = dealt([0, 1, 2, 0, 1, 1, 0], visits)
-    for block in [taken_name, full_device]:
-        here.put(book([anne, bob]))
-        running = here.start(restore_signals=False)
-        running.prints(log, text)
-        kept, halted = here.book.read_bytes(), f"2 C CODE {bob.code(0)}\n2 S HALT\n"
-        block(running, here)
-        lines = f"line 2 5 CODE {bob.code(0)}\nline 1 5 CODE {anne.code(0)}\ngone 3 5\nno event\n"
-        running.ends(3, halted, f"scramotp: cannot write {here.book}\n", lines)
-        equal(here.book.read_bytes(), kept, "the book after", block.__name__)
-        here.audited(log + halted, clean(3, 2))
-        if block == taken_name:
-            here.next_text.rmdir()
+    for trial, block in each([full_device, taken_name]):
+        with trial:
+            here.put(book([anne, bob]))
+            running = here.start(restore_signals=False)
+            running.prints(log, text)
+            kept, halted = here.book.read_bytes(), f"2 C CODE {bob.code(0)}\n2 S HALT\n"
+            block(running, here)
+            lines = f"line 2 5 CODE {bob.code(0)}\nline 1 5 CODE {anne.code(0)}\ngone 3 5\nno event\n"
+            running.ends(3, halted, f"scramotp: cannot write {here.book}\n", lines)
+            equal(here.book.read_bytes(), kept, "the book after", block.__name__)
+            here.audited(log + halted, clean(3, 2))
 
 
 def first_saves(folder):
     """The book is saved before the first line. If that fails, nothing is printed, and no input is judged."""
     here = Hall(folder)
     here.next_text.mkdir()
-    for text in ["", "no event\n", let_in()[0]]:
-        here.refuses(text, 3, f"cannot write {here.book}")
+    for trial, text in each(["", "no event\n", let_in()[0]]):
+        with trial:
+            here.refuses(text, 3, f"cannot write {here.book}")
 
 
 def books_that_are_none(folder):
     """The book is read before any input is judged."""
     here = Hall(folder)
-    for text in ["", "no event\n", let_in()[0]]:
-        here.put("format = 2\n")
-        here.refuses(text, 1, "bad book: 61")
-        here.put(HOTP_BOOK.replace("digits = 6", "digits = 9"))
-        here.refuses(text, 1, "bad book: 67")
-        here.book.unlink()
-        here.refuses(text, 3, f"cannot read {here.book}")
-        holds(not here.book.exists(), "there is a book")
+    for trial, text in each(["", "no event\n", let_in()[0]]):
+        with trial:
+            here.put("format = 2\n")
+            here.refuses(text, 1, "bad book: 61")
+            here.put(HOTP_BOOK.replace("digits = 6", "digits = 9"))
+            here.refuses(text, 1, "bad book: 67")
+            here.book.unlink()
+            here.refuses(text, 3, f"cannot read {here.book}")
+            holds(not here.book.exists(), "there is a book")
 
 
 def held_books(folder):

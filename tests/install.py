@@ -15,7 +15,7 @@ import stat
 import suite
 from checks import equal, holds
 from runs import ran
-from suite import KEYS_OF_PENCIL, PROGRAM
+from suite import KEYS_OF_PENCIL, PROGRAM, each
 
 TOP = pathlib.Path(__file__).resolve().parent.parent
 REFUSED = "The program is not built, or is older than its sources: run make build first."
@@ -40,32 +40,33 @@ def installed(folder):
     write them."""
     program = shutil.copy(PROGRAM, folder)
     tools = {path.name: path.read_bytes() for path in (TOP / "tools").iterdir()}
-    for name, folders, place in [
+    for trial, (name, folders, place) in each([
         ("plain", {"DESTDIR": "{}"}, "usr/local"),
         ("with a space", {"DESTDIR": "{}"}, "usr/local"),
         ("both", {"DESTDIR": "{}", "PREFIX": "/srv/one of two"}, "srv/one of two"),
         ("of a user", {"PREFIX": "{}/.local"}, ".local"),
-    ]:
-        to = pathlib.Path(folder, name)
-        done = made("install", program, **{variable: value.format(to) for variable, value in folders.items()})
-        equal((done.status, done.faults), (0, ""), name)
-        due = {to / place / "share" / "scramotp" / tool: text for tool, text in tools.items()}
-        due[to / place / "bin" / "scramotp"] = pathlib.Path(PROGRAM).read_bytes()
-        equal(sorted(files_of(to)), sorted(due), name)
-        for path, text in due.items():
-            equal(stat.S_IMODE(path.stat().st_mode), 0o755, path)
-            holds(path.read_bytes() == text, path, "another file is there")
+    ]):
+        with trial:
+            to = pathlib.Path(folder, name)
+            done = made("install", program, **{variable: value.format(to) for variable, value in folders.items()})
+            equal((done.status, done.faults), (0, ""), name)
+            due = {to / place / "share" / "scramotp" / tool: text for tool, text in tools.items()}
+            due[to / place / "bin" / "scramotp"] = pathlib.Path(PROGRAM).read_bytes()
+            equal(sorted(files_of(to)), sorted(due), name)
+            equal({str(path): oct(stat.S_IMODE(path.stat().st_mode)) for path in due}, dict.fromkeys(map(str, due), oct(0o755)), name)
+            equal([path for path, text in due.items() if path.read_bytes() != text], [], name, "where another file is")
 
 
 def refused(folder):
     """A program that is not there, or is older than its sources, is not installed."""
     to, old = pathlib.Path(folder, "to"), shutil.copy(PROGRAM, pathlib.Path(folder, "old"))
     os.utime(old, (0, 0))
-    for program in [f"{folder}/none", old]:
-        done = made("install", program, DESTDIR=to)
-        equal((done.status, done.output), (2, ""), program)
-        holds(REFUSED in done.faults.splitlines(), program, "it is not refused", done.faults)
-        equal(files_of(to), [], program)
+    for trial, program in each([f"{folder}/none", old]):
+        with trial:
+            done = made("install", program, DESTDIR=to)
+            equal((done.status, done.output), (2, ""), program)
+            holds(REFUSED in done.faults.splitlines(), program, "it is not refused", done.faults)
+            equal(files_of(to), [], program)
 
 
 def shown(folder):

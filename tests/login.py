@@ -17,7 +17,7 @@ from checks import equal, holds
 from expected import ACCEPTED, AUDITS, GONE, decoy_salt
 from halls import clean
 from runs import Running, ran
-from suite import MOST_BYTES, PROGRAM, PUBLISHED as SHA1, hotp, login_words, read_book
+from suite import MOST_BYTES, PROGRAM, PUBLISHED as SHA1, each, hotp, login_words, read_book
 
 # The nonces of RFC 7677's example, section 3
 SHA256 = ["--client-nonce", "rOprNGfwEbeRWgbNEkqO", "--server-nonce", "%hvYDpWUa2RaTCAfuxFIlj)hNlF$k0"]
@@ -73,8 +73,9 @@ def published_logins(folder):
     equal(read_book(here.book), read_book(AUDITS / "keys.toml"), "what the book states")
     here.prints(here.words(*SHA1), "pencil\n", 0, ACCEPTED + GONE)
     here.put((AUDITS / "sha256.toml").read_text())
-    for more in [[], ["--mechanism", "SCRAM-SHA-256"]]:
-        here.prints(here.words(*SHA256, *more), "pencil\n", 0, (AUDITS / "sha256.log").read_text())
+    for trial, more in each([[], ["--mechanism", "SCRAM-SHA-256"]]):
+        with trial:
+            here.prints(here.words(*SHA256, *more), "pencil\n", 0, (AUDITS / "sha256.log").read_text())
 
 
 def refused_logins(folder):
@@ -95,14 +96,15 @@ def decoys(folder):
     """A name without an account always has the same salt of 16 bytes (HMAC-SHA-256 with the decoy key), and no proof is right."""
     here = Login(folder)
     salt = decoy_salt("nobody")
-    for password in ["pencil", "other"]:
-        log = here.log_of(here.words("--mechanism", "SCRAM-SHA-1", name="nobody"), password, 1)
-        lines = log.splitlines()
-        equal(len(lines), 7, lines)
-        ends = f",s={base64.b64encode(salt).decode()},i=4096"
-        holds(lines[3].endswith(ends), "the challenge does not have the decoy's salt", ends, lines)
-        equal(lines[5:], ["S NO :e=invalid-proof", "E"], lines)
-        here.audited(log, clean(1, 0, 0))
+    for trial, password in each(["pencil", "other"]):
+        with trial:
+            log = here.log_of(here.words("--mechanism", "SCRAM-SHA-1", name="nobody"), password, 1)
+            lines = log.splitlines()
+            equal(len(lines), 7, lines)
+            ends = f",s={base64.b64encode(salt).decode()},i=4096"
+            holds(lines[3].endswith(ends), "the challenge does not have the decoy's salt", ends, lines)
+            equal(lines[5:], ["S NO :e=invalid-proof", "E"], lines)
+            here.audited(log, clean(1, 0, 0))
 
 
 def names_to_act_as(folder):
@@ -129,12 +131,13 @@ def names_to_act_as(folder):
 def client_faults(folder):
     """The client ends a login whose count is outside its limits, or whose server has other keys; no code is sent."""
     here = Login(folder)
-    for count in [4095, 1000001]:
-        here.put(with_codes().replace("count = 4096\nstored", f"count = {count}\nstored"))
-        log = "".join(ACCEPTED.splitlines(True)[:4]).replace("i=4096", f"i={count}") + GONE
-        here.prints(here.words(*SHA1), "pencil\n755224\n", 1, log)
-        here.audited(log, clean(1, 0, 0))
-        here.token_has(f"count {count}", next=0)
+    for trial, count in each([4095, 1000001]):
+        with trial:
+            here.put(with_codes().replace("count = 4096\nstored", f"count = {count}\nstored"))
+            log = "".join(ACCEPTED.splitlines(True)[:4]).replace("i=4096", f"i={count}") + GONE
+            here.prints(here.words(*SHA1), "pencil\n755224\n", 1, log)
+            here.audited(log, clean(1, 0, 0))
+            here.token_has(f"count {count}", next=0)
     here.put(with_codes().replace('server = "0f', 'server = "0e'))
     log = here.log_of(here.words(*SHA1), "pencil\n755224\n", 1)
     equal(len(log.splitlines()), 8, log)
@@ -148,7 +151,7 @@ def codes(folder):
     """Codes of RFC 4226, appendix D, with their replies; the status is 0 only if each passed."""
     here = Login(folder)
     far = "SYNC 399871 520489"
-    for book, lines, status, told, passed in [
+    for trial, (book, lines, status, told, passed) in each([
         (with_codes(), ["755224"], 0, ["CODE 755224", "PASS 5 0"], 1),
         (with_codes(), ["755224", "755224"], 1, ["CODE 755224", "PASS 5 0", "CODE 755224", "FAIL 5"], 1),
         (with_codes(), ["338314"], 1, ["CODE 338314", "FAIL 5"], 0),
@@ -157,11 +160,12 @@ def codes(folder):
         (with_codes(sync_ahead=8), [far], 0, [far, "PASS 5 9"], 1),
         (with_codes(sync_ahead=7), [far], 1, [far, "FAIL 5"], 0),
         (with_codes(), ["!" * 16, "~"], 1, ["CODE " + "!" * 16, "FAIL 5", "CODE ~", "FAIL 5"], 0),
-    ]:
-        here.put(book)
-        log = ACCEPTED + "".join(f"{'CS'[n % 2]} {line}\n" for n, line in enumerate(told)) + GONE
-        here.prints(here.words(*SHA1, "--moment", "5"), "\n".join(["pencil", *lines, ""]), status, log)
-        here.audited(log, clean(1, 1, passed))
+    ]):
+        with trial:
+            here.put(book)
+            log = ACCEPTED + "".join(f"{'CS'[n % 2]} {line}\n" for n, line in enumerate(told)) + GONE
+            here.prints(here.words(*SHA1, "--moment", "5"), "\n".join(["pencil", *lines, ""]), status, log)
+            here.audited(log, clean(1, 1, passed))
 
 
 def lines_that_are_no_code(folder):
@@ -169,18 +173,20 @@ def lines_that_are_no_code(folder):
     here = Login(folder, with_codes(sync_ahead=8))
     words = here.words(*SHA1, "--moment", "5")
     long_lines = ["1" * size for size in [17, 6195, 6196, 6201, 6202, 500_000]]
-    for line in ["", " ", "755 224", "755224\r", "755224 ", "C\xe9", "SYNC 755224", "SYNC 755224  287082",
-                 "SYNC 755224 287082 359152", "SYNC 755224 287082\r", *long_lines]:
-        here.put(with_codes(sync_ahead=8))
-        log = ACCEPTED + "C BAD\nS NO :\nE\n"
-        here.prints(words, f"pencil\n{line}\n755224\n", 1, log)
-        here.audited(log, clean(1, 1, 0))
-        here.token_has(repr(line[:20]), next=0)
+    for trial, line in each(["", " ", "755 224", "755224\r", "755224 ", "C\xe9", "SYNC 755224", "SYNC 755224  287082",
+                 "SYNC 755224 287082 359152", "SYNC 755224 287082\r", *long_lines]):
+        with trial:
+            here.put(with_codes(sync_ahead=8))
+            log = ACCEPTED + "C BAD\nS NO :\nE\n"
+            here.prints(words, f"pencil\n{line}\n755224\n", 1, log)
+            here.audited(log, clean(1, 1, 0))
+            here.token_has(repr(line[:20]), next=0)
     here.put(with_codes())
     here.prints(words, b"pencil\n\xff\0\n755224\n", 1, ACCEPTED + "C BAD\nS NO :\nE\n")
-    for text in ["CODE 755224", "ABORT"]:
-        log = ACCEPTED + ("C BAD\nS NO :\nE\n" if " " in text else f"C CODE {text}\nS FAIL 5\n{GONE}")
-        here.prints(words, f"pencil\n{text}\n", 1, log)
+    for trial, text in each(["CODE 755224", "ABORT"]):
+        with trial:
+            log = ACCEPTED + ("C BAD\nS NO :\nE\n" if " " in text else f"C CODE {text}\nS FAIL 5\n{GONE}")
+            here.prints(words, f"pencil\n{text}\n", 1, log)
 
 
 def replies_at_once(folder):
@@ -208,16 +214,22 @@ def another_at_the_path(folder):
 def failed_saves(folder):
     """A save that fails halts the desk: the log says so and is clean, and the book is as before."""
     here = Login(folder, with_codes(sync_ahead=8))
-    for line, sent in [("755224", "C CODE 755224\n"), ("000000", "C CODE 000000\n"), ("SYNC 755224 287082", "C SYNC 755224 287082\n")]:
-        here.put(with_codes(sync_ahead=8))
-        running = here.starts("--moment", "5")
-        book = here.book.read_bytes()
-        here.next_text.mkdir()
-        running.ends(3, f"{sent}S HALT\n", f"scramotp: cannot write {here.book}\n", f"{line}\n755224\n")
-        equal(here.book.read_bytes(), book, "the book after", line)
-        here.has_no_socket()
-        here.next_text.rmdir()
-        here.audited(f"{ACCEPTED}{sent}S HALT\n", clean(1, 1, 0))
+    for trial, (line, sent) in each([
+        ("755224", "C CODE 755224\n"),
+        ("000000", "C CODE 000000\n"),
+        ("SYNC 755224 287082", "C SYNC 755224 287082\n"),
+    ]):
+        with trial:
+            here.put(with_codes(sync_ahead=8))
+            running = here.starts("--moment", "5")
+            book = here.book.read_bytes()
+            here.next_text.mkdir()
+            answer = running.end(f"{line}\n755224\n")
+            here.next_text.rmdir()
+            equal(answer, (3, f"{sent}S HALT\n", f"scramotp: cannot write {here.book}\n"), "the end of the login")
+            equal(here.book.read_bytes(), book, "the book after", line)
+            here.has_no_socket()
+            here.audited(f"{ACCEPTED}{sent}S HALT\n", clean(1, 1, 0))
     here.put(with_codes())
     here.next_text.mkdir()
     here.refuses(here.words(*SHA1), "pencil\n755224\n", 3, f"cannot write {here.book}")
@@ -226,25 +238,27 @@ def failed_saves(folder):
 def random_nonces(folder):
     """The client's nonce and then the server's part are each the base64 text of the next 18 bytes of the random file."""
     here, file = Login(folder), pathlib.Path(folder, "random")
-    for name, password in [("one", "pencil"), ("two users", "a,b=c"), ("~" * 255, " " * 1024)]:
-        here.book.unlink()
-        enrol = [PROGRAM, "enrol", "--book", here.book, "--name", name]
-        equal(ran(enrol, password)[::2], (0, ""), name)
-        here.put(here.book.read_text())
-        data = random.randbytes(36)
-        file.write_bytes(data)
-        log = here.log_of(here.words("--random", file, name=name), password, 0)
-        client, service = (base64.b64encode(part).decode() for part in [data[:18], data[18:]])
-        lines = log.splitlines()
-        holds(lines[2].endswith(f",r={client}"), "the client's nonce is not of the first 18 bytes", name, lines)
-        holds(f":r={client}{service},s=" in lines[3], "the server's part is not of the next 18 bytes", name, lines)
-        here.audited(log, clean(1, 1, 0))
+    for trial, (name, password) in each([("one", "pencil"), ("two users", "a,b=c"), ("~" * 255, " " * 1024)]):
+        with trial:
+            here.book.unlink(missing_ok=True)
+            enrol = [PROGRAM, "enrol", "--book", here.book, "--name", name]
+            equal(ran(enrol, password)[::2], (0, ""), name)
+            here.put(here.book.read_text())
+            data = random.randbytes(36)
+            file.write_bytes(data)
+            log = here.log_of(here.words("--random", file, name=name), password, 0)
+            client, service = (base64.b64encode(part).decode() for part in [data[:18], data[18:]])
+            lines = log.splitlines()
+            holds(lines[2].endswith(f",r={client}"), "the client's nonce is not of the first 18 bytes", name, lines)
+            holds(f":r={client}{service},s=" in lines[3], "the server's part is not of the next 18 bytes", name, lines)
+            here.audited(log, clean(1, 1, 0))
     here.put(KEYS)
     file.write_bytes(data[:18])
     given = ["--mechanism", "SCRAM-SHA-1", "--random", file]
-    for more, nonce in [(["--client-nonce", "me"], f"me{client}"), (["--server-nonce", "you"], f"{client}you")]:
-        log = here.log_of(here.words(*given, *more), "pencil", 0)
-        holds(f"S CONT :r={nonce},s=" in log, "the challenge does not have the nonces", nonce, log)
+    for trial, (more, nonce) in each([(["--client-nonce", "me"], f"me{client}"), (["--server-nonce", "you"], f"{client}you")]):
+        with trial:
+            log = here.log_of(here.words(*given, *more), "pencil", 0)
+            holds(f"S CONT :r={nonce},s=" in log, "the challenge does not have the nonces", nonce, log)
     fresh = {here.log_of(here.words("--mechanism", "SCRAM-SHA-1"), "pencil", 0) for _ in range(3)}
     equal(len(fresh), 3, "how many of the logs of three runs differ", fresh)
 
@@ -256,10 +270,11 @@ def moments(folder):
     log = here.log_of(here.words(*SHA1), "pencil\n755224\n", 0)
     [moment] = re.findall(r"\nS PASS (\d+) 0\n", log)
     holds(began <= int(moment) <= time.time(), "the moment of the code is before the run's begin or after its end", began, moment)
-    for moment in ["0", "253402300799"]:
-        here.put(with_codes())
-        log = here.log_of(here.words(*SHA1, "--moment", moment), "pencil\n755224\n", 0)
-        holds(f"\nS PASS {moment} 0\n" in log, "the code does not pass at", moment, log)
+    for trial, moment in each(["0", "253402300799"]):
+        with trial:
+            here.put(with_codes())
+            log = here.log_of(here.words(*SHA1, "--moment", moment), "pencil\n755224\n", 0)
+            holds(f"\nS PASS {moment} 0\n" in log, "the code does not pass at", moment, log)
 
 
 def order_of_faults(folder):
@@ -270,23 +285,25 @@ def order_of_faults(folder):
     bad = {"--mechanism": "PLAIN", "--as": "", "--client-nonce": "a,b", "--server-nonce": "", "--moment": "-1"}
     options = list(bad)
     here.refuses(here.words(name="", *[f"{key}={bad[key]}" for key in options]), "", 2, "bad value for --name")
-    for at, option in enumerate(options):
-        words = here.words(*[f"{key}={bad[key]}" for key in options[at:]], path=taken)
-        here.refuses(words, "", 2, f"bad value for {option}")
-    for option, values in [
+    for trial, (at, option) in each(enumerate(options)):
+        with trial:
+            words = here.words(*[f"{key}={bad[key]}" for key in options[at:]], path=taken)
+            here.refuses(words, "", 2, f"bad value for {option}")
+    for trial, (option, value) in each((option, value) for option, values in [
         ("--as", ["\x7f", "a" * 256, "é"]),
         ("--client-nonce", ["a b", "\x7f", "a" * 257, "é"]),
         ("--server-nonce", [",", "a" * 257]),
         ("--moment", ["05", "253402300800", "now"]),
         ("--mechanism", ["", "scram-sha-1", "SCRAM-SHA-1-PLUS"]),
-    ]:
-        for value in values:
+    ] for value in values):
+        with trial:
             here.refuses(here.words(f"{option}={value}"), "pencil", 2, f"bad value for {option}")
     missing = here.folder / "missing"
     more = ["--random", missing]
     here.book.unlink()
-    for text in ["", "\n", "\npencil", "pen\x7fcil", "a" * 1025]:
-        here.refuses(here.words(*more, path=taken), text, 2, "bad password")
+    for trial, text in each(["", "\n", "\npencil", "pen\x7fcil", "a" * 1025]):
+        with trial:
+            here.refuses(here.words(*more, path=taken), text, 2, "bad password")
     here.refuses(here.words(*more, path=taken), "pencil", 3, f"cannot read {here.book}")
     here.put("format = 2\n")
     here.refuses(here.words(*more, path=taken), "pencil", 1, "bad book: 61")
@@ -300,9 +317,10 @@ def order_of_faults(folder):
 def short_random_files(folder):
     """Each nonce that is not given takes 18 bytes. If the file ends before them, the run reports a fault, and prints nothing else."""
     here, file = Login(folder), pathlib.Path(folder, "random")
-    for size, more in [(0, []), (17, []), (35, []), (17, ["--client-nonce", "a"]), (17, ["--server-nonce", "a"])]:
-        file.write_bytes(b"a" * size)
-        here.refuses(here.words("--random", file, *more), "pencil\n", 3, f"cannot read {file}")
+    for trial, (size, more) in each([(0, []), (17, []), (35, []), (17, ["--client-nonce", "a"]), (17, ["--server-nonce", "a"])]):
+        with trial:
+            file.write_bytes(b"a" * size)
+            here.refuses(here.words("--random", file, *more), "pencil\n", 3, f"cannot read {file}")
     here.refuses(here.words("--random", here.folder), "pencil\n", 3, f"cannot read {here.folder}")
 
 
@@ -317,17 +335,19 @@ def sockets_in_the_way(folder):
             client.connect(str(here.folder / "used"))
     here.refuses(here.words(path=here.folder / "used"), "pencil\n", 3, "socket fault")
     holds((here.folder / "used").is_socket(), "the other run's socket is gone")
-    for path in [here.folder, here.book, here.folder / "nothing" / "socket", here.book / "socket"]:
-        here.refuses(here.words(path=path), "pencil\n", 3, "socket fault")
+    for trial, path in each([here.folder, here.book, here.folder / "nothing" / "socket", here.book / "socket"]):
+        with trial:
+            here.refuses(here.words(path=path), "pencil\n", 3, "socket fault")
     here.refuses([*here.words()[:-1], ""], "pencil\n", 3, "socket fault")
-    for size, is_short in [(107, True), (108, False), (4000, False)]:
-        path = os.path.join(folder, "x" * (size - len(folder) - 1))
-        equal(len(path), size, "the length of the socket's path")
-        if is_short:
-            here.prints(here.words(*SHA1, path=path), "pencil\n", 0, ACCEPTED + GONE)
-        else:
-            here.refuses(here.words(*SHA1, path=path), "pencil\n", 3, "socket fault")
-        holds(not os.path.lexists(path), "the socket is left", path)
+    for trial, (size, is_short) in each([(107, True), (108, False), (4000, False)]):
+        with trial:
+            path = os.path.join(folder, "x" * (size - len(folder) - 1))
+            equal(len(path), size, "the length of the socket's path")
+            if is_short:
+                here.prints(here.words(*SHA1, path=path), "pencil\n", 0, ACCEPTED + GONE)
+            else:
+                here.refuses(here.words(*SHA1, path=path), "pencil\n", 3, "socket fault")
+            holds(not os.path.lexists(path), "the socket is left", path)
 
 
 def long_inputs(folder):

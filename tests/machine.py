@@ -12,6 +12,7 @@ the script, the program runs as the user nobody in tests of permissions. Needs `
 import collections
 import concurrent.futures
 import functools
+import itertools
 import os
 import pathlib
 import random
@@ -32,7 +33,7 @@ from command_table import (
 )
 from expected import numbered
 from runs import Running, whole
-from suite import NONCES, PROGRAM, ROOT, as_nobody, fault_text, nobody, totp
+from suite import NONCES, PROGRAM, ROOT, as_nobody, each, fault_text, nobody, totp
 
 
 class Due(NamedTuple):
@@ -188,8 +189,8 @@ TABLE = [
 def table(folder):
     """Each command ends in each disturbance as the table says."""
     here, cells = Machine(folder), 0
-    for disturbance, row in TABLE:
-        for name, command in named().items():
+    for trial, ((disturbance, row), (name, command)) in each(itertools.product(TABLE, named().items())):
+        with trial:
             due = row.get(name, WELL)
             prepare(here.folder, command)
             answer = disturbance.run(here, command)
@@ -221,8 +222,8 @@ def socket_elsewhere(folder):
 def few_descriptors(folder):
     """With too few descriptors to open its files, a command says so, and the book is whole."""
     here, refused = Machine(folder), 0
-    for name, command in named().items():
-        for most in range(4, 16):
+    for trial, ((name, command), most) in each(itertools.product(named().items(), range(4, 16))):
+        with trial:
             prepare(here.folder, command)
             limit = functools.partial(resource.setrlimit, resource.RLIMIT_NOFILE, (most, most))
             status, printed, fault = answer = run(command, here.folder, preexec_fn=limit)
@@ -233,7 +234,7 @@ def few_descriptors(folder):
                 holds(is_front(command, printed), name, most, answer, "its output is no beginning of", command.printed)
                 holds(re.fullmatch(r"scramotp: (cannot (read|write) .+|socket fault)\n", fault), name, most, answer, "no fault of a file")
                 refused += 1
-        equal(answer, (0, command.printed, ""), name)
+            holds(answer == (0, command.printed, "") or most < 15, name, answer, "15 descriptors are too few")
     holds(refused > 0, "no run had too few descriptors")
     print(f"machine.py: {refused} runs with too few descriptors")
 
@@ -251,30 +252,37 @@ def interrupted(here, command, number, wait):
     return run_of_command.end()
 
 
+def ended_by(here, command, number, wait):
+    """Sends a run a signal after so many seconds, checks what it leaves, and that the next command can go on. Returns its status."""
+    prepare(here.folder, command)
+    status, printed, fault = answer = interrupted(here, command, number, wait)
+    what = (command.name, number, answer)
+    holds((status, fault) in [(0, ""), (-number, "")], what, "it ended neither by the signal nor well, or with a fault")
+    holds(is_front(command, printed), what, "its output is no beginning of", command.printed)
+    holds(status or printed == command.printed, what, "it ended well, but did not print", command.printed)
+    holds(is_kept(here.folder, command, printed), what, "the book is not whole, or lacks what was reported", book_of(here.folder))
+    holds(left(here.folder) <= ({"book.new", "socket"} if status else set()), what, "files are left", left(here.folder))
+    is_log = command.name in ("login", "hall")
+    holds(not is_log or printed_begins_clean(here.folder, printed), what, "a line of the log is at fault")
+    enrol = command_of("enrol")
+    other = enrol._replace(words=[word.replace("new", "other") for word in enrol.words])
+    pathlib.Path(here.folder, "random").write_bytes(bytes(64))
+    equal(run(other, here.folder), (0, "enrolled other\n", ""), "the next command after", what)
+    holds(left(here.folder) <= {"socket"}, what, "files are left after the next command", left(here.folder))
+    return status
+
+
 def signals(folder):
     """A signal at any moment ends a command: its output is the beginning of what is due, the book is whole and has what was reported, and
     the next command finds nothing in its way but a socket."""
-    here, ended, enrol = Machine(folder), collections.Counter(), command_of("enrol")
-    for name, command in named().items():
-        prepare(here.folder, command)
-        began = time.monotonic()
-        equal(run(command, here.folder), (0, command.printed, ""), name)
-        duration = time.monotonic() - began
-        for number in SIGNALS * TIMES:
+    here, ended = Machine(folder), collections.Counter()
+    for trial, (name, command) in each(named().items()):
+        with trial:
             prepare(here.folder, command)
-            status, printed, fault = answer = interrupted(here, command, number, random.uniform(0, duration))
-            what = (name, number, answer)
-            holds((status, fault) in [(0, ""), (-number, "")], what, "it ended neither by the signal nor well, or with a fault")
-            holds(is_front(command, printed), what, "its output is no beginning of", command.printed)
-            holds(status or printed == command.printed, what, "it ended well, but did not print", command.printed)
-            holds(is_kept(here.folder, command, printed), what, "the book is not whole, or lacks what was reported", book_of(here.folder))
-            holds(left(here.folder) <= ({"book.new", "socket"} if status else set()), what, "files are left", left(here.folder))
-            holds(name not in ("login", "hall") or printed_begins_clean(here.folder, printed), what, "a line of the log is at fault")
-            ended[status] += 1
-            other = enrol._replace(words=[word.replace("new", "other") for word in enrol.words])
-            pathlib.Path(here.folder, "random").write_bytes(bytes(64))
-            equal(run(other, here.folder), (0, "enrolled other\n", ""), "the next command after", what)
-            holds(left(here.folder) <= {"socket"}, what, "files are left after the next command", left(here.folder))
+            began = time.monotonic()
+            equal(run(command, here.folder), (0, command.printed, ""), name)
+            duration = time.monotonic() - began
+            ended.update(ended_by(here, command, number, random.uniform(0, duration)) for number in SIGNALS * TIMES)
     killed = sum(ended[-number] for number in SIGNALS)
     holds(all(ended[-number] > TIMES for number in SIGNALS), f"a signal ended at most {TIMES} runs", ended)
     print(f"machine.py: {killed} runs ended by a signal, of {ended.total()}")
@@ -298,18 +306,20 @@ def twenty_at_once(folder):
     late = {"enrol": (1, "", "scramotp: name is taken\n"), "verify": (1, "FAIL 5\n", "")}
     late |= {"new": late["enrol"], "login": (1, login_log(1).replace("PASS 5 0", "FAIL 5"), "")}
     late |= {"hall": (0, numbered(late["login"][1]), "")}
-    for name, command in one_code.items():
-        prepare(here.folder, command)
-        if name != "new":
-            pathlib.Path(here.folder, "book").write_text(LIMIT_100)
-        first = (0, command.printed, "")
-        answers = collections.Counter(together(here, [command] * 20))
-        equal(answers, collections.Counter([first] + [late.get(name, first)] * 19), name)
-        equal(left(here.folder), set(), name, "the files that are left")
-        token = (book_of(here.folder)["accounts"].get("user") or {}).get("token", {})
-        codes = name in ("verify", "login", "hall")
-        want = (1, 19) if codes else (0, 0 if name == "unlock" else 2)
-        holds(name == "new" or (token["next"], token["failures"]) == want, name, "the next counter and the failures are not", want, token)
+    for trial, (name, command) in each(one_code.items()):
+        with trial:
+            prepare(here.folder, command)
+            if name != "new":
+                pathlib.Path(here.folder, "book").write_text(LIMIT_100)
+            first = (0, command.printed, "")
+            answers = collections.Counter(together(here, [command] * 20))
+            equal(answers, collections.Counter([first] + [late.get(name, first)] * 19), name)
+            equal(left(here.folder), set(), name, "the files that are left")
+            token = (book_of(here.folder)["accounts"].get("user") or {}).get("token", {})
+            codes = name in ("verify", "login", "hall")
+            want = (1, 19) if codes else (0, 0 if name == "unlock" else 2)
+            is_due = name == "new" or (token["next"], token["failures"]) == want
+            holds(is_due, name, "the next counter and the failures are not", want, token)
     print(f"machine.py: 20 runs at once of each of {len(one_code)} commands")
 
 
@@ -379,8 +389,9 @@ def clocks_that_go_back(folder):
     equal(told, [f"PASS {now} {second}", f"FAIL {then}", f"FAIL {then}"], "codes while the clock is set back")
     equal(here.login((59, old_code), (59, next_code)), ["FAIL 59", "FAIL 59"], "codes of earlier steps, in the next run")
     equal(here.login((then, code)), [f"FAIL {then}"], "the code of the step before, in a later run")
-    for clock in [-1, -10 ** 12, 253402300800, 10 ** 12]:
-        equal(here.login((clock, next_code)), ["FAIL 0"], clock)
+    for trial, clock in each([-1, -10 ** 12, 253402300800, 10 ** 12]):
+        with trial:
+            equal(here.login((clock, next_code)), ["FAIL 0"], clock)
     here.fresh()
     told = here.login((then, code), (59, old_code), (now, next_code))
     equal(told, [f"PASS {then} {first}", "FAIL 59", f"PASS {now} {second}"], "codes of a new token, in the order of clocks")
@@ -393,10 +404,16 @@ def moments_that_fall(folder):
     here = Clocks(folder)
     (then, first, code), (now, second, next_code), (_, _, old_code) = BEFORE, AFTER, EARLY
     verify = here.named["verify"]
-    for moment, sent, reply in [(now, next_code, f"PASS {now} {second}"), (then, code, f"FAIL {then}"), (59, old_code, "FAIL 59"),
-                                (0, next_code, "FAIL 0"), (now, next_code, f"FAIL {now}")]:
-        command = verify._replace(words=[*verify.words[:-1], str(moment)], text=f"{sent}\n")
-        equal(run(command, here.folder)[1], f"{reply}\n", moment, sent)
+    for trial, (moment, sent, reply) in each([
+        (now, next_code, f"PASS {now} {second}"),
+        (then, code, f"FAIL {then}"),
+        (59, old_code, "FAIL 59"),
+        (0, next_code, "FAIL 0"),
+        (now, next_code, f"FAIL {now}"),
+    ]):
+        with trial:
+            command = verify._replace(words=[*verify.words[:-1], str(moment)], text=f"{sent}\n")
+            equal(run(command, here.folder)[1], f"{reply}\n", moment, sent)
     here.fresh()
     before = here.book.read_text()
     hall = command_of("hall", 0)

@@ -25,7 +25,7 @@ from command_table import BOOK, command_of, commands, left, login_log, prepare
 from expected import AUDITS, SESSION_LEFT
 from halls import Hall, clean
 from runs import LIMIT, ran, sleeps
-from suite import MOST_BYTES, PROGRAM, BookFolder, login_words
+from suite import MOST_BYTES, PROGRAM, BookFolder, each, login_words
 
 # A hall's log of RFC 5802's login, without its end, and the events that lead to it.
 HALL = command_of("hall", 0)
@@ -62,15 +62,16 @@ def lengths_of_first_messages(folder):
     """A client-first message has at most 2048 bytes, a nonce 256, and a name and a name to act as 255, without their escapes."""
     account = Account("user", "SCRAM-SHA-1")
     here, tried = Hall(folder, clients.book([account])), 0
-    for text, good in first_messages(account):
-        if good:
-            name, nonce = good
-            known = f"s={base(account.salt)},i={clients.COUNT}" if name == "user" else decoy(name)
-            visit = [opened("own"), said(f"AUTH SCRAM-SHA-1 :{escaped(text)}", f"S CONT :r={nonce}own,{known}"), gone()]
-        else:
-            visit = [opened("own"), said(f"AUTH SCRAM-SHA-1 :{escaped(text)}", *NO_AND_END)]
-        here.audited(here.hears(*visit), clean(1))
-        tried += 1
+    for trial, (text, good) in each(first_messages(account)):
+        with trial:
+            if good:
+                name, nonce = good
+                known = f"s={base(account.salt)},i={clients.COUNT}" if name == "user" else decoy(name)
+                visit = [opened("own"), said(f"AUTH SCRAM-SHA-1 :{escaped(text)}", f"S CONT :r={nonce}own,{known}"), gone()]
+            else:
+                visit = [opened("own"), said(f"AUTH SCRAM-SHA-1 :{escaped(text)}", *NO_AND_END)]
+            here.audited(here.hears(*visit), clean(1))
+            tried += 1
     print_count("client-first messages", tried)
 
 
@@ -91,12 +92,13 @@ def lengths_of_lines(folder):
         (let_in, "CODE " + "0" * 16, ["S FAIL 5"]), (let_in, "CODE " + "0" * 17, None),
         (let_in, f"SYNC {'0' * 16} {'~' * 16}", ["S FAIL 5"]), (let_in, f"SYNC {'0' * 17} 0", None), (let_in, f"SYNC 0 {'0' * 17}", None),
     ]
-    for before, line, answers in rows:
-        turn = said(line, *answers) if answers else clients.Turn(f"line # 5 {line}", bad)
-        here.put(clients.book([user]))
-        log = here.hears(*before, turn)
-        open_still = log.endswith("S FAIL 5\n")
-        here.audited(log + "1 C GONE\n1 E\n" * open_still, clean(1, log.count(" S OK :")))
+    for trial, (before, line, answers) in each(rows):
+        with trial:
+            turn = said(line, *answers) if answers else clients.Turn(f"line # 5 {line}", bad)
+            here.put(clients.book([user]))
+            log = here.hears(*before, turn)
+            open_still = log.endswith("S FAIL 5\n")
+            here.audited(log + "1 C GONE\n1 E\n" * open_still, clean(1, log.count(" S OK :")))
     print_count("lines", len(rows))
 
 
@@ -108,16 +110,17 @@ def lengths_of_last_messages(folder):
     rows = [(f",x={'y' * room}", None, None), (f",x={'y' * (room + 1)}", None, "invalid-encoding"), (f",x={' ' * room}", None, None)]
     rows += [("", bytes(size), "invalid-proof") for size in [1, 19, 21, 63, 64]] + [("", bytes(65), "invalid-encoding")]
     rows += [("", b"", "invalid-encoding")]
-    for more, proof, refusal in rows:
-        it = account.exchange("abc", "def", more, proof)
-        answers = [f"S NO :e={refusal}", "E"] if refusal else [f"S OK :v={it.signature}"]
-        log = here.hears(
-            opened("def"),
-            said(f"AUTH SCRAM-SHA-1 :{escaped(it.first)}", f"S CONT :{escaped(it.challenge)}"),
-            said(f"RESP :{escaped(it.final)}", *answers),
-            *([] if refusal else [gone()]),
-        )
-        here.audited(log, clean(1, log.count(" S OK :")))
+    for trial, (more, proof, refusal) in each(rows):
+        with trial:
+            it = account.exchange("abc", "def", more, proof)
+            answers = [f"S NO :e={refusal}", "E"] if refusal else [f"S OK :v={it.signature}"]
+            log = here.hears(
+                opened("def"),
+                said(f"AUTH SCRAM-SHA-1 :{escaped(it.first)}", f"S CONT :{escaped(it.challenge)}"),
+                said(f"RESP :{escaped(it.final)}", *answers),
+                *([] if refusal else [gone()]),
+            )
+            here.audited(log, clean(1, log.count(" S OK :")))
     equal(len(account.exchange("abc", "def", rows[0][0]).final), 2048, "the length of the longest message")
     print_count("client-final messages", len(rows))
 
@@ -127,19 +130,21 @@ def lengths_of_words(folder):
     user, tried = Account("user", "SCRAM-SHA-1"), 0
     here = BookFolder(folder)
     words = login_words(here.book, here.socket, "--mechanism", "SCRAM-SHA-1")
-    for own, others in [(256, 256), (257, 256), (256, 257)]:
-        here.put(clients.book([user]))
-        visit = [*logged_in(user, "n" * own, "s" * others), gone()]
-        log = "SCRAMLOG 1\n" + "".join(line.removeprefix("1 ") for line in dealt([0] * len(visit), [visit])[1].splitlines(True)[1:])
-        option = "client" if own > 256 else "server"
-        want = (0, log, "") if own == others else (2, "", f"scramotp: bad value for --{option}-nonce\n")
-        done = ran([*words, "--client-nonce", "n" * own, "--server-nonce", "s" * others], b"password of user")
-        equal(done, want, f"nonces of {own} and {others} bytes")
-        tried += 1
-    for size in [9, 10, 64, 65]:
-        want = (0, f"{expected.code(bytes(size), 7)}\n", "") if 10 <= size <= 64 else (2, "", "scramotp: bad value for --secret\n")
-        equal(ran([PROGRAM, "code", "--secret", "00" * size, "--counter", "7"], b""), want, size)
-        tried += 1
+    for trial, (own, others) in each([(256, 256), (257, 256), (256, 257)]):
+        with trial:
+            here.put(clients.book([user]))
+            visit = [*logged_in(user, "n" * own, "s" * others), gone()]
+            log = "SCRAMLOG 1\n" + "".join(line.removeprefix("1 ") for line in dealt([0] * len(visit), [visit])[1].splitlines(True)[1:])
+            option = "client" if own > 256 else "server"
+            want = (0, log, "") if own == others else (2, "", f"scramotp: bad value for --{option}-nonce\n")
+            done = ran([*words, "--client-nonce", "n" * own, "--server-nonce", "s" * others], b"password of user")
+            equal(done, want, f"nonces of {own} and {others} bytes")
+            tried += 1
+    for trial, size in each([9, 10, 64, 65]):
+        with trial:
+            want = (0, f"{expected.code(bytes(size), 7)}\n", "") if 10 <= size <= 64 else (2, "", "scramotp: bad value for --secret\n")
+            equal(ran([PROGRAM, "code", "--secret", "00" * size, "--counter", "7"], b""), want, size)
+            tried += 1
     print_count("nonces and secrets", tried)
 
 
@@ -149,17 +154,20 @@ def lengths_of_files(folder):
     tried = 0
     for command in commands():
         if command.name in ("login", "hall"):
-            for size, want in [(MOST_BYTES, (0, command.printed, "")), (MOST_BYTES + 1, (3, "", f"scramotp: cannot read {folder}/book\n"))]:
-                prepare(folder, command)
-                pathlib.Path(folder, "book").write_text(BOOK + "#" * (size - len(BOOK)))
-                equal(ran(command.in_folder(folder), command.text.encode()), want, command.name, size)
+            unread = (3, "", f"scramotp: cannot read {folder}/book\n")
+            for trial, (size, want) in each([(MOST_BYTES, (0, command.printed, "")), (MOST_BYTES + 1, unread)]):
+                with trial:
+                    prepare(folder, command)
+                    pathlib.Path(folder, "book").write_text(BOOK + "#" * (size - len(BOOK)))
+                    equal(ran(command.in_folder(folder), command.text.encode()), want, command.name, size)
                 tried += 1
         if command.name == "enrol":
             unread = (3, "", "scramotp: cannot read input\n")
-            for size, want in [(MOST_BYTES, (2, "", "scramotp: bad password\n")), (MOST_BYTES + 1, unread)]:
-                prepare(folder, command)
-                equal(ran(command.in_folder(folder), b"a" * size), want, f"a password of {size} bytes")
-                equal(pathlib.Path(folder, "book").read_text(), BOOK, f"the book after a password of {size} bytes")
+            for trial, (size, want) in each([(MOST_BYTES, (2, "", "scramotp: bad password\n")), (MOST_BYTES + 1, unread)]):
+                with trial:
+                    prepare(folder, command)
+                    equal(ran(command.in_folder(folder), b"a" * size), want, f"a password of {size} bytes")
+                    equal(pathlib.Path(folder, "book").read_text(), BOOK, f"the book after a password of {size} bytes")
                 tried += 1
     print_count("books and passwords", tried)
 
@@ -219,8 +227,9 @@ def sessions(version):
 def long_logs(folder):
     """A million lines are clean, and one more byte is too many; an audit needs no more memory for them than for ten lines."""
     words = [PROGRAM, "audit", "--book", AUDITS / "keys.toml", "--log", "/dev/stdin"]
-    for version in [1, 2]:
-        for more, answer in [(b"", (0, f"clean sessions={SESSIONS} accepted=0 codes=0\n", "")), (b"S", (1, "too many lines\n", ""))]:
+    clean_log, long_log = (0, f"clean sessions={SESSIONS} accepted=0 codes=0\n", ""), (1, "too many lines\n", "")
+    for trial, (version, (more, answer)) in each(itertools.product([1, 2], [(b"", clean_log), (b"S", long_log)])):
+        with trial:
             run, parts = Fed(words), sessions(version)
             holds(run.feed([f"SCRAMLOG {version}\n".encode(), *itertools.islice(parts, 3)]), "the run has ended early", version)
             early = run.most_memory()
@@ -246,8 +255,10 @@ def endless_logs(folder):
         (b"", itertools.repeat(b"SCRAMLOG 1"), "line 1: not a line", "line 1: not a line"),
         (b"", itertools.repeat(bytes(1000)), "line 1: not a line", "line 1: not a line"),
     ]
-    for begin, parts, of_audit, of_upgrade in rows:
-        for words, want in [(audit, (1, f"{of_audit}\n", "")), (upgrade, (1, "", f"{of_upgrade}\n"))]:
+    of_audits = [(audit, begin, parts, (1, f"{answer}\n", "")) for begin, parts, answer, _ in rows]
+    of_upgrades = [(upgrade, begin, parts, (1, "", f"{fault}\n")) for begin, parts, _, fault in rows]
+    for trial, (words, begin, parts, want) in each([*of_audits, *of_upgrades]):
+        with trial:
             run = Fed(words)
             holds(not run.feed(itertools.chain([begin], parts)), "the run reads a log that never ends", words, begin)
             equal(run.end(), want, words, begin)
@@ -259,15 +270,16 @@ def endless_logs(folder):
 def endless_passwords(folder):
     """A password that never ends is an input fault, and nothing is written."""
     count = 0
-    for command in commands():
-        if command.text.startswith("pencil"):
-            prepare(folder, command)
-            run = Fed(command.in_folder(folder))
-            holds(not run.feed(itertools.repeat(b"a" * 4096)), "the run reads a password that never ends", command.name)
-            equal(run.end(), (3, "", "scramotp: cannot read input\n"), command.name)
-            equal(pathlib.Path(folder, "book").read_text(), BOOK, command.name, "the book")
-            equal(left(folder), set(), command.name, "the files that are left")
-            count += 1
+    for trial, command in each(commands()):
+        with trial:
+            if command.text.startswith("pencil"):
+                prepare(folder, command)
+                run = Fed(command.in_folder(folder))
+                holds(not run.feed(itertools.repeat(b"a" * 4096)), "the run reads a password that never ends", command.name)
+                equal(run.end(), (3, "", "scramotp: cannot read input\n"), command.name)
+                equal(pathlib.Path(folder, "book").read_text(), BOOK, command.name, "the book")
+                equal(left(folder), set(), command.name, "the files that are left")
+                count += 1
     equal(count, 3, "how many commands read a password")
     print(f"oversized.py: {count} passwords that never end")
 
@@ -281,23 +293,24 @@ def endless_codes(folder):
         "login": (b"pencil\n", f"{pair}\n", login_log(0).removesuffix("C GONE\nE\n"), f"C {pair}\nS FAIL 5\n", f"C {pair}\nS LOCKED 5\n"),
         "hall": (EVENTS.encode(), f"line 1 5 {pair}\n", LOGGED, f"1 C {pair}\n1 S FAIL 5\n", f"1 C {pair}\n1 S LOCKED 5\n"),
     }
-    for command in commands(0):
-        if command.name in rows:
-            begin, line, printed, failed, locked = rows[command.name]
-            prepare(folder, command)
-            pathlib.Path(folder, "book").write_text(BOOK.replace("failures = 2", "failures = 0"))
-            data, whole = line.encode(), (MOST_BYTES - len(begin)) // len(line)
-            run = Fed(command.in_folder(folder))
-            holds(run.feed([begin, *[data] * 1000]), "the run has ended early", command.name)
-            early = run.most_memory()
-            holds(run.feed(itertools.repeat(data, whole - 1000)), "the run has ended early", command.name)
-            late = run.most_memory()
-            holds(not run.feed(itertools.repeat(data)), "the run reads codes that never end", command.name)
-            status, output, faults = run.end()
-            equal((status, faults), (3, "scramotp: cannot read input\n"), command.name)
-            equal(output, printed + failed * 3 + locked * (whole - 3), command.name)
-            holds(late - early <= MORE, f"it takes over {MORE} KiB more memory late than early", command.name, early, late)
-            print(f"oversized.py: {whole} codes by {command.name}, which took {late - early} KiB more than the first 1000")
+    for trial, command in each(commands(0)):
+        with trial:
+            if command.name in rows:
+                begin, line, printed, failed, locked = rows[command.name]
+                prepare(folder, command)
+                pathlib.Path(folder, "book").write_text(BOOK.replace("failures = 2", "failures = 0"))
+                data, whole = line.encode(), (MOST_BYTES - len(begin)) // len(line)
+                run = Fed(command.in_folder(folder))
+                holds(run.feed([begin, *[data] * 1000]), "the run has ended early", command.name)
+                early = run.most_memory()
+                holds(run.feed(itertools.repeat(data, whole - 1000)), "the run has ended early", command.name)
+                late = run.most_memory()
+                holds(not run.feed(itertools.repeat(data)), "the run reads codes that never end", command.name)
+                status, output, faults = run.end()
+                equal((status, faults), (3, "scramotp: cannot read input\n"), command.name)
+                equal(output, printed + failed * 3 + locked * (whole - 3), command.name)
+                holds(late - early <= MORE, f"it takes over {MORE} KiB more memory late than early", command.name, early, late)
+                print(f"oversized.py: {whole} codes by {command.name}, which took {late - early} KiB more than the first 1000")
 
 
 TESTS = [

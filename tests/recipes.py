@@ -31,7 +31,7 @@ from book_cases import cases
 from checks import equal, holds
 from expected import AUDITS, VECTORS, keys_of, rows_of
 from runs import until
-from suite import BOOK_OF_USER, CODES, ROOT, code, document, hotp, is_locked, is_root, nobody, program_on_path, read_book, seen, totp
+from suite import BOOK_OF_USER, CODES, ROOT, code, document, each, hotp, is_locked, is_root, nobody, program_on_path, read_book, seen, totp
 from tool_runs import TOOLS, book_of, does, ran, start, with_tools
 
 DOCUMENT = document("docs/OPERATING.md")
@@ -165,22 +165,24 @@ def an_edit_that_cannot_be_saved(folder):
     commands, edited = Path(program_on_path(folder)["PATH"].partition(":")[0]), BOOK_OF_USER.replace("4096", "4097")
     kept = "is unchanged, because the new text could not be put in its place"
     lost = "is changed, but the change may be lost if the machine stops now"
-    for command, fails, fault, text in [
+    for trial, (command, fails, fault, text) in each([
         ("sync", '[ ! -d "$2" ]', kept, BOOK_OF_USER),
         ("mv", "true", kept, BOOK_OF_USER),
         ("sync", '[ -d "$2" ]', lost, edited),
         ("chgrp", "true", "", edited),
-    ]:
-        what, refusal = f"{command} fails if {fails}", "echo refused >&2; " if command == "chgrp" else ""
-        book.write_text(BOOK_OF_USER)
-        stand_in = Path(commands, command)
-        stand_in.write_text(f'#!/bin/sh\n{fails} || exec {shutil.which(command)} "$@"\n{refusal}exit 1\n')
-        stand_in.chmod(0o755)
-        said = f"edit-book: {os.path.realpath(book)} {fault}\n" if fault else ""
-        equal(ran(folder, "tools/edit-book book.toml sed s/4096/4097/"), (int(fault != ""), "", said), what)
-        equal(book.read_text(), text, what)
-        equal(set(os.listdir(folder)), {"bin", "book.toml", "tools"}, what)
-        stand_in.unlink()
+    ]):
+        with trial:
+            what, refusal = f"{command} fails if {fails}", "echo refused >&2; " if command == "chgrp" else ""
+            book.write_text(BOOK_OF_USER)
+            stand_in = Path(commands, command)
+            stand_in.write_text(f'#!/bin/sh\n{fails} || exec {shutil.which(command)} "$@"\n{refusal}exit 1\n')
+            stand_in.chmod(0o755)
+            said = f"edit-book: {os.path.realpath(book)} {fault}\n" if fault else ""
+            answer = ran(folder, "tools/edit-book book.toml sed s/4096/4097/")
+            stand_in.unlink()
+            equal(answer, (int(fault != ""), "", said), what)
+            equal(book.read_text(), text, what)
+            equal(set(os.listdir(folder)), {"bin", "book.toml", "tools"}, what)
 
 
 def an_edit_of_anothers_book(folder):
@@ -194,10 +196,11 @@ def an_edit_of_anothers_book(folder):
         book.symlink_to("/etc/passwd")
     before = seen(book)
     belongs = f"edit-book: {os.path.realpath(book)} belongs to another user: run edit-book as the book's owner\n"
-    for edit in ["tools/edit-book book.toml sed s/4096/4097/", "EDITOR=false tools/edit-book book.toml"]:
-        found = ran(folder, edit)
-        equal(found, (1, "", belongs), edit)
-        equal(seen(book), before, edit)
+    for trial, edit in each(["tools/edit-book book.toml sed s/4096/4097/", "EDITOR=false tools/edit-book book.toml"]):
+        with trial:
+            found = ran(folder, edit)
+            equal(found, (1, "", belongs), edit)
+            equal(seen(book), before, edit)
     if is_root():
         os.chown(book, 0, 0)
         os.chown(folder, nobody().pw_uid, nobody().pw_gid)
@@ -397,15 +400,16 @@ def a_password(folder):
 
 def a_password_of_one_mechanism(folder):
     """An account that has keys for only one mechanism gets new ones for both."""
-    for kept, lost in [("sha1", "sha256"), ("sha256", "sha1")]:
-        enrolled(folder)
-        does(folder, f"tools/edit-book book.toml tools/drop-tables '[accounts.\"{NAME}\".{lost}]'")
-        before = book_of(folder)
-        change, _ = blocks("Change a password")
-        does(folder, change, "another one\n", f"enrolled {NAME}\n")
-        after = book_of(folder)
-        has_keys_of(after["accounts"][NAME], b"another one")
-        equal(without_keys(after, NAME), without_keys(before, NAME), f"what else the book states, after only {kept} keys")
+    for trial, (kept, lost) in each([("sha1", "sha256"), ("sha256", "sha1")]):
+        with trial:
+            enrolled(folder)
+            does(folder, f"tools/edit-book book.toml tools/drop-tables '[accounts.\"{NAME}\".{lost}]'")
+            before = book_of(folder)
+            change, _ = blocks("Change a password")
+            does(folder, change, "another one\n", f"enrolled {NAME}\n")
+            after = book_of(folder)
+            has_keys_of(after["accounts"][NAME], b"another one")
+            equal(without_keys(after, NAME), without_keys(before, NAME), f"what else the book states, after only {kept} keys")
 
 
 def a_first_password(folder):
@@ -441,15 +445,17 @@ def a_password_that_is_refused(folder):
     enrolled(folder)
     before = Path(folder, "book.toml").read_bytes()
     change, _ = blocks("Change a password")
-    for password in ["ü\n", "\n", ""]:
-        _, output, faults = ran(folder, change, password)
-        equal((output, faults), ("", "scramotp: bad password\n"), password)
-        equal(Path(folder, "book.toml").read_bytes(), before, password)
-    for old, new in [("sed -n", "false"), ("sed -n '/\\.sha1]$/,$p'", "sed -n /none/p"), ("'[accounts.", "'[none.")]:
-        holds(old in change, "the block does not have what is replaced in it", old, change)
-        status, output, _ = ran(folder, change.replace(old, new), "another one\n")
-        equal(output, f"enrolled {NAME}\n", old)
-        equal(Path(folder, "book.toml").read_bytes(), before, old)
+    for trial, password in each(["ü\n", "\n", ""]):
+        with trial:
+            _, output, faults = ran(folder, change, password)
+            equal((output, faults), ("", "scramotp: bad password\n"), password)
+            equal(Path(folder, "book.toml").read_bytes(), before, password)
+    for trial, (old, new) in each([("sed -n", "false"), ("sed -n '/\\.sha1]$/,$p'", "sed -n /none/p"), ("'[accounts.", "'[none.")]):
+        with trial:
+            holds(old in change, "the block does not have what is replaced in it", old, change)
+            status, output, _ = ran(folder, change.replace(old, new), "another one\n")
+            equal(output, f"enrolled {NAME}\n", old)
+            equal(Path(folder, "book.toml").read_bytes(), before, old)
 
 
 def a_removed_account(folder):
@@ -576,16 +582,17 @@ def keys_of_dovecot(folder):
     rows = [row for row in rows_of(VECTORS / "keys.csv") if "doveadm" in row["source"]][::6]
     into, _ = blocks("Keys from PostgreSQL and Dovecot")
     equal({row["mechanism"] for row in rows}, {"SCRAM-SHA-1", "SCRAM-SHA-256"}, rows)
-    for number, row in enumerate(rows):
-        of_row = Path(folder, str(number))
-        of_row.mkdir()
-        with_tools(of_row, BOOK_OF_USER)
-        fields = [row[name] for name in ["mechanism", "count", "salt_hex", "stored_hex", "server_hex"]]
-        does(of_row, into, texts(*fields)[1] + "\n")
-        table = {"SCRAM-SHA-1": "sha1", "SCRAM-SHA-256": "sha256"}[row["mechanism"]]
-        keys = {"count": int(row["count"]), "salt": row["salt_hex"], "stored": row["stored_hex"], "server": row["server_hex"]}
-        equal(book_of(of_row)["accounts"][NAME], {table: keys}, "the account's keys", row["source"])
-        holds(not Path(of_row, "keys.toml").exists(), "the keys' text is left")
+    for trial, (number, row) in each(enumerate(rows)):
+        with trial:
+            of_row = Path(folder, str(number))
+            of_row.mkdir()
+            with_tools(of_row, BOOK_OF_USER)
+            fields = [row[name] for name in ["mechanism", "count", "salt_hex", "stored_hex", "server_hex"]]
+            does(of_row, into, texts(*fields)[1] + "\n")
+            table = {"SCRAM-SHA-1": "sha1", "SCRAM-SHA-256": "sha256"}[row["mechanism"]]
+            keys = {"count": int(row["count"]), "salt": row["salt_hex"], "stored": row["stored_hex"], "server": row["server_hex"]}
+            equal(book_of(of_row)["accounts"][NAME], {table: keys}, "the account's keys", row["source"])
+            holds(not Path(of_row, "keys.toml").exists(), "the keys' text is left")
 
 
 def a_verifier_there_and_back(folder):
@@ -604,10 +611,11 @@ def a_verifier_there_and_back(folder):
     does(folder, f"tools/from-verifier {shlex.quote(name)} >keys.toml && tools/edit-book book.toml cat - keys.toml", both[1] + "\n")
     equal(book_of(folder)["accounts"][name], book_of(folder)["accounts"]["user"], "the account whose name TOML has to quote")
     before = book_of(folder)
-    for text in ["", "md5c0ffee", both[0].replace("256", "512"), both[0].replace("==", "=")]:
-        _, _, faults = ran(folder, into.replace(NAME, "new"), text + "\n")
-        holds("not a verifier" in faults, "a text that is no verifier is taken for one", text, faults)
-        states(folder, before, f"what the book states after {text!r} was given as a verifier")
+    for trial, text in each(["", "md5c0ffee", both[0].replace("256", "512"), both[0].replace("==", "=")]):
+        with trial:
+            _, _, faults = ran(folder, into.replace(NAME, "new"), text + "\n")
+            holds("not a verifier" in faults, "a text that is no verifier is taken for one", text, faults)
+            states(folder, before, f"what the book states after {text!r} was given as a verifier")
 
 
 def a_code_in_a_script(folder):
@@ -618,12 +626,14 @@ def a_code_in_a_script(folder):
     def lets_in(text, name="user", book="book.toml"):
         return ran(folder, f"tools/check-code {book} {name}", text)[0]
 
-    for text in ["", "\n", "\r\n", " \n"]:
-        equal(lets_in(text), 1, text)
+    for trial, text in each(["", "\n", "\r\n", " \n"]):
+        with trial:
+            equal(lets_in(text), 1, text)
     token = book_of(folder)["accounts"]["user"]["token"]
     equal((token["next"], token["failures"]), (0, 0), "the next counter and the failures after blank lines")
-    for text, status in [(CODES[0] + "\r\n", 0), (CODES[1][:3] + " " + CODES[1][3:], 0), (CODES[1], 1), (CODES[2], 0)]:
-        equal(lets_in(text), status, text)
+    for trial, (text, status) in each([(CODES[0] + "\r\n", 0), (CODES[1][:3] + " " + CODES[1][3:], 0), (CODES[1], 1), (CODES[2], 0)]):
+        with trial:
+            equal(lets_in(text), status, text)
     equal(lets_in(f"000000\n{CODES[3]}\n"), 1, "the status for a second line")
     equal(lets_in("PASS 1 1\n"), 1, "the status for a reply instead of a code")
     equal(lets_in(CODES[3]), 1, "the status for a code at a locked token")
@@ -652,35 +662,39 @@ def a_code_of_a_service(folder):
     sudo = Path(program_on_path(folder)["PATH"].partition(":")[0], "sudo")
     sudo.write_text('#!/bin/sh\n[ "$1 $2 $3" = "-n -u scramotp" ] && shift 3 && echo "$@" >asked && exec "$@"\n')
     sudo.chmod(0o755)
-    for it, status in [(CODES[0], 0), (CODES[0], 1), ("000000", 1)]:
-        equal(ran(folder, f"code={it} name=user\n{call}"), (status, "", ""), it)
-        asked = Path(folder, "asked").read_text().removesuffix("\n")
-        holds(fnmatch.fnmatchcase(asked, allowed), "sudo is asked for what its line does not allow", asked, allowed)
+    for trial, (it, status) in each([(CODES[0], 0), (CODES[0], 1), ("000000", 1)]):
+        with trial:
+            equal(ran(folder, f"code={it} name=user\n{call}"), (status, "", ""), it)
+            asked = Path(folder, "asked").read_text().removesuffix("\n")
+            holds(fnmatch.fnmatchcase(asked, allowed), "sudo is asked for what its line does not allow", asked, allowed)
 
 
 def keys_at_fault(folder):
     """Something is printed for each book that is refused with 62, and nothing for a book that is read."""
     [script] = blocks("`bad book: 62`")
     with_tools(folder, BOOK_OF_USER.replace("4096", '"4096"').replace("format = 1", "format = 1\nx = 1"))
-    for header, number in [("user@example.org", 60), ("example.org", 62), ('"user@example.org"', None)]:
-        Path(folder, "named.toml").write_text(BOOK_OF_USER + f"\n[accounts.{header}]\n")
-        fault = f"scramotp: bad book: {number}\n" if number else "scramotp: no token\n"
-        equal(ran(folder, "scramotp unlock --book named.toml --name user"), (1, "", fault), header)
+    for trial, (header, number) in each([("user@example.org", 60), ("example.org", 62), ('"user@example.org"', None)]):
+        with trial:
+            Path(folder, "named.toml").write_text(BOOK_OF_USER + f"\n[accounts.{header}]\n")
+            fault = f"scramotp: bad book: {number}\n" if number else "scramotp: no token\n"
+            equal(ran(folder, "scramotp unlock --book named.toml --name user"), (1, "", fault), header)
     wrong = {"the document: 'x' is unknown", "the document: 'decoy_count' has the wrong type"}
     status, output, faults = ran(folder, script)
     equal((status, set(output.splitlines()), faults), (0, wrong, ""), output)
-    for number, text in enumerate([b"x = \n", b"x = '\xff'\n"]):
-        Path(folder, f"none{number}.toml").write_bytes(text)
-        status, output, faults = ran(folder, f"tools/find-key none{number}.toml")
-        equal((status, output), (1, ""), faults)
-        holds(re.fullmatch(r"find-key: not TOML: [^\n]*\n", faults), "a text that is not TOML is not named so", faults)
+    for trial, (number, text) in each(enumerate([b"x = \n", b"x = '\xff'\n"])):
+        with trial:
+            Path(folder, f"none{number}.toml").write_bytes(text)
+            status, output, faults = ran(folder, f"tools/find-key none{number}.toml")
+            equal((status, output), (1, ""), faults)
+            holds(re.fullmatch(r"find-key: not TOML: [^\n]*\n", faults), "a text that is not TOML is not named so", faults)
     faulty = [case for case in cases() if case.answer == "62" or not case.answer.isdigit()]
     for number, case in enumerate(faulty):
         Path(folder, str(number)).write_bytes(case.book)
     with ThreadPoolExecutor(4) as pool:
         found = list(pool.map(lambda number: ran(folder, f"tools/find-key {number}"), range(len(faulty))))
-    for (status, output, faults), case in zip(found, faulty):
-        equal((status, faults, output != ""), (0, "", case.answer == "62"), case, output)
+    for trial, ((status, output, faults), case) in each(zip(found, faulty)):
+        with trial:
+            equal((status, faults, output != ""), (0, "", case.answer == "62"), case, output)
     holds({case.answer for case in faulty} > {"62"}, "the table has too few answers")
 
 
@@ -728,12 +742,13 @@ def every_tool(folder):
     Path(folder, "tools").symlink_to(TOOLS)
     told = re.findall(r"^\| `(\S+) (.*?)` \|", DOCUMENT.read_text(encoding="utf-8").partition("## Folder and rights")[0], re.M)
     equal({name for name, _ in told}, set(os.listdir(Path(folder, "tools"))), told)
-    for name, words in told:
-        usage = f"{name} {words}: "
-        holds(usage in Path(folder, "tools", name).read_text(encoding="utf-8"), "the usage is not in the tool", name, words)
-        status, output, faults = ran(folder, f"tools/{name}")
-        equal((status, output), (1, ""), name, faults)
-        holds(faults.startswith(usage) and faults.count("\n") == 1, "the tool without words does not print its usage", name, faults)
+    for trial, (name, words) in each(told):
+        with trial:
+            usage = f"{name} {words}: "
+            holds(usage in Path(folder, "tools", name).read_text(encoding="utf-8"), "the usage is not in the tool", name, words)
+            status, output, faults = ran(folder, f"tools/{name}")
+            equal((status, output), (1, ""), name, faults)
+            holds(faults.startswith(usage) and faults.count("\n") == 1, "the tool without words does not print its usage", name, faults)
 
 
 def all_in_order(folder):

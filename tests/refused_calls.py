@@ -16,7 +16,7 @@ from checks import equal, holds
 from command_table import parsed_book, with_account
 from expected import AUDITS, MECHS
 from runs import ran
-from suite import BOOK_OF_USER, PROGRAM, hotp
+from suite import BOOK_OF_USER, PROGRAM, each, hotp
 
 BENCH = pathlib.Path(__file__).parent.parent / "crates" / "bench" / "out" / "bench"
 BOOK = (AUDITS / "sha256.toml").read_text() + hotp(look_ahead=3, limit=3)
@@ -74,12 +74,13 @@ def count_told(folder, kind, logged, check):
     whole, answers = each_refused(kind, folder, BOOK)
     equal(whole, f"{logged}out of memory 0\n", kind)
     told = 0
-    for answer in answers:
-        if answer not in (None, whole):
-            log, times = answer.rsplit("out of memory ", 1)
-            equal(times, "1\n", kind, answer)
-            holds(check(log), kind, "neither the log that was due nor a clean beginning of it", answer)
-            told += 1
+    for trial, answer in each(answers):
+        with trial:
+            if answer not in (None, whole):
+                log, times = answer.rsplit("out of memory ", 1)
+                equal(times, "1\n", kind, answer)
+                holds(check(log), kind, "neither the log that was due nor a clean beginning of it", answer)
+                told += 1
     holds(2 * told > len(answers), "at most half of the requests are told", kind, told, answers)
     return told
 
@@ -122,12 +123,13 @@ def texts_are_written_again(folder):
     want = [f"{row[0]} {row[-1]}" for row in TEXTS]
     equal(whole.splitlines(), [f"0 {it}" for it in want], whole)
     refused = set()
-    for answer in filter(None, answers):
-        rows = [row.split(" ", 1) for row in answer.splitlines()]
-        told = [number for number, (times, _) in enumerate(rows) if times == "1"]
-        equal([text for _, text in rows], want, answer)
-        holds(len(told) <= 1, "one refused request is reported by several texts", answer)
-        refused.update(told)
+    for trial, answer in each(filter(None, answers)):
+        with trial:
+            rows = [row.split(" ", 1) for row in answer.splitlines()]
+            told = [number for number, (times, _) in enumerate(rows) if times == "1"]
+            equal([text for _, text in rows], want, answer)
+            holds(len(told) <= 1, "one refused request is reported by several texts", answer)
+            refused.update(told)
     equal(refused, set(range(len(TEXTS))), [TEXTS[number] for number in range(len(TEXTS)) if number not in refused])
     print(f"refused_calls.py: each of {len(TEXTS)} texts is refused memory")
 
@@ -142,13 +144,14 @@ def changed_again(folder, book):
     equal(parsed_book(before), parsed_book(book), before)
     equal(parsed_book(after), with_account(parsed_book(book)), after)
     counts = [0, 0, 0]
-    for answer in answers:
-        if answer not in (None, whole):
-            same, times = answer.rsplit("out of memory ", 1)
-            times = [int(it) for it in times.split()]
-            equal(same, texts, answer)
-            equal(sum(times), 1, answer)
-            counts = [sum(it) for it in zip(counts, times)]
+    for trial, answer in each(answers):
+        with trial:
+            if answer not in (None, whole):
+                same, times = answer.rsplit("out of memory ", 1)
+                times = [int(it) for it in times.split()]
+                equal(same, texts, answer)
+                equal(sum(times), 1, answer)
+                counts = [sum(it) for it in zip(counts, times)]
     holds(2 * sum(counts) > len(answers), "at most half of the requests are told", counts, len(answers))
     return counts
 
@@ -156,8 +159,9 @@ def changed_again(folder, book):
 def books_are_changed_again(folder):
     """A book with a token, and one without accounts: the first account of a book needs memory, and the second has room already."""
     reading, writing, adding = map(sum, zip(*[changed_again(folder, book) for book in (BOOK, NO_ACCOUNTS)]))
-    for what, count in [("reading a book", reading), ("writing it", writing), ("enrol", adding)]:
-        holds(count > 0, f"no request of {what} is refused")
+    for trial, (what, count) in each([("reading a book", reading), ("writing it", writing), ("enrol", adding)]):
+        with trial:
+            holds(count > 0, f"no request of {what} is refused")
     print(f"refused_calls.py: {reading} requests of reading a book, {writing} of writing it, {adding} of enrol are refused")
 
 

@@ -16,7 +16,7 @@ import shims
 import suite
 from checks import equal, holds
 from command_table import book_of, commands, is_done, is_front, is_kept, left, new_book, prepare, printed_begins_clean, run
-from suite import PROGRAM
+from suite import PROGRAM, each
 
 # The calls that move bytes, and the other calls that are refused.
 MOVES = "read,write,recv,send"
@@ -75,17 +75,25 @@ class Turns:
         holds(is_done(self.folder, command), command.name, number, answer, "the command has not saved all", book_of(self.folder))
 
 
-def all_harmless(folder, how):
-    """Each command does its work, whichever of its reads and writes goes wrong in this way. After most of them it makes one more."""
-    here, count, again = Turns(folder), 0, 0
-    for command in [*commands(), new_book()]:
-        made = []
-        for what, answer in here.turns(command, MOVES, how):
+def harmless(here, command, how):
+    """A command does its work, whichever of its reads and writes goes wrong in this way. Returns how many each of the runs made."""
+    made = []
+    for trial, (what, answer) in each(here.turns(command, MOVES, how)):
+        with trial:
             equal(answer, (0, command.printed, ""), what)
             holds(is_done(here.folder, command), what, "the command has not saved all", book_of(here.folder), left(here.folder))
             made.append(here.calls)
-        count += len(made)
-        again += sum(calls > here.calls for calls in made)
+    return made
+
+
+def all_harmless(folder, how):
+    """Each command does its work, whichever of its reads and writes goes wrong in this way. After most of them it makes one more."""
+    here, count, again = Turns(folder), 0, 0
+    for trial, command in each([*commands(), new_book()]):
+        with trial:
+            made = harmless(here, command, how)
+            count += len(made)
+            again += sum(calls > here.calls for calls in made)
     holds(2 * again > count, "at most half of the reads and writes are made again", how, again, count)
     print(f"refused_io.py: {count} reads and writes {how}, of which {again} are made again")
 

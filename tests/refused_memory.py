@@ -15,7 +15,7 @@ from checks import equal, holds
 from command_table import book_of, commands, is_done, is_front, is_kept, left, new_book, prepare, printed_begins_clean, run
 from expected import AUDITS
 from runs import ran
-from suite import PROGRAM
+from suite import PROGRAM, each
 
 
 def split(said, *run):
@@ -40,11 +40,12 @@ def each_is_told(folder, words, printed):
     *whole, requests = run_refused(folder, words, shim, 0)
     equal(whole, [0, printed, ""], words)
     needed = 0
-    for number in range(1, requests + 1):
-        *told, _ = run_refused(folder, words, shim, number)
-        if told != whole:
-            equal(told, [3, "", "scramotp: no memory\n"], words, number)
-            needed += 1
+    for trial, number in each(range(1, requests + 1)):
+        with trial:
+            *told, _ = run_refused(folder, words, shim, number)
+            if told != whole:
+                equal(told, [3, "", "scramotp: no memory\n"], words, number)
+                needed += 1
     holds(2 * needed > requests, "at most half of the requests are needed", words, needed, requests)
     return needed
 
@@ -53,9 +54,10 @@ def audits_are_refused(folder):
     """Audits of a log of each version without sessions, and of one with two sessions, end well or with the fault. An audit of version 2
     needs one request more than one of version 1, however many sessions its log has."""
     words, needed = ["audit", "--book", AUDITS / "hotp.toml", "--log"], []
-    for text in ["SCRAMLOG 1\n", "SCRAMLOG 2\n"]:
-        pathlib.Path(folder, "log").write_text(text)
-        needed.append(each_is_told(folder, [*words, "log"], "clean sessions=0 accepted=0 codes=0\n"))
+    for trial, text in each(["SCRAMLOG 1\n", "SCRAMLOG 2\n"]):
+        with trial:
+            pathlib.Path(folder, "log").write_text(text)
+            needed.append(each_is_told(folder, [*words, "log"], "clean sessions=0 accepted=0 codes=0\n"))
     equal(needed[1], needed[0] + 1, needed)
     equal(each_is_told(folder, [*words, AUDITS / "interleaved.log"], "clean sessions=2 accepted=1 codes=1\n"), needed[1], needed)
 
@@ -77,15 +79,14 @@ def refused(command, folder, shim, number):
     return (status, printed, faults), requests
 
 
-def commands_are_refused(folder):
-    """Whichever request of a command is refused, it ends well, or with a fault after what it could print; what it reported is saved."""
-    here, shim, told, count = os.path.join(folder, "files"), shims.built("refuse_memory"), 0, 0
-    os.mkdir(here)
-    for command in [*commands(), new_book()]:
-        whole, requests = refused(command, here, shim, 0)
-        equal(whole, (0, command.printed, ""), command.name)
-        holds(is_done(here, command), "the command has not saved all", command.name, whole)
-        for number in range(1, requests + 1):
+def requests_told(command, here, shim):
+    """Refuses each request of a command in turn. Returns how many requests there are, and how many of them are told."""
+    whole, requests = refused(command, here, shim, 0)
+    equal(whole, (0, command.printed, ""), command.name)
+    holds(is_done(here, command), "the command has not saved all", command.name, whole)
+    told = 0
+    for trial, number in each(range(1, requests + 1)):
+        with trial:
             answer, _ = refused(command, here, shim, number)
             what = (command.name, number, answer)
             holds(is_kept(here, command, answer[1]), what, "the book is not whole, or lacks what was reported", book_of(here))
@@ -96,7 +97,17 @@ def commands_are_refused(folder):
                 holds(re.fullmatch(FAULT, answer[2]), what, "the fault is none of memory, a file or a socket")
                 holds(is_front(command, answer[1]), what, "its output is no beginning of", command.printed)
                 told += 1
-        count += requests
+    return requests, told
+
+
+def commands_are_refused(folder):
+    """Whichever request of a command is refused, it ends well, or with a fault after what it could print; what it reported is saved."""
+    here, shim, told, count = os.path.join(folder, "files"), shims.built("refuse_memory"), 0, 0
+    os.mkdir(here)
+    for trial, command in each([*commands(), new_book()]):
+        with trial:
+            requests, of_command = requests_told(command, here, shim)
+            count, told = count + requests, told + of_command
     holds(2 * told > count, "at most half of the requests are told", told, count)
     print(f"refused_memory.py: {count} requests of all commands are refused, of which {told} are told")
 

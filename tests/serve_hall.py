@@ -20,7 +20,7 @@ import suite
 from checks import equal, holds
 from expected import MECHS
 from runs import until
-from suite import BOOK_OF_USER, blocks_of, seen
+from suite import BOOK_OF_USER, blocks_of, each, seen
 from tool_runs import TOOLS, book_of, does, ran, start, with_tools
 
 OPERATING = TOOLS.parent / "docs" / "OPERATING.md"
@@ -149,27 +149,28 @@ def a_full_hall(folder):
 def a_hall_that_halts(folder):
     """If a code can't be saved, its client is sent HALT, unless it has gone, and the program ends. Its log is still clean."""
     account = clients.Account("user", "SCRAM-SHA-256")
-    for is_gone in [False, True]:
-        place = Path(folder, str(is_gone))
-        place.mkdir()
-        serving = serving_hall(place, clients.book([account]))
-        client, other = greeted(place), greeted(place)
-        begins_login(client, account)
-        logs_in(client, account)
-        Path(place, "book.toml.new").mkdir()
-        stops(serving)
-        client.sendall(f"CODE {account.code(0)}\n".encode())
-        if is_gone:
-            client.close()
-        serving.process.send_signal(signal.SIGCONT)
-        if not is_gone:
-            equal([line_of(client), line_of(client)], ["HALT", ""], "the code's client")
-        equal(line_of(other), "", "another client")
-        faults = ["scramotp: cannot write book.toml", "serve-hall: the book can't be saved"]
-        status, _, told = serving.end()
-        equal((status, sorted(told.splitlines())), (1, faults), f"the end of the tool; the client has gone: {is_gone}")
-        holds(not Path(place, "hall.sock").exists(), "the socket is left")
-        does(place, "scramotp audit --book hall.log.toml --log hall.log", printed="clean sessions=2 accepted=1 codes=0\n")
+    for trial, is_gone in each([False, True]):
+        with trial:
+            place = Path(folder, str(is_gone))
+            place.mkdir()
+            serving = serving_hall(place, clients.book([account]))
+            client, other = greeted(place), greeted(place)
+            begins_login(client, account)
+            logs_in(client, account)
+            Path(place, "book.toml.new").mkdir()
+            stops(serving)
+            client.sendall(f"CODE {account.code(0)}\n".encode())
+            if is_gone:
+                client.close()
+            serving.process.send_signal(signal.SIGCONT)
+            if not is_gone:
+                equal([line_of(client), line_of(client)], ["HALT", ""], "the code's client")
+            equal(line_of(other), "", "another client")
+            faults = ["scramotp: cannot write book.toml", "serve-hall: the book can't be saved"]
+            status, _, told = serving.end()
+            equal((status, sorted(told.splitlines())), (1, faults), f"the end of the tool; the client has gone: {is_gone}")
+            holds(not Path(place, "hall.sock").exists(), "the socket is left")
+            does(place, "scramotp audit --book hall.log.toml --log hall.log", printed="clean sessions=2 accepted=1 codes=0\n")
 
 
 def a_hall_that_is_killed(folder):

@@ -12,7 +12,7 @@ import random
 
 import suite
 from expected import AUDITS, AUTH, CONT, GONE, MECHS, OK, RESP, orders_of_turns
-from suite import audit_says, code
+from suite import audit_says, code, each
 
 BOOK = AUDITS / "hotp.toml"
 FIRST_LINE = "SCRAMLOG 2"
@@ -59,15 +59,16 @@ def log_of(order, sessions):
 def all_orders(folder):
     """Every order of three turns of three sessions. Each of the three outcomes is turned around in a third of the orders."""
     orders = orders_of_turns()
-    for index, order in enumerate(orders):
-        lines, owners = log_of(order, [LET_IN, REFUSED, LEAVES])
-        answers(order, folder, lines, "clean sessions=3 accepted=1 codes=0")
-        which = index % 3
-        outcome, other, answer = OUTCOMES[which]
-        number = numbers_of(order)[which]
-        at = next(at for at, owner in enumerate(owners) if owner == which and lines[at] == f"{number} {outcome}")
-        lines[at] = f"{number} {other}"
-        answers(f"{order}, {which} turned", folder, lines, f"line {at + 1}: {answer}")
+    for trial, (index, order) in each(enumerate(orders)):
+        with trial:
+            lines, owners = log_of(order, [LET_IN, REFUSED, LEAVES])
+            answers(order, folder, lines, "clean sessions=3 accepted=1 codes=0")
+            which = index % 3
+            outcome, other, answer = OUTCOMES[which]
+            number = numbers_of(order)[which]
+            at = next(at for at, owner in enumerate(owners) if owner == which and lines[at] == f"{number} {outcome}")
+            lines[at] = f"{number} {other}"
+            answers(f"{order}, {which} turned", folder, lines, f"line {at + 1}: {answer}")
 
 
 def shuffled():
@@ -96,13 +97,14 @@ def shuffles(folder):
     """The token's history is that of the whole log, whichever sessions send the codes."""
     book = pathlib.Path(folder, "book")
     book.write_text(BOOK.read_text().replace("limit = 3\n", "limit = 100\n"))
-    for number in range(40):
-        lines, passed = shuffled()
-        answers(f"shuffle {number}", folder, lines, f"clean sessions=64 accepted=64 codes={passed}", book)
-        at = next(at for at, line in enumerate(lines) if " S FAIL " in line)
-        moment = lines[at].rpartition(" ")[2]
-        lines[at] = lines[at].replace(f"S FAIL {moment}", f"S PASS {moment} 0")
-        answers(f"shuffle {number}, turned", folder, lines, f"line {at + 1}: reply, due FAIL {moment}", book)
+    for trial, number in each(range(40)):
+        with trial:
+            lines, passed = shuffled()
+            answers(f"shuffle {number}", folder, lines, f"clean sessions=64 accepted=64 codes={passed}", book)
+            at = next(at for at, line in enumerate(lines) if " S FAIL " in line)
+            moment = lines[at].rpartition(" ")[2]
+            lines[at] = lines[at].replace(f"S FAIL {moment}", f"S PASS {moment} 0")
+            answers(f"shuffle {number}, turned", folder, lines, f"line {at + 1}: reply, due FAIL {moment}", book)
 
 
 def sixty_four(folder):
@@ -126,12 +128,14 @@ def sixty_four(folder):
 def other_numbers(folder):
     """A number is a decimal from 1 to 9223372036854775806 without a leading zero, and each session has the next one."""
     first, ended = [FIRST_LINE, f"1 {MECHS}"], [f"1 {AWAY}", f"1 {END}"]
-    for number in ["0", "01", "-1", "+1", " 1", "", "9223372036854775807", "9223372036854775808", "18446744073709551617"]:
-        answers(f"number {number!r}", folder, [FIRST_LINE, f"{number} {MECHS}"], "line 2: not a line")
-        answers(f"then number {number!r}", folder, first + [f"{number} {AWAY}"], "line 3: not a line")
-    for number in ["2", "9223372036854775806"]:
-        answers(f"number {number}", folder, [FIRST_LINE, f"{number} {MECHS}"], "line 2: order")
-        answers(f"then number {number}", folder, first + [f"{number} {AWAY}"], "line 3: order")
+    for trial, number in each(["0", "01", "-1", "+1", " 1", "", "9223372036854775807", "9223372036854775808", "18446744073709551617"]):
+        with trial:
+            answers(f"number {number!r}", folder, [FIRST_LINE, f"{number} {MECHS}"], "line 2: not a line")
+            answers(f"then number {number!r}", folder, first + [f"{number} {AWAY}"], "line 3: not a line")
+    for trial, number in each(["2", "9223372036854775806"]):
+        with trial:
+            answers(f"number {number}", folder, [FIRST_LINE, f"{number} {MECHS}"], "line 2: order")
+            answers(f"then number {number}", folder, first + [f"{number} {AWAY}"], "line 3: order")
     answers("a number that is left out", folder, first + [f"3 {MECHS}"], "line 3: order")
     answers("a number that comes back", folder, first + ended + ended[:1], "line 5: order")
     answers("a number that begins again", folder, first + ended + first[1:], "line 5: order")
@@ -165,9 +169,10 @@ def long_lines(folder):
             cases.append((f"{size} bytes after {number!r}", f"SCRAMLOG 2\n{line}", f"line 2: {said[0]}"))
             cases.append((f"{size} bytes after {number!r} and LF", f"SCRAMLOG 2\n{line}\n", f"line 2: {ended}"))
     log = pathlib.Path(folder, "log")
-    for what, text, answer in cases:
-        log.write_text(text)
-        audit_says(BOOK, log, answer, what)
+    for trial, (what, text, answer) in each(cases):
+        with trial:
+            log.write_text(text)
+            audit_says(BOOK, log, answer, what)
 
 
 suite.run_all([sixty_four, other_numbers, long_lines, shuffles, all_orders])

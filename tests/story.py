@@ -13,7 +13,7 @@ import re
 import runs
 import suite
 from checks import equal, holds
-from suite import document, program_on_path
+from suite import document, each, program_on_path
 
 TITLE = "Quick start"
 SHOWN = "#>"
@@ -69,8 +69,9 @@ def quick_start(folder):
     story = [step for block in blocks(text, TITLE) for step in steps(block)]
     equal([word for word in NEEDED if not any(word in command for command, _, _ in story)], [], "what the story lacks")
     answers = ran(folder, story)
-    for (command, printed, status), (output, ended) in zip(story, answers):
-        equal((output.splitlines(), ended), (printed, status), command)
+    for trial, ((command, printed, status), (output, ended)) in each(zip(story, answers)):
+        with trial:
+            equal((output.splitlines(), ended), (printed, status), command)
     equal(len(answers), len(story), "the number of commands that ran")
     print(f"story.py: {len(story)} commands do as README says")
 

@@ -18,7 +18,7 @@ import traceback
 import checks
 import expected
 import runs
-from checks import equal, holds
+from checks import equal, fail, holds
 from runs import ran
 
 if len(sys.argv) < 2:
@@ -262,6 +262,57 @@ class BookFolder:
             holds(begins_clean(book, log), "a line of the log is at fault", log)
 
 
+class TakesTooLong(Exception):
+    """A test has taken longer than a test may."""
+
+
+def called(row):
+    """How a row of a table is called where it fails: by the name that it has, or by those of its parts, or by the start of its text."""
+    if name := getattr(row, "name", None) or getattr(row, "__name__", None):
+        return str(name)
+    return ", ".join(map(called, row)) if isinstance(row, tuple) else repr(row)[:80]
+
+
+class Trial:
+    """The check of one row of a table. A fault in it does not end the test, but is kept in `bad`. What the row has started is stopped."""
+
+    def __init__(self, number, row, bad):
+        self.number, self.row, self.bad = number, row, bad
+
+    def __enter__(self):
+        return self
+
+    def __exit__(self, _, fault, calls):
+        if not isinstance(fault, Exception):
+            return False
+        why = f"row {self.number}, {called(self.row)}: line {calls.tb_lineno}: {type(fault).__name__}: {fault}\n"
+        # The last run is shown for the first row only.
+        self.bad.append(why if self.bad else why + runs.last())
+        runs.forget_runs()
+        if isinstance(fault, TakesTooLong):
+            fail_rows(self.bad)
+        return True
+
+
+def each(rows):
+    """Each row of a table after the context in which it is checked, as in `for trial, row in each(rows):` and then `with trial:`. All rows
+    are checked, and then the test fails if one of them did, and names each that did. The loop may end only at its last row."""
+    number, bad = 0, []
+    try:
+        for number, row in enumerate(rows, 1):
+            yield Trial(number, row, bad), row
+    except Exception as fault:
+        bad.append(f"what comes after row {number}: {type(fault).__name__}: {fault}\n{runs.last()}")
+    holds(number, "the table has no rows")
+    if bad:
+        fail_rows(bad)
+
+
+def fail_rows(bad):
+    """Fails the test, and says which rows of a table have failed, and why."""
+    fail([], [f"{len(bad)} of its rows fail\n" + "".join(bad).rstrip("\n")])
+
+
 def chosen(tests):
     """The tests that the words after the program's path name, or all if there is no such word. Exits if one of them names no test."""
     names = sys.argv[2:]
@@ -270,10 +321,6 @@ def chosen(tests):
             there = ", ".join(test.__name__ for test in tests)
             sys.exit(f"{os.path.basename(sys.argv[0])}: no test {name}; there are {there}")
     return [test for test in tests if not names or test.__name__ in names]
-
-
-class TakesTooLong(Exception):
-    """A test has taken longer than a test may."""
 
 
 def end_test(_signal, _frame):

@@ -15,7 +15,7 @@ import suite
 from checks import equal
 from expected import ACCEPTED, AUDITS, GONE, MECHS
 from runs import Running
-from suite import BOOK_OF_USER, KEYS_OF_PENCIL, PROGRAM, PUBLISHED, SALT, hotp
+from suite import BOOK_OF_USER, KEYS_OF_PENCIL, PROGRAM, PUBLISHED, SALT, each, hotp
 
 PASSWORD = "Type the password and press Enter; it is shown as you type.\r\n"
 BOTH = "Type the password, press Enter, then one code per line; all is shown as you type. End with Ctrl-D.\r\n"
@@ -95,38 +95,41 @@ def start(words, **terminals):
 
 def both_are_terminals(folder):
     """The prompt is shown before anything is typed, and then what is typed is shown."""
-    for words, typed, printed, said in commands(folder):
-        prepare(folder, words)
-        with Terminal() as terminal:
-            run = start(words, stdin=terminal.end, stderr=terminal.end)
-            until = time.monotonic() + 20
-            while terminal.shown != said and time.monotonic() < until:
-                terminal.see(0.05)
-            equal(terminal.shown, said, words, "what is shown before anything is typed")
-            terminal.type(typed + END)
-            run.ends(0, printed)
-            equal(terminal.all_shown(), said + typed.replace("\n", "\r\n"), words, "what is shown")
+    for trial, (words, typed, printed, said) in each(commands(folder)):
+        with trial:
+            prepare(folder, words)
+            with Terminal() as terminal:
+                run = start(words, stdin=terminal.end, stderr=terminal.end)
+                until = time.monotonic() + 20
+                while terminal.shown != said and time.monotonic() < until:
+                    terminal.see(0.05)
+                equal(terminal.shown, said, words, "what is shown before anything is typed")
+                terminal.type(typed + END)
+                run.ends(0, printed)
+                equal(terminal.all_shown(), said + typed.replace("\n", "\r\n"), words, "what is shown")
 
 
 def input_is_a_terminal(folder):
     """No prompt is shown if standard error is no terminal; what is typed is still shown."""
-    for words, typed, printed, _ in commands(folder):
-        prepare(folder, words)
-        with Terminal() as terminal:
-            run = start(words, stdin=terminal.end)
-            terminal.type(typed + END)
-            run.ends(0, printed)
-            equal(terminal.all_shown(), typed.replace("\n", "\r\n"), words, "what is shown")
+    for trial, (words, typed, printed, _) in each(commands(folder)):
+        with trial:
+            prepare(folder, words)
+            with Terminal() as terminal:
+                run = start(words, stdin=terminal.end)
+                terminal.type(typed + END)
+                run.ends(0, printed)
+                equal(terminal.all_shown(), typed.replace("\n", "\r\n"), words, "what is shown")
 
 
 def faults_are_a_terminal(folder):
     """No prompt is shown if standard input is no terminal."""
-    for words, typed, printed, _ in commands(folder):
-        prepare(folder, words)
-        with Terminal() as terminal:
-            run = start(words, stderr=terminal.end)
-            run.ends(0, printed, text=typed)
-            equal(terminal.all_shown(), "", words, "what is shown")
+    for trial, (words, typed, printed, _) in each(commands(folder)):
+        with trial:
+            prepare(folder, words)
+            with Terminal() as terminal:
+                run = start(words, stderr=terminal.end)
+                run.ends(0, printed, text=typed)
+                equal(terminal.all_shown(), "", words, "what is shown")
 
 
 def nothing_to_wait_for(folder):
@@ -134,19 +137,20 @@ def nothing_to_wait_for(folder):
     book = Path(folder, "book")
     log = Path(folder, "log")
     log.write_text("SCRAMLOG 1\n")
-    for words, status, printed, said in [
+    for trial, (words, status, printed, said) in each([
         ([*KEYS[:-1], "0"], 2, "", "scramotp: bad value for --count\r\n"),
         (on(folder, "enrol", "--count", "0"), 2, "", "scramotp: bad value for --count\r\n"),
         (on(folder, "verify", "--moment", "5"), 1, "", "scramotp: no token\r\n"),
         ([*login(folder), "--as", ""], 2, "", "scramotp: bad value for --as\r\n"),
         (["audit", "--book", str(book), "--log", str(log)], 0, "clean sessions=0 accepted=0 codes=0\n", ""),
         (["--version"], 0, "scramotp 0.1.0\n", ""),
-    ]:
-        book.write_text(BOOK_OF_USER)
-        with Terminal() as terminal:
-            run = start(words, stdin=terminal.end, stderr=terminal.end)
-            run.ends(status, printed)
-            equal(terminal.all_shown(), said, words, "what is shown")
+    ]):
+        with trial:
+            book.write_text(BOOK_OF_USER)
+            with Terminal() as terminal:
+                run = start(words, stdin=terminal.end, stderr=terminal.end)
+                run.ends(status, printed)
+                equal(terminal.all_shown(), said, words, "what is shown")
 
 
 suite.run_all([both_are_terminals, input_is_a_terminal, faults_are_a_terminal, nothing_to_wait_for])

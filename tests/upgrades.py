@@ -17,7 +17,7 @@ from audit_cases import cases
 from checks import equal, holds
 from expected import AUDITS, SESSION_LEFT, numbered
 from runs import processor_time, ran
-from suite import PROGRAM
+from suite import PROGRAM, each
 
 LOGIN = (AUDITS / "sha1.log").read_bytes()
 # A run that takes some six to thirteen times as much processor time as an upgrade of 990000 lines, where that was measured.
@@ -39,28 +39,29 @@ def same_answers(folder):
     """The audit's answer to each log of the table is the same after an upgrade. Logs with a first line in the middle are not compared:
     an upgrade numbers that line."""
     upgraded = 0
-    for book, log, answer, shows in cases():
-        got = run(["upgrade"], log)
-        if can_be_upgraded(log, answer):
-            equal(got, (0, numbered(log.decode()), ""), shows)
-            if b"\nSCRAMLOG" not in log:
-                equal(run(["audit", "--book", book], got.output).output, answer + "\n", shows)
-                upgraded += 1
-            continue
-        equal((got.status, got.output), (1, ""), shows)
-        found = re.fullmatch(r"line (\d+): (cut|not a line)\n", got.faults)
-        holds(found, f"{shows}: the fault names no line", got.faults)
-        first = re.match(r"line (\d+): ", answer)
-        if log.startswith(b"SCRAMLOG 1"):
-            holds(first and int(first[1]) <= int(found[1]), f"{shows}: the line is before that of {answer!r}", got.faults)
-        else:
-            equal(int(found[1]), 1, f"{shows}: the line")
+    for trial, (book, log, answer, shows) in each(cases()):
+        with trial:
+            got = run(["upgrade"], log)
+            if can_be_upgraded(log, answer):
+                equal(got, (0, numbered(log.decode()), ""), shows)
+                if b"\nSCRAMLOG" not in log:
+                    equal(run(["audit", "--book", book], got.output).output, answer + "\n", shows)
+                    upgraded += 1
+                continue
+            equal((got.status, got.output), (1, ""), shows)
+            found = re.fullmatch(r"line (\d+): (cut|not a line)\n", got.faults)
+            holds(found, f"{shows}: the fault names no line", got.faults)
+            first = re.match(r"line (\d+): ", answer)
+            if log.startswith(b"SCRAMLOG 1"):
+                holds(first and int(first[1]) <= int(found[1]), f"{shows}: the line is before that of {answer!r}", got.faults)
+            else:
+                equal(int(found[1]), 1, f"{shows}: the line")
     holds(upgraded > 0, "no log of the table could be upgraded")
 
 
 def faults(folder):
     """For a log that can't be upgraded, only the line at fault is printed."""
-    for what, log, status, fault in [
+    for trial, (what, log, status, fault) in each([
         ("without the last LF", LOGIN[:-1], 1, "line 8: cut"),
         ("the empty log", b"", 1, "line 1: cut"),
         ("version 2", numbered(LOGIN.decode()).encode(), 1, "line 1: not a line"),
@@ -69,8 +70,9 @@ def faults(folder):
         ("6202 bytes", b"SCRAMLOG 1\n" + b"E" * 6202, 1, "line 2: cut"),
         ("6203 bytes", b"SCRAMLOG 1\n" + b"E" * 6203, 1, "line 2: not a line"),
         ("1000000 lines and a byte", b"SCRAMLOG 1\n" + b"E\n" * 999999 + b"S", 1, "too many lines"),
-    ]:
-        equal(run(["upgrade"], log), (status, "", f"{fault}\n"), what)
+    ]):
+        with trial:
+            equal(run(["upgrade"], log), (status, "", f"{fault}\n"), what)
     upgrade, missing = [PROGRAM, "upgrade", "--log"], pathlib.Path(folder, "missing")
     equal(ran([*upgrade, folder]), (3, "", "read fault\n"), "a folder")
     equal(ran([*upgrade, missing]), (3, "", f"scramotp: cannot read {missing}\n"), "no log")

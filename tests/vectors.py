@@ -8,7 +8,7 @@ one-time codes, made by oathtool. The last column of a row names the program.
 """
 import suite
 from expected import VECTORS, rows_of
-from suite import PROGRAM, prints
+from suite import PROGRAM, each, prints
 
 
 def keys(row):
@@ -30,9 +30,10 @@ def codes(row):
 def each_row(name, case):
     """Compares what is printed for each row of a table."""
     rows = rows_of(VECTORS / name)
-    for number, row in enumerate(rows, 2):
-        words, line, want = case(row)
-        prints([PROGRAM, *words], line, 0, want, "", f"{name}: line {number}, by {row['source']}")
+    for trial, (number, row) in each(enumerate(rows, 2)):
+        with trial:
+            words, line, want = case(row)
+            prints([PROGRAM, *words], line, 0, want, "", f"{name}: line {number}, by {row['source']}")
     print(f"vectors.py: {name}: {len(rows)} rows as made elsewhere")
 
 
