@@ -5,7 +5,8 @@ Usage: install.py PROGRAM [TEST ..]
 
 The program and the tools in tools/ are put where DESTDIR and PREFIX say, even if a name has a space, and no other file is. A
 program that is not built, or is older than its sources, is refused. `make run` prints the keys of RFC 5802's example, which are those
-from Python's hashlib. Needs `make`.
+from Python's hashlib. If the program is not built or is old, it has rt run the sources; here a stand-in for rt takes its place, since rt
+takes over a minute. Needs `make`.
 """
 import os
 import pathlib
@@ -24,10 +25,15 @@ OF_MAKE = {"DESTDIR", "PREFIX", "MAKEFLAGS", "MFLAGS", "MAKELEVEL"}
 ENVIRONMENT = {name: value for name, value in os.environ.items() if name not in OF_MAKE}
 
 
-def made(target, program, **folders):
-    """Makes a target with this program and these variables."""
-    words = ["make", target, *(f"{name}={value}" for name, value in {"PROGRAM": program, **folders}.items())]
-    return ran(words, cwd=TOP, env=ENVIRONMENT)
+# What the Makefile takes from the PATH before it has rt run the sources.
+NEEDED = ["cat", "date", "find", "mkdir", "nproc", "sed"]
+NOTHING_PROVED = "Nothing is proved yet: make build does that. This runs the program from its sources, in about a minute.\n"
+
+
+def made(target, program, top=TOP, path=None, **folders):
+    """Makes a target with this program and these variables, in a folder with the Makefile, and with another PATH if one is given."""
+    words = [shutil.which("make"), target, *(f"{name}={value}" for name, value in {"PROGRAM": program, **folders}.items())]
+    return ran(words, cwd=top, env={**ENVIRONMENT, **({"PATH": str(path)} if path else {})})
 
 
 def files_of(folder):
@@ -75,4 +81,38 @@ def shown(folder):
     equal(done, (0, KEYS_OF_PENCIL, ""), "what make run prints")
 
 
-suite.run_all([installed, refused, shown])
+def run_from_sources(folder):
+    """Without a program that is newer than its sources, `make run` says that nothing is proved, and runs them by `rt try` in the program's
+    crate. It prints what that prints; if it fails, its fault. Without rt it says so. Here a stand-in for rt runs the built program."""
+    top, path, old = (pathlib.Path(folder, name) for name in ["top", "path", "old"])
+    source = top / "crates" / "scramotp" / "src" / "main.rt"
+    source.parent.mkdir(parents=True)
+    source.touch()
+    for name in ["Makefile", "crates.txt", "HANDLES"]:
+        shutil.copy(TOP / name, top)
+    path.mkdir()
+    for name in NEEDED:
+        (path / name).symlink_to(shutil.which(name))
+    os.utime(shutil.copy(PROGRAM, old), (0, 0))
+    status, output, faults = made("run", old, top, path)
+    equal((status, output), (2, ""), "without rt", faults)
+    holds("rt, the command of the Rattle kit, is not on your PATH" in faults.splitlines(), "it does not say that rt is missing", faults)
+    stand_in, asked = path / "rt", pathlib.Path(folder, "asked")
+    for trial, (program, last, answer) in each([
+        (f"{folder}/none", f'exec {PROGRAM} "$@"', (0, KEYS_OF_PENCIL, NOTHING_PROVED)),
+        (old, f'exec {PROGRAM} "$@"', (0, KEYS_OF_PENCIL, NOTHING_PROVED)),
+        (old, "echo it is wrong >&2; exit 3", None),
+    ]):
+        with trial:
+            stand_in.write_text(f'#!/bin/sh\necho "$PWD: $1 $2" >{asked}\nshift 2\n{last}\n')
+            stand_in.chmod(0o755)
+            status, output, faults = done = made("run", program, top, path)
+            equal(asked.read_text(), f"{os.path.realpath(top)}/crates/scramotp: try --\n", "where rt runs, and its first words")
+            if answer is None:
+                equal((status, output), (2, ""), "a run of rt that fails", faults)
+                holds(faults.startswith(f"{NOTHING_PROVED}it is wrong\n"), "the fault of rt is not shown", faults)
+            else:
+                equal(done, answer, "what make run prints")
+
+
+suite.run_all([installed, refused, shown, run_from_sources])
