@@ -2,7 +2,9 @@
 """Checks that what the documents name exists: links and their sections, paths, and the names in the sources that they cite; that no
 test is left out; that code which they show is in the sources; and that sizes are not stale.
 
-Usage: documents.py
+Usage: documents.py [CHECK ..]
+
+With names, only these of the functions below are used. By default all are.
 
 Each link between pages leads to a page and a section in it. Each path between backquotes is in the repository, and each source file that
 is named is in a crate. Each block of code, definitions, proofs or an edit that a page shows stands in one as it is. Each name that a page
@@ -253,8 +255,8 @@ def miscounted_edits():
     yield from (f"it should not have: {line}" for line in sorted(told - due))
 
 
-def faults():
-    """Each fault of the documents and of the lists of tests, with its kind."""
+def checks():
+    """Each check of the documents or of the lists of tests: its kind of fault, its function's name, and the faults."""
     texts = sources()
     paths = list(texts)
     known = words_of("\n".join(texts.values())) | NOT_OF_THE_SOURCES
@@ -266,36 +268,40 @@ def faults():
     # Source files have a kind of their own. The others name no single thing that exists: commands, and paths in any crate, of build
     # results or of several files.
     skipped = r"\.(rt|antt)$| |NAME|/out/|\*"
-    for kind, pages, find in [
+    for kind, pages, find, *given in [
         ("no such link", PAGES, broken_links),
         ("no such path", PAGES, missing_paths),
-        ("no source shows this block", PAGES, lambda page: missing_blocks(page, texts | edits)),
-        ("no crate has this file", PAGES, lambda page: unknown_files(page, paths)),
-        ("the file beside this name does not have it", PAGES, lambda page: misplaced_names(page, texts | scripts)),
-        ("no source has this name", promises, lambda page: unknown_names(page, paths, known)),
-        ("nothing has this name", maintainers, lambda page: unknown_names(page, paths, known_to_maintainers, skipped)),
-        ("no file before its table has this law", [TOP / "docs" / "LOG_PROMISES.md"], lambda page: misplaced_laws(page, texts)),
+        ("no source shows this block", PAGES, missing_blocks, texts | edits),
+        ("no crate has this file", PAGES, unknown_files, paths),
+        ("the file beside this name does not have it", PAGES, misplaced_names, texts | scripts),
+        ("no source has this name", promises, unknown_names, paths, known),
+        ("nothing has this name", maintainers, unknown_names, paths, known_to_maintainers, skipped),
+        ("no file before its table has this law", [TOP / "docs" / "LOG_PROMISES.md"], misplaced_laws, texts),
     ]:
-        yield from ((kind, fault) for page in pages for fault in find(page))
-    for kind, found in [
-        ("a stale size", stale_sizes()),
-        ("the kit of the Makefile is missing", pages_of_another_kit()),
-        ("run.py does not run this script, or docs/TESTING.md does not name it", untold_tests()),
-        ("its script never uses this function", unused_functions()),
-        ("planted.csv and the folders tested/ do not fit", stale_bugs()),
-        ("the table of edits in docs/MUTATIONS.md", miscounted_edits()),
+        yield kind, find.__name__, [fault for page in pages for fault in find(page, *given)]
+    for kind, find in [
+        ("a stale size", stale_sizes),
+        ("the kit of the Makefile is missing", pages_of_another_kit),
+        ("run.py does not run this script, or docs/TESTING.md does not name it", untold_tests),
+        ("its script never uses this function", unused_functions),
+        ("planted.csv and the folders tested/ do not fit", stale_bugs),
+        ("the table of edits in docs/MUTATIONS.md", miscounted_edits),
     ]:
-        yield from ((kind, fault) for fault in found)
+        yield kind, find.__name__, [*find()]
 
 
 def main():
-    """Prints the faults, and returns the exit status."""
-    found = list(faults())
-    for kind, fault in found:
-        print(f"documents.py: {kind}: {fault}", file=sys.stderr)
-    if not found:
-        print(f"documents.py: {len(PAGES)} pages name what is there")
-    return 1 if found else 0
+    """Prints the faults, and how many checks pass and fail. Returns the exit status."""
+    names, made = sys.argv[1:], list(checks())
+    if strangers := set(names) - {name for _, name, _ in made}:
+        sys.exit(f"documents.py: no check {', '.join(sorted(strangers))}")
+    chosen = [(kind, faults) for kind, name, faults in made if not names or name in names]
+    for kind, faults in chosen:
+        for fault in faults:
+            print(f"documents.py: {kind}: {fault}", file=sys.stderr)
+    failed = sum(faults != [] for _, faults in chosen)
+    print(f"documents.py: {len(chosen) - failed} passed, {failed} failed", file=sys.stderr)
+    return 1 if failed else 0
 
 
 if __name__ == "__main__":

@@ -1,15 +1,17 @@
 #!/usr/bin/env python3
 """Plants bugs, one at a time: the test that tests/data/planted.csv names for each has to fail.
 
-Usage: planted.py [--jobs N] [BUG ..]
+Usage: planted.py [--jobs N] [--unbuilt] [BUG ..]
 
-By default all bugs are tried, and otherwise those of these names. Each is an edit, in the form that `rt help` describes:
+By default all bugs are tried, and otherwise those of these names; with --unbuilt, only those for which nothing is built. Each is an edit,
+in the form that `rt help` describes:
 
 - of a crate, in crates/NAME/tested/: a bug for which there is a test, in most cases since no contract can speak of it. The test is in a
   test crate, and `rt try --test` runs it with all others of that crate; or it is in a script of tests/, and is run on a program that
   `rt try` makes of the edited sources. Nothing is proved.
-- in tests/tested/: of a tool, of the Makefile, or of a C file with which a script makes calls go wrong: it then makes no call go wrong, or
-  one in another way. The test is in a script, and is run on the programs that `make build` and `make bench` made.
+- in tests/tested/: of a tool, of the Makefile, or of what a script makes runs and their calls go wrong with, a C file or kills.py: it then
+  makes nothing go wrong, or in another way. The test is in a script, and is run on the programs that `make build` and `make bench` made.
+  Nothing is built.
 
 The script works in temporary copies of the repository, whose sources must not change meanwhile. Without an edit, each test has to pass.
 
@@ -37,7 +39,8 @@ TOP = Path(__file__).resolve().parent.parent
 PROGRAM = "crates/scramotp/out/scramotp"
 BENCH = "crates/bench/out/bench"
 # What a copy of the repository has besides them.
-COPIED = ["crates", "tests", "tools", "docs", "crates.txt", "HANDLES", "Makefile", "README.md"]
+COPIED = ["bench", "crates", "tests", "tools", "docs", "crates.txt", "HANDLES", "Makefile", "LICENSE"]
+COPIED += ["README.md", "CHANGELOG.md", "CONTRIBUTING.md"]
 # The most seconds that a command may take.
 LIMIT = 1800
 # How many runs a script kills, and how many inputs of a kind it tries.
@@ -98,7 +101,9 @@ class Room:
         """Whether the row's test passes, with the copy's sources as they are."""
         if row.by.endswith(".py"):
             with tempfile.TemporaryDirectory(prefix="planted-") as folder:
-                said = ran([sys.executable, "-B", row.by, str(self.program(row, Path(folder))), row.test], self.top / "tests")
+                # documents.py takes no program.
+                program = [str(self.program(row, Path(folder)))] if row.by != "documents.py" else []
+                said = ran([sys.executable, "-B", row.by, *program, row.test], self.top / "tests")
             verdict = re.search(f"^{row.by}: (?:(1 passed, 0 failed)|0 passed, 1 failed)$", said, re.M)
         else:
             said = ran(["rt", "try", "--test"], self.top / "crates" / row.by)
@@ -175,22 +180,23 @@ class Trial:
         return how == "refused"
 
 
-def rows_of(bugs: list[str]) -> list[Row]:
-    """The rows of planted.csv, or those of these bugs. Exits if there is none of a name."""
+def rows_of(bugs: list[str], is_unbuilt: bool) -> list[Row]:
+    """The rows of planted.csv, or those of these bugs, and only those for which nothing is built. Exits if there is none of a name."""
     with open(TOP / "tests/data/planted.csv", newline="", encoding="utf-8") as file:
         rows = [Row(**it) for it in csv.DictReader(file)]
     if strangers := set(bugs) - {it.bug for it in rows}:
         sys.exit(f"planted.py: no bug {', '.join(sorted(strangers))}")
-    return [it for it in rows if not bugs or it.bug in bugs]
+    return [it for it in rows if (not bugs or it.bug in bugs) and (it.of == "tests" or not is_unbuilt)]
 
 
 def main() -> int:
     """Tries the bugs, prints a line for each, and returns the exit status."""
     words = argparse.ArgumentParser(description="Plants bugs that tests have to refuse.")
     words.add_argument("--jobs", type=int, default=1, help="how many bugs are tried at the same time; each takes about 2 GB of memory")
+    words.add_argument("--unbuilt", action="store_true", help="only the bugs in tests/tested/, for which nothing is built")
     words.add_argument("bugs", metavar="BUG", nargs="*", help="the name of an edit; by default, all bugs are tried")
     given = words.parse_args()
-    rows = rows_of(given.bugs)
+    rows = rows_of(given.bugs, given.unbuilt)
     with tempfile.TemporaryDirectory(prefix="planted-") as folder, ThreadPoolExecutor(given.jobs) as pool:
         trial = Trial(Path(folder))
         are_refused = [*pool.map(trial.judged, rows)]
