@@ -10,7 +10,7 @@ KIT = rattle-kit-13b logic dac8208d650f15bf
 # What the program stands on.
 LIBRARIES = mac_core otp_core scram_text scram_ends book_format account_book book_file command_line command_words log_grammar sasl_log sasl_desk command_io account_commands commands
 # What is installed beside it.
-TOOLS = $(addprefix tools/,check-code drop-tables edit-book find-key from-verifier list-accounts list-unlike-decoys serve-hall to-verifier)
+TOOLS = $(addprefix tools/,check-code drop-tables edit-book find-key from-verifier list-accounts list-unlike-decoys serve-hall set-password to-verifier)
 SOURCES = crates.txt HANDLES $(shell find crates \( -name out -prune \) -o \( -name '*.rt' -o -name '*.antt' \) -print)
 # Succeeds where the program is built and newer than its sources.
 IS_FRESH = test -x $(PROGRAM) && test -z "$$(find $(SOURCES) -newer $(PROGRAM))"

@@ -383,10 +383,10 @@ def a_password(folder):
     enrolled(folder)
     with_fob(folder)
     before = book_of(folder)
-    change, _ = blocks("Change a password")
-    does(folder, change, "another one\n", f"enrolled {NAME}\n")
+    [change] = blocks("Change a password")
+    does(folder, change, "another one\n")
     after = book_of(folder)
-    has_keys_of(after["accounts"][NAME], b"another one")
+    has_keys_of(after["accounts"][NAME], b"another one", 4096)
     for mechanism in MECHANISMS:
         old, new = (book["accounts"][NAME][mechanism]["salt"] for book in (before, after))
         holds(old != new, f"the salt of {mechanism} stays", old)
@@ -394,8 +394,10 @@ def a_password(folder):
     does(folder, verify(NAME, CODES[0]), printed="PASS 5 0\n")
     left = Path(folder, "left")
     left.mkdir()
-    does(folder, change + FORGOTTEN, "a third\n", f"enrolled {NAME}\n", TMPDIR=str(left))
+    does(folder, change + FORGOTTEN, "a third\n", TMPDIR=str(left))
     equal(list(left.iterdir()), [], "the files that are left of the change")
+    does(folder, f"tools/set-password book.toml {NAME} --count 5000", "a fourth\n")
+    has_keys_of(book_of(folder)["accounts"][NAME], b"a fourth", 5000)
 
 
 def a_password_of_one_mechanism(folder):
@@ -405,57 +407,67 @@ def a_password_of_one_mechanism(folder):
             enrolled(folder)
             does(folder, f"tools/edit-book book.toml tools/drop-tables '[accounts.\"{NAME}\".{lost}]'")
             before = book_of(folder)
-            change, _ = blocks("Change a password")
-            does(folder, change, "another one\n", f"enrolled {NAME}\n")
+            [change] = blocks("Change a password")
+            does(folder, change, "another one\n")
             after = book_of(folder)
             has_keys_of(after["accounts"][NAME], b"another one")
             equal(without_keys(after, NAME), without_keys(before, NAME), f"what else the book states, after only {kept} keys")
 
 
 def a_first_password(folder):
-    """An account with only a token gets keys for both mechanisms, and keeps its token. A name without an account gets none, and an
-    account that has keys keeps them."""
+    """An account with only a token gets keys for both mechanisms, and keeps its token. A name without an account gets none."""
     enrolled(folder)
     does(folder, blocks("Give a user one-time codes")[-1])
     does(folder, verify(FOB, CODES[0]), printed="PASS 5 0\n")
     before = book_of(folder)
-    _, first = blocks("Change a password")
-    mistyped = first.replace("fob", "fab")
-    holds(mistyped != first, "the block has no name that can be mistyped", first)
+    [change] = blocks("Change a password")
+    first, mistyped = change.replace(NAME, FOB), change.replace(NAME, "fab@example.org")
+    holds(change not in (first, mistyped), "the block has no name that can be replaced", NAME, change)
     equal(ran(folder, mistyped, "another one\n")[1:], ("", "scramotp: no such account\n"), "a name that has no account")
     states(folder, before, "what the book states after a name that has no account")
     left = Path(folder, "left")
     left.mkdir()
-    does(folder, first + FORGOTTEN, "another one\n", f"enrolled {FOB}\n", TMPDIR=str(left))
+    does(folder, first + FORGOTTEN, "another one\n", TMPDIR=str(left))
     equal(list(left.iterdir()), [], "the files that are left of the first password")
     after = book_of(folder)
-    has_keys_of(after["accounts"][FOB], b"another one")
+    has_keys_of(after["accounts"][FOB], b"another one", 4096)
     equal(without_keys(after, FOB), before, "what else the book states")
     does(folder, verify(FOB, CODES[1]), printed="PASS 5 1\n")
-    before = book_of(folder)
-    _, output, faults = ran(folder, first, "a third\n")
-    equal(output, f"enrolled {FOB}\n", "an account that has keys: the output")
-    due = r"scramotp: bad book: 60\nedit-book: .* is unchanged; look into .*\n"
-    holds(re.fullmatch(due, faults), "an account that has keys: other faults than", due, faults)
-    states(folder, before, "what the book states after a first password for an account that has keys")
 
 
 def a_password_that_is_refused(folder):
-    """If `enrol` refuses the password, or a later step fails, the book is as it was."""
+    """If `enrol` refuses the password, or a later step fails, the book is as it was. So it is if the headers of the old keys are spelled in
+    another way than a command does: a command that saves the book puts that right."""
     enrolled(folder)
-    before = Path(folder, "book.toml").read_bytes()
-    change, _ = blocks("Change a password")
+    book = Path(folder, "book.toml")
+    before = book.read_bytes()
+    [change] = blocks("Change a password")
     for trial, password in each(["ü\n", "\n", ""]):
         with trial:
             _, output, faults = ran(folder, change, password)
             equal((output, faults), ("", "scramotp: bad password\n"), password)
-            equal(Path(folder, "book.toml").read_bytes(), before, password)
-    for trial, (old, new) in each([("sed -n", "false"), ("sed -n '/\\.sha1]$/,$p'", "sed -n /none/p"), ("'[accounts.", "'[none.")]):
+            equal(book.read_bytes(), before, password)
+    commands = Path(program_on_path(folder)["PATH"].partition(":")[0])
+    for trial, command in each(["mktemp", "sed", "grep", "awk"]):
         with trial:
-            holds(old in change, "the block does not have what is replaced in it", old, change)
-            status, output, _ = ran(folder, change.replace(old, new), "another one\n")
-            equal(output, f"enrolled {NAME}\n", old)
-            equal(Path(folder, "book.toml").read_bytes(), before, old)
+            stand_in = Path(commands, command)
+            stand_in.write_text("#!/bin/sh\nexit 2\n")
+            stand_in.chmod(0o755)
+            status, output, _ = ran(folder, change, "another one\n")
+            equal((status, output), (1 if command == "awk" else 2, ""), command)
+            equal(book.read_bytes(), before, command)
+            stand_in.unlink()
+    book.write_bytes(before.replace(f'[accounts."{NAME}".sha1]'.encode(), f"[accounts . '{NAME}' . sha1]".encode()))
+    spelled = book.read_bytes()
+    holds(spelled != before, "the book does not have the header that is spelled in another way", before)
+    status, output, faults = ran(folder, change, "another one\n")
+    equal((status, output), (1, ""), faults)
+    due = r"scramotp: bad book: 60\nedit-book: .* is unchanged; look into .*\n"
+    holds(re.fullmatch(due, faults), "another header: other faults than", due, faults)
+    equal(book.read_bytes(), spelled, "the book after another header")
+    does(folder, "scramotp enrol --book book.toml --name third", "pencil\n", "enrolled third\n")
+    does(folder, change, "another one\n")
+    has_keys_of(book_of(folder)["accounts"][NAME], b"another one", 4096)
 
 
 def a_removed_account(folder):
@@ -763,8 +775,8 @@ def all_in_order(folder):
         status, output, faults = ran(folder, LEAVES_NOTHING.format(block.replace(INSTALLED, str(TOOLS))), inputs.get(title, ""))
         equal((status, faults), (0, ""), title, output)
         printed += output.splitlines()
-    added, secret, ahead, freed, *told, changed, first, of_postgresql, of_dovecot = printed
-    equal((added, freed, changed, first), (f"enrolled {NAME}", f"unlocked {FOB}", f"enrolled {NAME}", f"enrolled {FOB}"), printed)
+    added, secret, ahead, freed, *told, of_postgresql, of_dovecot = printed
+    equal((added, freed), (f"enrolled {NAME}", f"unlocked {FOB}"), printed)
     equal(set(told), {f"{NAME}: sha1 keys, sha256 keys", f"{FOB}: hotp token (next 10, 0 failures)"}, printed)
     equal((of_postgresql, of_dovecot), both, printed)
     equal(len(base64.b32decode(secret)), 20, printed)
