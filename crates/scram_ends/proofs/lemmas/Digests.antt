@@ -24,7 +24,7 @@ byte_at_is_byte : (k n : ℕ) → byte_at k n < 256
 byte_at_is_byte zero n = mod-lt n (omega arith)
 byte_at_is_byte (suc k) n = mod-lt (n / 256 ^ suc k) (omega arith)
 
--- a number's bytes, the highest first, are bytes
+-- the bytes of a number, the highest first, are each below 256
 number_is_bytes : (k n : ℕ) → AreBytes (bytes_high_first k n)
 number_is_bytes zero n i = omega arith
 number_is_bytes (suc k) n zero = byte_at_is_byte k n
@@ -36,27 +36,27 @@ joined_is_bytes [] back is also i = also i
 joined_is_bytes (b ∷ front) back is also zero = is 0
 joined_is_bytes (b ∷ front) back is also (suc i) = joined_is_bytes front back (λ j. is (suc j)) also i
 
--- a digest of SHA-1 is bytes
+-- the elements of a digest of SHA-1 are each below 256
 sha1_digest_is_bytes : (words : List ℕ) (n : ℕ) → AreBytes (short.digest_bytes words n)
 unfolding short.digest_bytes
 sha1_digest_is_bytes words zero i = omega arith
 sha1_digest_is_bytes words (suc n) i =
     joined_is_bytes (short.digest_bytes words n) _ (sha1_digest_is_bytes words n) (number_is_bytes 4 (slice_index words n)) i
 
--- a digest of SHA-256 is bytes
+-- the elements of a digest of SHA-256 are each below 256
 sha256_digest_is_bytes : (words : List ℕ) (n : ℕ) → AreBytes (long.digest_bytes words n)
 unfolding long.digest_bytes
 sha256_digest_is_bytes words zero i = omega arith
 sha256_digest_is_bytes words (suc n) i =
     joined_is_bytes (long.digest_bytes words n) _ (sha256_digest_is_bytes words n) (number_is_bytes 4 (slice_index words n)) i
 
--- a mechanism's digest of a text is bytes
+-- the elements of a text's digest by a mechanism are each below 256
 digest_is_bytes : (m : Mechanism) (text : List ℕ) → AreBytes (hash_by m text)
 unfolding sha1 sha256
 digest_is_bytes ScramSha1 text i = sha1_digest_is_bytes _ 5 i
 digest_is_bytes ScramSha256 text i = sha256_digest_is_bytes _ 8 i
 
--- a mechanism's MAC of a text is bytes
+-- the elements of a text's MAC by a mechanism, with any key, are each below 256
 pub mac_is_bytes : (m : Mechanism) (key text : List ℕ) → AreBytes (hmac_by m key text)
 unfolding hmac
 mac_is_bytes m key text i = digest_is_bytes m _ i

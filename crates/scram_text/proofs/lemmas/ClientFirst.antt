@@ -36,12 +36,12 @@ use Rattle.scram_text.proofs.lemmas.ReadMessages.{message_is_read}
 abbrev client_first_rest : ClientFirstParts → List (List ℕ)
 client_first_rest p = (codes "n=" ++ p.name) ∷ (codes "r=" ++ p.nonce) ∷ p.extensions
 
--- the name of a channel binding has no comma
+-- a channel binding's name, of letters, digits, points and hyphens, has no comma
 cb_name_lacks_comma : (name : List ℕ) → is_cb_name name ≡ true → LacksComma name
 cb_name_lacks_comma name is =
     class_lacks_byte (byte ",") is_cb_char name refl (and_parts (nat_le 1 (length name)) (list_all is_cb_char name) is).1
 
--- a flag has no comma
+-- a flag, which is `n`, `y`, or `p=` with the name of a channel binding, has no comma
 flag_lacks_comma : (flag : List ℕ) → is_flag flag ≡ true → LacksComma flag
 flag_lacks_comma [] is = refl
 flag_lacks_comma (c ∷ []) is = class_lacks_byte (byte ",") (λ b. (b == byte "n") || (b == byte "y")) (c ∷ []) refl (rw is refl)
@@ -50,7 +50,7 @@ flag_lacks_comma (a ∷ b ∷ name) is =
     let letters = and_parts (a == byte "p") (b == byte "=") front.0 in
     rw (eqb-true a (byte "p") letters.0, eqb-true b (byte "=") letters.1) (cb_name_lacks_comma name front.1)
 
--- the part of an optional saslname to act as has no comma
+-- the part `a=` with a saslname to act as, or the empty part if there is none, has no comma
 authzid_lacks_comma : (authzid : Option (List ℕ)) → IfSome authzid IsSaslName → LacksComma (authzid_text authzid)
 authzid_lacks_comma None is = refl
 authzid_lacks_comma (Some spelled) is = is.no_comma

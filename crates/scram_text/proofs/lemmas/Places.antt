@@ -144,11 +144,11 @@ fitting_text_has_no_fault most front back text pieces f short utf8_text cut enou
       ]
 ]
 
--- a nonce has no comma
+-- a nonce, which is of printable characters, has no comma
 pub nonce_lacks_comma : (most : ℕ) (nonce : List ℕ) → IsNonce most nonce → LacksComma nonce
 nonce_lacks_comma most nonce class = class_lacks_byte (byte ",") is_printable nonce refl class.each
 
--- no extension of a list of them has a comma
+-- extensions, each a letter, `=` and a value, have no comma in them
 pub extensions_lack_comma : (extensions : List (List ℕ)) → AreExtensions extensions → AllByRecursion LacksComma extensions
 extensions_lack_comma [] are = tt
 extensions_lack_comma (part ∷ extensions) are = (extension_lacks_comma part are.0, extensions_lack_comma extensions are.1)

@@ -52,11 +52,11 @@ class_is_text test bytes below no_nul all = record {
 up_to_tilde_is_ascii : (c : ℕ) → nat_le c 0x7E ≡ true → c < 128
 up_to_tilde_is_ascii c is = omega (arith, leb-true c 0x7E is)
 
--- a plain byte is ASCII
+-- a plain byte, from the space to `~`, is below 128
 plain_byte_is_ascii : (c : ℕ) → is_plain c ≡ true → c < 128
 plain_byte_is_ascii c is = up_to_tilde_is_ascii c (and_parts (nat_le 0x20 c) (nat_le c 0x7E) is).1
 
--- a printable byte is ASCII
+-- a printable byte, from `!` to `~` but no comma, is below 128
 printable_byte_is_ascii : (c : ℕ) → is_printable c ≡ true → c < 128
 printable_byte_is_ascii c is =
     up_to_tilde_is_ascii c (and_parts (nat_le 0x21 c) (nat_le c 0x7E) (and_parts (nat_le 0x21 c && nat_le c 0x7E) (not (is_comma c))
