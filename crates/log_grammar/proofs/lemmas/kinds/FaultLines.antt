@@ -1,5 +1,5 @@
 -- Logs of each kind: the fault line is the first that begins no clean log, and the lines up to it decide the reason.
-use Rattle.std.proofs.Common.{◌≡◌, ◌↔◌, inl, inr, ℕ, zero, suc, ◌+◌, ◌<◌, ◌≤◌, List, [], ◌∷◌, ◌++◌, length, take, drop, refl, sym, ◌∙◌, ap, subst}
+use Rattle.std.proofs.Common.{◌≡◌, ◌↔◌, inl, inr, ℕ, zero, suc, ◌+◌, ◌≤◌, List, [], ◌∷◌, ◌++◌, length, take, drop, refl, sym, ◌∙◌, ap, subst}
 use Rattle.std.proofs.Common.{arith, length-append, append_assoc}
 use Rattle.std.specs.List.{AllByRecursion}
 use Rattle.std.proofs.Math.Seq.{take-length, drop-length, take-append_seam, drop-append_seam}
@@ -8,7 +8,7 @@ use Rattle.std.proofs.lemmas.List.{take-append-drop}
 use Rattle.log_grammar.specs.Bytes.{LacksLf, ended_by_lf, IsSplit}
 use Rattle.log_grammar.specs.Why.{Why}
 use Rattle.log_grammar.specs.LogKinds.{LogKind, IsLogFrontOf, IsCleanOf, IsFaultLineOf, IsReasonForNextOf, IsWhyOf, BeginsCleanOf}
-use Rattle.log_grammar.specs.LogKinds.{IsFirstOutsideCleanLogsOf}
+use Rattle.log_grammar.specs.LogKinds.{IsFaultAmong, IsFirstOutsideCleanLogsOf}
 use Rattle.log_grammar.specs.laws.KindLaws.{FrontsBeginCleanOf, FrontsAreWhatBeginsCleanOf}
 use Rattle.log_grammar.proofs.lemmas.lines.Cuts.{one_split, longer_bytes_are_split, lines_up_to_lack_lf, whole_lines_are_split}
 use Rattle.log_grammar.proofs.lemmas.ListEnds.{take-append_next, index_has_element, front_keeps_all}
@@ -16,13 +16,6 @@ use Rattle.log_grammar.proofs.lemmas.kinds.Sound.{CanBeShortened, CleanLinesStan
 use Rattle.log_grammar.proofs.lemmas.kinds.Fronts.{first_lines_stand, front_lines_stand, standing_lines_are_front}
 use Rattle.log_grammar.proofs.lemmas.kinds.AtFault.{text_is_at_fault, end_is_fault_line, text_is_fault_line}
 use Rattle.log_grammar.proofs.lemmas.kinds.OneFault.{reason_is_of_next}
-
--- what is known of a fault line, among the lines of these bytes
-record IsFaultAmong (kind : LogKind) (bytes : List ℕ) (texts : List (List ℕ)) (k : ℕ) : Type 0 where
-  below : (j : ℕ) → j < k → IsLogFrontOf kind (ended_by_lf (take j texts))
-  within : k ≤ length texts → IsLogFrontOf kind (ended_by_lf (take k texts)) → ⊥
-  at_most : k ≤ length texts + 1
-  unclean : k ≡ length texts + 1 → IsCleanOf kind bytes → ⊥
 
 -- a whole line that is at fault: the lines before it stand, it is wrong after them, and with it they do not stand
 pub record FaultText (kind : LogKind) (before : List (List ℕ)) (text : List ℕ) (why : Why) : Type 0 where
@@ -44,12 +37,11 @@ pub record FaultEnd (kind : LogKind) (bytes : List ℕ) (texts : List (List ℕ)
   pub wrong : IsReasonForNextOf kind texts [] rest why
 
 module _ (kind : LogKind) where
-  -- what is known of a fault line holds of it among the lines that the bytes are cut into
+  -- a fault line is one among the lines that the bytes are cut into
   fault_is_among_lines : (bytes : List ℕ) (texts : List (List ℕ)) (rest : List ℕ) (k : ℕ) → IsSplit bytes texts rest
       → IsFaultLineOf kind bytes k → IsFaultAmong kind bytes texts k
   fault_is_among_lines bytes texts rest k cut f =
-      subst (λ (ts : List (List ℕ)). IsFaultAmong kind bytes ts k) (one_split bytes f.texts texts f.rest rest f.are_split cut).0
-      (record { below = f.below; within = f.within; at_most = f.at_most; unclean = f.unclean })
+      subst (λ (ts : List (List ℕ)). IsFaultAmong kind bytes ts k) (one_split bytes f.texts texts f.rest rest f.are_split cut).0 f.among
 
   -- if a log may begin with no lines, no lines at all are a front
   empty_take_is_front : kind.MayBegin [] → (texts : List (List ℕ)) → IsLogFrontOf kind (ended_by_lf (take 0 texts))

@@ -83,8 +83,7 @@ only_due_line_follows : (accounts : Accounts) → AllCanBeChallenged accounts
     → Follows accounts place told line
 only_due_line_follows accounts fit place told text x why line is due wrong single says writable =
     let m = some_line_mends_line accounts fit place told text x why is due (said_due_is_named why line says writable) wrong in
-    subst (Follows accounts place told) (one_line_says_due why m.line line single m.says says)
-    (record { next = m.next; goes = m.goes; due = m.due })
+    subst (Follows accounts place told) (one_line_says_due why m.line line single m.says says) m.follows
 
 -- each line that says what is due, except a challenge, may stand at the place
 pub each_due_line_follows : (accounts : Accounts) → AllCanBeChallenged accounts
@@ -119,5 +118,4 @@ each_line_that_is_due_may_stand completes accounts fit bytes before text after r
     let f = fault_follows_read_lines accounts bytes before text after rest why cut w in
     let x = named_reason_is_of_line accounts f.lines text why (said_due_is_named why line says writable) f.wrong in
     let l = each_due_line_follows accounts fit x.place x.told text x.line why line x.is x.due x.wrong other says writable in
-    following_line_begins_clean completes accounts fit before f.lines f.place f.told x.place x.told line l.next f.lead x.begins writable
-    l.goes l.due
+    following_line_begins_clean completes accounts fit before f.lines f.place f.told x.place x.told line f.lead x.begins writable l

@@ -1,13 +1,13 @@
 -- What a reason names as due may replace the numbered line at fault, under its number.
-use Rattle.std.proofs.Common.{◌≡◌, inl, inr, ℕ, ◌+◌, List, [], ◌∷◌, ◌++◌, length, reverse, refl, sym, ◌∙◌, ap, subst}
+use Rattle.std.proofs.Common.{◌≡◌, inl, inr, ℕ, ◌+◌, List, [], ◌∷◌, ◌++◌, length, refl, sym, ◌∙◌, ap, subst}
 use Rattle.std.specs.List.{AllByRecursion, AllZip}
 use Rattle.std.proofs.lemmas.Slice.Zip.{all_zipped_more}
 use Rattle.log_grammar.specs.Lines.{LogLine, header_two, said, mechs, cont, accepts, refuses, replies, log_line_text}
 use Rattle.log_grammar.specs.Bytes.{LacksLf, ended_by_lf, IsSplit}
 use Rattle.log_grammar.specs.LoggedAttempt.{LoggedAttempt}
 use Rattle.log_grammar.specs.Places.{Place, asks_bare, got_first, got_final, got_code, leaving}
-use Rattle.log_grammar.specs.Demands.{Accounts, AllCanBeChallenged, demands, HaveDueReplies}
-use Rattle.log_grammar.specs.state_machine.Steps.{IsTransition, told_at}
+use Rattle.log_grammar.specs.Demands.{Accounts, AllCanBeChallenged, demands}
+use Rattle.log_grammar.specs.state_machine.Steps.{told_at}
 use Rattle.log_grammar.specs.Why.{Why, is_cut, no_line, out_of_order, other_mechs, other_challenge, other_outcome, other_reply, accepted}
 use Rattle.log_grammar.specs.Why.{refused_with, class_of, LineClass, of_mechs, of_login_answers, of_replies, IsReasonForAnswer, IsReasonForReply}
 use Rattle.log_grammar.specs.Why.{IsReasonForLine}
@@ -24,11 +24,12 @@ use Rattle.log_grammar.specs.laws.NumberedReasons.{HasNumberedLineThatMayStand, 
 use Rattle.log_grammar.proofs.lemmas.reason_laws.DueLines.{said_due_is_named, each_due_line_follows}
 use Rattle.log_grammar.proofs.lemmas.kinds.FaultLines.{FaultText, reason_shows_fault_text}
 use Rattle.log_grammar.proofs.lemmas.kinds.Fronts.{standing_lines_are_front}
-use Rattle.log_grammar.proofs.lemmas.reason_laws.Mended.{some_line_mends_line, named_fault_is_whole_line}
+use Rattle.log_grammar.proofs.lemmas.reason_laws.Mended.{some_line_mends_line, named_fault_keeps}
 use Rattle.log_grammar.proofs.lemmas.many_sessions.DueClasses.{number_classes_follow_the_place}
 use Rattle.log_grammar.proofs.lemmas.lines.NumberedReadBack.{one_numbered_line, numbered_line_lacks_lf, numbered_line_is_writable}
 use Rattle.log_grammar.proofs.lemmas.many_sessions.LogSteps.{numbered_log_goes_on}
 use Rattle.log_grammar.proofs.lemmas.many_sessions.Standings.{only_busy_has_busy_class}
+use Rattle.log_grammar.proofs.lemmas.state_machine.Standings.{Follows}
 use Rattle.log_grammar.proofs.lemmas.ListEnds.{appended_lists_keep_all, front_keeps_all}
 
 -- a numbered line is at fault after lines of version 2, for this reason, where a line of its class is due
@@ -191,27 +192,26 @@ due_line_may_have_number (other_reply moment due) line says = subst IsNoFirstLin
 module _ (completes : NumberedFrontsBeginClean) (limit : ℕ) (accounts : Accounts) (fit : AllCanBeChallenged accounts) where
   -- the lines before a numbered line at fault, with a line that says what is due and may stand at its place, begin a clean log
   due_numbered_begins_clean : (before : List (List ℕ)) (x : Numbered LogLine) (why : Why)
-      (f : IsNumberedFault limit accounts before x why) (line : LogLine) (next : Place)
+      (f : IsNumberedFault limit accounts before x why) (line : LogLine)
       → AllByRecursion LacksLf before → SaysWhatIsDue why line
-      → IsNumberedWritable (numbered x.number line) → IsTransition (demands accounts) (f.places x.number) line next
-      → HaveDueReplies (demands accounts) (reverse f.told) (told_at (f.places x.number) line)
+      → IsNumberedWritable (numbered x.number line) → Follows accounts (f.places x.number) f.told line
       → BeginsCleanOf (version_two limit accounts) (ended_by_lf (before ++ numbered_text (numbered x.number line) ∷ []))
-  due_numbered_begins_clean before x why f line next lack says writable goes answer =
+  due_numbered_begins_clean before x why f line lack says writable l =
       let n = x.number in
       let y = numbered n line in
       let same = one_class why (class_of x.value) (class_of line) (wrong_line_has_class accounts (f.places n) f.told x.value why f.wrong)
       (due_line_has_class why line says) in
-      let g : IsNumberedTransition limit (demands accounts) f.log f.places f.told n line next = record {
+      let g : IsNumberedTransition limit (demands accounts) f.log f.places f.told n line l.next = record {
         room = (subst (ClassMayBeNumbered limit f.log n) same f.due.room) line refl;
         next = λ earlier z e. (subst (ClassMayFollow z.number z.value n) same (f.due.next earlier z e)) line refl;
-        goes = inl goes;
-        due = answer;
+        goes = inl l.goes;
+        due = l.due;
       } in
-      let on = numbered_log_goes_on limit (demands accounts) f.log f.places f.told n line next f.spells g in
+      let on = numbered_log_goes_on limit (demands accounts) f.log f.places f.told n line l.next f.spells g in
       let stands : MayBeginVersionTwo limit accounts ((f.first ∷ f.texts) ++ numbered_text y ∷ []) = (
         f.head,
         f.log ++ y ∷ [],
-        put n next f.places,
+        put n l.next f.places,
         f.told ++ told_at (f.places n) line,
         all_zipped_more IsNumberedLine f.texts f.log (numbered_text y) y f.are writable,
         on,
@@ -247,19 +247,17 @@ module _ (completes : NumberedFrontsBeginClean) (limit : ℕ) (accounts : Accoun
         line = m.line;
         says = m.says;
         writable = writable;
-        begins = due_numbered_begins_clean before x why f m.line m.next
-            (front_keeps_all LacksLf before (text ∷ more) cut.lines) m.says writable m.goes m.due;
+        begins = due_numbered_begins_clean before x why f m.line (front_keeps_all LacksLf before (text ∷ more) cut.lines) m.says writable
+            m.follows;
       }
 
 -- the law: if fronts of version 2 begin clean logs, what a reason names as due may replace the line at fault, under its number
 pub what_is_due_may_stand_under_its_number : NumberedFrontsBeginClean → WhatIsDueMayStandUnderItsNumber
 what_is_due_may_stand_under_its_number completes limit accounts fit bytes texts rest k why cut w names =
-    let (before, text, more, same, this) = named_fault_is_whole_line (version_two limit accounts) bytes texts rest k why cut w names in
-    subst (λ (ts : List (List ℕ)). HasNumberedLineThatMayStand limit accounts ts k why) (sym same)
-    (subst (λ (i : ℕ). HasNumberedLineThatMayStand limit accounts (before ++ text ∷ more) i why) (sym this)
-    (numbered_fault_has_due_line completes limit accounts fit bytes before text more rest why
-    (subst (λ (ts : List (List ℕ)). IsSplit bytes ts rest) same cut)
-    (subst (λ (i : ℕ). IsWhyOf (version_two limit accounts) bytes i why) this w) names))
+    named_fault_keeps (version_two limit accounts) (λ ts i. HasNumberedLineThatMayStand limit accounts ts i why) bytes texts rest k why cut
+    w names
+    (λ before text more here fault.
+    numbered_fault_has_due_line completes limit accounts fit bytes before text more rest why here fault names)
 
 -- the law: if fronts of version 2 begin clean logs, each line that can be written and says what is due, except a challenge, may replace the
 -- line at fault, under its number
@@ -269,5 +267,5 @@ each_numbered_line_that_is_due_may_stand completes limit accounts fit bytes befo
     (reason_shows_fault_text (version_two limit accounts) bytes before text more rest why cut w) in
     let l = each_due_line_follows accounts fit (f.places x.number) f.told (log_line_text x.value) x.value why line is.line
     (fault_class_is_due limit accounts before x why f) f.wrong other says writable.line in
-    due_numbered_begins_clean completes limit accounts fit before x why f line l.next
-    (front_keeps_all LacksLf before (text ∷ more) cut.lines) says writable l.goes l.due
+    due_numbered_begins_clean completes limit accounts fit before x why f line
+    (front_keeps_all LacksLf before (text ∷ more) cut.lines) says writable l
