@@ -14,10 +14,11 @@ use Rattle.sasl_desk.specs.Halls.{HallFields, IsHallAfter}
 use Rattle.sasl_desk.specs.Spent.{spent_by}
 use Rattle.sasl_desk.specs.declared.desk.Desk.{Desk}
 
--- a run of a desk: the book that it began with, the calls that it answered, the replies in its log, and the book that it left
-pub record DeskRun : Type 0 where
+-- a run of a desk or of a hall, by its calls: the book that it began with, the calls that it answered, the replies in its log, and the
+-- book that it left
+pub record RunOf (C : Type 0) : Type 0 where
   pub start : BookFields
-  pub calls : List Call
+  pub calls : List C
   pub told : List LoggedAttempt
   pub left : BookFields
 
@@ -27,19 +28,12 @@ pub record DeskRun : Type 0 where
 abbrev pub MayLeave : (kept left : BookFields) → Type 0
 MayLeave kept left = (left ≡ kept) ⊎ ((attempt : LoggedAttempt) × IsAttemptJudged kept attempt left)
 
--- a run of a hall: the book that it began with, the calls that it answered, the replies in its log, and the book that it left
-pub record HallRun : Type 0 where
-  pub start : BookFields
-  pub calls : List (Numbered Call)
-  pub told : List LoggedAttempt
-  pub left : BookFields
-
 -- what happens to a book: a desk or a hall runs with it, from the text that the store held when the run began to the one that
 -- it holds when the run has stopped; the token of an account judges an attempt, without a desk; the token of an account is
 -- unlocked; an account is added
 pub data Change : Type 0 where
-  desk_ran : (run : DeskRun) → Change
-  hall_ran : (run : HallRun) → Change
+  desk_ran : (run : RunOf Call) → Change
+  hall_ran : (run : RunOf (Numbered Call)) → Change
   judged : (attempt : LoggedAttempt) → Change
   unlocked : (name : List ℕ) → Change
   added : (name : List ℕ) (account : AccountFields) → Change
@@ -57,36 +51,44 @@ abbrev pub spent_by_changes : List Change → List (List ℕ × ℕ)
 spent_by_changes [] = []
 spent_by_changes (change ∷ before) = spent_by_change change ++ spent_by_changes before
 
+-- this is a run of a desk or of a hall: `IsAfter` says that one that began with a book has answered calls; `replies` are then those in
+-- its log, and `book` is the book that it has
+pub record IsRunOf {Server C : Type 0} (IsAfter : BookFields → List C → Server → Type 0)
+    (replies : (start : BookFields) (calls : List C) (server : Server) → IsAfter start calls server → List LoggedAttempt)
+    (book : Server → BookFields) (run : RunOf C) : Type 0 where
+  -- one that began with the book has answered the calls
+  pub server : Server
+  pub stands : IsAfter run.start run.calls server
+  -- its log has these replies
+  pub tells : run.told ≡ replies run.start run.calls server stands
+  -- it may leave this book when it stops, between two calls or within one. A stop within `begin` leaves the text from before, or
+  -- that of the same book, and is not a run.
+  pub leaves : MayLeave (book server) run.left
+
+-- a run of this kind began with the book, answered the calls, and leaves this book
+abbrev pub IsRunLeaving : {C : Type 0} → (IsRun : RunOf C → Type 0) → (start : BookFields) → List C → (left : BookFields) → Type 0
+IsRunLeaving IsRun start calls left =
+    (told : List LoggedAttempt) × IsRun (record { start = start; calls = calls; told = told; left = left })
+
 -- runs and changes: `facts` are those of the store, and `IsStored` is true of each text that is stored
 module _ {S : Type 0} (facts : S → StoreFacts) (IsStored : List ℕ → Type 0) where
   -- this is a run of a desk
-  pub record IsDeskRunOf (run : DeskRun) : Type 0 where
-    -- a desk that began with the book has answered the calls
-    pub desk : Desk S
-    pub stands : IsDeskAfter facts IsStored run.start run.calls desk
-    -- its log has these replies
-    pub tells : run.told ≡ stands.told
-    -- it may leave this book when it stops, between two calls or within one. A stop within `begin` leaves the text from before, or
-    -- that of the same book, and is not a run.
-    pub leaves : MayLeave desk.keeper.book run.left
+  abbrev pub IsDeskRunOf : RunOf Call → Type 0
+  IsDeskRunOf run =
+      IsRunOf (IsDeskAfter facts IsStored) (λ start calls desk stands. stands.told) (λ (desk : Desk S). desk.keeper.book) run
 
   -- this is a run of a hall
-  pub record IsHallRunOf (run : HallRun) : Type 0 where
-    -- a hall that began with the book has answered the calls
-    pub hall : HallFields S
-    pub stands : IsHallAfter facts IsStored run.start run.calls hall
-    -- its log has these replies
-    pub tells : run.told ≡ stands.told
-    -- when it stops, it leaves a book as a desk does
-    pub leaves : MayLeave hall.keeper.book run.left
+  abbrev pub IsHallRunOf : RunOf (Numbered Call) → Type 0
+  IsHallRunOf run =
+      IsRunOf (IsHallAfter facts IsStored) (λ start calls hall stands. stands.told) (λ (hall : HallFields S). hall.keeper.book) run
 
   -- a desk that began with the book has answered the calls, and leaves this book when it stops
   abbrev pub IsDeskRunLeaving : (start : BookFields) → List Call → (left : BookFields) → Type 0
-  IsDeskRunLeaving start calls left = (run : DeskRun) × IsDeskRunOf run × (run.start ≡ start) × (run.calls ≡ calls) × (run.left ≡ left)
+  IsDeskRunLeaving start calls left = IsRunLeaving IsDeskRunOf start calls left
 
   -- a hall that began with the book has answered the calls, and leaves this book when it stops
   abbrev pub IsHallRunLeaving : (start : BookFields) → List (Numbered Call) → (left : BookFields) → Type 0
-  IsHallRunLeaving start calls left = (run : HallRun) × IsHallRunOf run × (run.start ≡ start) × (run.calls ≡ calls) × (run.left ≡ left)
+  IsHallRunLeaving start calls left = IsRunLeaving IsHallRunOf start calls left
 
   -- the change makes the one book the other
   abbrev pub IsChange : Change → (old new : BookFields) → Type 0

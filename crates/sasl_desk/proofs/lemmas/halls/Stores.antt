@@ -18,7 +18,7 @@ use Rattle.sasl_desk.specs.Restarts.{MayLeave, IsHallRunLeaving}
 use Rattle.sasl_desk.specs.Runs.{Call}
 use Rattle.sasl_desk.specs.Spent.{AreSpent, SpentStaysSpent}
 use Rattle.sasl_desk.proofs.lemmas.runs.Stores.{IsTextLeft, held_text_may_be_left, store_holds_left_book, book_was_saved}
-use Rattle.sasl_desk.proofs.lemmas.runs.Restarts.{left_book_keeps_spent_counters}
+use Rattle.sasl_desk.proofs.lemmas.runs.Stores.{left_text_keeps_told_counters, next_book_keeps_told_counters}
 
 -- a store that is as it has to be after calls
 module _ (IsStored : List ℕ → Type 0) (accounts : Accounts) (places : ℕ → Place) (book : BookFields) (store : StoreFacts) where
@@ -59,13 +59,7 @@ module _ {S : Type 0} {facts : S → StoreFacts} {IsStored : List ℕ → Type 0
 
   -- the run of a hall may leave the hall's book, and that book with one more attempt
   hall_run_may_leave : (left : BookFields) → MayLeave hall.keeper.book left → IsHallRunLeaving facts IsStored start calls left
-  hall_run_may_leave left leaves = (
-    record { start = start; calls = calls; told = s.told; left = left },
-    record { hall = hall; stands = s; tells = refl; leaves = leaves },
-    refl,
-    refl,
-    refl,
-  )
+  hall_run_may_leave left leaves = (s.told, record { server = hall; stands = s; tells = refl; leaves = leaves })
 
   -- the law: each text that the store of a hall may hold is that of a book that the hall's run may leave
   pub store_holds_a_book : (text : List ℕ) → MayHold (facts hall.keeper.store) text
@@ -84,17 +78,12 @@ module _ {S : Type 0} {facts : S → StoreFacts} {IsStored : List ℕ → Type 0
       → MayHold (facts hall.keeper.store) text
       → (saved : BookFields) × IsBookText text saved × AreSpent (spent_by_all (reverse s.told) ++ ps) saved
   told_counters_are_saved_ended itself stays ps text spent holds =
-      let (left, leaves, is_text) = hall_text_may_be_left text holds in (
-        left,
-        is_text,
-        left_book_keeps_spent_counters itself stays hall.keeper.book left (spent_by_all (reverse s.told) ++ ps) leaves (s.spent ps spent),
-      )
+      left_text_keeps_told_counters itself stays start hall.keeper.book s.told s.spent ps text spent (hall_text_may_be_left text holds)
 
   -- the law, within a call: in the hall's book with one more attempt, what was spent before the run is spent, and so is each counter
   -- that a reply used
   pub told_counters_are_saved_within : BeginsWithItself → SpentStaysSpent → (ps : List (List ℕ × ℕ)) (t : LoggedAttempt)
       (next : BookFields) → AreSpent ps start → IsAttemptJudged hall.keeper.book t next
       → AreSpent (spent_by_all (reverse s.told) ++ ps) next
-  told_counters_are_saved_within itself stays ps t next spent one =
-      left_book_keeps_spent_counters itself stays hall.keeper.book next (spent_by_all (reverse s.told) ++ ps) (inr (t, one))
-      (s.spent ps spent)
+  told_counters_are_saved_within itself stays =
+      next_book_keeps_told_counters itself stays start hall.keeper.book s.told s.spent

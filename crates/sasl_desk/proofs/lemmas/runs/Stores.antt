@@ -1,4 +1,5 @@
--- What the store of a desk holds, wherever the desk stops: a book that its run may leave, in which all that was told is spent.
+-- What the store of a desk holds, wherever the desk stops: a book that its run may leave, in which all that was told is spent. What a
+-- desk shares with a hall comes first.
 use Rattle.std.proofs.Common.{inl, inr, ℕ, List, ◌++◌, reverse, refl, sym, subst}
 use Rattle.book_format.specs.Book.{BookFields}
 use Rattle.book_format.specs.Trees.{IsBookText}
@@ -60,6 +61,22 @@ module _ (IsStored : List ℕ → Type 0) (accounts : Accounts) (calls : List Ca
   book_was_saved halted lost = lost.before
   book_was_saved place held = (store.saved, held.saved, held.stored)
 
+-- a desk or a hall that began with a book and has this one now: what was spent before, and what the replies in its log used, is spent
+module _ (itself : BeginsWithItself) (stays : SpentStaysSpent) (start kept : BookFields) (told : List LoggedAttempt)
+    (spends : (ps : List (List ℕ × ℕ)) → AreSpent ps start → AreSpent (spent_by_all (reverse told) ++ ps) kept)
+    (ps : List (List ℕ × ℕ)) where
+  -- it is spent in the book of each text that is left, after a call
+  pub left_text_keeps_told_counters : (text : List ℕ) → AreSpent ps start → IsTextLeft kept text
+      → (saved : BookFields) × IsBookText text saved × AreSpent (spent_by_all (reverse told) ++ ps) saved
+  left_text_keeps_told_counters text spent (left, leaves, is_text) =
+      (left, is_text, left_book_keeps_spent_counters itself stays kept left (spent_by_all (reverse told) ++ ps) leaves (spends ps spent))
+
+  -- it is spent in the book with one more attempt, within a call
+  pub next_book_keeps_told_counters : (t : LoggedAttempt) (next : BookFields) → AreSpent ps start → IsAttemptJudged kept t next
+      → AreSpent (spent_by_all (reverse told) ++ ps) next
+  next_book_keeps_told_counters t next spent one =
+      left_book_keeps_spent_counters itself stays kept next (spent_by_all (reverse told) ++ ps) (inr (t, one)) (spends ps spent)
+
 -- a desk that has answered these calls
 module _ {S : Type 0} {facts : S → StoreFacts} {IsStored : List ℕ → Type 0} {start : BookFields} {calls : List Call} {desk : Desk S}
     (s : IsDeskAfter facts IsStored start calls desk) where
@@ -85,13 +102,7 @@ module _ {S : Type 0} {facts : S → StoreFacts} {IsStored : List ℕ → Type 0
 
   -- the run of a desk may leave the desk's book, and that book with one more attempt
   desk_run_may_leave : (left : BookFields) → MayLeave desk.keeper.book left → IsDeskRunLeaving facts IsStored start calls left
-  desk_run_may_leave left leaves = (
-    record { start = start; calls = calls; told = s.told; left = left },
-    record { desk = desk; stands = s; tells = refl; leaves = leaves },
-    refl,
-    refl,
-    refl,
-  )
+  desk_run_may_leave left leaves = (s.told, record { server = desk; stands = s; tells = refl; leaves = leaves })
 
   -- the law: each text that the store of a desk may hold is that of a book that the desk's run may leave
   pub store_holds_a_book : (text : List ℕ) → MayHold (facts desk.keeper.store) text
@@ -110,17 +121,12 @@ module _ {S : Type 0} {facts : S → StoreFacts} {IsStored : List ℕ → Type 0
       → MayHold (facts desk.keeper.store) text
       → (saved : BookFields) × IsBookText text saved × AreSpent (spent_by_all (reverse s.told) ++ ps) saved
   told_counters_are_saved_ended itself stays ps text spent holds =
-      let (left, leaves, is_text) = desk_text_may_be_left text holds in (
-        left,
-        is_text,
-        left_book_keeps_spent_counters itself stays desk.keeper.book left (spent_by_all (reverse s.told) ++ ps) leaves (s.spent ps spent),
-      )
+      left_text_keeps_told_counters itself stays start desk.keeper.book s.told s.spent ps text spent (desk_text_may_be_left text holds)
 
   -- the law, within a call: in the desk's book with one more attempt, what was spent before the run is spent, and so is each counter
   -- that a reply used
   pub told_counters_are_saved_within : BeginsWithItself → SpentStaysSpent → (ps : List (List ℕ × ℕ)) (t : LoggedAttempt)
       (next : BookFields) → AreSpent ps start → IsAttemptJudged desk.keeper.book t next
       → AreSpent (spent_by_all (reverse s.told) ++ ps) next
-  told_counters_are_saved_within itself stays ps t next spent one =
-      left_book_keeps_spent_counters itself stays desk.keeper.book next (spent_by_all (reverse s.told) ++ ps) (inr (t, one))
-      (s.spent ps spent)
+  told_counters_are_saved_within itself stays =
+      next_book_keeps_told_counters itself stays start desk.keeper.book s.told s.spent
