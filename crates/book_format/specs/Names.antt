@@ -7,7 +7,7 @@ use Rattle.scram_text.specs.Limits.{longest_name}
 use Rattle.scram_text.specs.Class.{is_plain, IsPlainName}
 use Rattle.book_format.specs.Account.{most_names}
 
--- each is a plain name
+-- each of these is a plain name
 abbrev pub AreNames : List (List ℕ) → Type 0
 AreNames names = AllByRecursion IsPlainName names
 
@@ -15,7 +15,7 @@ AreNames names = AllByRecursion IsPlainName names
 abbrev pub names_tree : List (List ℕ) → Data
 names_tree names = array (items_of (map string names))
 
--- a list of names that an account may act as
+-- the TOML value is the array of these names, of which there are at most 16, each a plain name
 pub record IsNameList (d : Data) (names : List (List ℕ)) : Type 0 where
   pub there : d ≡ names_tree names
   pub plain : AreNames names

@@ -71,7 +71,7 @@ abbrev pub HasRows : {T : Type 0} → List (Row T) → Members → T → Type 0
 HasRows [] ms x = Unit {0}
 HasRows (r ∷ rows) ms x = r.Has ms (r.field x) × HasRows rows ms x
 
--- the table of this record: its marks, no unknown key, and each field in its row
+-- the table is that of this record: it has the marks, no unknown key, and each field in its row
 pub record IsTable {T : Type 0} (t : Table T) (ms : Members) (x : T) : Type 0 where
   pub marks : HasMarks t.marks ms
   pub known : IsTrue (has_only (is_among (table_keys t)) ms)

@@ -73,7 +73,7 @@ totp_table = record {
   };
 }
 
--- the table of a token of either kind
+-- the TOML value is the table of this token, of either kind
 abbrev pub IsToken : Data → TokenFields → Type 0
 IsToken d (Hotp t) = IsTableIn hotp_table d t
 IsToken d (Totp t) = IsTableIn totp_table d t

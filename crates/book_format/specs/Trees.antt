@@ -9,7 +9,7 @@ use Rattle.book_format.specs.Book.{BookFields}
 use Rattle.book_format.specs.Rows.{IsTable, IsTableIn}
 use Rattle.book_format.specs.Tables.{account_table, document_table}
 
--- the table of the accounts, each at its name
+-- the table has these accounts, each at its name, and nothing else
 abbrev pub AreAccountTrees : Members → List (List ℕ × AccountFields) → Type 0
 AreAccountTrees no_members [] = Unit {0}
 AreAccountTrees no_members (entry ∷ entries) = ⊥
@@ -17,12 +17,12 @@ AreAccountTrees (member name d ms) [] = ⊥
 AreAccountTrees (member name d ms) (entry ∷ entries) =
     (name ≡ entry.0) × IsPlainName entry.0 × IsTableIn account_table d entry.1 × AreAccountTrees ms entries
 
--- the accounts of a table, none if it is missing
+-- the accounts are those of a table, or there are none if the table is missing
 abbrev pub AreAccountsOf : Option Members → List (List ℕ × AccountFields) → Type 0
 AreAccountsOf None accounts = accounts ≡ []
 AreAccountsOf (Some named) accounts = AreAccountTrees named accounts
 
--- the document of a book
+-- the document is that of this book
 pub record IsBookTree (ms : Members) (book : BookFields) : Type 0 where
   pub named : Option Members
   pub top : IsTable document_table ms (record { decoy_key = book.decoy_key; decoy_count = book.decoy_count; accounts = named })

@@ -18,7 +18,7 @@ abbrev pub CandidatesAreNew : Type 0
 CandidatesAreNew = (start : TokenFields) (history : List Attempt) (moment c : ℕ)
     → (IsCandidate start history moment c ⊎ IsPairCandidate start history c) → IsAbove (used_in history) c
 
--- a counter that a token has not used: HOTP's next or one after it; a step after TOTP's last, or any step if it has no last
+-- a token has not used this counter: it is HOTP's next or one after it; or a step after TOTP's last, or any step if there is no last
 abbrev pub IsNotUsed : TokenFields → ℕ → Type 0
 IsNotUsed (Hotp t) c = t.next ≤ c
 IsNotUsed (Totp t) c = ForSome t.last (λ l. l < c)

@@ -29,7 +29,7 @@ pub record IsProof (m : Mechanism) (keys : Keys) (auth proof : List ℕ) : Type 
   pub len : length proof ≡ length_by m
   pub opens : stored_key_by m (xor_bytes proof (client_signature m keys auth)) ≡ keys.stored
 
--- ClientProof = ClientKey xor ClientSignature, for the keys of a password
+-- ClientProof = ClientKey XOR ClientSignature, for the keys of a password
 abbrev pub proof_of : Mechanism → (password salt : List ℕ) → (count : ℕ) → (auth : List ℕ) → List ℕ
 proof_of m password salt count auth =
     xor_bytes (client_key_by m (hi_by m password salt count)) (client_signature m (password_keys m password salt count) auth)

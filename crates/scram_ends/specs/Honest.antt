@@ -8,14 +8,14 @@ use Rattle.scram_text.specs.declared.client_first.Flag.TheVariants.{NoBinding}
 use Rattle.scram_ends.specs.Stages.{Answered}
 use Rattle.scram_ends.specs.Auth.{auth_message, proof_of, expected_signature}
 
--- client-first with this name, name to act as and nonce, the flag `n` and no extensions
+-- the text is client-first with this name, name to act as and nonce, the flag `n` and no extensions
 pub record IsHonestFirst (name : List ℕ) (authzid : Option (List ℕ)) (nonce client_first : List ℕ) (first : ClientFirstParts) : Type 0 where
   pub is_first : IsClientFirst client_first first
   pub parts : first ≡ client_first_of NoBinding authzid name nonce []
   pub plain : IsPlainName name
   pub plain_authzid : IfSome authzid IsPlainName
 
--- client-final of this login, as an honest client builds it
+-- client-final of this login is as an honest client builds it
 pub record IsHonestFinal (l : Answered) (first : ClientFirstParts) (challenge : ServerFirstParts) (final : ClientFinalParts) : Type 0 where
   pub is_final : IsClientFinal l.client_final final
   -- its channel binding is the gs2-header of client-first
@@ -26,7 +26,7 @@ pub record IsHonestFinal (l : Answered) (first : ClientFirstParts) (challenge : 
   -- its proof is made from the password with the challenge's salt and count
   pub proof : final.proof ≡ proof_of l.mechanism l.password challenge.salt challenge.count (auth_message first l.server_first final)
 
--- both messages of the client, and the challenge between them
+-- the client of this login is honest: both its messages are as an honest client builds them, with the challenge between them
 pub record IsHonest (l : Answered) : Type 0 where
   pub first : ClientFirstParts
   pub challenge : ServerFirstParts
