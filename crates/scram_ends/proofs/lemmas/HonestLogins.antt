@@ -7,7 +7,8 @@ use Rattle.mac_core.specs.declared.mechanism.Mechanism.{Mechanism}
 use Rattle.mac_core.specs.declared.mechanism.Mechanism.TheVariants.{ScramSha1, ScramSha256}
 use Rattle.scram_text.specs.Limits.{longest_tag}
 use Rattle.scram_text.specs.Parts.{have_mandatory}
-use Rattle.scram_text.specs.Messages.{ClientFirstParts, ServerFirstParts, server_first_mandatory, verifier}
+use Rattle.scram_text.specs.Messages.{ClientFirstParts, ServerFirstParts, server_first_mandatory, client_final_text, verifier}
+use Rattle.scram_text.specs.Written.{client_final_of}
 use Rattle.scram_text.proofs.lemmas.Base64.{bytes_are_field}
 use Rattle.scram_text.proofs.lemmas.messages_composed.ServerFinal.{signature_is_text, written_is_server_final}
 use Rattle.scram_text.proofs.lemmas.ClientFirst.{has_one_client_first}
@@ -22,6 +23,8 @@ use Rattle.scram_ends.specs.First.{IsChallengeTo}
 use Rattle.scram_ends.specs.Honest.{IsHonest, honest_signature}
 use Rattle.scram_ends.specs.Laws.{HonestLogsIn}
 use Rattle.scram_ends.proofs.lemmas.client_messages.ClientFirst.{honest_is_taken_up}
+use Rattle.scram_ends.proofs.lemmas.client_messages.ClientFinal.{length-client_final_text}
+use Rattle.scram_ends.proofs.lemmas.client_messages.Headers.{longest_header, header_is_in_range}
 use Rattle.scram_ends.proofs.lemmas.client_messages.Expectations.{proofs_are_same, signatures_are_same}
 use Rattle.scram_ends.proofs.lemmas.Verdicts.{acceptance_is_due}
 use Rattle.scram_ends.proofs.lemmas.Written.{signature_can_be_written, signature_is_short}
@@ -57,6 +60,23 @@ password_proof_passes m password salt auth proof count is =
       opens = ap (λ (p : List ℕ). stored_key_by m (xor_bytes p signature)) is ∙ ap (λ (k : List ℕ). stored_key_by m k)
           (xor_bytes_cancels key signature same);
     }
+
+-- the client-final message of an honest client has at most 1592 bytes
+pub honest_final_is_short : (l : Answered) → IsHonest l → length l.client_final ≤ 1592
+honest_final_is_short l honest =
+    let final = honest.final in
+    let header : length final.channel ≤ longest_header =
+    omega (arith, ap length honest.is_final.channel, (header_is_in_range honest.is_first).1) in
+    let is_proof = password_proof_passes l.mechanism l.password _ _ final.proof _ honest.is_final.proof in
+    let proof : length final.proof ≤ 32 = omega (arith, is_proof.len, (digest_length_is_in_range l.mechanism).1) in
+    let parts : final ≡ client_final_of final.channel final.nonce [] final.proof =
+    ap (λ (e : List (List ℕ)). record final { extensions = e }) honest.is_final.no_extensions in
+    let spelled = honest.is_final.is_final.spelled ∙ ap client_final_text parts in
+    omega (
+      arith,
+      ap length spelled,
+      length-client_final_text final.channel final.nonce final.proof header honest.is_final.is_final.nonce.at_most proof,
+    )
 
 -- an honest client's first message and a challenge of the account to it open its login
 honest_login_opens : (e : Entry) (server_nonce : List ℕ) (l : Answered) → 1 ≤ length server_nonce

@@ -18,7 +18,7 @@ use std::alloc::Allocator;
 
 impl ClientOne {
     /// Answers the challenge `server_first` (RFC 5802, section 3): appends the client-final message with the proof of `password` to
-    /// `out`, at most 1592 bytes (no clause says so). If nothing is wrong with the challenge, this takes time in proportion to its
+    /// `out`, at most 1592 bytes. If nothing is wrong with the challenge, this takes time in proportion to its
     /// iteration count.
     ///
     /// Errors: Back has 99 NoMemory, only if `out` had no room reserved for the message. Spent has the first of these that applies:
@@ -40,6 +40,7 @@ impl ClientOne {
             × StandsForAnswered two (answered_login l password.now server_first.now client_final)) }
         ensures unchanged { IsUnchangedOnErr result out.old out.new }
         ensures room { KeepsRoom out.old out.new }
+        ensures most_bytes { (l : Started) → StandsForStarted self l → length out.new.items ≤ length out.old.items + 1592 }
         // If it is answered, or its answer could not be written, it is a challenge to this client with nothing wrong.
         ensures answerable { IsUnspent result → (l : Started) → StandsForStarted self l
             → (challenge : ServerFirstParts) × IsAnswerable l.limits l.nonce server_first.now challenge }

@@ -1,5 +1,5 @@
 //! The client's first message, for example `n,,n=user,r=fyko+d2lbbFgONRv9qkxdawL`.
-ghost use Rattle.std.specs.Prelude.{◌≡◌, ◌≤◌, ◌<◌, ◌+◌, ℕ, List, ◌++◌, IfSome, IfOk, IfErr};
+ghost use Rattle.std.specs.Prelude.{◌≡◌, ◌≤◌, ◌<◌, ◌+◌, ℕ, List, ◌++◌, length, IfSome, IfOk, IfErr};
 ghost use Rattle.std.specs.Option.{option_copied};
 ghost use Rattle.scram_text.specs.Class.{IsPlainName, IsNoncePart};
 ghost use Rattle.scram_text.specs.Messages.{ClientFirstParts};
@@ -15,7 +15,7 @@ use std::alloc::Allocator;
 
 impl Client {
     /// Appends the client-first message of this name, name to act as and nonce to `out`, with the flag `n` and no extensions: at
-    /// most 1796 bytes (no clause says so). `limits` are the iteration counts that the client will accept, at least 1. Errors:
+    /// most 1796 bytes. `limits` are the iteration counts that the client will accept, at least 1. Errors:
     /// 99 NoMemory, only if `out` had no room reserved for the message. After an error `out` is unchanged.
     pub fn start<A: Allocator>(
         mechanism: Mechanism,
@@ -32,6 +32,7 @@ impl Client {
             nonce.now client_first)) }
         ensures unchanged { IsUnchangedOnErr result out.old out.new }
         ensures room { KeepsRoom out.old out.new }
+        ensures most_bytes { length out.new.items ≤ length out.old.items + 1796 }
         ensures no_memory { IfErr result (λ fault. (fault ≡ WriteFault.NoMemory)
             × ((client_first : List ℕ) × (first : ClientFirstParts)
             × IsHonestFirst name.now (option_copied authzid.entry) nonce.now client_first first

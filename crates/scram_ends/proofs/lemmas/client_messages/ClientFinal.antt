@@ -62,6 +62,19 @@ client_final_is_short header nonce proof short is_nonce is_proof =
     (final_parts_are_short _ _ _ (omega (arith, base64_is_short header 257 (omega arith))) (omega arith)
     (omega (arith, base64_is_short proof 22 (omega arith))))
 
+-- a client-final message of a header and a nonce within their bounds and a proof of at most 32 bytes has at most 1592 bytes
+pub length-client_final_text : (header nonce proof : List ℕ)
+    → length header ≤ longest_header → length nonce ≤ longest_nonce → length proof ≤ 32
+    → length (client_final_text (client_final_of header nonce [] proof)) ≤ 1592
+unfolding client_final_text client_final_without_proof
+length-client_final_text header nonce proof short is_nonce is_proof =
+    omega (
+      arith,
+      length-client_final (codes "c=" ++ base64 header) (codes "r=" ++ nonce) (codes "p=" ++ base64 proof),
+      base64_is_short header 257 (omega arith),
+      base64_is_short proof 11 (omega arith),
+    )
+
 -- client-final before its proof is no longer than a message may be
 pub without_proof_is_short : (header nonce : List ℕ) → length header ≤ longest_header → length nonce ≤ longest_nonce
     → length (client_final_without_proof (client_final_of header nonce [] [])) ≤ longest_message

@@ -48,22 +48,29 @@ spelled_authzid_is_short : (authzid : Option (List ℕ))
 spelled_authzid_is_short None is = omega arith
 spelled_authzid_is_short (Some name) is = omega (arith, length-spelling name, is.at_most)
 
--- the flag, the two names and the nonce, each within its bound, and the three commas between them make no more than a message may have
+-- the flag, the two names and the nonce, each within its bound, and the three commas between them make at most 1796 bytes
 first_parts_are_short : (f a n r : ℕ)
-    → f ≡ 1 → a ≤ longest_name_field → n ≤ longest_name_field → r ≤ longest_nonce_part + 2 → f + a + n + r + 3 ≤ longest_message
+    → f ≡ 1 → a ≤ longest_name_field → n ≤ longest_name_field → r ≤ longest_nonce_part + 2 → f + a + n + r + 3 ≤ 1796
 first_parts_are_short f a n r one authzid name nonce = omega arith
+
+-- a client-first message of plain names and a part of a nonce has at most 1796 bytes
+pub length-client_first_text : (authzid : Option (List ℕ)) (name nonce : List ℕ)
+    → IfSome authzid IsPlainName → IsPlainName name → IsNoncePart nonce
+    → length (client_first_text (client_first_of NoBinding authzid name nonce [])) ≤ 1796
+unfolding client_first_text gs2_header client_first_bare
+length-client_first_text authzid name nonce is_authzid is_name is_nonce =
+    subst (λ (k : ℕ). k ≤ 1796)
+    (sym (length-client_first (codes "n") (authzid_text (option_map name_spelling authzid)) (codes "n=" ++ name_spelling name)
+    (codes "r=" ++ nonce)))
+    (first_parts_are_short 1 _ _ _ refl (spelled_authzid_is_short authzid is_authzid) (omega (arith, length-spelling name, is_name.at_most))
+    (omega (arith, is_nonce.at_most)))
 
 -- a client-first message of plain names and a part of a nonce is no longer than a message may be
 pub client_first_is_short : (authzid : Option (List ℕ)) (name nonce : List ℕ)
     → IfSome authzid IsPlainName → IsPlainName name → IsNoncePart nonce
     → length (client_first_text (client_first_of NoBinding authzid name nonce [])) ≤ longest_message
-unfolding client_first_text gs2_header client_first_bare
 client_first_is_short authzid name nonce is_authzid is_name is_nonce =
-    subst (λ (k : ℕ). k ≤ longest_message)
-    (sym (length-client_first (codes "n") (authzid_text (option_map name_spelling authzid)) (codes "n=" ++ name_spelling name)
-    (codes "r=" ++ nonce)))
-    (first_parts_are_short 1 _ _ _ refl (spelled_authzid_is_short authzid is_authzid) (omega (arith, length-spelling name, is_name.at_most))
-    (omega (arith, is_nonce.at_most)))
+    omega (arith, length-client_first_text authzid name nonce is_authzid is_name is_nonce)
 
 -- if a client-first message of plain names and a part of a nonce fails to be written, memory has run out
 pub client_first_fault_is_memory : {T : Type 0} (r : Result T WriteFault) (f : WriteFault) (authzid : Option (List ℕ)) (name nonce : List ℕ)

@@ -36,7 +36,7 @@ length-header f a = omega (arith, length-append f (byte "," ∷ (a ++ byte "," �
 module _ {name : List ℕ} {authzid : Option (List ℕ)} {nonce client_first : List ℕ} {first : ClientFirstParts}
     (honest : IsHonestFirst name authzid nonce client_first first) where
   -- the header of an honest client-first message is not empty, and no longer than a header may be
-  header_is_in_range : (1 ≤ length (gs2_header first)) × (length (gs2_header first) ≤ longest_header)
+  pub header_is_in_range : (1 ≤ length (gs2_header first)) × (length (gs2_header first) ≤ longest_header)
   unfolding gs2_header
   header_is_in_range =
       let flag : length first.flag ≡ 1 = ap (λ (p : ClientFirstParts). length p.flag) honest.parts in

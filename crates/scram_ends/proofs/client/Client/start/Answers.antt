@@ -1,4 +1,4 @@
-use Rattle.std.proofs.Common.{◌≡◌, ℕ, List, [], length, sym, ◌∙◌, ap, subst, arith, rules}
+use Rattle.std.proofs.Common.{◌≡◌, ℕ, List, [], length, length-append, sym, ◌∙◌, ap, subst, arith, rules}
 use Rattle.std.specs.Option.{option_copied}
 use Rattle.std.specs.declared.result.Result.TheVariants.{Err}
 use Rattle.std.proofs.lemmas.Result.{err_from_is_err_and}
@@ -6,7 +6,7 @@ use Rattle.scram_text.specs.Messages.{client_first_text, IsClientFirst}
 use Rattle.scram_text.specs.Written.{client_first_of}
 use Rattle.scram_text.specs.declared.client_first.Flag.TheVariants.{NoBinding}
 use Rattle.scram_text.specs.declared.fault.WriteFault.{WriteFault}
-use Rattle.scram_ends.proofs.lemmas.client_messages.ClientFirst.{client_first_fault_is_memory, written_first_is_honest, bare_is_short}
+use Rattle.scram_ends.proofs.lemmas.client_messages.ClientFirst.{length-client_first_text, client_first_fault_is_memory, written_first_is_honest, bare_is_short}
 use Rattle.scram_ends.proofs.lemmas.client_messages.Headers.{header_fits_channel}
 use Rattle.scram_ends.proofs.lemmas.Written.{slice_after_front_is_text}
 use Rattle.scram_ends.proofs.client.Client.start.Goals as goal
@@ -29,6 +29,18 @@ returns-in_err-write_client_first-clause-no_memory g c =
             (client_first_text first) c.law_of_names.ensures.authzid c.law_of_names.ensures.name room.0,
         room.1,
       ),
+    )
+
+pub returns-clause-most_bytes : goal.returns-clause-most_bytes
+returns-clause-most_bytes g c =
+    let authzid = option_copied c.args.authzid in
+    let text = client_first_text (client_first_of NoBinding authzid c.args.name.now c.args.nonce.now []) in
+    omega (
+      arith,
+      ap length c.in_ok-write_client_first.ensures.appended.0,
+      length-append c.args.out.now.items text,
+      length-client_first_text authzid c.args.name.now c.args.nonce.now c.law_of_names.ensures.authzid c.law_of_names.ensures.name
+          c.law_of_names.ensures.nonce,
     )
 
 pub copy_of-requires : goal.copy_of-requires
