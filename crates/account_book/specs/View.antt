@@ -10,7 +10,6 @@ use Rattle.book_format.specs.Account.{AccountFields}
 use Rattle.book_format.specs.Book.{BookFields}
 use Rattle.book_format.specs.declared.account.MechKeys.{MechKeys}
 use Rattle.account_book.specs.Accounts.{account_at}
-use Rattle.account_book.specs.declared.book.view.TheConstants.{SALT_LEN}
 
 -- the keys that an account has for a mechanism
 abbrev pub mech_keys : Mechanism → AccountFields → Option MechKeys
@@ -21,10 +20,10 @@ mech_keys ScramSha256 account = account.sha256
 abbrev pub keys_entry : List (List ℕ) → MechKeys → Entry
 keys_entry act_as keys = record { salt = keys.salt; count = keys.count; keys = Some (keys_of keys.keys); act_as = act_as }
 
--- the salt of a decoy: the first 16 bytes of HMAC-SHA-256 with the book's decoy key over the mechanism's name, a byte 00 and the
+-- the salt of a decoy: the first 16 bytes of HMAC-SHA-256 with the book's decoy key over the mechanism's name, a NUL and the
 -- name. So a name without keys has one salt for each mechanism, as an account has.
 abbrev pub decoy_salt : BookFields → Mechanism → List ℕ → List ℕ
-decoy_salt book m name = take SALT_LEN (hmac_by ScramSha256 book.decoy_key (name_of m ++ byte "\0" ∷ name))
+decoy_salt book m name = take 16 (hmac_by ScramSha256 book.decoy_key (name_of m ++ byte "\0" ∷ name))
 
 -- a decoy, with the book's count for decoys and no keys
 abbrev pub decoy_entry : BookFields → Mechanism → List ℕ → Entry

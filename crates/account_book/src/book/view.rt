@@ -18,8 +18,8 @@ pub const SALT_LEN: usize = 16;
 
 impl Book {
     /// What a server keeps for this name and this mechanism: the account of the name if it has keys for the mechanism, else a
-    /// decoy. A decoy's salt is the first 16 bytes of the HMAC-SHA-256, under the decoy key, of the mechanism's name, a byte 00 and
-    /// the name: so a name has the same salt each time.
+    /// decoy. A decoy's salt is the first 16 bytes of the HMAC-SHA-256, under the decoy key, of the mechanism's name, a NUL and the
+    /// name: so a name has the same salt each time.
     pub fn view(&self, name: &PlainName, mechanism: Mechanism) -> KeysView<'_>
         ensures entry { entry_of result ≡ entry_in self.now mechanism name.now }
         ensures count { 1 ≤ result.count }
