@@ -2,7 +2,6 @@
 pub mod Cases
 pub mod ClientLines
 pub mod DeskLogs
-pub mod DueLines
 pub mod EventWords
 pub mod Faults
 pub mod HallLogs

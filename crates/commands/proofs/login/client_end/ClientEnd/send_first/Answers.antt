@@ -7,8 +7,8 @@ use Rattle.commands.proofs.login.client_end.ClientEnd.send_first.Goals as goal
 pub returns-clause-says : goal.returns-clause-says
 returns-clause-says c =
     let (client_first, is, started_by) = c.in-Ok.ensures.ok in
-    let message : c.as_slice.result.now ≡ client_first = search (rules, is) in
-    let front : c.as_slice-front.result.now ≡ codes "AUTH " ++ (name_of c.in-Some.mechanism ++ codes " :") = search rules in
+    let message : c.as_slice-2.result.now ≡ client_first = search (rules, is) in
+    let front : c.as_slice.result.now ≡ codes "AUTH " ++ (name_of c.in-Some.mechanism ++ codes " :") = search rules in
     record {
       login = _;
       is_mechanism = asked_or_best_is_chosen c.args.self.now.user.mechanism c.choose.result c.args.names.now c.in-Some.mechanism
