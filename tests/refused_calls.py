@@ -3,20 +3,21 @@
 lost, and the same call made again succeeds. The crate bench makes the calls: `Desk::begin`, `greet` and `client` one by one, then
 `serve_turn`, then `serve`, whose client is gone if memory ran out; `Hall::begin`, `greet` and `client`; the functions that write
 messages, names and lines, `escape` and `Payload::bytes`; and `Book::read`, `Book::write` and `enrol`. Needs `cc`, and the crate bench
-as built by `rt ci` or `make bench`.
+as built by `rt ci` or `make bench`. What the client of `login` is sent when a request is refused is compared with the book.
 
 Usage: refused_calls.py PROGRAM [TEST ..]
 """
+import os
 import pathlib
 import re
 
 import shims
 import suite
 from checks import equal, holds
-from command_table import parsed_book, with_account
+from command_table import command_of, parsed_book, prepare, run, with_account
 from expected import AUDITS, MECHS
 from runs import ran
-from suite import BOOK_OF_USER, PROGRAM, each, hotp
+from suite import BOOK_OF_USER, PROGRAM, each, hotp, token
 
 BENCH = pathlib.Path(__file__).parent.parent / "crates" / "bench" / "out" / "bench"
 BOOK = (AUDITS / "sha256.toml").read_text() + hotp(look_ahead=3, limit=3)
@@ -83,6 +84,35 @@ def count_told(folder, kind, logged, check):
                 told += 1
     holds(2 * told > len(answers), "at most half of the requests are told", kind, told, answers)
     return told
+
+
+def sent_in_a_login(command, folder, number):
+    """The counters that the client of a login is told have passed if the request with this number is refused, the next counter in the book
+    after it, and how many requests the run makes."""
+    files, sent = pathlib.Path(folder, "files"), pathlib.Path(folder, "sent")
+    files.mkdir(exist_ok=True)
+    prepare(files, command)
+    sent.write_text("")
+    loaded = f"{shims.built('refuse_memory')}:{shims.keeps_sent()}"
+    answer = run(command, files, env={**os.environ, "LD_PRELOAD": loaded, "REFUSED": str(number), "SENT": str(sent)})
+    found = re.search(r"^requests (\d+)$", answer.faults, re.M)
+    holds(found, "request", number, "the run ended before it could say how many requests it made", answer)
+    told = [int(counter) for counter in re.findall(r"^PASS 5 (\d+)$", sent.read_text(), re.M)]
+    return told, token(files / "book")["next"], int(found[1])
+
+
+def clients_are_told_what_is_saved(folder):
+    """Whichever request of a login is refused, its client is sent PASS for no counter that the book does not have as spent."""
+    login, cut = command_of("login"), 0
+    told, after, requests = sent_in_a_login(login, folder, 0)
+    equal((told, after), ([0, 1], 2), "the counters that pass, as the client is told, and the next one in the book")
+    for trial, number in each(range(1, requests + 1)):
+        with trial:
+            told, after, _ = sent_in_a_login(login, folder, number)
+            holds(after > max(told, default=-1), "a counter passes that the book does not have as spent", told, after)
+            cut += told != [0, 1]
+    holds(cut > 0, "whichever request is refused, the client is told of both codes", requests)
+    print(f"refused_calls.py: {requests} requests of a login are refused, and {cut} of them keep its client from a reply")
 
 
 def is_clean(folder, log):
@@ -172,6 +202,7 @@ TESTS = [
     calls_of_a_hall_are_made_again,
     texts_are_written_again,
     books_are_changed_again,
+    clients_are_told_what_is_saved,
 ]
 
 suite.run_all(TESTS)

@@ -1,5 +1,5 @@
 """Compiles the C files in this folder, which are loaded before the C library to make calls of the program go wrong, and lists which calls
-the program makes and which ones such a file makes go wrong."""
+the program makes and which ones such a file makes go wrong. Also compiles one that keeps what the program sends."""
 import functools
 import os
 import pathlib
@@ -11,11 +11,46 @@ HERE = pathlib.Path(__file__).parent
 MADE = tempfile.TemporaryDirectory(prefix="shims-")
 
 
+# Appends what is sent through a socket to the file that the variable SENT names. It asks for no memory.
+KEEP_SENT = r"""
+#define _GNU_SOURCE
+#include <fcntl.h>
+#include <stdlib.h>
+#include <sys/socket.h>
+#include <sys/syscall.h>
+#include <unistd.h>
+
+ssize_t send(int fd, const void *bytes, size_t size, int flags)
+{
+    ssize_t sent = syscall(SYS_sendto, fd, bytes, size, flags, NULL, 0);
+    if (sent > 0) {
+        int kept = syscall(SYS_openat, AT_FDCWD, getenv("SENT"), O_WRONLY | O_CREAT | O_APPEND, 0600);
+        if (syscall(SYS_write, kept, bytes, sent) != sent)
+            abort();
+        syscall(SYS_close, kept);
+    }
+    return sent;
+}
+"""
+
+
 @functools.cache
 def built(name):
     """Compiles the file with this name, once for a script, and returns the path of the library to load."""
+    return compiled(name, HERE / f"{name}.c")
+
+
+def keeps_sent():
+    """Compiles KEEP_SENT, and returns the path of the library to load."""
+    source = pathlib.Path(MADE.name, "keep_sent.c")
+    source.write_text(KEEP_SENT)
+    return compiled("keep_sent", source)
+
+
+def compiled(name, source):
+    """Compiles a C file, and returns the path of the library with this name."""
     shim = os.path.join(MADE.name, f"{name}.so")
-    subprocess.run(["cc", "-shared", "-fPIC", "-O1", "-o", shim, HERE / f"{name}.c", "-ldl"], check=True)
+    subprocess.run(["cc", "-shared", "-fPIC", "-O1", "-o", shim, source, "-ldl"], check=True)
     return shim
 
 
