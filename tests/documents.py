@@ -226,7 +226,7 @@ def pages_of_another_kit():
 
 
 def stale_bugs():
-    """The rows of planted.csv that have no edit or no test, and the edits in a folder tested/ that have no row or do not apply."""
+    """The rows of planted.csv that have no edit or no test, and the edits in a folder planted/ that have no row or do not apply."""
     with open(TOP / "tests/data/planted.csv", newline="", encoding="utf-8") as file:
         rows = list(csv.DictReader(file))
     yield from (f"no row for {of}/{bug}" for of, bug in planted_edits(TOP).keys() - {(row["of"], row["bug"]) for row in rows})
@@ -243,11 +243,11 @@ def stale_bugs():
 
 def miscounted_edits():
     """The rows of the table in docs/MUTATIONS.md that do not give the numbers of edits in a crate's folders, and those that are missing."""
-    places = [*TOP.glob("crates/*/*/*.edit"), *TOP.glob("tests/tested/*.edit")]
+    places = [*TOP.glob("crates/*/*/*.edit"), *TOP.glob("tests/planted/*.edit")]
     found = [(path.parent.parent.name, path.parent.name) for path in places]
     due = set()
     for of in {of for of, _ in found} | {"all"}:
-        counts = [sum(1 for it in found if of in (it[0], "all") and it[1] == folder) for folder in ("edits", "must-fail", "tested")]
+        counts = [sum(1 for it in found if of in (it[0], "all") and it[1] == folder) for folder in ("edits", "must-fail", "planted")]
         due.add(" | ".join([f"| `{of}`" if of != "all" else "| all", *map(str, counts)]) + " |")
     text = (TOP / "docs" / "MUTATIONS.md").read_text(encoding="utf-8")
     told = {line for line in text.splitlines() if re.fullmatch(r"\| [`\w]+ \| \d+ \| \d+ \| \d+ \|", line)}
@@ -284,7 +284,7 @@ def checks():
         ("the kit of the Makefile is missing", pages_of_another_kit),
         ("run.py does not run this script, or docs/TESTING.md does not name it", untold_tests),
         ("its script never uses this function", unused_functions),
-        ("planted.csv and the folders tested/ do not fit", stale_bugs),
+        ("planted.csv and the folders planted/ do not fit", stale_bugs),
         ("the table of edits in docs/MUTATIONS.md", miscounted_edits),
     ]:
         yield kind, find.__name__, [*find()]

@@ -1,7 +1,7 @@
 """For edits.py, planted.py and documents.py: where the functions of a crate are in its sources, and what edits change.
 
 An edit has the form that `rt help` describes. That of a crate changes src/ or specs/, and one of a definition in specs/ belongs to no
-function. The edits in tests/tested/ change what no crate has: a tool, the Makefile, a C file that makes calls go wrong, or kills.py.
+function. The edits in tests/planted/ change what no crate has: a tool, the Makefile, a C file that makes calls go wrong, or kills.py.
 """
 import re
 from collections.abc import Iterable
@@ -10,7 +10,7 @@ from pathlib import Path
 
 # Where the edits of a crate are that edits.py tries.
 FOLDERS = ("must-fail", "edits")
-# Where in a crate an edit may make changes; and where in the repository one in tests/tested/ may.
+# Where in a crate an edit may make changes; and where in the repository one in tests/planted/ may.
 EDITED = ("src/", "specs/")
 EDITED_BY_TESTS = ("tools/", "Makefile", "tests/refuse_", "tests/turn_clock.c", "tests/kills.py")
 
@@ -142,18 +142,18 @@ def between(places: set[tuple[str, int]]) -> Iterable[tuple[str, int]]:
 
 
 def root_of(of: str) -> str:
-    """Returns the folder, from the repository's top, in which the edits of a crate's tested/ change files, or those of tests/tested/."""
+    """Returns the folder, from the repository's top, in which the edits of a crate's planted/ change files, or those of tests/planted/."""
     return "." if of == "tests" else f"crates/{of}"
 
 
 def planted_edits(top: Path) -> dict[tuple[str, str], Path]:
-    """Returns the files of all edits in a folder tested/, by their crate, or by `tests`, and their name."""
-    found = [*top.glob("crates/*/tested/*.edit"), *top.glob("tests/tested/*.edit")]
+    """Returns the files of all edits in a folder planted/, by their crate, or by `tests`, and their name."""
+    found = [*top.glob("crates/*/planted/*.edit"), *top.glob("tests/planted/*.edit")]
     return {(path.parent.parent.name, path.stem): path for path in sorted(found)}
 
 
 def read_planted(top: Path, of: str, bug: str) -> Edit:
-    """Reads an edit in a folder tested/, as `read_edit` does."""
+    """Reads an edit in a folder planted/, as `read_edit` does."""
     path = planted_edits(top).get((of, bug))
     if path is None:
         raise Unusable("there is no such edit")

@@ -6,10 +6,10 @@ Usage: planted.py [--jobs N] [--unbuilt] [BUG ..]
 By default all bugs are tried, and otherwise those of these names; with --unbuilt, only those for which nothing is built. Each is an edit,
 in the form that `rt help` describes:
 
-- of a crate, in crates/NAME/tested/: a bug for which there is a test, in most cases since no contract can speak of it. The test is in a
+- of a crate, in crates/NAME/planted/: a bug for which there is a test, in most cases since no contract can speak of it. The test is in a
   test crate, and `rt try --test` runs it with all others of that crate; or it is in a script of tests/, and is run on a program that
   `rt try` makes of the edited sources. Nothing is proved.
-- in tests/tested/: of a tool, of the Makefile, or of what a script makes runs and their calls go wrong with, a C file or kills.py: it then
+- in tests/planted/: of a tool, of the Makefile, or of what a script makes runs and their calls go wrong with, a C file or kills.py: it then
   makes nothing go wrong, or in another way. The test is in a script, and is run on the programs that `make build` and `make bench` made.
   Nothing is built.
 
@@ -193,7 +193,7 @@ def main() -> int:
     """Tries the bugs, prints a line for each, and returns the exit status."""
     words = argparse.ArgumentParser(description="Plants bugs that tests have to refuse.")
     words.add_argument("--jobs", type=int, default=1, help="how many bugs are tried at the same time; each takes about 2 GB of memory")
-    words.add_argument("--unbuilt", action="store_true", help="only the bugs in tests/tested/, for which nothing is built")
+    words.add_argument("--unbuilt", action="store_true", help="only the bugs in tests/planted/, for which nothing is built")
     words.add_argument("bugs", metavar="BUG", nargs="*", help="the name of an edit; by default, all bugs are tried")
     given = words.parse_args()
     rows = rows_of(given.bugs, given.unbuilt)
