@@ -4,9 +4,9 @@
 Usage: refused_io.py PROGRAM [TEST ..]
 
 A call that fails, whether or not it was made, leaves the book whole, with each change that was reported and at most one more. The output
-is the beginning of what is due, or the log of a desk that halted. The fault is reported with status 3, unless nothing was lost. A read
-or a write that is interrupted, or moves only one of several bytes, changes nothing. What the program takes from the C library can all go
-wrong here or in refused_memory.py, or is listed as harmless. Needs `cc` and `nm`.
+is the beginning of what is due, or the log of a desk that halted. The fault is reported with status 3, except that of a call that
+NOT_TOLD names, which loses nothing. A read or a write that is interrupted, or moves only one of several bytes, changes nothing. What the
+program takes from the C library can all go wrong here or in refused_memory.py, or is listed as harmless. Needs `cc` and `nm`.
 """
 import os
 import pathlib
@@ -35,6 +35,13 @@ HARMLESS = {
     "signal", "__sysv_signal",
     # A file is closed after its last sync. A stream that can't be asked is no terminal. A wait can only end early.
     "close", "isatty", "nanosleep",
+}
+# The calls whose failure is not told, by their command or as those of any, and why: the command does all its work without them.
+NOT_TOLD = {
+    ("any", "lseek"): "only what reads standard input after the command would find it at another place",
+    ("login", "statx"): "login can't tell whether its socket still has its name, and removes what has it",
+    ("login", "unlink"): "the socket is left, and the next login at its path says so",
+    ("new book", "statx"): "enrol can't tell whether the new book's path is a link to nothing, at which no book can be made anyway",
 }
 FAULT = r"scramotp: (?:cannot (?:read|write) [ -~]+|socket fault)\n"
 
@@ -134,19 +141,34 @@ def may_be_left(how, name):
     return {"open": {"book.new"}, "openat": {"book.new"}}.get(name, set())
 
 
-def all_told(folder, how, calls):
-    """Whichever of these calls fails, a loss is reported, and the book is whole and has what was reported before."""
-    here, count, told = Turns(folder), 0, 0
-    for command in [*commands(), new_book()]:
-        for what, answer in here.turns(command, calls, how):
-            holds(answer == (0, command.printed, "") or is_told(command, answer), what, "it neither ended well nor reported its fault")
+def failures(here, command, how, calls):
+    """Lets each of these calls of a command fail, and yields None for each failure that is told, and for others their name in NOT_TOLD."""
+    for trial, (what, answer) in each(here.turns(command, calls, how)):
+        with trial:
+            call = what[2]
+            kind = "new book" if command.books[0] is None else command.name
+            name = None if is_told(command, answer) else ("any" if ("any", call) in NOT_TOLD else kind, call)
+            is_well = answer == (0, command.printed, "")
+            holds(name is None or is_well, what, "it neither ended well nor reported its fault")
+            holds(name is None or name in NOT_TOLD, what, "it ended well, but NOT_TOLD does not have this call")
             holds(is_kept(here.folder, command, answer[1]), what, "the book is not whole, or lacks what was reported", book_of(here.folder))
-            holds(left(here.folder) <= may_be_left(how, what[2]), what, "files are left", left(here.folder))
+            holds(left(here.folder) <= may_be_left(how, call), what, "files are left", left(here.folder))
             is_log = command.name in ("login", "hall")
             holds(not is_log or printed_begins_clean(here.folder, answer[1]), what, "a line of the log is at fault")
-            count, told = count + 1, told + (answer[0] == 3)
-    holds(2 * told > count, "at most half of the calls are told", told, count)
-    print(f"refused_io.py: {count} calls {how}, of which {told} are told")
+            yield name
+
+
+def all_told(folder, how, calls):
+    """Whichever of these calls fails, that is told, unless NOT_TOLD has the call. The book is whole and has what was reported before. Each
+    call of NOT_TOLD is made, and its failure is not told."""
+    here, names = Turns(folder), []
+    for trial, command in each([*commands(), new_book()]):
+        with trial:
+            names += failures(here, command, how, calls)
+    told = names.count(None)
+    equal({*NOT_TOLD} - {*names}, set(), "calls of NOT_TOLD that no command makes, or whose failures are all told")
+    holds(2 * told > len(names), "at most half of the calls are told", told, len(names))
+    print(f"refused_io.py: {len(names)} calls {how}, of which {told} are told")
 
 
 def calls_that_are_refused(folder):
