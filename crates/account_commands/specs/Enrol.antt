@@ -8,7 +8,6 @@ use Rattle.scram_text.specs.Parts.{IsCount}
 use Rattle.book_format.specs.Book.{BookFields}
 use Rattle.account_book.specs.Accounts.{account_at}
 use Rattle.account_book.specs.SavedBooks.{HasStoredText}
-use Rattle.account_book.specs.declared.book.view.TheConstants.{SALT_LEN}
 use Rattle.book_file.specs.Text.{IsWritten}
 use Rattle.clap.specs.declared.parser.matches.ArgMatches.{ArgMatches}
 use Rattle.command_line.specs.Fault.{IsFileUnwrittenOrNoMemory}
@@ -34,10 +33,10 @@ IsReadOrNew bytes_of old new book =
     ((text : List ℕ) × IsReadBook bytes_of text book × (new ≡ old))
     ⊎ ((decoy_key : List ℕ) × (length decoy_key ≡ 32) × Consumes old new decoy_key × (book ≡ new_book decoy_key))
 
--- a source of random bytes gives two salts, each as long as a decoy's, one after the other: no byte is in both
+-- a source of random bytes gives two salts, each of 16 bytes as a decoy's, one after the other: no byte is in both
 pub record TakesSalts (old : Option (List ℕ)) (salts : Salts) (new : Option (List ℕ)) : Type 0 where
-  pub length_sha1 : length salts.sha1 ≡ SALT_LEN
-  pub length_sha256 : length salts.sha256 ≡ SALT_LEN
+  pub length_sha1 : length salts.sha1 ≡ 16
+  pub length_sha256 : length salts.sha256 ≡ 16
   pub taken : Consumes old new (salts.sha1 ++ salts.sha256)
 
 -- a book is this one, or was read from a file since
