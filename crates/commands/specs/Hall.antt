@@ -22,7 +22,7 @@ use Rattle.log_grammar.specs.NumberedLines.{IsSessionNumber}
 use Rattle.sasl_log.specs.Sink.{SinkFacts}
 use Rattle.sasl_desk.specs.Events.{ClientEvent, sends, goes_away}
 use Rattle.log_grammar.specs.Books.{accounts_in}
-use Rattle.log_grammar.specs.Places.{between}
+use Rattle.log_grammar.specs.Places.{Place, between}
 use Rattle.log_grammar.specs.Versions.{IsLogFront}
 use Rattle.sasl_desk.specs.Halls.{HallFields, hall_shown, hall_lines, hall_bytes, phase_in, IsSessionRun, IsHallAfter}
 use Rattle.sasl_desk.specs.Runs.{greets, hears, Call}
@@ -136,6 +136,8 @@ pub record PrintsHallLog (IsStored : List ℕ → Type 0) (book : BookFields) (i
   pub says : SaysEvents input last
   pub calls : List (Numbered Call)
   pub heard : AreCallsFor (reverse says.events) calls
+  -- the calls of each session were answered as by a hall, or the session was turned away
+  pub runs : (number : ℕ) → (place : Place) × IsSessionRun (accounts_in book) (of_number number calls) place
   -- what it logged is a front, and is printed
   pub is_front : IsLogFront (accounts_in book) (hall_bytes calls)
   pub printed : Appends old new (hall_bytes calls)

@@ -59,7 +59,8 @@ IsReplyLost path name moment sent old fault new =
 
 -- how the lines of an input are answered: `IsStored` is true of each text that is stored
 module _ (IsStored : List ℕ → Type 0) where
-  -- a line is answered: the reply is due to what it says, what the reply changes is saved, and then the reply is printed
+  -- a line is answered: the reply is due to what it says, what the reply changes is saved, and the reply is printed. If the save fails,
+  -- no reply is printed (`IsReplyLost`).
   pub record IsLineAnswered (name : List ℕ) (moment : ℕ) (line : List ℕ) (old : VerifyRun) (reply : Reply) (new : VerifyRun) : Type 0 where
     pub sent : CodeTexts
     pub says : SaysCodes line sent

@@ -140,6 +140,7 @@ module _ {S : Type 0} {facts : S → StoreFacts} {IsStored : List ℕ → Type 0
         says = heard.says;
         calls = hall.calls;
         heard = subst (λ (events : List InputEvent). AreCallsFor events hall.calls) (append-nil (reverse heard.says.events)) hall.heard;
+        runs = λ n. (hall.stands.places n, hall.stands.session_runs n);
         is_front = front book hall.calls (hall_shown new) hall.stands;
         saved = kept book hall.calls (hall_shown new) hall.stands;
         printed = subst (λ (o : Option (List ℕ)). Appends before o (hall_bytes hall.calls)) (sym is)
