@@ -444,8 +444,7 @@ def a_password_that_is_refused(folder):
     [change] = blocks("Change a password")
     for trial, password in each(["ü\n", "\n", ""]):
         with trial:
-            _, output, faults = ran(folder, change, password)
-            equal((output, faults), ("", "scramotp: bad password\n"), password)
+            equal(ran(folder, change, password), (2, "", "scramotp: bad password\n"), password)
             equal(book.read_bytes(), before, password)
     commands = Path(program_on_path(folder)["PATH"].partition(":")[0])
     for trial, command in each(["mktemp", "sed", "grep", "awk"]):
