@@ -86,6 +86,7 @@ test: this_kit needed
 	python3 tests/edits.py --built
 	$(MAKE) build
 	python3 tests/run.py $(PROGRAM)
+	python3 tests/planted.py --unbuilt
 
 # Each run begins from another seed, which it prints: make fuzz SEED=7 tries the same input again.
 SEED := $(or $(SEED),$(shell date +%s))
