@@ -8,7 +8,7 @@ PROGRAM = crates/scramotp/out/scramotp
 # The kit with which all was last proved, as rt version prints it; README.md and docs/PROMISES.md name it too.
 KIT = rattle-kit-13b logic dac8208d650f15bf
 # What the program stands on.
-LIBRARIES = mac_core otp_core scram_text scram_ends book_format account_book book_file command_line command_words log_grammar sasl_log sasl_desk command_io account_commands commands
+LIBRARIES = mac_core otp_core scram_text scram_ends book_format account_book book_keeper book_file command_line command_words log_grammar sasl_log sasl_desk command_io account_commands commands
 # What is installed beside it.
 TOOLS = $(addprefix tools/,check-code drop-tables edit-book find-key from-verifier list-accounts list-unlike-decoys serve-hall set-password to-verifier)
 SOURCES = crates.txt HANDLES $(shell find crates \( -name out -prune \) -o \( -name '*.rt' -o -name '*.antt' \) -print)
@@ -19,7 +19,7 @@ EXAMPLE = keys --mechanism SCRAM-SHA-1 --salt 4125c247e43ab1e93c6dff76 --count 4
 # The processors that make last built the program for. rt ci builds it for the default ones, and make test then removes this note.
 BUILT_FOR := $(shell cat crates/scramotp/out/built_for 2>/dev/null || echo x86-64-v2)
 
-.PHONY: help run build libraries install test fuzz bench clean kit this_kit needed FORCE
+.PHONY: help run build libraries install test coverage fuzz bench clean kit this_kit needed FORCE
 
 help:
 	@echo 'make run        prints the keys of the example in RFC 5802, also before anything is built'
@@ -29,6 +29,7 @@ help:
 	@echo 'make install    copies the built program to $$(DESTDIR)$$(PREFIX)/bin,'
 	@echo '                and its tools to $$(DESTDIR)$$(PREFIX)/share/scramotp'
 	@echo 'make test       the gate: proves all, sees that wrong bodies are refused, builds the program and runs all tests'
+	@echo 'make coverage   measures how much of the built program the tests run; needs objdump and readelf too'
 	@echo 'make fuzz       gives the built program random input, for some minutes'
 	@echo 'make bench      compares speeds with OpenSSL, with Python, and with oathtool'
 	@echo 'make clean      removes what was built'
@@ -85,8 +86,13 @@ test: this_kit needed
 	@rm -f crates/scramotp/out/built_for
 	python3 tests/edits.py --built
 	$(MAKE) build
-	python3 tests/run.py $(PROGRAM)
 	python3 tests/planted.py --unbuilt
+	python3 tests/run.py $(PROGRAM)
+
+# Measures what the scripts run of the program, which takes them longer than usual. It judges nothing.
+coverage: needed build
+	@for it in objdump readelf; do command -v $$it >/dev/null || { echo "This needs $$it on your PATH" >&2; exit 1; }; done
+	python3 tests/coverage.py $(PROGRAM)
 
 # Each run begins from another seed, which it prints: make fuzz SEED=7 tries the same input again.
 SEED := $(or $(SEED),$(shell date +%s))

@@ -21,7 +21,7 @@ import suite
 from audit_cases import TABLE, cases
 from checks import equal
 from expected import AUDITS, SESSION_LEFT, login_keys, proved
-from runs import LIMIT, Running
+from processes import LIMIT, Running
 from suite import MOST_BYTES, PROGRAM, SALT, audit_says, each, prints
 
 KEYS = AUDITS / "keys.toml"

@@ -19,7 +19,7 @@ from concurrent.futures import ThreadPoolExecutor
 
 import suite
 from checks import equal, holds
-from runs import ran
+from processes import ran
 from suite import BOOK_OF_USER, CODES, MOST_BYTES, ROOT, as_nobody, each, fault_text, hotp, is_root, nobody, read_book, seen, token
 
 # A copy of the program that the user nobody can run, wherever the program is.
@@ -238,19 +238,24 @@ def unwritable(folder):
 
 
 def each_line(folder):
-    """Each line is judged as a code as it stands, whatever came before it. If one is refused, the status says so."""
+    """Each line is judged as a code as it stands, whatever came before it. If one is refused, the status says so. The book is left with
+    the failures in a row and the next counter that follow from the replies, and with nothing else changed since it was last saved."""
     book, right = os.path.join(folder, "book"), CODES[0]
-    for trial, (text, status, printed) in each([
-        (f"000000\n{right}\n", 1, "FAIL 5\nPASS 5 0\n"),
-        (f"{right}\n000000", 1, "PASS 5 0\nFAIL 5\n"),
-        (f"{right}\r\n", 1, "FAIL 5\n"),
-        (f"\n{right}\n", 1, "FAIL 5\nPASS 5 0\n"),
-        (f"{right}\n", 0, "PASS 5 0\n"),
-        ("", 0, ""),
+    for trial, (text, status, printed, failures, after) in each([
+        (f"000000\n{right}\n", 1, "FAIL 5\nPASS 5 0\n", 0, 1),
+        (f"{right}\n000000", 1, "PASS 5 0\nFAIL 5\n", 1, 1),
+        (f"{right}\r\n", 1, "FAIL 5\n", 1, 0),
+        (f"\n{right}\n", 1, "FAIL 5\nPASS 5 0\n", 0, 1),
+        (f"{right}\n", 0, "PASS 5 0\n", 0, 1),
+        ("", 0, "", 0, 0),
     ]):
         with trial:
-            done = run("verify", {"book": put(book), **GOOD["verify"][0]}, text)
+            succeeds("unlock", put(book))
+            left = read_book(book)
+            left["accounts"]["user"]["token"] |= {"failures": failures, "next": after}
+            done = run("verify", {"book": book, **GOOD["verify"][0]}, text)
             says(f"verify of {text!r}", done, status, printed)
+            equal(read_book(book), left, f"the book after {text!r}")
 
 
 def random_bytes(folder):

@@ -19,14 +19,13 @@ import random
 import shutil
 import signal
 import struct
-import sys
 import threading
 import time
 
 import suite
 from checks import equal, holds
 from kills import kill_at_any_moment
-from runs import Running, ran, taken, until, whole
+from processes import Running, ran, taken, until, whole
 from suite import (
     BOOK_OF_USER, CODES, MOST_BYTES, PROGRAM, BookFolder, code, each, fault_text, hotp, is_locked, prints, read_book, seen, verify_words,
 )
@@ -125,7 +124,7 @@ def access_lists(folder):
         os.setxattr(here.folder, "system.posix_acl_default", listed)
     except OSError as error:
         equal(error.errno, errno.EOPNOTSUPP, error)
-        print("books.py: this file system has no access lists, so they are not tested", file=sys.stderr)
+        suite.not_tested("access lists, since this file system has none")
         return
     equal(mode_of(here.book), "640", "the mode before, with the mask of the access list")
     here.verifies(FIRST_CODE, *PASSES)

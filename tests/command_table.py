@@ -12,7 +12,7 @@ from typing import NamedTuple
 import suite
 from checks import equal
 from expected import ACCEPTED, AUDITS, AUTH, GONE, RESP, keys_of, numbered
-from runs import ran
+from processes import ran
 from suite import CODES, KEYS_OF_PENCIL, PROGRAM, PUBLISHED, SALT, SECRET
 
 # RFC 5802's user with RFC 4226's token, at which two codes have failed.

@@ -15,7 +15,7 @@ from pathlib import Path
 import suite
 from checks import equal, holds
 from expected import DATA, keys_of
-from runs import ran
+from processes import ran
 from suite import (
     BOOK_OF_USER, KEYS_OF_PENCIL, MOST_BYTES, PROGRAM, SALT, SECRET, SEEDS, BookFolder, each, fault_text, hotp, prints, program_on_path,
     read_book, totp,

@@ -6,16 +6,17 @@ Usage: documents.py [CHECK ..]
 
 With names, only these of the functions below are used. By default all are.
 
-Each link between pages leads to a page and a section in it. Each path between backquotes is in the repository, and each source file that
-is named is in a crate. Each block of code, definitions, proofs or an edit that a page shows stands in one as it is. Each name that a page
-of promises has between backquotes is in the sources. Each name without a space in a page for maintainers, in docs/REFUSALS.md or in
+Each link between pages leads to a page and a section in it. Each path between backquotes is in the repository, and each source file or edit
+that is named is there. Each block of code, definitions, proofs or an edit that a page shows stands in one as it is. Each name that a page
+of promises has between backquotes is in the sources. Each name without a space in a page for maintainers, in docs/FAULTS.md or in
 docs/TESTING.md is in the sources or in a script. A name that a page gives together with a file, as in `name` of `file.rt` or `file.rt`
 (`name`, `other`), is in that file. So is each law of docs/LOG_PROMISES.md in one of the files that are named before its table. run.py runs
 each script in this folder that takes a program, and docs/TESTING.md names each script. A script that runs a list of tests uses all of its
 functions. The sizes in docs/PROMISES.md and README.md are about those of the sources, and docs/TESTING.md says how many rows the tables of
-vectors and of faulty books have. The kit that the Makefile names is that in docs/PROMISES.md and README.md. docs/MUTATIONS.md says how many
-edits each crate has. tests/data/planted.csv has a row for each edit that a test has to refuse. Each fault has a line, and the status is
-then 1.
+vectors and of faulty books have. docs/ARCHITECTURE.md says about how large each library is. The kit that the Makefile names is that in
+docs/PROMISES.md and README.md. No source has a word by which something is taken unproved. docs/MUTATIONS.md says how many edits each crate
+has. tests/data/planted.csv has a row for each edit that a test has to refuse. docs/TIMES.md names each library. No line of a page has over
+140 columns, outside tables and code blocks. Each fault has a line, and the status is then 1.
 """
 import ast
 import csv
@@ -29,17 +30,23 @@ from edit_sources import Unusable, planted_edits, read_planted
 TOP = Path(__file__).resolve().parent.parent
 PAGES = [TOP / "README.md", TOP / "CONTRIBUTING.md", TOP / "CHANGELOG.md", *sorted(TOP.glob("docs/*.md")), TOP / "bench" / "README.md"]
 PROMISES = ["PROMISES.md", "LOG_PROMISES.md", "COMMAND_PROMISES.md", "CONTRACTS.md"]
-MAINTAINERS = ["ARCHITECTURE.md", "DECISIONS.md", "MUTATIONS.md", "PROVING.md", "REFUSALS.md", "TESTING.md", "TIMES.md", "WORDS.md"]
+MAINTAINERS = ["ARCHITECTURE.md", "DECISIONS.md", "MUTATIONS.md", "PROVING.md", "FAULTS.md", "TESTING.md", "TIMES.md", "WORDS.md"]
 
 # The kit with which everything was proved: its name, and the checksum of its logic.
 KIT = re.search(r"^KIT = (.+)$", (TOP / "Makefile").read_text(encoding="utf-8"), re.MULTILINE).group(1)
 
-# What pages of promises have between backquotes although no source has it: an example of a name, and the kit's own identity.
-NOT_OF_THE_SOURCES = {"IsX", *KIT.split()}
+# A comment of a source file, with what is before it in its line if that is blank.
+COMMENT = re.compile(r"(?m)(?:^|\s)(?://|--)(?: .*|$|[/!].*)")
+# What pages of promises have between backquotes although no source has it: an example of a name, words that no source may have, and the
+# kit's own identity.
+NOT_OF_THE_SOURCES = {"IsX", "unsafe", "extern", "axiom", *KIT.split()}
 # What the pages of MAINTAINERS have although no source or script has it: calls that are not made, types and options, the beginning of
 # some names, and a command of the system.
 NOT_OF_THE_REPOSITORY = {"shrink_to_fit", "wrapping_abs", "getxattr", "O_NOFOLLOW", "O_NONBLOCK", "read_", "read_until", "as_mut_slice"}
 NOT_OF_THE_REPOSITORY |= {"i32", "self-test", "df"}
+
+# What docs/PROMISES.md says that no source has: raw pointers, a C function, whose contract is trusted, and a statement without proof.
+UNPROVED = re.compile(r"\b(?:unsafe|extern|axiom)\b")
 
 # How a page gives a name together with the file in which it stands: the name first, or the file and then some names.
 FILE = r"`([\w/.-]+\.(?:rt|antt|py))`"
@@ -116,9 +123,10 @@ def quoted(page):
 
 
 def unknown_files(page, paths):
-    """The source files that a page names, by the end of their path, and that no crate has."""
+    """The source files and edits that a page names, by the end of their path, and that are nowhere."""
     for where, name in quoted(page):
-        if re.fullmatch(r"[\w/]+\.(rt|antt)", name) and "NAME" not in name and not any(f"/{path}".endswith(f"/{name}") for path in paths):
+        is_file = re.fullmatch(r"[\w/-]+\.(rt|antt|edit)", name) and "NAME" not in name
+        if is_file and not any(f"/{path}".endswith(f"/{name}") for path in paths):
             yield where
 
 
@@ -153,11 +161,11 @@ def misplaced_names(page, texts):
 
 def misplaced_laws(page, texts):
     """The laws in the first column of a page's tables that none of the files has which the paragraph before the table names."""
-    for files, table in re.findall(r"^\*\*[^|]*? \(((?:[^()|]*`\w+\.rt`)+)[^|]*((?:\|.*\n)+)", page.read_text(encoding="utf-8"), re.M):
-        named = re.findall(r"`(\w+\.rt)`", files)
-        has = {law for path in texts if path.rpartition("/")[2] in named for law in re.findall(r"pub fn (\w+)", texts[path])}
+    for files, table in re.findall(r"^\*\*[^|]*? \(((?:[^()|]*`[\w/]+\.rt`)+)[^|]*((?:\|.*\n)+)", page.read_text(encoding="utf-8"), re.M):
+        named = tuple(f"/{it}" for it in re.findall(r"`([\w/]+\.rt)`", files))
+        has = {law for path in texts if path.endswith(named) for law in re.findall(r"pub fn (\w+)", texts[path])}
         told = [law for cell in re.findall(r"^\| (.*?) \|", table, re.M) for law in re.findall(r"`(\w+)`", cell)]
-        yield from (f"{page.name}: {law} in {', '.join(named)}" for law in told if law not in has)
+        yield from (f"{page.name}: {law} in {' '.join(named)}" for law in told if law not in has)
 
 
 def words_of_scripts():
@@ -197,25 +205,42 @@ def rows_of(table):
         return sum(1 for _ in csv.DictReader(file))
 
 
+def libraries():
+    """The names of the libraries on which the program stands, as the Makefile lists them."""
+    return re.search(r"^LIBRARIES = (.+)$", (TOP / "Makefile").read_text(encoding="utf-8"), re.MULTILINE).group(1).split()
+
+
 def stale_sizes():
     """The sizes that a page does not state, or states wrongly: of the sources by more than one in fifty, of a table by any row."""
-    libraries = re.search(r"^LIBRARIES = (.+)$", (TOP / "Makefile").read_text(encoding="utf-8"), re.MULTILINE).group(1).split()
     edits = len([*TOP.glob("crates/*/edits/*.edit"), *TOP.glob("crates/*/must-fail/*.edit")])
-    code = [f"crates/{name}/src/**/*.rt" for name in [*libraries, "scramotp"]]
+    code = [f"crates/{name}/src/**/*.rt" for name in [*libraries(), "scramotp"]]
     for name, form, size, is_exact in [
-        ("../README.md", r"some\s+(\d+) lines of definitions", lines_of("crates/*/specs/**/*.antt"), False),
-        ("PROMISES.md", r"some\s+(\d+) of definitions", lines_of("crates/*/specs/**/*.antt"), False),
-        ("PROMISES.md", r"some\s+(\d+) of code", lines_of(*code), False),
-        ("PROMISES.md", r"The\s+(\d+) lines of proofs", lines_of("crates/*/proofs/**/*.antt"), False),
-        ("PROMISES.md", r"some\s+(\d+) wrong bodies", edits, False),
+        ("../README.md", r"some (\d+) lines of definitions", lines_of("crates/*/specs/**/*.antt"), False),
+        ("PROMISES.md", r"some (\d+) of definitions", lines_of("crates/*/specs/**/*.antt"), False),
+        ("PROMISES.md", r"some (\d+) of code", lines_of(*code), False),
+        ("PROMISES.md", r"The (\d+) lines of proofs", lines_of("crates/*/proofs/**/*.antt"), False),
+        ("PROMISES.md", r"some (\d+) wrong bodies", edits, False),
         ("TESTING.md", r"(\d+) rows of keys", rows_of("vectors/keys.csv"), True),
         ("TESTING.md", r"(\d+) codes that oathtool made", rows_of("vectors/codes.csv"), True),
         ("TESTING.md", r"`book_faults\.py`: (\d+) books", rows_of("book_faults/cases.csv"), True),
     ]:
-        told = re.search(form, (TOP / "docs" / name).read_text(encoding="utf-8"))
+        told = re.search(form.replace(" ", r"\s+"), (TOP / "docs" / name).read_text(encoding="utf-8"))
         number = told and int(told.group(1))
         if number is None or abs(number - size) > (0 if is_exact else size // 50):
             yield f"{name}: {number}, and not {size}: {form}"
+
+
+def stale_crates():
+    """The libraries that have no row in docs/ARCHITECTURE.md with their lines of code, definitions and proofs, in hundreds, or one that is
+    off by more than one hundred and more than a tenth; and the crates with such a row that are no libraries."""
+    row = re.compile(r"^\| `(\w+)` \| (\d+) \| (\d+) \| (\d+) \|", re.MULTILINE)
+    found = row.findall((TOP / "docs" / "ARCHITECTURE.md").read_text(encoding="utf-8"))
+    told = {name: [*map(int, sizes)] for name, *sizes in found}
+    for name in told.keys() | set(libraries()):
+        sizes = [lines_of(f"crates/{name}/{part}") for part in ("src/**/*.rt", "specs/**/*.antt", "proofs/**/*.antt")]
+        is_near = all(abs(number - size) <= max(100, size // 10) for number, size in zip(told.get(name, []), sizes))
+        if name not in told or name not in libraries() or not is_near:
+            yield f"`{name}`: {' | '.join(str(-(-size // 100) * 100) for size in sizes)}"
 
 
 def pages_of_another_kit():
@@ -223,6 +248,14 @@ def pages_of_another_kit():
     for page, told in [(TOP / "docs" / "PROMISES.md", KIT), (TOP / "README.md", KIT.split()[0])]:
         if not any(name == told for _, name in quoted(page)):
             yield f"{page.name}: {told}"
+
+
+def taken_unproved():
+    """The lines of sources, without their comments, that have a word of UNPROVED."""
+    for path, text in sources().items():
+        for number, line in enumerate(text.splitlines(), 1):
+            if UNPROVED.search(re.split(r"//|-- ", line)[0]):
+                yield f"{path}:{number}: {line.strip()}"
 
 
 def stale_bugs():
@@ -239,6 +272,19 @@ def stale_bugs():
         files = [TOP / "tests" / by] if by.endswith(".py") else [*(TOP / "crates" / by / "src").rglob("*.rt")]
         if not any(re.search(rf"\b(?:def|fn) {row['test']}\(", file.read_text(encoding="utf-8")) for file in files if file.exists()):
             yield f"{name}: {by} has no test {row['test']}"
+
+
+def untimed_crates():
+    """The libraries of which docs/TIMES.md gives no time."""
+    told = (TOP / "docs" / "TIMES.md").read_text(encoding="utf-8")
+    yield from (name for name in libraries() if f"`{name}`" not in told)
+
+
+def wide_lines(page):
+    """The lines of a page that have over 140 columns, outside its tables and code blocks."""
+    for number, line in prose(page):
+        if len(line) > 140 and not line.startswith("|"):
+            yield f"{page.name}:{number}"
 
 
 def miscounted_edits():
@@ -259,8 +305,8 @@ def checks():
     """Each check of the documents or of the lists of tests: its kind of fault, its function's name, and the faults."""
     texts = sources()
     paths = list(texts)
-    known = words_of("\n".join(texts.values())) | NOT_OF_THE_SOURCES
-    edits = texts_of(TOP.glob("crates/*/*/*.edit"))
+    known = words_of(re.sub(COMMENT, "", "\n".join(texts.values()))) | NOT_OF_THE_SOURCES
+    edits = texts_of([*TOP.glob("crates/*/*/*.edit"), *TOP.glob("tests/planted/*.edit")])
     scripts = texts_of(TOP.glob("tests/*.py"))
     known_to_maintainers = known | words_of_scripts() | NOT_OF_THE_REPOSITORY
     promises = [TOP / "docs" / name for name in PROMISES]
@@ -271,8 +317,9 @@ def checks():
     for kind, pages, find, *given in [
         ("no such link", PAGES, broken_links),
         ("no such path", PAGES, missing_paths),
+        ("more than 140 columns", PAGES, wide_lines),
         ("no source shows this block", PAGES, missing_blocks, texts | edits),
-        ("no crate has this file", PAGES, unknown_files, paths),
+        ("no crate has this file", PAGES, unknown_files, [*paths, *edits]),
         ("the file beside this name does not have it", PAGES, misplaced_names, texts | scripts),
         ("no source has this name", promises, unknown_names, paths, known),
         ("nothing has this name", maintainers, unknown_names, paths, known_to_maintainers, skipped),
@@ -281,7 +328,10 @@ def checks():
         yield kind, find.__name__, [fault for page in pages for fault in find(page, *given)]
     for kind, find in [
         ("a stale size", stale_sizes),
+        ("the table of sizes in docs/ARCHITECTURE.md should have", stale_crates),
         ("the kit of the Makefile is missing", pages_of_another_kit),
+        ("docs/PROMISES.md says that no source has this word", taken_unproved),
+        ("docs/TIMES.md gives no time of this library", untimed_crates),
         ("run.py does not run this script, or docs/TESTING.md does not name it", untold_tests),
         ("its script never uses this function", unused_functions),
         ("planted.csv and the folders planted/ do not fit", stale_bugs),

@@ -14,7 +14,7 @@ import re
 from pathlib import Path
 
 import audit_cases
-import runs
+import processes
 import suite
 from checks import equal, holds
 from expected import AUDITS
@@ -75,7 +75,7 @@ def with_files(folder, **logs):
 
 def ran(folder, commands, environment):
     """The status, the output lines and the faults of commands run in a folder."""
-    status, output, faults = runs.ran(["sh", "-c", commands], cwd=folder, env=environment)
+    status, output, faults = processes.ran(["sh", "-c", commands], cwd=folder, env=environment)
     return status, sorted(output.splitlines()), faults
 
 

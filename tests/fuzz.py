@@ -28,7 +28,7 @@ SEED = int(os.environ.setdefault("SEED", "1"))
 import suite
 from checks import equal, fail, holds
 from expected import AUDITS, AUTH, BOOK_FAULTS, MECHS, RESP, code, keys_of, numbered
-from runs import LIMIT, processor_time
+from processes import LIMIT, processor_time
 from suite import PROGRAM
 
 COUNT = int(os.environ.get("COUNT") or 300)

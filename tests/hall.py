@@ -5,8 +5,8 @@ due, and the program itself audits each log by the book that the hall began with
 Usage: hall.py PROGRAM [TEST ..]
 
 The tests: published logins and codes; 64 sessions and those that come after them; three sessions in all 1680 orders of their turns, each
-with the same lines as when it runs by itself; codes of one account by many sessions; texts that are not lines; and 64 logins with codes, in
-a thousand random orders.
+with the same lines as when it runs by itself; codes of one account by many sessions; texts that are not lines; first messages that ask for
+channel binding or have extensions; and 64 logins with codes, in a thousand random orders.
 """
 import itertools
 import os
@@ -18,7 +18,7 @@ import suite
 from checks import equal
 from clients import Account, book, dealt, gone, logged_in, of_session, opened, said, turned_away
 from expected import AUDITS, AUTH, MECHS, RESP, orders_of_turns
-from halls import HOTP_BOOK, OWN, Hall, clean, login
+from hall_support import HOTP_BOOK, OWN, Hall, clean, login
 from suite import each, read_book
 
 # How many random orders of all turns are tried.
@@ -104,6 +104,33 @@ def lines_that_are_none(folder):
     here.audited(log, clean(1))
 
 
+# First messages that a server without channel binding has to refuse, by RFC 5802, sections 6 and 7: a flag that asks for channel binding,
+# by a name or by what is none; extensions without a value, or without a name of one letter; and the reserved extension.
+REFUSED_FIRST = [
+    *["p=tls-unique,,n=user,r=fyko", "p=tls-server-end-point,,n=user,r=fyko", "p=,,n=user,r=fyko", "p=tls_unique,,n=user,r=fyko"],
+    *["n,,n=user,r=fyko,x", "n,,n=user,r=fyko,x=", "n,,n=user,r=fyko,xy=1", "n,,n=user,r=fyko,1=x", "n,,n=user,r=fyko,"],
+    "n,,m=1,n=user,r=fyko",
+]
+
+
+def first_messages(folder):
+    """A first message that asks for channel binding, or has an extension that is none, is refused. Other extensions change nothing."""
+    here = Hall(folder)
+    for trial, first in each(REFUSED_FIRST):
+        with trial:
+            here.put(HOTP_BOOK)
+            log = f"{clients.FIRST_LINE}1 {MECHS}\n1 C AUTH SCRAM-SHA-1 :{first}\n1 S NO :\n1 E\n"
+            here.prints(f"open zz\nline 1 5 AUTH SCRAM-SHA-1 :{first}\n", 0, log)
+            here.audited(log, clean(1))
+    for trial, first in each(["n,,n=user,r=fyko,x=1", "y,,n=user,r=fyko,x=1,y=a=b"]):
+        with trial:
+            here.put(HOTP_BOOK)
+            log = f"{clients.FIRST_LINE}1 {MECHS}\n1 C AUTH SCRAM-SHA-1 :{first}\n"
+            log += "1 S CONT :r=fykozz,s=QSXCR+Q6sek8bf92,i=4096\n1 C GONE\n1 E\n"
+            here.prints(f"open zz\nline 1 5 AUTH SCRAM-SHA-1 :{first}\ngone 1 5\n", 0, log)
+            here.audited(log, clean(1))
+
+
 def codes_of_one_account(folder):
     """The codes of all sessions are attempts at one token, in the order in which they arrive (RFC 4226, appendix D)."""
     here = Hall(folder)
@@ -187,6 +214,7 @@ TESTS = [
     sixty_four,
     bounds,
     lines_that_are_none,
+    first_messages,
     codes_of_one_account,
     told_at_once,
     all_orders,

@@ -14,8 +14,8 @@ import clients
 import suite
 from checks import equal, holds
 from clients import Account, book, dealt, gone, logged_in, opened, said
-from halls import HOTP_BOOK, Hall, clean, login
-from runs import whole
+from hall_support import HOTP_BOOK, Hall, clean, login
+from processes import whole
 from suite import MOST_BYTES, each, verify_words
 
 # Input lines that state no event when sessions 2 and 3 are open, session 1 has ended and no other has begun.

@@ -12,9 +12,9 @@ import random
 import clients
 import suite
 from clients import Account, book, logged_in
-from halls import Hall
+from hall_support import Hall
 from kills import kill_at_any_moment
-from runs import whole
+from processes import whole
 
 RUNS = 2000
 # How many sessions log in before the first code, and how many different codes are then sent.

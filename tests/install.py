@@ -15,7 +15,7 @@ import stat
 
 import suite
 from checks import equal, holds
-from runs import ran
+from processes import ran
 from suite import KEYS_OF_PENCIL, PROGRAM, each
 
 TOP = pathlib.Path(__file__).resolve().parent.parent

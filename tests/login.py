@@ -15,8 +15,8 @@ import time
 import suite
 from checks import equal, holds
 from expected import ACCEPTED, AUDITS, GONE, decoy_salt
-from halls import clean
-from runs import Running, ran
+from hall_support import clean
+from processes import Running, ran
 from suite import MOST_BYTES, PROGRAM, PUBLISHED as SHA1, each, hotp, login_words, read_book
 
 # The nonces of RFC 7677's example, section 3

@@ -13,7 +13,7 @@ import suite
 from checks import equal, holds
 from expected import AUDITS
 from kills import kill_at_any_moment
-from runs import Running, whole
+from processes import Running, whole
 from suite import BookFolder, code, hotp, login_words
 
 KEYS = (AUDITS / "keys.toml").read_text()

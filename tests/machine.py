@@ -32,7 +32,7 @@ from command_table import (
     run,
 )
 from expected import numbered
-from runs import Running, whole
+from processes import Running, whole
 from suite import NONCES, PROGRAM, ROOT, as_nobody, each, fault_text, nobody, totp
 
 

@@ -23,8 +23,8 @@ from checks import equal, holds
 from clients import Account, base, dealt, escaped, gone, logged_in, opened, said
 from command_table import BOOK, command_of, commands, left, login_log, prepare
 from expected import AUDITS, SESSION_LEFT
-from halls import Hall, clean
-from runs import LIMIT, ran, sleeps
+from hall_support import Hall, clean
+from processes import LIMIT, ran, sleeps
 from suite import MOST_BYTES, PROGRAM, BookFolder, each, login_words
 
 # A hall's log of RFC 5802's login, without its end, and the events that lead to it.

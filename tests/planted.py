@@ -9,11 +9,12 @@ in the form that `rt help` describes:
 - of a crate, in crates/NAME/planted/: a bug for which there is a test, in most cases since no contract can speak of it. The test is in a
   test crate, and `rt try --test` runs it with all others of that crate; or it is in a script of tests/, and is run on a program that
   `rt try` makes of the edited sources. Nothing is proved.
-- in tests/planted/: of a tool, of the Makefile, or of what a script makes runs and their calls go wrong with, a C file or kills.py: it then
-  makes nothing go wrong, or in another way. The test is in a script, and is run on the programs that `make build` and `make bench` made.
-  Nothing is built.
+- in tests/planted/: of a tool, of a unit of systemd, of the Makefile, or of what a script makes runs and their calls go wrong with, a C
+  file or kills.py: it then makes nothing go wrong, or in another way. Or of pass_calls.c: the program itself then has the bug, in how it
+  calls the C library. The test is in a script, and is run on the programs that `make build` and `make bench` made. Nothing is built.
 
-The script works in temporary copies of the repository, whose sources must not change meanwhile. Without an edit, each test has to pass.
+The script works in temporary copies of the repository, whose sources must not change meanwhile. Without an edit, each test has to pass. A
+bug whose test says that this machine can't test all of it is not tried, if the test passes with it.
 
 The program of `rt try` checks its use of memory and is slow, so a script that kills runs or makes input at random makes fewer of them
 here, as RUNS and COUNT say. It can't run together with those C files, so for a bug of a crate no test that loads one of them is named.
@@ -33,11 +34,15 @@ from pathlib import Path
 from typing import NamedTuple
 
 from edit_sources import Unusable, read_planted, root_of
+from run import NOT_TESTED
+import shims
 
 TOP = Path(__file__).resolve().parent.parent
 # The built programs, from the repository's top: the one that is tested, and the one whose library calls a script tests.
 PROGRAM = "crates/scramotp/out/scramotp"
 BENCH = "crates/bench/out/bench"
+# Makes the program's calls of the C library as they are, unless a bug is planted in it.
+CALLS = "tests/pass_calls.c"
 # What a copy of the repository has besides them.
 COPIED = ["bench", "crates", "tests", "tools", "docs", "crates.txt", "HANDLES", "Makefile", "LICENSE"]
 COPIED += ["README.md", "CHANGELOG.md", "CONTRIBUTING.md"]
@@ -51,6 +56,10 @@ LONG_RUN = ["keys", "--mechanism", "SCRAM-SHA-1", "--salt", "00", "--count", "42
 
 class NotJudged(Exception):
     """Why a test gave no verdict."""
+
+
+class NotTested(Exception):
+    """What a test that passes does not test on this machine."""
 
 
 class Row(NamedTuple):
@@ -110,15 +119,22 @@ class Room:
             verdict = re.search(rf"^test (?:\w+::)*{row.test} \.\.\. (?:(ok)$)?", said, re.M)
         if not verdict:
             raise NotJudged(said[-1000:])
+        if verdict[1] and (untested := NOT_TESTED.search(said)):
+            raise NotTested(untested[2])
         return verdict[1] is not None
 
     def program(self, row: Row, folder: Path) -> Path:
-        """The program for a script: the one that is built if no crate is edited, and otherwise one that is made of the copy's sources."""
+        """The program for a script: the one that is built if no crate is edited, which loads CALLS if that is edited; and otherwise one
+        that is made of the copy's sources."""
         if row.of != "tests":
             return self.made_program(folder / "program")
         if not (self.top / PROGRAM).exists():
             raise NotJudged("this needs the built program: run make build")
-        return self.top / PROGRAM
+        if (self.top / CALLS).read_bytes() == (TOP / CALLS).read_bytes():
+            return self.top / PROGRAM
+        # The user nobody runs it too.
+        folder.chmod(0o755)
+        return shims.stand_in(self.top / PROGRAM, shims.compiled("pass_calls", self.top / CALLS, folder), folder / "program")
 
     def made_program(self, to: Path) -> Path:
         """Makes the program without proofs: copies it while `rt try` runs it, in a folder that has its output too."""
@@ -164,8 +180,8 @@ class Trial:
                 self.passed[key] = known
         return known
 
-    def judged(self, row: Row) -> bool:
-        """Tries a bug, prints what became of it, and returns whether its test refuses it."""
+    def judged(self, row: Row) -> str:
+        """Tries a bug, prints what became of it, and returns the beginning of that."""
         began = time.monotonic()
         try:
             if not self.room().is_refused(row):
@@ -174,10 +190,12 @@ class Trial:
                 how = "NOT JUDGED: it fails without the bug too"
             else:
                 how = "refused"
+        except NotTested as fault:
+            how = f"not tested: {fault}"
         except (Unusable, NotJudged, subprocess.TimeoutExpired) as fault:
             how = f"NOT JUDGED: {fault}"
         print(f"{row.of}/{row.bug}: {row.test} of {row.by}: {how}, {time.monotonic() - began:.0f} s", flush=True)
-        return how == "refused"
+        return how.split(":")[0]
 
 
 def rows_of(bugs: list[str], is_unbuilt: bool) -> list[Row]:
@@ -199,9 +217,10 @@ def main() -> int:
     rows = rows_of(given.bugs, given.unbuilt)
     with tempfile.TemporaryDirectory(prefix="planted-") as folder, ThreadPoolExecutor(given.jobs) as pool:
         trial = Trial(Path(folder))
-        are_refused = [*pool.map(trial.judged, rows)]
-    failed = are_refused.count(False)
-    print(f"{len(rows) - failed} refused, {failed} not")
+        became = [*pool.map(trial.judged, rows)]
+    refused, untested = became.count("refused"), became.count("not tested")
+    failed = len(rows) - refused - untested
+    print(f"{refused} refused, {failed} not" + (f", {untested} not tested" if untested else ""))
     return 1 if failed else 0
 
 

@@ -6,10 +6,10 @@ Usage: recipes.py PROGRAM [TEST ..]
 
 Blocks are found by their section and their language. bash runs each in a folder of its own, which has an account book and a link to
 tools/, with the program on the PATH, and then all but the first in one folder, in their order. Of a systemd unit, the command and the
-credentials are used. So each of the tools is tried; the block of `serve-hall` is run by serve_hall.py. `make install`, `useradd`, sudo and
-systemd are not run. Codes, keys and verifiers are those of RFC 4226 and RFC 7677, from keys.csv (made by Dovecot), or from Python's
-hashlib. Any other block that no test runs is a fault. Takes the 30 seconds for which an edit waits for a book. DOCUMENT=PATH in the
-environment names another page than OPERATING.md.
+credentials are used, and `systemd-analyze verify` reads it, if the machine has that. So each of the tools is tried; the block of
+`serve-hall` is run by serve_hall.py. `make install`, `useradd`, sudo and systemd are not run. Codes, keys and verifiers are those of RFC
+4226 and RFC 7677, from keys.csv (made by Dovecot), or from Python's hashlib. Any other block that no test runs is a fault. Takes the 30
+seconds for which an edit waits for a book. DOCUMENT=PATH in the environment names another page than OPERATING.md.
 """
 import base64
 import fcntl
@@ -30,7 +30,7 @@ import suite
 from book_cases import cases
 from checks import equal, holds
 from expected import AUDITS, VECTORS, keys_of, rows_of
-from runs import until
+from processes import until
 from suite import BOOK_OF_USER, CODES, ROOT, code, document, each, hotp, is_locked, is_root, nobody, program_on_path, read_book, seen, totp
 from tool_runs import TOOLS, book_of, does, ran, start, with_tools
 
@@ -808,6 +808,22 @@ def units(folder):
     equal(keys["stored"], stored, "the stored key of the account that the unit made")
 
 
+def units_are_known(folder):
+    """systemd knows each key and value of the units. It is not run: its command `systemd-analyze verify` reads them. What that says of
+    other units of the machine is left out."""
+    if not shutil.which("systemd-analyze"):
+        suite.not_tested("what systemd makes of the units, since there is no systemd-analyze")
+        return
+    for trial, (title, _, unit) in each([block for block in all_blocks() if block[1] == "ini"]):
+        with trial:
+            for text, told in [(unit, ""), (unit.replace("User=", "Uesr="), "Unknown key")]:
+                Path(folder, "tested.service").write_text(text)
+                status, _, faults = suite.ran(["systemd-analyze", "verify", f"{folder}/tested.service"])
+                of_it = [line for line in faults.splitlines() if "tested.service" in line]
+                equal((status, bool(of_it)), (0, bool(told)), title, faults)
+                holds(all(told in line for line in of_it), title, faults)
+
+
 def a_unit_of_a_hall(folder):
     """The unit's command, with other folders, serves: the log has the name that the unit gives, and after TERM it is clean by the book
     beside it."""
@@ -888,6 +904,7 @@ TESTS = [
     every_tool,
     all_in_order,
     units,
+    units_are_known,
     a_unit_of_a_hall,
     what_is_watched,
     every_block,

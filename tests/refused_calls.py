@@ -16,7 +16,7 @@ import suite
 from checks import equal, holds
 from command_table import command_of, parsed_book, prepare, run, with_account
 from expected import AUDITS, MECHS
-from runs import ran
+from processes import ran
 from suite import BOOK_OF_USER, PROGRAM, each, hotp, token
 
 BENCH = pathlib.Path(__file__).parent.parent / "crates" / "bench" / "out" / "bench"

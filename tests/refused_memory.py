@@ -14,7 +14,7 @@ import suite
 from checks import equal, holds
 from command_table import book_of, commands, is_done, is_front, is_kept, left, new_book, prepare, printed_begins_clean, run
 from expected import AUDITS
-from runs import ran
+from processes import ran
 from suite import PROGRAM, each
 
 

@@ -4,11 +4,13 @@
 Usage: run.py PROGRAM [SCRIPT ..]
 
 A script is one in this folder that takes the program's path. It has no input, and is stopped after half an hour. Its output is shown
-once it has ended or was stopped, and processes that it left running are ended. The status is 1 if a script failed.
+once it has ended or was stopped, and processes that it left running are ended. The last line says which scripts failed, and what the
+scripts say that this machine can't test. The status is 1 if a script failed.
 """
 import asyncio
 import contextlib
 import os
+import re
 import signal
 import subprocess
 import sys
@@ -19,6 +21,8 @@ from pathlib import Path
 FOLDER = Path(__file__).resolve().parent
 # After how many seconds a test is stopped.
 LIMIT = 1800
+# What a script prints, after its name, before a part that this machine can't test.
+NOT_TESTED = re.compile(r"^(\S+): not tested: (.*)$", re.M)
 # The tests that wait for a lock come first: they take long, and need little processor time.
 TESTS = [
     "books.py",
@@ -66,7 +70,7 @@ async def ended(run):
 
 
 async def ran(test, program, slots):
-    """Runs one test when a slot is free, shows its output, and returns whether it passed."""
+    """Runs one test when a slot is free, and shows its output. Returns whether it passed, and each part that it says is not tested."""
     async with slots:
         began = time.monotonic()
         with tempfile.TemporaryFile() as output:
@@ -79,11 +83,11 @@ async def ran(test, program, slots):
             printed = output.read().decode(errors="replace")
         how = {0: "passed", None: f"FAILED: it did not end in {LIMIT} s"}.get(status, f"FAILED with status {status}")
         print(f"{printed}{test}: {how}, {time.monotonic() - began:.0f} s", flush=True)
-        return status == 0
+        return status == 0, [": ".join(it) for it in NOT_TESTED.findall(printed)]
 
 
-async def all_passed(program, tests):
-    """Runs these tests, as many at once as there are processors, and returns for each whether it passed."""
+async def all_ran(program, tests):
+    """Runs these tests, as many at once as there are processors, and returns for each what `ran` does."""
     slots = asyncio.Semaphore(len(os.sched_getaffinity(0)))
     async with asyncio.TaskGroup() as group:
         tasks = [group.create_task(ran(test, program, slots)) for test in tests]
@@ -97,11 +101,14 @@ def main():
     # TERM ends the tests as Ctrl-C does.
     signal.signal(signal.SIGTERM, signal.default_int_handler)
     try:
-        passed = asyncio.run(all_passed(os.path.abspath(program), tests))
+        done = asyncio.run(all_ran(os.path.abspath(program), tests))
     except KeyboardInterrupt:
         return 130
-    print(f"{sum(passed)} scripts passed" + "".join(f"; {it} FAILED" for it, is_well in zip(tests, passed) if not is_well))
-    return 0 if all(passed) else 1
+    failed = [test for test, (passed, _) in zip(tests, done) if not passed]
+    untested = [part for _, parts in done for part in parts]
+    print(f"{len(tests) - len(failed)} scripts passed" + "".join(f"; {it} FAILED" for it in failed), end="; ")
+    print(f"{len(untested)} parts are not tested" + "".join(f"; {it}" for it in untested))
+    return 1 if failed else 0
 
 
 if __name__ == "__main__":

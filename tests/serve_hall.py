@@ -4,22 +4,24 @@
 Usage: serve_hall.py PROGRAM [TEST ..]
 
 The tool is started as in the block of docs/OPERATING.md. What the clients send and have to receive is computed with Python's hashlib and
-hmac. The tool goes on if a client is gone before it is greeted, is the 65th, or sends no whole line. If its hall is killed, it ends at the
-next event, and says why. It ends with status 0 at INT and at TERM, and with status 1 and a fault if a code can't be saved. No hall begins
-if the log or the socket is there already, as after a run that was killed.
+hmac. The tool goes on if a client is gone before it is greeted, is the 65th, sends no whole line, does not read what it is sent, or sends
+16 MB without the end of a line. If its hall is killed, it ends at the next event, and says why. It ends with status 0 at INT and at TERM,
+and with status 1 and a fault if a code can't be saved. No hall begins if the log or the socket is there already, as after a run that was
+killed.
 """
 import os
 import re
 import signal
 import socket
 import time
+from concurrent.futures import ThreadPoolExecutor
 from pathlib import Path
 
 import clients
 import suite
 from checks import equal, holds
 from expected import MECHS
-from runs import until
+from processes import until
 from suite import BOOK_OF_USER, blocks_of, each, seen
 from tool_runs import TOOLS, book_of, does, ran, start, with_tools
 
@@ -212,6 +214,55 @@ def a_slow_client(folder):
     serves_until(serving, signal.SIGINT, folder, "clean sessions=1 accepted=0 codes=0")
 
 
+def a_client_that_does_not_read(folder):
+    """The session of a client that goes on sending codes, and reads no answer, ends once the machine keeps no more answers for it. The
+    tool waits for it at no time: before that and after it, another client is served."""
+    account = clients.Account("bare", "SCRAM-SHA-256")
+    book, _, _ = clients.book([account]).partition('\n[accounts."bare".token]\n')
+    serving = serving_hall(folder, book)
+    deaf, other = greeted(folder), greeted(folder)
+    for client in deaf, other:
+        begins_login(client, account)
+        logs_in(client, account)
+    sent = 0
+
+    def is_cut_off():
+        nonlocal sent
+        try:
+            deaf.sendall(b"CODE 755224\n" * 20)
+        except OSError:
+            return True
+        sent += 1
+        answers(other, "CODE 755224", r"NOCODE \d+")
+        return False
+
+    until(is_cut_off, "a client that does not read should be cut off")
+    holds(sent > 3, "the client was cut off before many answers were kept for it", sent)
+    answers(other, "CODE 755224", r"NOCODE \d+")
+    serves_until(serving, signal.SIGINT, folder, "clean sessions=2 accepted=2 codes=0")
+
+
+def a_client_that_ends_no_line(folder):
+    """While a client sends 16 MB without the end of a line, another logs in. The tool keeps only the beginning of that line. At its end the
+    session is over, as after any line that is too long."""
+    account = clients.Account("user", "SCRAM-SHA-256")
+    serving = serving_hall(folder, clients.book([account]))
+    endless, other = greeted(folder), greeted(folder)
+    endless.settimeout(60)
+    begins_login(other, account)
+    with ThreadPoolExecutor(1) as pool:
+        sending = pool.submit(endless.sendall, b"x" * (16 << 20))
+        logs_in(other, account)
+        sending.result()
+    answers(other, f"CODE {account.code(0)}", r"PASS \d+ 0")
+    [most] = re.findall(r"^VmHWM:\s+(\d+) kB$", Path(f"/proc/{serving.process.pid}/status").read_text(), re.M)
+    holds(int(most) < 40 << 10, "the kilobytes of memory that the tool has taken", most)
+    endless.sendall(b"\n")
+    equal([line_of(endless), line_of(endless)], ["NO :", ""], "the end of the line")
+    holds(max(map(len, Path(folder, "hall.log").read_bytes().split(b"\n"))) < 6400, "a line of the log is too long")
+    serves_until(serving, signal.SIGINT, folder, "clean sessions=2 accepted=1 codes=1")
+
+
 def begins_no_hall(folder, name):
     """The tool says that this file is there already, and leaves everything as it was."""
     book = Path(folder, "book.toml")
@@ -257,6 +308,8 @@ suite.run_all(
         a_hall_that_halts,
         a_hall_that_is_killed,
         a_slow_client,
+        a_client_that_does_not_read,
+        a_client_that_ends_no_line,
         a_log_that_is_there,
         a_socket_that_is_left,
         a_hall_that_does_not_begin,

@@ -1,5 +1,6 @@
 """Compiles the C files in this folder, which are loaded before the C library to make calls of the program go wrong, and lists which calls
-the program makes and which ones such a file makes go wrong. Also compiles one that keeps what the program sends."""
+the program makes and which ones such a file makes go wrong. Also compiles one that keeps what the program sends, and a program that loads
+such a library and then becomes another one."""
 import functools
 import os
 import pathlib
@@ -34,6 +35,29 @@ ssize_t send(int fd, const void *bytes, size_t size, int flags)
 """
 
 
+# Becomes the program, which then loads the library after those that it is to load anyway. It asks for no memory, and calls nothing that
+# one of them stands in for.
+BECOMES = r"""
+#include <string.h>
+#include <unistd.h>
+
+int main(int count, char **words, char **environment)
+{
+    char *with[4096], loads[4096] = "LD_PRELOAD=";
+    int made = 1;
+    for (; *environment && made < 4094; environment++)
+        if (!strncmp(*environment, loads, 11))
+            strcat(strncat(loads, *environment + 11, 3000), ":");
+        else
+            with[made++] = *environment;
+    with[0] = strcat(loads, LIBRARY);
+    with[made] = NULL;
+    execve(PROGRAM, words, with);
+    return 127;
+}
+"""
+
+
 @functools.cache
 def built(name):
     """Compiles the file with this name, once for a script, and returns the path of the library to load."""
@@ -47,11 +71,20 @@ def keeps_sent():
     return compiled("keep_sent", source)
 
 
-def compiled(name, source):
-    """Compiles a C file, and returns the path of the library with this name."""
-    shim = os.path.join(MADE.name, f"{name}.so")
-    subprocess.run(["cc", "-shared", "-fPIC", "-O1", "-o", shim, source, "-ldl"], check=True)
+def compiled(name, source, folder=MADE.name, *options):
+    """Compiles a C file with these options, and returns the path of the library with this name."""
+    shim = os.path.join(folder, f"{name}.so")
+    subprocess.run(["cc", "-shared", "-fPIC", "-O1", "-o", shim, source, "-ldl", *options], check=True)
     return shim
+
+
+def stand_in(program, library, to):
+    """Compiles BECOMES for a program and a library to load, and returns the path of what is made."""
+    with tempfile.NamedTemporaryFile("w", suffix=".c") as source:
+        source.write(BECOMES)
+        source.flush()
+        subprocess.run(["cc", "-O1", "-o", to, source.name, f'-DPROGRAM="{program}"', f'-DLIBRARY="{library}"'], check=True)
+    return to
 
 
 def imported(program):

@@ -10,7 +10,7 @@ on the PATH and a password on standard input. DOCUMENT=PATH in the environment n
 import os
 import re
 
-import runs
+import processes
 import suite
 from checks import equal, holds
 from suite import document, each, program_on_path
@@ -50,14 +50,14 @@ def steps(block):
 
 def is_whole(command):
     """Whether bash can run this as it is, with no quote or here-document left open."""
-    return runs.ran(["bash", "-n"], command) == (0, "", "")
+    return processes.ran(["bash", "-n"], command) == (0, "", "")
 
 
 def ran(folder, story):
     """Runs all commands of a story in one bash. Returns the output and the status of each; none may print a fault."""
     mark = f"{os.urandom(16).hex()} "
     script = "".join(f"{command}printf '{mark}%d\\n' $?\n" for command, _, _ in story)
-    answer = runs.ran(["bash", "-c", script], PASSWORD, cwd=folder, env=program_on_path(folder))
+    answer = processes.ran(["bash", "-c", script], PASSWORD, cwd=folder, env=program_on_path(folder))
     equal(answer.faults, "", "the faults of the story")
     parts = re.split(rf"{mark}(\d+)\n", answer.output)
     return list(zip(parts[0::2], map(int, parts[1::2])))

@@ -17,9 +17,9 @@ import traceback
 
 import checks
 import expected
-import runs
+import processes
 from checks import equal, fail, holds
-from runs import ran
+from processes import ran
 
 if len(sys.argv) < 2:
     sys.exit(f"usage: {os.path.basename(sys.argv[0])} PROGRAM [TEST ..]")
@@ -49,10 +49,15 @@ def as_nobody():
 
 
 @functools.cache
+def not_tested(what):
+    """Says, once, what this machine can't test, and why. run.py and planted.py look for such lines."""
+    print(f"{os.path.basename(sys.argv[0])}: not tested: {what}", file=sys.stderr)
+
+
 def is_root():
-    """Whether root runs the script. If not, what only root can test is left out, and the script says so, once."""
+    """Whether root runs the script. If not, what only root can test is left out, and the script says so."""
     if not ROOT:
-        print(f"{os.path.basename(sys.argv[0])}: not root, so other users and groups are not tested", file=sys.stderr)
+        not_tested("other users and groups, since root does not run this")
     return ROOT
 
 
@@ -287,8 +292,8 @@ class Trial:
             return False
         why = f"row {self.number}, {called(self.row)}: line {calls.tb_lineno}: {type(fault).__name__}: {fault}\n"
         # The last run is shown for the first row only.
-        self.bad.append(why if self.bad else why + runs.last())
-        runs.forget_runs()
+        self.bad.append(why if self.bad else why + processes.last())
+        processes.forget_runs()
         if isinstance(fault, TakesTooLong):
             fail_rows(self.bad)
         return True
@@ -302,7 +307,7 @@ def each(rows):
         for number, row in enumerate(rows, 1):
             yield Trial(number, row, bad), row
     except Exception as fault:
-        bad.append(f"what comes after row {number}: {type(fault).__name__}: {fault}\n{runs.last()}")
+        bad.append(f"what comes after row {number}: {type(fault).__name__}: {fault}\n{processes.last()}")
     holds(number, "the table has no rows")
     if bad:
         fail_rows(bad)
@@ -343,12 +348,12 @@ def run_all(tests):
                 failed += 1
                 line = (fault.__traceback__.tb_next or fault.__traceback__).tb_lineno
                 print(f"{test.__name__}: line {line}: {type(fault).__name__}: {fault}", file=sys.stderr)
-                print(runs.last(), end="", file=sys.stderr)
+                print(processes.last(), end="", file=sys.stderr)
                 calls = [it for it in traceback.extract_tb(fault.__traceback__)[1:] if it.filename != checks.__file__]
                 print("".join(traceback.format_list(calls)), end="", file=sys.stderr)
             finally:
                 signal.alarm(0)
-                runs.forget_runs()
+                processes.forget_runs()
     print(f"{os.path.basename(sys.argv[0])}: {len(tests) - failed} passed, {failed} failed", file=sys.stderr)
     if failed:
         print(f"{os.path.basename(sys.argv[0])}: SEED={SEED}", file=sys.stderr)

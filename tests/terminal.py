@@ -14,7 +14,7 @@ from pathlib import Path
 import suite
 from checks import equal
 from expected import ACCEPTED, AUDITS, GONE, MECHS
-from runs import Running
+from processes import Running
 from suite import BOOK_OF_USER, KEYS_OF_PENCIL, PROGRAM, PUBLISHED, SALT, each, hotp
 
 PASSWORD = "Type the password and press Enter; it is shown as you type.\r\n"

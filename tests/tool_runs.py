@@ -2,7 +2,7 @@
 has a link to it and an account book."""
 from pathlib import Path
 
-import runs
+import processes
 from checks import equal
 from suite import program_on_path, read_book
 
@@ -11,12 +11,12 @@ TOOLS = Path(__file__).resolve().parent.parent / "tools"
 
 def start(folder, block, **more):
     """Starts a block with bash."""
-    return runs.Running(["bash", "-c", block], cwd=folder, env=program_on_path(folder, **more))
+    return processes.Running(["bash", "-c", block], cwd=folder, env=program_on_path(folder, **more))
 
 
 def ran(folder, block, text="", **more):
     """Runs a block with bash, and returns its answer."""
-    return runs.ran(["bash", "-c", block], text, cwd=folder, env=program_on_path(folder, **more))
+    return processes.ran(["bash", "-c", block], text, cwd=folder, env=program_on_path(folder, **more))
 
 
 def does(folder, block, text="", printed="", **more):

@@ -16,7 +16,7 @@ import suite
 from audit_cases import cases
 from checks import equal, holds
 from expected import AUDITS, SESSION_LEFT, numbered
-from runs import processor_time, ran
+from processes import processor_time, ran
 from suite import PROGRAM, each
 
 LOGIN = (AUDITS / "sha1.log").read_bytes()

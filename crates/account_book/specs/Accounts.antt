@@ -1,5 +1,5 @@
--- A book as accounts by their names, in byte order of the names: the account at a name, and books in which one account changes. For
--- each change there is also what it does to the accounts as a map from names.
+-- A book as accounts by their names, in byte order of the names: the account at a name, and books in which one account changes; and
+-- the accounts as a map from names. `Laws` says what each change does to this map.
 use Rattle.std.specs.Prelude.{ℕ, ◌≡◌, List, Option, None}
 use Rattle.std.specs.Option.{option_map_or}
 use Rattle.std.specs.FinMap as map
@@ -50,20 +50,15 @@ abbrev pub map_changed : FinMap name_cmp AccountFields → List ℕ → (Account
 map_changed accounts name change =
     option_map_or (λ account. map.insert accounts name (change account)) (map.get accounts name) accounts
 
--- the book is this one, and its accounts, as a map, are these
-pub record Becomes (expected : BookFields) (mapped : FinMap name_cmp AccountFields) (new : BookFields) : Type 0 where
-  pub book : new ≡ expected
-  pub accounts : account_map new ≡ mapped
-
 -- the account of this name, if there is one, is changed, and nothing else
 abbrev pub IsChanged : BookFields → List ℕ → (AccountFields → AccountFields) → BookFields → Type 0
-IsChanged old name change = Becomes (with_changed old name change) (map_changed (account_map old) name change)
+IsChanged old name change new = new ≡ with_changed old name change
 
 -- this account is added at a name that is free, and nothing else changes
 pub record IsAdded (old : BookFields) (name : List ℕ) (account : AccountFields) (new : BookFields) : Type 0 where
   pub free : account_at old name ≡ None
-  pub added : Becomes (with_account old name account) (map.insert (account_map old) name account) new
+  pub added : new ≡ with_account old name account
 
 -- the account of this name, if there is one, is removed, and nothing else changes
 abbrev pub IsRemoved : BookFields → List ℕ → BookFields → Type 0
-IsRemoved old name = Becomes (without_account old name) (map.remove (account_map old) name)
+IsRemoved old name new = new ≡ without_account old name

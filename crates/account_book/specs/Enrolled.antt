@@ -19,10 +19,10 @@ keys_from m password salt count =
     }
 
 -- an account with the keys of a password for both mechanisms, which may act as no other name and has no token
-abbrev pub enrolled : (password salt1 salt256 : List ℕ) → (count : ℕ) → AccountFields
-enrolled password salt1 salt256 count = record {
-  sha1 = Some (keys_from ScramSha1 password salt1 count);
-  sha256 = Some (keys_from ScramSha256 password salt256 count);
+abbrev pub enrolled : (password sha1_salt sha256_salt : List ℕ) → (count : ℕ) → AccountFields
+enrolled password sha1_salt sha256_salt count = record {
+  sha1 = Some (keys_from ScramSha1 password sha1_salt count);
+  sha256 = Some (keys_from ScramSha256 password sha256_salt count);
   act_as = [];
   token = None;
 }

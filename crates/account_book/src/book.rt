@@ -1,7 +1,7 @@
 //! An account book: accounts by their names, and what decoys are derived from.
 ghost use Rattle.std.specs.Prelude.{◌≡◌, ◌≤◌, [], length, is_some, option_copied, IfSome};
 ghost use Rattle.std.specs.FinMap as map;
-ghost use Rattle.book_format.specs.Account.{IsAccount, most_names};
+ghost use Rattle.book_format.specs.Account.{IsAccount, max_names};
 ghost use Rattle.book_format.specs.Book.{IsBook};
 ghost use Rattle.account_book.specs.Accounts.{account_at, account_map, with_act_as, IsChanged, IsRemoved};
 
@@ -71,6 +71,7 @@ impl Book {
     pub fn remove(&mut self, name: &PlainName) -> bool
         ensures found { result ≡ is_some (account_at self.old name.now) }
         ensures removed { IsRemoved self.old name.now self.new }
+        ensures mapped { account_map self.new ≡ map.remove (account_map self.old) name.now }
     {
         self.contents.accounts.remove(name).is_some()
     }
@@ -78,7 +79,7 @@ impl Book {
     /// Lets the account of this name act as these names, at most 16, and as no others except its own. Returns whether there is such
     /// an account; if there is none, nothing changes.
     pub fn set_act_as(&mut self, name: &PlainName, act_as: Vec<PlainName>) -> bool
-        requires { length act_as.items ≤ most_names }
+        requires { length act_as.items ≤ max_names }
         ensures found { result ≡ is_some (account_at self.old name.now) }
         ensures set { IsChanged self.old name.now (with_act_as act_as.items) self.new }
     {

@@ -2,7 +2,8 @@
 //! reads the book.
 ghost use Rattle.std.specs.Prelude.{◌≡◌, IfOk};
 ghost use Rattle.book_format.specs.Book.{IsBook};
-ghost use Rattle.account_book.specs.Laws.{TokensAreApart, EntriesStay, TokensStay, TokensGoBack, AddedIsApart};
+ghost use Rattle.account_book.specs.Laws.{TokensAreApart, EntriesStay, TokensStay, TokensGoBack, AddedIsApart, MapsFollowChanges};
+ghost use Rattle.account_book.specs.Laws.{MapsFollowAdditions};
 
 use crate::book::Book;
 use book_format::BookWhy;
@@ -54,4 +55,14 @@ pub fn tokens_go_back()
 /// If an account is added, its name has that account, and every other name keeps its account.
 pub fn added_is_apart()
     ensures { AddedIsApart }
+{}
+
+/// If an account is changed, it is changed in the map of the accounts, and nothing else is.
+pub fn maps_follow_changes()
+    ensures { MapsFollowChanges }
+{}
+
+/// If an account is added, it is added to the map of the accounts, and nothing else changes there.
+pub fn maps_follow_additions()
+    ensures { MapsFollowAdditions }
 {}

@@ -25,6 +25,6 @@ mod store;
 pub use book::{Book, EnrolFault, SALT_LEN};
 pub use book_format::{Account, BookFault, BookWhy, MechKeys};
 pub use mac_core::Mechanism;
-pub use otp_core::{Reply, Sent, Token};
+pub use otp_core::{Reply, SentCodes, Token};
 pub use scram_ends::KeysView;
 pub use store::{BookStore, StoreFault};

@@ -33,14 +33,14 @@ fn name(rt: &impl Abort, bytes: &[u8]) -> PlainName {
 // Enrols an account of this name, with the password and the salts of the examples.
 fn enrol(rt: &(impl Abort + AllocGlobal), book: &mut Book, bytes: &[u8]) -> Result<(), EnrolFault> {
     let password = Password::new(b"pencil").expect(rt, "a password");
-    let salt1 = Salt::new(&SALT_1).expect(rt, "a salt");
-    let salt256 = Salt::new(&SALT_256).expect(rt, "a salt");
+    let sha1_salt = Salt::new(&SALT_1).expect(rt, "a salt");
+    let sha256_salt = Salt::new(&SALT_256).expect(rt, "a salt");
     book.enrol(
         rt.alloc(),
         &name(rt, bytes),
         &password,
-        &salt1,
-        &salt256,
+        &sha1_salt,
+        &sha256_salt,
         4096,
     )
 }

@@ -1,2 +1,3 @@
 -- The lemmas that the proofs of this crate cite.
+pub mod AddedAccounts
 pub mod EnrolFaults

@@ -8,7 +8,7 @@ use Rattle.scram_text.specs.Parts.{IsCount}
 use Rattle.book_format.specs.Book.{BookFields}
 use Rattle.account_book.specs.Accounts.{account_at}
 use Rattle.account_book.specs.SavedBooks.{HasStoredText}
-use Rattle.book_file.specs.Text.{IsWritten}
+use Rattle.book_file.specs.Saved.{IsSavedText}
 use Rattle.clap.specs.declared.parser.matches.ArgMatches.{ArgMatches}
 use Rattle.command_line.specs.Fault.{IsFileUnwrittenOrNoMemory}
 use Rattle.command_line.specs.declared.fault.Fault.{Fault}
@@ -16,7 +16,7 @@ use Rattle.command_line.specs.declared.fault.Fault.TheVariants.{NameTaken, Canno
 use Rattle.command_line.specs.declared.option_name.OptionName.TheVariants as option
 use Rattle.command_io.specs.BadValues.{HasBadPassword, HasBadValue}
 use Rattle.command_io.specs.File.{IsFileUnreadOrNoMemory}
-use Rattle.command_io.specs.HeldBook.{IsEnrolled, IsReadBook, IsStoredShort, CannotOpenBook}
+use Rattle.command_io.specs.HeldBook.{IsEnrolled, IsReadBook, CannotOpenBook}
 use Rattle.command_io.specs.Input.{IsFirstLine, IsInputUnreadOrNoMemory}
 use Rattle.command_words.specs.Values.{given_value}
 use Rattle.command_io.specs.declared.new_account.NewAccount.{NewAccount}
@@ -26,32 +26,31 @@ use Rattle.command_io.specs.declared.new_account.Salts.{Salts}
 abbrev pub new_book : (decoy_key : List ℕ) → BookFields
 new_book decoy_key = record { decoy_key = decoy_key; decoy_count = 4096; accounts = [] }
 
--- a book that was read from a file, and then no bytes are taken from the source of random bytes; or a new book, whose key is the
--- next 32 bytes of the source
-abbrev pub IsReadOrNew : {File : Type 0} → (bytes_of : File → Option (List ℕ)) → (old new : Option (List ℕ)) → BookFields → Type 0
-IsReadOrNew bytes_of old new book =
-    ((text : List ℕ) × IsReadBook bytes_of text book × (new ≡ old))
-    ⊎ ((decoy_key : List ℕ) × (length decoy_key ≡ 32) × Consumes old new decoy_key × (book ≡ new_book decoy_key))
-
--- a source of random bytes gives two salts, each of 16 bytes as a decoy's, one after the other: no byte is in both
-pub record TakesSalts (old : Option (List ℕ)) (salts : Salts) (new : Option (List ℕ)) : Type 0 where
+-- a source of random bytes gives the key of a new book, if one is made, and then two salts, each of 16 bytes as a decoy's: no byte is
+-- used twice
+pub record TakesKeyAndSalts (old : Option (List ℕ)) (key : List ℕ) (salts : Salts) (new : Option (List ℕ)) : Type 0 where
+  pub length_key : (key ≡ []) ⊎ (length key ≡ 32)
   pub length_sha1 : length salts.sha1 ≡ 16
   pub length_sha256 : length salts.sha256 ≡ 16
-  pub taken : Consumes old new (salts.sha1 ++ salts.sha256)
+  pub taken : Consumes old new (key ++ (salts.sha1 ++ salts.sha256))
 
--- a book is this one, or was read from a file since
-abbrev pub IsThisOrReadBook : {File : Type 0} → (bytes_of : File → Option (List ℕ)) → (this book : BookFields) → Type 0
-IsThisOrReadBook bytes_of this book = (book ≡ this) ⊎ ((text : List ℕ) × IsReadBook bytes_of text book)
+-- the book was read from a file, or is a new one with this key of 32 bytes
+abbrev pub IsReadOrNew : {File : Type 0} → (bytes_of : File → Option (List ℕ)) → (key : List ℕ) → BookFields → Type 0
+IsReadOrNew bytes_of key book =
+    ((text : List ℕ) × IsReadBook bytes_of text book) ⊎ ((length key ≡ 32) × (book ≡ new_book key))
 
--- an account with the keys of a password is added to a book, which is this one or was read from a file since, and the text of the
--- resulting book is written to a file
-pub record SavesAccount {File : Type 0} (bytes_of written_to : File → Option (List ℕ)) (book : BookFields)
-    (account : NewAccount) (salts : Salts) : Type 0 where
+-- an account with the keys of a password is added to a book that was read or is new, and the text of the resulting book is written to
+-- a file; `old` and `new` are what a source of random bytes has left before and after
+pub record AddsAccount {File : Type 0} (bytes_of written_to : File → Option (List ℕ)) (account : NewAccount) (old new : Option (List ℕ))
+    : Type 0 where
+  pub key : List ℕ
+  pub salts : Salts
+  pub is_taken : TakesKeyAndSalts old key salts new
   pub first : BookFields
-  pub is_first : IsThisOrReadBook bytes_of book first
+  pub is_first : IsReadOrNew bytes_of key first
   pub last : BookFields
   pub is_enrolled : IsEnrolled account salts first last
-  pub is_saved : HasStoredText (IsStoredShort (IsWritten written_to)) last
+  pub is_saved : HasStoredText (IsSavedText written_to) last
 
 -- the account that the words and the first line of the input describe is added to a book
 pub record EnrolsAsked {File : Type 0} (bytes_of written_to : File → Option (List ℕ)) (words : ArgMatches)
@@ -64,18 +63,10 @@ pub record EnrolsAsked {File : Type 0} (bytes_of written_to : File → Option (L
   pub is_password : IsPassword account.password
   pub is_count : given_value words option.Count ≡ decimal account.count
   pub count_range : IsCount account.count
-  -- a file gives the random bytes: the key of a new book, and then the salts
+  -- it is added to a book, with random bytes from a file
   pub file : File
-  pub middle : Option (List ℕ)
   pub after : File
-  -- the book was read, or is a new one
-  pub book : BookFields
-  pub is_book : IsReadOrNew bytes_of (bytes_of file) middle book
-  -- the salts are the next random bytes
-  pub salts : Salts
-  pub takes_salts : TakesSalts middle salts (bytes_of after)
-  -- the text of the book with the account is written to a file
-  pub is_saved : SavesAccount bytes_of written_to book account salts
+  pub is_added : AddsAccount bytes_of written_to account (bytes_of file) (bytes_of after)
   -- the name is printed
   pub printed : Appends old new (codes "enrolled " ++ (account.name ++ byte "\n" ∷ []))
 
@@ -83,11 +74,6 @@ pub record EnrolsAsked {File : Type 0} (bytes_of written_to : File → Option (L
 abbrev pub DescribesNoAccount : ArgMatches → (input : Option (List ℕ)) → Fault → Type 0
 DescribesNoAccount words input fault =
     HasBadValue (option.Name ∷ option.Count ∷ []) words fault ⊎ (HasBadPassword input fault ⊎ IsInputUnreadOrNoMemory fault)
-
--- the name is taken in a book, which is this one or was read from a file since
-abbrev pub IsNameTakenIn : {File : Type 0} → (bytes_of : File → Option (List ℕ)) → BookFields → (name : List ℕ) → Fault → Type 0
-IsNameTakenIn bytes_of this name fault =
-    (fault ≡ NameTaken) × (book : BookFields) × IsThisOrReadBook bytes_of this book × (is_some (account_at book name) ≡ true)
 
 -- the name is taken in a book that was read from a file
 abbrev pub IsNameTaken : {File : Type 0} → (bytes_of : File → Option (List ℕ)) → (name : List ℕ) → Fault → Type 0

@@ -6,14 +6,14 @@ use Rattle.scram_text.specs.Class.{IsPlainName}
 use Rattle.book_format.specs.Book.{BookFields}
 use Rattle.account_book.specs.Accounts.{account_at}
 use Rattle.account_book.specs.SavedBooks.{HasStoredText}
-use Rattle.book_file.specs.Text.{IsWritten}
+use Rattle.book_file.specs.Saved.{IsSavedText}
 use Rattle.clap.specs.declared.parser.matches.ArgMatches.{ArgMatches}
 use Rattle.command_line.specs.Fault.{IsTokenFault}
 use Rattle.command_line.specs.declared.fault.Fault.{Fault}
 use Rattle.command_line.specs.declared.fault.Fault.TheVariants.{CannotWriteOutput}
 use Rattle.command_line.specs.declared.option_name.OptionName.TheVariants as option
 use Rattle.command_io.specs.BadValues.{HasBadValue}
-use Rattle.command_io.specs.HeldBook.{IsReadBook, IsStoredShort, IsTokenUnlocked, CannotOpenBook}
+use Rattle.command_io.specs.HeldBook.{IsReadBook, IsTokenUnlocked, CannotOpenBook}
 use Rattle.command_words.specs.Values.{given_value}
 
 -- a book is read from a file, the token of the name that the words give is unlocked, and the text of the resulting book is written
@@ -26,7 +26,7 @@ pub record UnlocksAsked {File : Type 0} (bytes_of written_to : File → Option (
   pub is_first : IsReadBook bytes_of text first
   pub last : BookFields
   pub is_unlocked : IsTokenUnlocked (given_value words option.Name) first last
-  pub is_saved : HasStoredText (IsStoredShort (IsWritten written_to)) last
+  pub is_saved : HasStoredText (IsSavedText written_to) last
   pub printed : Appends old new (codes "unlocked " ++ (given_value words option.Name ++ byte "\n" ∷ []))
 
 -- a book that was read has no token for the name, or can't be saved in the file of this path: the fault says which

@@ -9,7 +9,7 @@ use clap::ArgMatches;
 use command_io::output::print_line;
 use command_line::{Fault, OptionName, value};
 use command_words::{given, optional};
-use otp_core::{Code, Digits, LONGEST_STEP, MOST_COUNTER, OtpHash, Secret, step};
+use otp_core::{Code, Digits, MAX_COUNTER, MAX_STEP, OtpHash, Secret, step};
 use std::alloc::Global;
 use std::io::Write;
 
@@ -34,7 +34,7 @@ fn read_options(matches: &ArgMatches<'_>) -> Result<MovingFactor, Fault>
     ensures why { IfErr result (LacksFactor matches.now) }
 {
     let counter = match optional(matches, OptionName::Counter) {
-        Some(text) => Some(value::number_within(OptionName::Counter, text, 0, MOST_COUNTER)?),
+        Some(text) => Some(value::number_within(OptionName::Counter, text, 0, MAX_COUNTER)?),
         None => None,
     };
     let moment = match optional(matches, OptionName::Moment) {
@@ -47,7 +47,7 @@ fn read_options(matches: &ArgMatches<'_>) -> Result<MovingFactor, Fault>
         OptionName::Step,
         given(matches, OptionName::Step),
         1,
-        LONGEST_STEP,
+        MAX_STEP,
     )?;
     match (counter, moment) {
         (Some(counter), _) => Ok(MovingFactor::Counter(counter)),

@@ -3,8 +3,8 @@ ghost use Rattle.std.specs.Prelude.{◌≡◌, ◌⊎◌, IfOk, IfErr, IfSome, O
 ghost use Rattle.std.specs.Fmt.{decimal};
 ghost use Rattle.scram_text.specs.Class.{IsPassword, IsPlainName};
 ghost use Rattle.scram_text.specs.Parts.{IsCount};
-ghost use Rattle.account_commands.specs.Enrol.{EnrolsAsked, IsReadOrNew, SavesAccount, TakesSalts};
-ghost use Rattle.account_commands.specs.Enrol.{CannotBeChanged, CannotEnrol, DescribesNoAccount, IsNameTakenIn};
+ghost use Rattle.account_commands.specs.Enrol.{CannotBeChanged, CannotEnrol, DescribesNoAccount, EnrolsAsked};
+ghost use Rattle.account_commands.specs.Enrolling.{IsNameTakenIn, IsReadOrMade, SavesAccount, TakesSalts};
 ghost use Rattle.command_io.specs.File.{IsFileUnreadOrNoMemory};
 ghost use Rattle.command_io.specs.HeldBook.{IsReadBook};
 ghost use Rattle.command_io.specs.Input.{IsFirstLine};
@@ -98,7 +98,7 @@ fn read_or_new<F: Read + Drop>(
     random: &mut RandomFile<'_, F>,
 ) -> Result<(Book, Option<String>), Fault>
     requires { IfSome read (λ read. IsReadBook F.remaining (string_bytes read.text) read.book) }
-    ensures book { IfOk result (λ found. IsReadOrNew F.remaining (F.remaining random.old.file) (F.remaining random.new.file) found.0) }
+    ensures book { IfOk result (λ found. IsReadOrMade F.remaining (F.remaining random.old.file) (F.remaining random.new.file) found.0) }
     ensures err { IfErr result (IsFileUnreadOrNoMemory random.old.path.now) }
     ensures path { random.new.path.now ≡ random.old.path.now }
 {

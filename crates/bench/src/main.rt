@@ -19,16 +19,16 @@
 #![tactic(auto)]
 
 mod book;
-mod guests;
 mod login;
 mod memory;
+mod open_sessions;
 mod pair;
 mod refused;
 mod service;
 
 use crate::book::print_readings;
-use crate::guests::{print_alone, print_together};
 use crate::login::print_verdicts;
+use crate::open_sessions::{print_alone, print_together};
 use crate::pair::print_failures;
 use crate::refused::{
     print_book, print_calls, print_hall, print_service, print_texts, print_turns,

@@ -1,6 +1,11 @@
--- What is known of the files that a text was read from or written to: what their reads and writes say. Their paths are not known.
+-- How long the text of a book may be, and what is known of the files that a text was read from or written to: what their reads and
+-- writes say. Their paths are not known.
 use Rattle.std.specs.Prelude.{ℕ, ◌≡◌, List, Option, IfSome}
 use Rattle.std.specs.Io.KnownBytes.{Appends}
+
+-- the most bytes that the text of a book may have
+abbrev pub max_book_len : ℕ
+max_book_len = 16777216
 
 -- these are all the bytes that a file had left when it was read, if those are known
 abbrev pub IsRead : {File : Type 0} → (remaining : File → Option (List ℕ)) → List ℕ → Type 0

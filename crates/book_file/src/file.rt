@@ -2,7 +2,7 @@
 ghost use Rattle.std.specs.Prelude.{◌≡◌, ◌≤◌, ◌<◌, true, false, length, IfOk, IfErr, IfSome, IsErrAnd, OnOk, vec_len};
 ghost use Rattle.std.specs.IoError.{error_kind};
 ghost use Rattle.book_file.specs.Faults.{IsNextError, IsHoldFault};
-ghost use Rattle.book_file.specs.Text.{IsRead, IsWritten};
+ghost use Rattle.book_file.specs.Text.{max_book_len, IsRead, IsWritten};
 
 use crate::fault::HoldFault;
 use crate::hold::{Held, LockedBook, hold, is_named, next_of};
@@ -16,7 +16,7 @@ use std::time::Clock;
 use std::{fs, io};
 
 /// The greatest length of a book's text, in bytes.
-pub const LONGEST_BOOK: usize = 16_777_216;
+pub const MAX_BOOK_LEN: usize = 16_777_216;
 
 /// The permission bits of the owner in a file's mode.
 const OWNER_BITS: u32 = 0o700;
@@ -143,7 +143,7 @@ where
     /// The file's bytes, or None if there is no file. Errors: FileTooLarge if there are more than 16777216; else the error of the
     /// file system call that failed, or out of memory.
     pub fn read(&mut self) -> io::Result<Option<Vec<u8>>>
-        ensures most { IfOk result (λ found. IfSome found (λ bytes. vec_len bytes ≤ LONGEST_BOOK)) }
+        ensures most { IfOk result (λ found. IfSome found (λ bytes. vec_len bytes ≤ max_book_len)) }
         ensures all { IfOk result (λ found. IfSome found (λ bytes. IsRead R.File.remaining bytes.items)) }
     {
         match &mut self.book {
@@ -165,9 +165,10 @@ where
     /// - else the error of the file system call that failed.
     pub fn replace(&mut self, text: &str) -> io::Result<()>
         ensures written { OnOk result (IsWritten R.File.contents text.now) }
-        ensures long { LONGEST_BOOK < length text.now → IsErrAnd result (λ error. error_kind error ≡ ErrorKind.FileTooLarge) }
+        ensures short { OnOk result (length text.now ≤ max_book_len) }
+        ensures long { max_book_len < length text.now → IsErrAnd result (λ error. error_kind error ≡ ErrorKind.FileTooLarge) }
     {
-        if text.len() > LONGEST_BOOK {
+        if text.len() > MAX_BOOK_LEN {
             return Err(io::Error::from(ErrorKind::FileTooLarge));
         }
         self.check_unchanged()?;
@@ -249,7 +250,7 @@ where
 /// Reads the bytes of the book at `path` without a lock: a save replaces the file as a whole. Errors: FileTooLarge if there are
 /// more than 16777216; else the error of the file system call that failed, or out of memory.
 pub fn read_without_lock<R: Files + AllocGlobal>(rt: &R, path: &str) -> io::Result<Vec<u8>>
-    ensures most { IfOk result (λ bytes. vec_len bytes ≤ LONGEST_BOOK) }
+    ensures most { IfOk result (λ bytes. vec_len bytes ≤ max_book_len) }
     // They are all the bytes of a file, if these are known.
     ensures all { IfOk result (λ bytes. IsRead R.File.remaining bytes.items) }
 {
@@ -259,12 +260,12 @@ pub fn read_without_lock<R: Files + AllocGlobal>(rt: &R, path: &str) -> io::Resu
 
 // Reads the rest of a file. Errors: FileTooLarge if that is more bytes than a book may have.
 fn read_all<R: AllocGlobal, F: Read>(rt: &R, file: &mut F) -> io::Result<Vec<u8>>
-    ensures most { IfOk result (λ bytes. vec_len bytes ≤ LONGEST_BOOK) }
+    ensures most { IfOk result (λ bytes. vec_len bytes ≤ max_book_len) }
     ensures all { IfOk result (λ bytes. IfSome (F.remaining file.old) (λ all. bytes.items ≡ all)) }
 {
     let mut bytes = Vec::new(rt.alloc());
-    file.take(LONGEST_BOOK as u64 + 1).read_to_end(&mut bytes)?;
-    if bytes.len() <= LONGEST_BOOK {
+    file.take(MAX_BOOK_LEN as u64 + 1).read_to_end(&mut bytes)?;
+    if bytes.len() <= MAX_BOOK_LEN {
         Ok(bytes)
     } else {
         Err(io::Error::from(ErrorKind::FileTooLarge))

@@ -29,7 +29,7 @@ mod trust;
 mod wait;
 
 pub use fault::HoldFault;
-pub use file::{BookFile, LONGEST_BOOK, read_without_lock};
+pub use file::{BookFile, MAX_BOOK_LEN, read_without_lock};
 pub use lock::BookFileExt;
 pub use store::FileStore;
 pub use trust::is_same_file;

@@ -1,6 +1,6 @@
 //! The store that saves a book to its file.
 ghost use Rattle.std.specs.Prelude.{◌≡◌, ◌<◌, ◌+◌, ◌^◌, string_bytes, Some, None, false};
-ghost use Rattle.book_file.specs.Text.{IsWritten};
+ghost use Rattle.book_file.specs.Saved.{IsSavedText};
 ghost use Rattle.std.specs.Option.{is_some, option_map, unwrap_or};
 
 use crate::file::BookFile;
@@ -59,7 +59,7 @@ where
       saves = s.saves;
     } };
 
-    ghost IsStored = { IsWritten R.File.contents };
+    ghost IsStored = { IsSavedText R.File.contents };
 
     fn save(&mut self, text: String) -> Result<(), StoreFault> {
         if self.failed_text.is_some() {

@@ -3,7 +3,7 @@ use std::time::{Clock, Duration, Instant};
 use std::{io, thread};
 
 /// The longest wait, in seconds by the clock.
-const MOST_WAIT_SECONDS: u64 = 30;
+const MAX_WAIT_SECONDS: u64 = 30;
 
 /// The pause between two tries, in milliseconds.
 const PAUSE_MILLIS: u64 = 50;
@@ -25,7 +25,7 @@ impl Wait {
     /// Pauses before the next try and returns true, or returns false at once if the wait has taken 30 seconds. Fails if the clock
     /// can't be read.
     pub(crate) fn pause(&self, clock: &impl Clock) -> io::Result<bool> {
-        if self.begun.elapsed(clock)? >= Duration::from_secs(MOST_WAIT_SECONDS) {
+        if self.begun.elapsed(clock)? >= Duration::from_secs(MAX_WAIT_SECONDS) {
             return Ok(false);
         }
         thread::sleep(clock, Duration::from_millis(PAUSE_MILLIS));

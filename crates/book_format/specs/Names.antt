@@ -3,9 +3,9 @@ use Rattle.std.specs.Prelude.{ℕ, ◌≡◌, ◌≤◌, ◌&&◌, ◌+◌, nat_
 use Rattle.std.specs.List.{AllByRecursion, list_all}
 use Rattle.toml.specs.Data.{Data, string, array, Items, no_items, item, as_str}
 use Rattle.toml.specs.View.{items_of}
-use Rattle.scram_text.specs.Limits.{longest_name}
+use Rattle.scram_text.specs.Limits.{max_name_len}
 use Rattle.scram_text.specs.Class.{is_plain, IsPlainName}
-use Rattle.book_format.specs.Account.{most_names}
+use Rattle.book_format.specs.Account.{max_names}
 
 -- each of these is a plain name
 abbrev pub AreNames : List (List ℕ) → Type 0
@@ -19,11 +19,11 @@ names_tree names = array (items_of (map string names))
 pub record IsNameList (d : Data) (names : List (List ℕ)) : Type 0 where
   pub there : d ≡ names_tree names
   pub plain : AreNames names
-  pub few : length names ≤ most_names
+  pub few : length names ≤ max_names
 
 -- a plain name, as a test
 abbrev pub is_plain_name : List ℕ → Bool
-is_plain_name name = nat_le 1 (length name) && nat_le (length name) longest_name && list_all is_plain name
+is_plain_name name = nat_le 1 (length name) && nat_le (length name) max_name_len && list_all is_plain name
 
 -- the value is a text that is a plain name
 abbrev pub is_name : Data → Bool

@@ -4,7 +4,7 @@ use Rattle.std.specs.Prelude.{ℕ, pos, List, [], ◌∷◌, codes, Option}
 use Rattle.toml.specs.Data.{integer, Members}
 use Rattle.mac_core.specs.Mechanism.{length_by}
 use Rattle.mac_core.specs.declared.mechanism.Mechanism.TheVariants.{ScramSha1, ScramSha256}
-use Rattle.scram_text.specs.Limits.{longest_salt, most_count}
+use Rattle.scram_text.specs.Limits.{max_salt_len, max_iteration_count}
 use Rattle.otp_core.specs.declared.token.kinds.TokenFields.{TokenFields}
 use Rattle.book_format.specs.Account.{AccountFields}
 use Rattle.book_format.specs.ValueTypes.{number_type, bytes_type, name_list_type, any_table_type}
@@ -20,8 +20,8 @@ abbrev pub keys_table : ℕ → Table MechKeys
 keys_table len = record {
   marks = [];
   rows =
-      row "salt" (bytes_type Salt 1 longest_salt) (λ m. m.salt)
-      ∷ row "count" (number_type Count 1 most_count) (λ m. m.count)
+      row "salt" (bytes_type Salt 1 max_salt_len) (λ m. m.salt)
+      ∷ row "count" (number_type Count 1 max_iteration_count) (λ m. m.count)
       ∷ row "stored" (bytes_type KeyLength len len) (λ m. m.keys.stored.items)
       ∷ row "server" (bytes_type KeyLength len len) (λ m. m.keys.server.items)
       ∷ [];
@@ -66,7 +66,7 @@ document_table = record {
   marks = (codes "format", integer (pos 1)) ∷ [];
   rows =
       row "decoy_key" (bytes_type KeyLength (length_by ScramSha256) (length_by ScramSha256)) (λ t. t.decoy_key)
-      ∷ row "decoy_count" (number_type Count 1 most_count) (λ t. t.decoy_count)
+      ∷ row "decoy_count" (number_type Count 1 max_iteration_count) (λ t. t.decoy_count)
       ∷ optional_row "accounts" any_table_type (λ t. t.accounts)
       ∷ [];
   from_values = λ decoy_key decoy_count accounts. record { decoy_key = decoy_key; decoy_count = decoy_count; accounts = accounts };

@@ -2,8 +2,8 @@
 use Rattle.std.specs.Prelude.{ℕ, ◌+◌, ◌||◌, List, [], ◌∷◌, codes, if◌then◌else◌, option_and_then}
 use Rattle.std.specs.Str.{bytes_eq}
 use Rattle.toml.specs.Data.{Data, string, table, Members, get_member, as_str, as_table}
-use Rattle.otp_core.specs.Ranges.{shortest_secret, longest_secret, least_digits, most_digits, last_moment, most_counter, most_look_ahead, most_sync_ahead}
-use Rattle.otp_core.specs.Ranges.{longest_step, most_steps_aside, most_drift, most_limit}
+use Rattle.otp_core.specs.Ranges.{min_secret_len, max_secret_len, min_digits, max_digits, max_moment, max_counter, max_look_ahead, max_sync_ahead}
+use Rattle.otp_core.specs.Ranges.{max_step, max_window_steps, max_drift_bound, max_limit}
 use Rattle.otp_core.specs.declared.token.kinds.TokenFields.{TokenFields}
 use Rattle.otp_core.specs.declared.token.kinds.TokenFields.TheVariants.{Hotp, Totp}
 use Rattle.otp_core.specs.declared.token.kinds.HotpFields.{HotpFields}
@@ -20,12 +20,12 @@ abbrev pub hotp_table : Table HotpFields
 hotp_table = record {
   marks = (codes "kind", string (codes "hotp")) ∷ [];
   rows =
-      row "secret" (bytes_type Token shortest_secret longest_secret) (λ t. t.secret)
-      ∷ row "digits" (number_type Token least_digits most_digits) (λ t. t.digits)
-      ∷ row "next" (number_type Token 0 (most_counter + 1)) (λ t. t.next)
-      ∷ row "look_ahead" (number_type Token 0 most_look_ahead) (λ t. t.look_ahead)
-      ∷ row_or_default 0 "sync_ahead" (number_type Token 0 most_sync_ahead) (λ t. t.sync_ahead)
-      ∷ row "limit" (number_type Token 1 most_limit) (λ t. t.limit)
+      row "secret" (bytes_type Token min_secret_len max_secret_len) (λ t. t.secret)
+      ∷ row "digits" (number_type Token min_digits max_digits) (λ t. t.digits)
+      ∷ row "next" (number_type Token 0 (max_counter + 1)) (λ t. t.next)
+      ∷ row "look_ahead" (number_type Token 0 max_look_ahead) (λ t. t.look_ahead)
+      ∷ row_or_default 0 "sync_ahead" (number_type Token 0 max_sync_ahead) (λ t. t.sync_ahead)
+      ∷ row "limit" (number_type Token 1 max_limit) (λ t. t.limit)
       ∷ row_up_to "failures" (number_type Token 0) "limit" (λ t. t.failures)
       ∷ [];
   from_values = λ secret digits next look_ahead sync_ahead limit failures. record {
@@ -45,16 +45,16 @@ totp_table = record {
   marks = (codes "kind", string (codes "totp")) ∷ [];
   rows =
       row "hash" hash_type (λ t. t.hash)
-      ∷ row "secret" (bytes_type Token shortest_secret longest_secret) (λ t. t.secret)
-      ∷ row "digits" (number_type Token least_digits most_digits) (λ t. t.digits)
-      ∷ row "t0" (number_type Token 0 last_moment) (λ t. t.t0)
-      ∷ row "step" (number_type Token 1 longest_step) (λ t. t.step)
-      ∷ row "back" (number_type Token 0 most_steps_aside) (λ t. t.back)
-      ∷ row "ahead" (number_type Token 0 most_steps_aside) (λ t. t.ahead)
-      ∷ row "max_drift" (number_type Token 0 most_drift) (λ t. t.max_drift)
-      ∷ optional_row "last" (number_type Token 0 most_counter) (λ t. t.last)
+      ∷ row "secret" (bytes_type Token min_secret_len max_secret_len) (λ t. t.secret)
+      ∷ row "digits" (number_type Token min_digits max_digits) (λ t. t.digits)
+      ∷ row "t0" (number_type Token 0 max_moment) (λ t. t.t0)
+      ∷ row "step" (number_type Token 1 max_step) (λ t. t.step)
+      ∷ row "back" (number_type Token 0 max_window_steps) (λ t. t.back)
+      ∷ row "ahead" (number_type Token 0 max_window_steps) (λ t. t.ahead)
+      ∷ row "max_drift" (number_type Token 0 max_drift_bound) (λ t. t.max_drift)
+      ∷ optional_row "last" (number_type Token 0 max_counter) (λ t. t.last)
       ∷ row_up_to "drift" (signed_type Token) "max_drift" (λ t. t.drift)
-      ∷ row "limit" (number_type Token 1 most_limit) (λ t. t.limit)
+      ∷ row "limit" (number_type Token 1 max_limit) (λ t. t.limit)
       ∷ row_up_to "failures" (number_type Token 0) "limit" (λ t. t.failures)
       ∷ [];
   from_values = λ hash secret digits t0 step back ahead max_drift last drift limit failures. record {

@@ -5,7 +5,7 @@ use Rattle.hex.specs.Hex.{decode_of, encode_lower}
 use Rattle.toml.specs.Data.{Data, string, integer, table, Members, as_array, as_integer, as_str, as_table}
 use Rattle.otp_core.specs.Hash.{hash_name, hash_named}
 use Rattle.otp_core.specs.declared.hash.OtpHash.{OtpHash}
-use Rattle.book_format.specs.Account.{most_names}
+use Rattle.book_format.specs.Account.{max_names}
 use Rattle.book_format.specs.Names.{IsNameList, names_tree, are_texts, item_count, are_names}
 use Rattle.book_format.specs.Demands.{must, required}
 use Rattle.book_format.specs.Rows.{ValueType}
@@ -83,7 +83,7 @@ abbrev pub name_list_type : ValueType (List (List ℕ))
 name_list_type = record {
   Is = IsNameList;
   demands = λ d. required Key
-      (λ list. must (are_texts list) Key ∷ must (nat_le (item_count list) most_names && are_names list) Name ∷ []) (as_array d);
+      (λ list. must (are_texts list) Key ∷ must (nat_le (item_count list) max_names && are_names list) Name ∷ []) (as_array d);
   from_tree = name_list_in;
   write = names_tree;
 }

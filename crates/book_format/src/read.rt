@@ -24,7 +24,7 @@ use crate::fault::{BookFault, BookWhy};
 use accounts::accounts_from;
 use field::{at, bytes_at, check_keys, number_at, table_of};
 use mac_core::Tag;
-use scram_text::{MOST_COUNT, PlainName};
+use scram_text::{MAX_ITERATION_COUNT, PlainName};
 use std::alloc::Global;
 use std::collections::BTreeMap;
 use toml::Table;
@@ -115,7 +115,7 @@ fn top_of(table: &Table) -> Result<Top<'_>, BookWhy>
     }
     check_keys(table, &["format", "decoy_key", "decoy_count", "accounts"])?;
     let decoy_key = bytes_at(table, "decoy_key", 32, 32, BookWhy::KeyLength)?;
-    let most = u64::from(MOST_COUNT);
+    let most = u64::from(MAX_ITERATION_COUNT);
     let decoy_count = number_at(table, "decoy_count", 1, most, BookWhy::Count)?;
     let accounts = table_if_any(table, "accounts")?;
     Ok(Top {

@@ -1,5 +1,5 @@
 -- What becomes of a held book and of its store.
-use Rattle.std.specs.Prelude.{ℕ, ◌≡◌, ◌≤◌, ◌<◌, ◌⊎◌, true, false, List, length, string_bytes, Option, is_some, None, Some, MatchOption}
+use Rattle.std.specs.Prelude.{ℕ, ◌≡◌, ◌⊎◌, true, false, List, string_bytes, Option, is_some, None, Some, MatchOption}
 use Rattle.otp_core.specs.Attempt.{CodeTexts}
 use Rattle.otp_core.specs.declared.token.reply.Reply.{Reply}
 use Rattle.book_format.specs.Account.{AccountFields}
@@ -10,10 +10,10 @@ use Rattle.book_format.specs.declared.fault.BookFault.{BookFault}
 use Rattle.account_book.specs.Accounts.{IsAdded}
 use Rattle.account_book.specs.Enrolled.{enrolled}
 use Rattle.account_book.specs.SavedBooks.{needs_save, SavesBook}
-use Rattle.account_book.specs.Store.{StoreFacts, IsFailedSave}
+use Rattle.account_book.specs.Store.{StoreFacts}
 use Rattle.account_book.specs.Tokens.{IsBookAttempt, IsUnlocked, token_at}
 use Rattle.book_file.specs.Text.{IsRead}
-use Rattle.book_file.specs.declared.file.TheConstants.{LONGEST_BOOK}
+use Rattle.book_keeper.specs.Keeper.{FailsToSave}
 use Rattle.command_line.specs.Fault.{fault_of_book}
 use Rattle.command_line.specs.declared.fault.Fault.{Fault}
 use Rattle.command_line.specs.declared.fault.Fault.TheVariants.{NoSuchAccount, NoToken, CannotRead, CannotWrite, NoMemory}
@@ -28,27 +28,17 @@ pub record HeldFacts : Type 0 where
 
 -- what is known of this held book
 abbrev pub held_shown : {S : Type 0} → (S → StoreFacts) → HeldBook S → HeldFacts
-held_shown facts held = record { book = held.book; store = facts held.store }
+held_shown facts held = record { book = held.keeper.book; store = facts held.keeper.store }
 
--- a text is stored, and is not longer than the text of a book may be
-abbrev pub IsStoredShort : (IsStored : List ℕ → Type 0) → List ℕ → Type 0
-IsStoredShort IsStored text = (length text ≤ LONGEST_BOOK) × IsStored text
-
--- the store has saved the book
-abbrev pub IsBookSaved : (IsStored : List ℕ → Type 0) → (old : StoreFacts) → BookFields → (new : StoreFacts) → Type 0
-IsBookSaved IsStored old book new = SavesBook (IsStoredShort IsStored) old book new
-
--- the book is not saved: the store is as it was; or it failed to save the book, and has that text or the one from before
+-- the book is not saved: the store is as it was, or it fails to save the book
 abbrev pub IsBookUnsaved : (old : StoreFacts) → BookFields → (new : StoreFacts) → Type 0
-IsBookUnsaved old book new = (new ≡ old) ⊎ ((text : List ℕ) × IsBookText text book × IsFailedSave old text new)
+IsBookUnsaved old book new = (new ≡ old) ⊎ FailsToSave old book new
 
--- a change of the book failed: nothing has changed, or the book has changed and is not saved
+-- a change of the book is not saved: the book is as it was, and the store is too, or it fails to save the book with the change
 abbrev pub IsChangeUnsaved : (old : HeldFacts) → (Changes : BookFields → BookFields → Type 0) → (new : HeldFacts) → Type 0
-IsChangeUnsaved old Changes new = (new ≡ old) ⊎ (Changes old.book new.book × IsBookUnsaved old.store new.book new.store)
-
--- a book of this text can't be saved: the text is too long, or the store has failed
-abbrev pub CannotBeSaved : (text : List ℕ) → StoreFacts → Type 0
-CannotBeSaved text store = (LONGEST_BOOK < length text) ⊎ (store.failed ≡ true)
+IsChangeUnsaved old Changes new =
+    (new.book ≡ old.book)
+    × ((new.store ≡ old.store) ⊎ ((next : BookFields) × Changes old.book next × FailsToSave old.store next new.store))
 
 -- a text was read from a file and is not a book: the fault is that of its first fault
 abbrev pub IsFaultOfText : {File : Type 0} → (bytes_of : File → Option (List ℕ)) → Fault → Type 0
@@ -83,19 +73,18 @@ IsEnrolled account salts old new =
 pub record IsReplySaved (IsStored : List ℕ → Type 0) (old : HeldFacts) (name : List ℕ) (moment : ℕ) (sent : CodeTexts) (reply : Reply)
     (new : HeldFacts) : Type 0 where
   pub due : IsBookAttempt old.book name moment sent (Some reply) new.book
-  pub saved : needs_save (Some reply) ≡ true → IsBookSaved IsStored old.store new.book new.store
+  pub saved : needs_save (Some reply) ≡ true → SavesBook IsStored old.store new.book new.store
   pub unasked : needs_save (Some reply) ≡ false → new.store ≡ old.store
 
--- nothing has changed; or a reply was due, and the book after it is not saved
+-- a reply is not saved: the book is as it was, and the store is too, or it fails to save the book with a reply that was due
 abbrev pub IsReplyUnsaved : (old : HeldFacts) → (name : List ℕ) → (moment : ℕ) → CodeTexts → (new : HeldFacts) → Type 0
 IsReplyUnsaved old name moment sent new =
-    (new ≡ old)
-    ⊎ ((reply : Reply) × IsBookAttempt old.book name moment sent (Some reply) new.book × IsBookUnsaved old.store new.book new.store)
+    IsChangeUnsaved old (λ before next. (reply : Reply) × IsBookAttempt before name moment sent (Some reply) next) new
 
 -- the token of this name is unlocked, and the book is saved
 pub record IsUnlockSaved (IsStored : List ℕ → Type 0) (name : List ℕ) (old new : HeldFacts) : Type 0 where
   pub unlocked : IsTokenUnlocked name old.book new.book
-  pub saved : IsBookSaved IsStored old.store new.book new.store
+  pub saved : SavesBook IsStored old.store new.book new.store
 
 -- a book is that of this text, and the text was read from a file
 pub record IsReadBook {File : Type 0} (bytes_of : File → Option (List ℕ)) (text : List ℕ) (book : BookFields) : Type 0 where

@@ -24,7 +24,7 @@ pub fn read_fault(alloc: Global, path: &str, error: &io::Error) -> Fault
     ensures { IsFileUnreadOrNoMemory path.now result }
 {
     match String::from_str(alloc, path) {
-        Ok(file) => Fault::of_reading(file, error),
+        Ok(file) => Fault::from_read_error(file, error),
         Err(_) => Fault::NoMemory,
     }
 }

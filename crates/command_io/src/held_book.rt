@@ -1,26 +1,26 @@
-//! A book that this run holds, and its store. Each change is saved before it is reported.
-ghost use Rattle.std.specs.Prelude.{◌≡◌, ◌≢◌, ℕ, List, true, is_some, IfErr, IfOk, MatchOption, OnErr, OnOk};
-ghost use Rattle.book_format.specs.Trees.{IsBookText};
+//! A book that this run holds, and its store. Each change is saved before it is reported, and undone if it can't be saved.
+ghost use Rattle.std.specs.Prelude.{◌≡◌, ◌≢◌, true, is_some, None, IfErr, IfOk, MatchOption, OnErr, OnOk, string_bytes};
 ghost use Rattle.account_book.specs.Accounts.{account_at};
+ghost use Rattle.account_book.specs.SavedBooks.{SavesBook};
 ghost use Rattle.account_book.specs.Tokens.{token_at};
-ghost use Rattle.otp_core.specs.Sent.{texts_of};
+ghost use Rattle.book_keeper.specs.Keeper.{FailsToSave};
+ghost use Rattle.otp_core.specs.SentCodes.{texts_of};
 ghost use Rattle.command_line.specs.Fault.{IsTokenFault, IsFileUnwrittenOrNoMemory};
-ghost use Rattle.command_io.specs.HeldBook.{held_shown, CannotBeSaved, IsBookSaved, IsBookUnsaved, IsChangeUnsaved, IsUnlockSaved};
+ghost use Rattle.command_io.specs.HeldBook.{held_shown, IsBookUnsaved, IsChangeUnsaved, IsUnlockSaved};
 ghost use Rattle.command_io.specs.HeldBook.{IsEnrolled, IsReplySaved, IsReplyUnsaved, IsTokenUnlocked, LacksToken};
 
 use crate::new_account::{NewAccount, Salts};
 use account_book::{Book, BookStore, Reply};
-use book_file::LONGEST_BOOK;
+use book_keeper::{CodeJudged, Keeper, SaveFault};
 use command_line::Fault;
-use otp_core::{Moment, Sent};
+use otp_core::{Moment, SentCodes};
 use scram_text::PlainName;
 use std::alloc::Global;
 
 /// A book, and the store that keeps its text.
 #[derive(Drop)]
 pub struct HeldBook<'a, S> {
-    book: Book,
-    store: S,
+    keeper: Keeper<S>,
 
     // The path of the book's file as the caller gave it, for faults.
     path: &'a str,
@@ -29,44 +29,60 @@ pub struct HeldBook<'a, S> {
 impl<'a, S: BookStore> HeldBook<'a, S> {
     /// A held book whose changes are saved in `store`; `path` is the path that faults name.
     pub fn new(book: Book, store: S, path: &'a str) -> HeldBook<'a, S>
-        ensures book { result.book ≡ book }
-        ensures store { result.store ≡ store }
+        ensures book { result.keeper.book ≡ book }
+        ensures store { result.keeper.store ≡ store }
         ensures path { result.path.now ≡ path.now }
     {
-        HeldBook { book, store, path }
+        HeldBook {
+            keeper: Keeper::resume(book, store),
+            path,
+        }
     }
 
     /// The book, its store, and the path of its file.
     pub fn into_parts(self) -> (Book, S, &'a str)
-        ensures book { result.0 ≡ self.entry.book }
-        ensures store { result.1 ≡ self.entry.store }
+        ensures book { result.0 ≡ self.entry.keeper.book }
+        ensures store { result.1 ≡ self.entry.keeper.store }
         ensures path { result.2.now ≡ self.entry.path.now }
     {
-        (self.book, self.store, self.path)
+        let (book, store) = self.keeper.close();
+        (book, store, self.path)
     }
 
     /// Adds an account with the keys of a password for both mechanisms, and saves the book. Faults: NameTaken, CannotWrite and
-    /// NoMemory; after NameTaken or NoMemory, the store is unchanged.
+    /// NoMemory. After each of them the book in memory is as before, and after NameTaken or NoMemory the store too.
     pub fn enrol(&mut self, alloc: Global, account: &NewAccount, salts: &Salts) -> Result<(), Fault>
-        ensures added { OnOk result (IsEnrolled account.now salts.now self.old.book self.new.book) }
-        ensures err { IfErr result (λ fault. MatchOption (account_at self.old.book account.now.name)
+        ensures added { OnOk result (IsEnrolled account.now salts.now self.old.keeper.book self.new.keeper.book) }
+        ensures err { IfErr result (λ fault. MatchOption (account_at self.old.keeper.book account.now.name)
             (IsFileUnwrittenOrNoMemory self.old.path.now fault) (λ account. fault ≡ Fault.NameTaken)) }
         ensures path { self.new.path.now ≡ self.old.path.now }
-        ensures unasked { IfErr result (λ fault. fault ≡ Fault.NoMemory → self.new.store ≡ self.old.store) }
+        ensures unasked { IfErr result (λ fault. fault ≡ Fault.NoMemory → self.new.keeper.store ≡ self.old.keeper.store) }
         ensures unsaved { OnErr result (IsChangeUnsaved (held_shown S.facts self.old) (IsEnrolled account.now salts.now)
             (held_shown S.facts self.new)) }
-        ensures saved { OnOk result (IsBookSaved S.IsStored (S.facts self.old.store) self.new.book (S.facts self.new.store)) }
+        ensures saved { OnOk result (SavesBook S.IsStored (S.facts self.old.keeper.store) self.new.keeper.book
+            (S.facts self.new.keeper.store)) }
     {
-        account.add_to(alloc, &mut self.book, salts)?;
-        self.save(alloc)
+        let (name, password, count) = (&account.name, &account.password, account.count);
+        if self.keeper.book().account(name).is_some() {
+            return Err(Fault::NameTaken);
+        }
+        let file = String::from_str(alloc, self.path)?;
+        match self
+            .keeper
+            .enrol(alloc, name, password, &salts.sha1, &salts.sha256, count)
+        {
+            Ok(true) => Ok(()),
+            Ok(false) => unreachable!(),
+            Err(fault) => Err(save_fault(fault, file)),
+        }
     }
 
     /// Checks that there is an account of this name, and that it has a token. Faults: NoSuchAccount and NoToken.
     pub fn check_token(&self, name: &PlainName) -> Result<(), Fault>
-        ensures ok { OnOk result (is_some (token_at self.now.book name.now) ≡ true) }
-        ensures err { IfErr result (LacksToken (account_at self.now.book name.now)) }
+        ensures ok { OnOk result (is_some (token_at self.now.keeper.book name.now) ≡ true) }
+        ensures err { IfErr result (LacksToken (account_at self.now.keeper.book name.now)) }
     {
-        match self.book.account(name) {
+        match self.keeper.book().account(name) {
             None => Err(Fault::NoSuchAccount),
             Some(account) if account.token.is_none() => Err(Fault::NoToken),
             Some(_) => Ok(()),
@@ -74,67 +90,81 @@ impl<'a, S: BookStore> HeldBook<'a, S> {
     }
 
     /// Judges one code, or two in a row, at `moment` by the account's token, and saves the book unless the token is locked. Faults:
-    /// NoSuchAccount, NoToken, CannotWrite and NoMemory. After the last two, the book in memory may contain an attempt that was not
-    /// saved. It is left so, since the run then ends; `Keeper` of `sasl_desk` undoes the attempt.
+    /// NoSuchAccount, NoToken, CannotWrite and NoMemory. After each of them the book in memory is as before, and after all but
+    /// CannotWrite the store too.
     pub fn judge(
         &mut self,
         alloc: Global,
         name: &PlainName,
         moment: Moment,
-        sent: Sent<'_>,
+        sent: SentCodes<'_>,
     ) -> Result<Reply, Fault>
         ensures ok { IfOk result (λ reply. IsReplySaved S.IsStored (held_shown S.facts self.old) name.now moment (texts_of sent.entry)
             reply (held_shown S.facts self.new)) }
         ensures path { self.new.path.now ≡ self.old.path.now }
-        ensures err { IfErr result (IsTokenFault self.old.path.now (account_at self.old.book name.now)) }
-        ensures unasked { IfErr result (λ fault. fault ≡ Fault.NoMemory → self.new.store ≡ self.old.store) }
+        ensures err { IfErr result (IsTokenFault self.old.path.now (account_at self.old.keeper.book name.now)) }
+        ensures unasked { IfErr result (λ fault. fault ≡ Fault.NoMemory → self.new.keeper.store ≡ self.old.keeper.store) }
         ensures unsaved { OnErr result (IsReplyUnsaved (held_shown S.facts self.old) name.now moment (texts_of sent.entry)
             (held_shown S.facts self.new)) }
     {
         self.check_token(name)?;
-        let Some(reply) = self.book.judge(name, moment, sent) else {
-            unreachable!()
-        };
-        if reply != Reply::Locked {
-            self.save(alloc)?;
+        let file = String::from_str(alloc, self.path)?;
+        match self.keeper.judge(alloc, name, moment, sent) {
+            Ok(CodeJudged::Replied(Some(reply))) => Ok(reply),
+            Ok(CodeJudged::Replied(None)) => unreachable!(),
+            Ok(CodeJudged::NotSaved) => Err(Fault::CannotWrite(file)),
+            Err(_) => Err(Fault::NoMemory),
         }
-        Ok(reply)
     }
 
     /// Sets the failures of the account's token to 0, and saves the book. Faults: NoSuchAccount, NoToken, CannotWrite and NoMemory.
+    /// After each of them the book in memory is as before, and after all but CannotWrite the store too.
     pub fn unlock(&mut self, alloc: Global, name: &PlainName) -> Result<(), Fault>
         ensures done { OnOk result (IsUnlockSaved S.IsStored name.now (held_shown S.facts self.old) (held_shown S.facts self.new)) }
         ensures path { self.new.path.now ≡ self.old.path.now }
-        ensures err { IfErr result (IsTokenFault self.old.path.now (account_at self.old.book name.now)) }
-        ensures unasked { IfErr result (λ fault. fault ≡ Fault.NoMemory → self.new.store ≡ self.old.store) }
+        ensures err { IfErr result (IsTokenFault self.old.path.now (account_at self.old.keeper.book name.now)) }
+        ensures unasked { IfErr result (λ fault. fault ≡ Fault.NoMemory → self.new.keeper.store ≡ self.old.keeper.store) }
         ensures unsaved { OnErr result (IsChangeUnsaved (held_shown S.facts self.old) (IsTokenUnlocked name.now)
             (held_shown S.facts self.new)) }
     {
         self.check_token(name)?;
-        self.book.unlock(name);
-        self.save(alloc)
+        let file = String::from_str(alloc, self.path)?;
+        match self.keeper.unlock(alloc, name) {
+            Ok(true) => Ok(()),
+            Ok(false) => unreachable!(),
+            Err(fault) => Err(save_fault(fault, file)),
+        }
     }
 
-    /// Saves the book's text. Faults: CannotWrite if the save fails or the text has more than 16777216 bytes, and NoMemory, after
-    /// which the store is unchanged.
+    /// Saves the book's text. Faults: CannotWrite if the store fails, and NoMemory, after which the store is unchanged.
     pub fn save(&mut self, alloc: Global) -> Result<(), Fault>
-        ensures book { self.new.book ≡ self.old.book }
+        ensures book { self.new.keeper.book ≡ self.old.keeper.book }
         ensures path { self.new.path.now ≡ self.old.path.now }
         ensures err { IfErr result (IsFileUnwrittenOrNoMemory self.old.path.now) }
         ensures why { IfErr result (λ fault. fault ≢ Fault.NoMemory
-            → (text : List ℕ) × IsBookText text self.old.book × CannotBeSaved text (S.facts self.new.store)) }
-        ensures unasked { IfErr result (λ fault. fault ≡ Fault.NoMemory → self.new.store ≡ self.old.store) }
-        ensures saved { OnOk result (IsBookSaved S.IsStored (S.facts self.old.store) self.old.book (S.facts self.new.store)) }
-        ensures unsaved { OnErr result (IsBookUnsaved (S.facts self.old.store) self.old.book (S.facts self.new.store)) }
+            → FailsToSave (S.facts self.old.keeper.store) self.old.keeper.book (S.facts self.new.keeper.store)) }
+        ensures unasked { IfErr result (λ fault. fault ≡ Fault.NoMemory → self.new.keeper.store ≡ self.old.keeper.store) }
+        ensures saved { OnOk result (SavesBook S.IsStored (S.facts self.old.keeper.store) self.old.keeper.book
+            (S.facts self.new.keeper.store)) }
+        ensures unsaved { OnErr result (IsBookUnsaved (S.facts self.old.keeper.store) self.old.keeper.book
+            (S.facts self.new.keeper.store)) }
     {
-        let text = self.book.write(alloc)?;
         let file = String::from_str(alloc, self.path)?;
-        if text.len() > LONGEST_BOOK {
-            return Err(Fault::CannotWrite(file));
-        }
-        match self.store.save(text) {
+        match self.keeper.save(alloc) {
             Ok(()) => Ok(()),
-            Err(_) => Err(Fault::CannotWrite(file)),
+            Err(fault) => Err(save_fault(fault, file)),
         }
+    }
+}
+
+// The fault of a book that is not saved in this file.
+fn save_fault(fault: SaveFault, file: String) -> Fault
+    ensures file { IsFileUnwrittenOrNoMemory (string_bytes file) result }
+    ensures memory { result ≡ Fault.NoMemory → fault ≡ SaveFault.NoMemory }
+    ensures unwritten { result ≢ Fault.NoMemory → fault ≡ SaveFault.NotSaved }
+{
+    match fault {
+        SaveFault::NotSaved => Fault::CannotWrite(file),
+        SaveFault::NoMemory => Fault::NoMemory,
     }
 }

@@ -2,14 +2,14 @@
 ghost use Rattle.std.specs.Prelude.{◌≡◌, ◌≤◌, ◌+◌, Bool, [], ◌∷◌, length, IfErr, IfOk, IfSome, IfNone};
 ghost use Rattle.std.specs.Io.KnownBytes.{Consumes, IsAtEnd};
 ghost use Rattle.command_io.specs.Input.{line_bytes, TakesLine, IsFirstLine, IsInputUnreadOrNoMemory};
-ghost use Rattle.command_io.specs.declared.input.TheConstants.{LONGEST_INPUT};
+ghost use Rattle.command_io.specs.declared.input.TheConstants.{MAX_INPUT_LEN};
 
 use command_line::Fault;
 use std::alloc::Global;
 use std::io::{BufRead, ErrorKind, Read};
 
 // The most bytes of its input that a command reads (16 MiB).
-const LONGEST_INPUT: usize = 16_777_216;
+const MAX_INPUT_LEN: usize = 16_777_216;
 
 /// The first line of `input` without its LF, or all of `input` if it has no LF. Takes nothing after the line from `input`. Faults:
 /// CannotReadInput if a read fails or the line and its LF have more than 16777216 bytes, and NoMemory.
@@ -17,10 +17,10 @@ const LONGEST_INPUT: usize = 16_777_216;
 pub fn first_line<I: BufRead>(alloc: Global, input: &mut I) -> Result<Vec<u8>, Fault>
     ensures first { IfOk result (λ line. IsFirstLine (I.remaining input.old) line.items) }
     ensures taken { IfOk result (λ line. (has_lf : Bool) × TakesLine (I.remaining input.old) line.items has_lf (I.remaining input.new)) }
-    ensures most { IfOk result (λ line. length line.items ≤ LONGEST_INPUT) }
+    ensures most { IfOk result (λ line. length line.items ≤ MAX_INPUT_LEN) }
     ensures err { IfErr result IsInputUnreadOrNoMemory }
 {
-    let (line, _) = read_line(alloc, input, LONGEST_INPUT)?;
+    let (line, _) = read_line(alloc, input, MAX_INPUT_LEN)?;
     Ok(line)
 }
 
@@ -32,18 +32,18 @@ pub struct Lines<'a, I> {
     // How many more bytes may be read.
     left: usize,
 
-    ghost most: { left ≤ LONGEST_INPUT },
+    ghost most: { left ≤ MAX_INPUT_LEN },
 }
 
 impl<'a, I: BufRead> Lines<'a, I> {
     /// The lines of `input` from its current position.
     pub fn new(input: &'a mut I) -> Lines<'a, I>
         ensures input { result.input ≡ input.entry }
-        ensures left { result.left ≡ LONGEST_INPUT }
+        ensures left { result.left ≡ MAX_INPUT_LEN }
     {
         Lines {
             input,
-            left: LONGEST_INPUT,
+            left: MAX_INPUT_LEN,
         }
     }
 

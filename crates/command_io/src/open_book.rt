@@ -63,7 +63,8 @@ where
     R: Files + Clock + AllocGlobal,
     R::File: BookFileExt,
     E: Write,
-    ensures read { IfOk result (λ held. IsReadBook R.File.remaining (⟦<FileStore<'r, R> as BookStore>⟧.facts held.store).saved held.book) }
+    ensures read { IfOk result (λ held. IsReadBook R.File.remaining (⟦<FileStore<'r, R> as BookStore>⟧.facts held.keeper.store).saved
+        held.keeper.book) }
     ensures path { IfOk result (λ held. held.path.now ≡ path.now) }
     ensures err { IfErr result (CannotOpenBook R.File.remaining path.now) }
 {
@@ -89,8 +90,8 @@ pub fn parse_held<'a, 'r, R>(
 where
     R: Files + Clock + AllocGlobal,
     R::File: BookFileExt,
-    ensures text { IfOk result (λ held. IsBookText (⟦<FileStore<'r, R> as BookStore>⟧.facts held.store).saved held.book) }
-    ensures saved { IfOk result (λ held. (⟦<FileStore<'r, R> as BookStore>⟧.facts held.store).saved ≡ string_bytes text) }
+    ensures text { IfOk result (λ held. IsBookText (⟦<FileStore<'r, R> as BookStore>⟧.facts held.keeper.store).saved held.keeper.book) }
+    ensures saved { IfOk result (λ held. (⟦<FileStore<'r, R> as BookStore>⟧.facts held.keeper.store).saved ≡ string_bytes text) }
     ensures path { IfOk result (λ held. held.path.now ≡ path.now) }
     ensures err { IfErr result (λ fault. (fault ≡ Fault.NoMemory)
         ⊎ ((found : BookFault) × (fault ≡ fault_of_book found) × IsFirstFault (string_bytes text) found)) }
@@ -134,7 +135,7 @@ pub fn hold_fault<E: Write>(alloc: Global, path: &str, fault: HoldFault, faults:
         return Fault::NoMemory;
     };
     match fault {
-        HoldFault::Unreadable(error) => Fault::of_reading(file, &error),
+        HoldFault::Unreadable(error) => Fault::from_read_error(file, &error),
         HoldFault::Missing => Fault::CannotRead(file),
         HoldFault::Unwritable(_) => Fault::CannotWrite(file),
         HoldFault::InTheWay(next) => Fault::CannotWrite(next),

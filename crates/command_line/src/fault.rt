@@ -77,7 +77,7 @@ pub enum Fault {
 
 impl Fault {
     /// The fault for a failed read of the file at the path `file`: NoMemory if memory ran out, else CannotRead.
-    pub fn of_reading(file: String, error: &io::Error) -> Fault
+    pub fn from_read_error(file: String, error: &io::Error) -> Fault
         ensures no_memory { error_kind error.now ≡ ErrorKind.OutOfMemory → result ≡ Fault.NoMemory }
         ensures unread { error_kind error.now ≢ ErrorKind.OutOfMemory → result ≡ Fault.CannotRead file }
         ensures status { status_of result ≡ 3 }

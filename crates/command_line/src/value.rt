@@ -11,8 +11,8 @@ ghost use Rattle.otp_core.specs.Hash.{hash_name};
 use crate::fault::Fault;
 use crate::option_name::OptionName;
 use mac_core::Mechanism;
-use otp_core::{Digits, LAST_MOMENT, LEAST_DIGITS, MOST_DIGITS, Moment, OtpHash, Secret};
-use scram_text::{MOST_COUNT, NoncePart, PlainName, Salt};
+use otp_core::{Digits, MAX_DIGITS, MAX_MOMENT, MIN_DIGITS, Moment, OtpHash, Secret};
+use scram_text::{MAX_ITERATION_COUNT, NoncePart, PlainName, Salt};
 use std::alloc::Global;
 
 /// The number from `least` to `most` that `text` spells in decimal: `0`, or a digit 1 to 9 and any digits. Errors: BadValue with
@@ -34,7 +34,7 @@ pub fn count(text: &str) -> Result<u32, Fault>
     ensures err { IfErr result (λ fault. (fault ≡ Fault.BadValue OptionName.Count)
         × ((n : ℕ) → IsCount n → text.now ≢ decimal n)) }
 {
-    let n = number_within(OptionName::Count, text, 1, u64::from(MOST_COUNT))?;
+    let n = number_within(OptionName::Count, text, 1, u64::from(MAX_ITERATION_COUNT))?;
     Ok(n as u32)
 }
 
@@ -44,7 +44,7 @@ pub fn digits(text: &str) -> Result<Digits, Fault>
     ensures err { IfErr result (λ fault. (fault ≡ Fault.BadValue OptionName.Digits)
         × ((n : ℕ) → IsDigitCount n → text.now ≢ decimal n)) }
 {
-    let (least, most) = (u64::from(LEAST_DIGITS), u64::from(MOST_DIGITS));
+    let (least, most) = (u64::from(MIN_DIGITS), u64::from(MAX_DIGITS));
     let n = number_within(OptionName::Digits, text, least, most)?;
     let Ok(digits) = Digits::new(n as u8) else {
         unreachable!()
@@ -58,7 +58,7 @@ pub fn moment(option: OptionName, text: &str) -> Result<Moment, Fault>
     ensures err { IfErr result (λ fault. (fault ≡ Fault.BadValue option)
         × ((n : ℕ) → IsMoment n → text.now ≢ decimal n)) }
 {
-    let seconds = number_within(option, text, 0, LAST_MOMENT)?;
+    let seconds = number_within(option, text, 0, MAX_MOMENT)?;
     let Some(moment) = Moment::new(seconds) else {
         unreachable!()
     };

@@ -1,4 +1,5 @@
 -- The lemmas that the proofs of this crate cite.
+pub mod Attempts
 pub mod Cases
 pub mod ClientLines
 pub mod DeskLogs

@@ -9,7 +9,7 @@ use Rattle.otp_core.specs.Ranges.{IsMoment}
 use Rattle.scram_text.specs.Class.{IsNoncePart}
 use Rattle.book_format.specs.Book.{BookFields}
 use Rattle.account_book.specs.Store.{StoreFacts}
-use Rattle.book_file.specs.Text.{IsWritten}
+use Rattle.book_file.specs.Saved.{IsSavedText}
 use Rattle.clap.specs.declared.parser.matches.ArgMatches.{ArgMatches}
 use Rattle.command_line.specs.Fault.{IsFileUnwrittenOrNoMemory}
 use Rattle.command_line.specs.declared.fault.Fault.{Fault}
@@ -161,12 +161,12 @@ pub record RunsHall {File : Type 0} (bytes_of written_to : File → Option (List
   pub text : List ℕ
   pub book : BookFields
   pub is_read : IsReadBook bytes_of text book
-  pub printed : PrintsHallLog (IsWritten written_to) book input last old new
+  pub printed : PrintsHallLog (IsSavedText written_to) book input last old new
 
 -- `RunsHall`, and the next line of the input is bad after it
 abbrev pub RunsToBadEvent : {File : Type 0} → (bytes_of written_to : File → Option (List ℕ)) → (input old new : Option (List ℕ)) → Type 0
 RunsToBadEvent bytes_of written_to input old new =
-    (text : List ℕ) × (book : BookFields) × IsReadBook bytes_of text book × PrintsToBadEvent (IsWritten written_to) book input old new
+    (text : List ℕ) × (book : BookFields) × IsReadBook bytes_of text book × PrintsToBadEvent (IsSavedText written_to) book input old new
 
 -- the fault at which a hall stops hearing: a line of its input can't be read, says no event, or one of a session that is not open; the
 -- book, whose file has this path, can't be saved; the output can't be written; or memory ran out

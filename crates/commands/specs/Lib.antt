@@ -1,4 +1,5 @@
 -- What `verify`, `login`, `hall`, `audit` and `upgrade` do, which faults end them, and what a run of the program does.
+pub mod Attempts
 pub mod Audit
 pub mod ClientEnd
 pub mod DeskLog

@@ -7,7 +7,7 @@ use Rattle.mac_core.specs.Mechanism.{name_of}
 use Rattle.otp_core.specs.Ranges.{IsMoment}
 use Rattle.scram_text.specs.Class.{IsPassword, IsPlainName}
 use Rattle.book_format.specs.Book.{BookFields}
-use Rattle.book_file.specs.Text.{IsWritten}
+use Rattle.book_file.specs.Saved.{IsSavedText}
 use Rattle.clap.specs.declared.parser.matches.ArgMatches.{ArgMatches}
 use Rattle.command_line.specs.declared.option_name.OptionName.TheVariants as option
 use Rattle.log_grammar.specs.Demands.{Accounts}
@@ -78,7 +78,7 @@ pub record PrintsLogin {File : Type 0} (bytes_of written_to : File → Option (L
   pub is_moment : option_map decimal moment ≡ value_of words option.Moment
   pub moment_range : IfSome moment IsMoment
   -- the text of the book to which the replies in the log lead was written to a file
-  pub printed : HasSavedLog (IsWritten written_to) (IsGiven moment) IsOfKind book server_nonce old new
+  pub printed : HasSavedLog (IsSavedText written_to) (IsGiven moment) IsOfKind book server_nonce old new
 
 -- what a login prints, given the bytes of files and those written to them
 module _ {File : Type 0} (bytes_of written_to : File → Option (List ℕ)) where

@@ -7,7 +7,7 @@ use Rattle.otp_core.specs.Attempt.{CodeTexts}
 use Rattle.otp_core.specs.Attempt.CodeTexts.{one_text, two_texts}
 use Rattle.otp_core.specs.declared.token.reply.Reply.TheVariants.{Pass}
 use Rattle.log_grammar.specs.Bytes.{LacksLf}
-use Rattle.log_grammar.specs.Lines.{IsLine, longest_line, from_server, from_client, replies, sync}
+use Rattle.log_grammar.specs.Lines.{IsLine, max_line_len, from_server, from_client, replies, sync}
 use Rattle.commands.specs.Talked.{Talked, Receives}
 
 -- a line says two codes in a row if it is a SYNC line of the protocol, and else one code, the line itself
@@ -19,7 +19,7 @@ SaysCodes line (one_text text) = (text ≡ line) × ((first second : List ℕ) �
 -- first 6201 bytes of the line. A line with more is too long either way.
 abbrev pub sent_for : List ℕ → CodeTexts → List ℕ
 sent_for line (two_texts first second) = line ++ byte "\n" ∷ []
-sent_for line (one_text text) = codes "CODE " ++ (take (longest_line + 1) line ++ byte "\n" ∷ [])
+sent_for line (one_text text) = codes "CODE " ++ (take (max_line_len + 1) line ++ byte "\n" ∷ [])
 
 -- the server says that a code has passed
 abbrev pub IsPassLine : List ℕ → Type 0

@@ -13,7 +13,7 @@ use Rattle.otp_core.specs.declared.token.reply.Reply.TheVariants.{Pass, Fail, Lo
 use Rattle.book_format.specs.Book.{BookFields}
 use Rattle.account_book.specs.Accounts.{account_at}
 use Rattle.account_book.specs.Store.{StoreFacts}
-use Rattle.book_file.specs.Text.{IsWritten}
+use Rattle.book_file.specs.Saved.{IsSavedText}
 use Rattle.log_grammar.specs.Lines.{reply_text}
 use Rattle.clap.specs.declared.parser.matches.ArgMatches.{ArgMatches}
 use Rattle.command_line.specs.Fault.{IsTokenFault}
@@ -59,6 +59,12 @@ IsReplyLost path name moment sent old fault new =
 
 -- how the lines of an input are answered: `IsStored` is true of each text that is stored
 module _ (IsStored : List ℕ → Type 0) where
+  -- a reply may be printed: it was due to an attempt at this moment that led to the held book, and that book was saved if the reply
+  -- needs it
+  abbrev pub MayBePrinted : (moment : ℕ) → Reply → HeldFacts → Type 0
+  MayBePrinted moment reply held =
+      (before : HeldFacts) × (name : List ℕ) × (sent : CodeTexts) × IsReplySaved IsStored before name moment sent reply held
+
   -- a line is answered: the reply is due to what it says, what the reply changes is saved, and the reply is printed. If the save fails,
   -- no reply is printed (`IsReplyLost`).
   pub record IsLineAnswered (name : List ℕ) (moment : ℕ) (line : List ℕ) (old : VerifyRun) (reply : Reply) (new : VerifyRun) : Type 0 where
@@ -123,7 +129,7 @@ module _ {File : Type 0} (bytes_of written_to : File → Option (List ℕ)) wher
     pub first : VerifyRun
     pub last : VerifyRun
     pub begins : BeginsToVerify bytes_of words old moment first
-    pub answers : AnswersAllLines (IsWritten written_to) (given_value words option.Name) moment input first all_passed last
+    pub answers : AnswersAllLines (IsSavedText written_to) (given_value words option.Name) moment input first all_passed last
     pub printed : last.printed ≡ new
 
   -- a run begins, and the first lines of the input are answered in this way; then comes this fault
@@ -132,6 +138,6 @@ module _ {File : Type 0} (bytes_of written_to : File → Option (List ℕ)) wher
     pub first : VerifyRun
     pub last : VerifyRun
     pub begins : BeginsToVerify bytes_of words old moment first
-    pub answers : AnswersFirstLines (IsWritten written_to) (given_value words option.Book) (given_value words option.Name) moment input
+    pub answers : AnswersFirstLines (IsSavedText written_to) (given_value words option.Book) (given_value words option.Name) moment input
         first fault last
     pub printed : last.printed ≡ new

@@ -8,8 +8,9 @@ use sasl_desk::{DeskFault, ServeFault};
 use std::alloc::Global;
 
 /// The fault of a command whose desk or hall refuses a call. Halted becomes CannotWrite of the book: a command calls no desk or
-/// hall that has halted, so only `begin` returns Halted, when its save fails. NoNumber becomes CannotWrite too, but never occurs,
-/// since an input has fewer lines than there are session numbers.
+/// hall that has halted, so only `begin` returns Halted, when its save fails. NoNumber becomes CannotWrite too, as no fault of its
+/// own is needed: a hall gives one number for each input line at most, and there are more than 9 * 10^18 numbers. At a thousand
+/// million lines a second, these last for more than 290 years.
 pub(crate) fn desk_fault(alloc: Global, path: &str, fault: DeskFault) -> Fault
     requires { fault ≢ DeskFault.Unwritable }
     ensures unwritten { IsFileUnwrittenOrNoMemory path.now result }

@@ -75,13 +75,13 @@ where
     S: BookStore + Drop,
     I: BufRead,
     O: Write + Drop,
-    ensures ok { OnOk result.0 (PrintsHallLog S.IsStored held.entry.book (I.remaining input.old) []
+    ensures ok { OnOk result.0 (PrintsHallLog S.IsStored held.entry.keeper.book (I.remaining input.old) []
         (O.contents output) (O.contents result.1)) }
     ensures err { IfErr result.0 (λ fault. StopsAfter fault (O.contents output) (O.contents result.1)
-        ((last : List (List ℕ)) × PrintsHallLog S.IsStored held.entry.book (I.remaining input.old) last
+        ((last : List (List ℕ)) × PrintsHallLog S.IsStored held.entry.keeper.book (I.remaining input.old) last
         (O.contents output) (O.contents result.1))) }
     ensures bad { IsErrOf result.0 Fault.BadEvent
-        → PrintsToBadEvent S.IsStored held.entry.book (I.remaining input.old) (O.contents output) (O.contents result.1) }
+        → PrintsToBadEvent S.IsStored held.entry.keeper.book (I.remaining input.old) (O.contents output) (O.contents result.1) }
     ensures why { IfErr result.0 (StopsHearing held.entry.path.now) }
 {
     log_is_a_front::<S>();

@@ -1,7 +1,7 @@
 //! The program's commands: `verify`, `login`, `hall`, `audit` and `upgrade` are here, the others in `account_commands`.
 //!
 //! `run` finds the command that the words name, and does all the work of a run of the program. It is given the words, the streams
-//! and a runtime, so tests can pass in files and streams that fail.
+//! and a runtime, so tests can pass in files and streams that fail. `laws` says what runs of `verify` do to a book.
 //!
 //! No contract states in which order a command reports its faults, or what it asks at a terminal. Tests check both. A call of a law
 //! does nothing at run time: it only gives the proof a fact.
@@ -11,6 +11,7 @@ mod audit;
 mod audit_lines;
 mod desk_fault;
 mod hall;
+pub mod laws;
 mod login;
 mod printed_log;
 mod program;

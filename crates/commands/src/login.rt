@@ -43,7 +43,7 @@ use command_words::given;
 use options::read_options;
 use otp_core::Moment;
 use sasl_desk::laws::{log_is_a_front, log_is_clean, log_is_saved};
-use sasl_log::{LONGEST_LINE, Sink, Source};
+use sasl_log::{MAX_LINE_LEN, Sink, Source};
 use scram_text::{NoncePart, Password};
 use socket::Connection;
 use std::alloc::Global;
@@ -55,7 +55,7 @@ use std::time::Clock;
 use talk::Talk;
 
 // The most bytes of a line of the protocol with its LF. No more are read.
-const LONGEST_WITH_LF: usize = LONGEST_LINE + 1;
+const MAX_LINE_AND_LF_LEN: usize = MAX_LINE_LEN + 1;
 
 // What a login begins with: the book, the client and the lines that it is to send, the server's part of the nonce, and the moment
 // of all codes, if one was given.
@@ -136,8 +136,8 @@ where
     ensures is_password { IfOk result (λ login. IsPassword login.client.password) }
     ensures password { IfOk result (λ login. (has_lf : Bool)
         × TakesLine (I.remaining input.old) login.client.password has_lf (I.remaining login.lines.input.now)) }
-    ensures book { IfOk result (λ login. IsReadBook R.File.remaining (⟦<FileStore<'a, R> as BookStore>⟧.facts login.held.store).saved
-        login.held.book) }
+    ensures book { IfOk result (λ login. IsReadBook R.File.remaining (⟦<FileStore<'a, R> as BookStore>⟧.facts login.held.keeper.store).saved
+        login.held.keeper.book) }
     ensures path { IfOk result (λ login. login.held.path.now ≡ given_value matches.now OptionName.Book) }
     ensures err { IfErr result (CannotPrepare R.File.remaining matches.now (I.remaining input.old)) }
 {
@@ -190,12 +190,12 @@ where
     O: Write + Drop,
     requires { login.moment ≡ G.moment }
     ensures ok { OnOk result.0
-        (HasSavedLog S.IsStored (IsGiven G.moment) IsClean login.entry.held.book login.entry.server_nonce
+        (HasSavedLog S.IsStored (IsGiven G.moment) IsClean login.entry.held.keeper.book login.entry.server_nonce
         (O.contents output) (O.contents result.1)) }
     ensures passes { result.0 ≡ Ok true → PrintsPasses login.entry.client.user login.entry.client.nonce login.entry.client.password
         (I.remaining login.entry.lines.input.now) (O.contents output) (O.contents result.1) }
     ensures err { IfErr result.0 (λ fault. StopsAfter fault (O.contents output) (O.contents result.1)
-        (HasSavedLog S.IsStored (IsGiven G.moment) IsLogFront login.entry.held.book login.entry.server_nonce
+        (HasSavedLog S.IsStored (IsGiven G.moment) IsLogFront login.entry.held.keeper.book login.entry.server_nonce
         (O.contents output) (O.contents result.1))) }
     ensures why { IfErr result.0 (StopsTalking login.entry.held.path.now) }
 {

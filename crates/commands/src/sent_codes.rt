@@ -1,17 +1,17 @@
 //! Reads an input line of `verify` or `login`: one code, or two in a row.
-ghost use Rattle.otp_core.specs.Sent.{texts_of};
+ghost use Rattle.otp_core.specs.SentCodes.{texts_of};
 ghost use Rattle.commands.specs.SentCodes.{SaysCodes};
 
-use otp_core::Sent;
+use otp_core::SentCodes;
 use sasl_log::{ClientLine, Line, read_line};
 
 /// The codes in a line without its LF: two texts if it is a SYNC line of the protocol; otherwise the line itself, as one text.
-pub(crate) fn codes_in(line: &[u8]) -> Sent<'_>
+pub(crate) fn codes_in(line: &[u8]) -> SentCodes<'_>
     ensures { SaysCodes line.now (texts_of result) }
 {
     match read_line(line) {
-        Ok(Line::FromClient(ClientLine::Sync(first, second))) => Sent::Two(first, second),
-        Ok(_) => Sent::One(line),
-        Err(_) => Sent::One(line),
+        Ok(Line::FromClient(ClientLine::Sync(first, second))) => SentCodes::Two(first, second),
+        Ok(_) => SentCodes::One(line),
+        Err(_) => SentCodes::One(line),
     }
 }

@@ -1,8 +1,9 @@
 //! The command `verify`: judges each input line as a one-time code, or as two in a row.
 ghost use Rattle.std.specs.Prelude.{◌≡◌, ◌⊎◌, ◌&&◌, IfOk, IfErr, OnOk};
 ghost use Rattle.std.specs.Io.KnownBytes.{Appends};
+ghost use Rattle.command_io.specs.HeldBook.{held_shown};
 ghost use Rattle.commands.specs.Verify.{is_passed, printed_reply, run_of, IsLineAnswered, IsUnprinted, CannotBeginToVerify, FailsAtLine};
-ghost use Rattle.commands.specs.Verify.{AnswersAllLines, AnswersFirstLines, VerifiesAllLines, VerifiesFirstLines};
+ghost use Rattle.commands.specs.Verify.{MayBePrinted, AnswersAllLines, AnswersFirstLines, VerifiesAllLines, VerifiesFirstLines};
 
 use crate::sent_codes::codes_in;
 use account_book::{BookStore, Reply};
@@ -101,7 +102,7 @@ fn answer_line<S: BookStore, O: Write>(
     ensures path { held.new.path.now ≡ held.old.path.now }
 {
     let reply = held.judge(alloc, name, moment, codes_in(line))?;
-    print_reply(alloc, moment, reply, output)?;
+    print_reply(alloc, held, moment, reply, output)?;
     Ok(reply)
 }
 
@@ -112,13 +113,16 @@ fn and_reply_passed(so_far: bool, reply: Reply) -> bool
     so_far && matches!(reply, Reply::Pass(_))
 }
 
-// Prints a reply and flushes the output. Faults: CannotWriteOutput and NoMemory.
-fn print_reply<O: Write>(
+// Prints a reply and flushes the output. It may be called only after `HeldBook::judge` has returned the reply, and so has saved the
+// held book with this attempt in it, unless the reply is LOCKED. Faults: CannotWriteOutput and NoMemory.
+fn print_reply<S: BookStore, O: Write>(
     alloc: Global,
+    held: &HeldBook<'_, S>,
     moment: Moment,
     reply: Reply,
     output: &mut O,
 ) -> Result<(), Fault>
+    requires { MayBePrinted S.IsStored moment reply (held_shown S.facts held.now) }
     ensures printed { OnOk result (Appends (O.contents output.old) (O.contents output.new) (printed_reply reply moment)) }
     ensures err { IfErr result (λ fault. IsUnprinted fault (O.contents output.old) (O.contents output.new)) }
 {

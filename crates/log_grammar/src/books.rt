@@ -7,8 +7,8 @@ ghost use Rattle.log_grammar.specs.Demands.{AllCanBeChallenged};
 ghost use Rattle.log_grammar.specs.Books.{accounts_in};
 ghost use Rattle.log_grammar.specs.Versions.{IsLogFront, IsFaultLine, BeginsClean, IsFirstOutsideCleanLogs};
 
-use crate::by_sessions::fault_lines_begin_no_clean_log;
 use crate::laws::fronts_are_what_begins_clean_logs;
+use crate::version_one::by_sessions::fault_lines_begin_no_clean_log;
 
 /// A challenge can be written for each account of a book, and for each decoy.
 pub fn books_can_be_challenged()

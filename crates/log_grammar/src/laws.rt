@@ -1,6 +1,6 @@
 //! Laws of lines and logs, for proofs that build on this crate. Each is the contract of a function that does nothing.
 ghost use Rattle.log_grammar.specs.laws.LineLaws.{EscapesOneMessage, EachTextIsAtMostOneLine, EachTextIsAtMostOneLogLine, LineIsDecided};
-ghost use Rattle.log_grammar.specs.laws.LineLaws.{LogLineIsDecided, LinesLackLf, BytesAreSplit, BytesAreSplitOneWay};
+ghost use Rattle.log_grammar.specs.laws.LineLaws.{LogLineIsDecided, LinesLackLf, BytesHaveASplit, BytesHaveOneSplitAtMost};
 ghost use Rattle.log_grammar.specs.laws.LogLaws.{GoesOnByALine, GoesOnByNoOther, LogsHaveOneReading, FrontsBeginWithFronts};
 ghost use Rattle.log_grammar.specs.laws.LogLaws.{CleanLogsAreFronts, EachAccountHasItsHistory, MomentsAreInRange, HasOneFaultLine};
 ghost use Rattle.log_grammar.specs.laws.LogLaws.{EachFaultHasOneReason, EachLogIsJudged, ClassesFollowThePlace};
@@ -45,12 +45,12 @@ pub fn lines_lack_lf()
 
 /// Any bytes are lines, each with its LF, and what follows the last LF.
 pub fn bytes_have_a_split()
-    ensures { BytesAreSplit }
+    ensures { BytesHaveASplit }
 {}
 
 /// Bytes are split into lines in at most one way.
 pub fn bytes_have_one_split_at_most()
-    ensures { BytesAreSplitOneWay }
+    ensures { BytesHaveOneSplitAtMost }
 {}
 
 /// A log can continue with each line that may stand at its place; a reply also has to be the one due.

@@ -14,13 +14,21 @@ padded_key hash block key =
 abbrev pub xor_each : (byte : ℕ) → (bytes : List ℕ) → List ℕ
 xor_each byte bytes = map (λ x. bit_xor x byte) bytes
 
+-- the byte of ipad
+abbrev pub ipad : ℕ
+ipad = 0x36
+
+-- the byte of opad
+abbrev pub opad : ℕ
+opad = 0x5C
+
 -- K0 xor ipad, which the inner hash reads before the text
 abbrev pub inner_block : (hash : List ℕ → List ℕ) → (block : ℕ) → (key : List ℕ) → List ℕ
-inner_block hash block key = xor_each 0x36 (padded_key hash block key)
+inner_block hash block key = xor_each ipad (padded_key hash block key)
 
 -- K0 xor opad, which the outer hash reads before the inner digest
 abbrev pub outer_block : (hash : List ℕ → List ℕ) → (block : ℕ) → (key : List ℕ) → List ℕ
-outer_block hash block key = xor_each 0x5C (padded_key hash block key)
+outer_block hash block key = xor_each opad (padded_key hash block key)
 
 -- HMAC(K, t) = H((K0 xor opad) ++ H((K0 xor ipad) ++ t))
 unfoldable pub hmac : (hash : List ℕ → List ℕ) → (block : ℕ) → (key text : List ℕ) → List ℕ

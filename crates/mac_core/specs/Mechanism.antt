@@ -23,12 +23,12 @@ name_of ScramSha256 = codes "SCRAM-SHA-256"
 abbrev pub IsOffered : Mechanism → (names : List ℕ) → Type 0
 IsOffered mechanism names = Contains (slice_split (λ c. c == byte " ") names) (name_of mechanism)
 
--- H of the mechanism
+-- H of the mechanism (RFC 5802, section 4, and RFC 7677, section 3)
 abbrev pub hash_by : Mechanism → (text : List ℕ) → List ℕ
 hash_by ScramSha1 = sha1
 hash_by ScramSha256 = sha256
 
--- the length in bytes of a block of the mechanism's hash function
+-- the length in bytes of a block of the mechanism's hash function (FIPS 180-4, section 1)
 abbrev pub block_by : Mechanism → ℕ
 block_by ScramSha1 = 64
 block_by ScramSha256 = 64

@@ -13,15 +13,15 @@ const IPAD: u8 = 0x36;
 const OPAD: u8 = 0x5C;
 
 // The longest block of the hash functions here, that of SHA-512.
-const LONGEST_BLOCK: usize = 128;
+const MAX_BLOCK_LEN: usize = 128;
 
 // A padded key: K0 of FIPS 198-1, section 4.
-type Block = ArrayVec<u8, LONGEST_BLOCK>;
+type Block = ArrayVec<u8, MAX_BLOCK_LEN>;
 
 // The key, padded with zeros to the length of a block. It must not be longer than a block.
 fn zero_filled(key: &[u8], block: usize) -> Block
     requires fits { length key.now ≤ block }
-    requires most { block ≤ LONGEST_BLOCK }
+    requires most { block ≤ MAX_BLOCK_LEN }
     ensures { result.items ≡ key.now ++ replicate (block - length key.now) 0 }
 {
     let mut filled: Block = copy_of(key);

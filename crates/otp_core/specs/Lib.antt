@@ -12,4 +12,4 @@ pub mod State
 pub mod TokenAttempt
 pub mod TokenRanges
 pub mod Window
-pub mod Sent
+pub mod SentCodes

@@ -1,7 +1,7 @@
 -- How the counter of a pass is found, what the pass demands of a token, and the reply for what was found. For private functions only:
 -- no public contract cites this file.
 use Rattle.std.specs.Prelude.{ℕ, ◌≤◌, ◌<◌, [], Option, None, Some}
-use Rattle.otp_core.specs.Ranges.{most_counter}
+use Rattle.otp_core.specs.Ranges.{max_counter}
 use Rattle.otp_core.specs.Window.{IsCandidate}
 use Rattle.otp_core.specs.declared.token.reply.Reply.{Reply}
 use Rattle.otp_core.specs.declared.token.reply.Reply.TheVariants.{Pass, Fail}
@@ -21,7 +21,7 @@ IsLeast Fits None = (k : ℕ) → Fits k → ⊥
 -- what the token's ranges demand of a counter that passes at a moment: with HOTP, it is at most the greatest that can pass; with
 -- TOTP, it is a step that can pass at that moment
 abbrev pub CanMoveTo : TokenFields → (moment c : ℕ) → Type 0
-CanMoveTo (Hotp t) moment c = c ≤ most_counter
+CanMoveTo (Hotp t) moment c = c ≤ max_counter
 CanMoveTo (Totp t) moment w = IsCandidate (Totp t) [] moment w
 
 -- the reply: Pass of the counter that was found to fit, or Fail if none was found

@@ -1,7 +1,7 @@
 -- The ranges of the fields of tokens, and which field is the first outside its range.
 use Rattle.std.specs.Prelude.{◌+◌, ◌≤◌, ◌≡◌, ◌⊎◌, List, [], ◌∷◌, nat_abs}
 use Rattle.std.specs.Option.{ForSome}
-use Rattle.otp_core.specs.Ranges.{most_counter, most_look_ahead, most_sync_ahead, longest_step, most_steps_aside, most_drift, most_limit}
+use Rattle.otp_core.specs.Ranges.{max_counter, max_look_ahead, max_sync_ahead, max_step, max_window_steps, max_drift_bound, max_limit}
 use Rattle.otp_core.specs.declared.fault.OtpFault.{OtpFault}
 use Rattle.otp_core.specs.declared.fault.OtpFault.TheVariants as fault
 use Rattle.otp_core.specs.declared.fault.Setting.{Setting}
@@ -33,23 +33,23 @@ range setting IsIn = record { setting = setting; IsIn = IsIn }
 -- the settings of a HOTP token that have a range, in the order in which they are checked
 abbrev pub hotp_ranges : HotpFields → List Ranged
 hotp_ranges t =
-    range Next (t.next ≤ most_counter + 1)
-    ∷ range LookAhead (t.look_ahead ≤ most_look_ahead)
-    ∷ range SyncAhead (t.sync_ahead ≤ most_sync_ahead)
-    ∷ range Limit ((1 ≤ t.limit) × (t.limit ≤ most_limit))
+    range Next (t.next ≤ max_counter + 1)
+    ∷ range LookAhead (t.look_ahead ≤ max_look_ahead)
+    ∷ range SyncAhead (t.sync_ahead ≤ max_sync_ahead)
+    ∷ range Limit ((1 ≤ t.limit) × (t.limit ≤ max_limit))
     ∷ range Failures (t.failures ≤ t.limit)
     ∷ []
 
 -- the settings of a TOTP token that have a range, in the order in which they are checked
 abbrev pub totp_ranges : TotpFields → List Ranged
 totp_ranges t =
-    range Step ((1 ≤ t.step) × (t.step ≤ longest_step))
-    ∷ range Back (t.back ≤ most_steps_aside)
-    ∷ range Ahead (t.ahead ≤ most_steps_aside)
-    ∷ range MaxDrift (t.max_drift ≤ most_drift)
-    ∷ range Last (ForSome t.last (λ l. l ≤ most_counter))
+    range Step ((1 ≤ t.step) × (t.step ≤ max_step))
+    ∷ range Back (t.back ≤ max_window_steps)
+    ∷ range Ahead (t.ahead ≤ max_window_steps)
+    ∷ range MaxDrift (t.max_drift ≤ max_drift_bound)
+    ∷ range Last (ForSome t.last (λ l. l ≤ max_counter))
     ∷ range Drift (nat_abs t.drift ≤ t.max_drift)
-    ∷ range Limit ((1 ≤ t.limit) × (t.limit ≤ most_limit))
+    ∷ range Limit ((1 ≤ t.limit) × (t.limit ≤ max_limit))
     ∷ range Failures (t.failures ≤ t.limit)
     ∷ []
 

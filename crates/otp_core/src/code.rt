@@ -2,7 +2,7 @@
 ghost use Rattle.std.specs.Prelude.{◌≡◌, ◌≤◌, ◌<◌, ◌%◌, ◌^◌, ℕ, List, length, MatchOption};
 ghost use Rattle.mac_core.specs.Hmac.{IsPreparedFor};
 ghost use Rattle.otp_core.specs.Code.{truncated, last_digits, code_of, hotp_text, IsCodeText, steps_from};
-ghost use Rattle.otp_core.specs.Ranges.{most_digits};
+ghost use Rattle.otp_core.specs.Ranges.{max_digits};
 
 use crate::digits::Digits;
 use crate::moment::Moment;
@@ -49,7 +49,7 @@ fn truncated_number(tag: &[u8]) -> u32
 
 // The last `count` decimal digits of a number in ASCII, with leading zeros.
 fn digits_of(mut number: u32, count: usize) -> ArrayVec<u8, 8>
-    requires { count ≤ most_digits }
+    requires { count ≤ max_digits }
     ensures { result.items ≡ last_digits count number }
 {
     let mut digits = ArrayVec::new();

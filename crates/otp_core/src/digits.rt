@@ -7,10 +7,10 @@ use crate::fault::OtpFault;
 use std::marker::Model;
 
 /// The least number of digits of a code (RFC 4226, section 5.3).
-pub const LEAST_DIGITS: u8 = 6;
+pub const MIN_DIGITS: u8 = 6;
 
 /// The greatest number of digits of a code (RFC 4226, section 5.3).
-pub const MOST_DIGITS: u8 = 8;
+pub const MAX_DIGITS: u8 = 8;
 
 /// The number of digits of a code: 6 to 8 (RFC 4226, section 5.3). Contracts see it as that number.
 #[derive(Clone, Copy, Debug, PartialEq, Eq)]
@@ -35,7 +35,7 @@ impl Digits {
             (λ digits. (digits ≡ count) × IsDigitCount count)
             (λ fault. (fault ≡ DigitCount) × (IsDigitCount count → ⊥)) }
     {
-        if LEAST_DIGITS <= count && count <= MOST_DIGITS {
+        if MIN_DIGITS <= count && count <= MAX_DIGITS {
             Ok(Digits { count })
         } else {
             Err(OtpFault::DigitCount)

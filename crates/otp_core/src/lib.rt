@@ -24,13 +24,13 @@ mod sent;
 mod token;
 
 pub use code::{Code, hotp, hotp_with, step, truncate};
-pub use digits::{Digits, LEAST_DIGITS, MOST_DIGITS};
+pub use digits::{Digits, MAX_DIGITS, MIN_DIGITS};
 pub use fault::{OtpFault, Setting};
 pub use hash::OtpHash;
-pub use moment::{LAST_MOMENT, Moment};
-pub use secret::{LONGEST_SECRET, SHORTEST_SECRET, Secret};
-pub use sent::Sent;
+pub use moment::{MAX_MOMENT, Moment};
+pub use secret::{MAX_SECRET_LEN, MIN_SECRET_LEN, Secret};
+pub use sent::SentCodes;
 pub use token::{
-    HotpFields, LONGEST_STEP, MOST_COUNTER, MOST_DRIFT, MOST_LIMIT, MOST_LOOK_AHEAD,
-    MOST_STEPS_ASIDE, MOST_SYNC_AHEAD, Reply, Token, TokenFields, TotpFields,
+    HotpFields, MAX_COUNTER, MAX_DRIFT_BOUND, MAX_LIMIT, MAX_LOOK_AHEAD, MAX_STEP, MAX_SYNC_AHEAD,
+    MAX_WINDOW_STEPS, Reply, Token, TokenFields, TotpFields,
 };

@@ -5,7 +5,7 @@ ghost use Rattle.otp_core.specs.Ranges.{IsMoment};
 use std::marker::Model;
 
 /// The last moment, in seconds since 1970-01-01 00:00 UTC: the last second of the year 9999.
-pub const LAST_MOMENT: u64 = 253_402_300_799;
+pub const MAX_MOMENT: u64 = 253_402_300_799;
 
 /// A moment: whole seconds since 1970-01-01 00:00 UTC, at most 253402300799, the last second of the year 9999. Contracts see it as
 /// that number.
@@ -31,7 +31,7 @@ impl Moment {
             (IsMoment seconds → ⊥)
             (λ moment. (moment ≡ seconds) × IsMoment seconds) }
     {
-        if seconds <= LAST_MOMENT {
+        if seconds <= MAX_MOMENT {
             Some(Moment { seconds })
         } else {
             None

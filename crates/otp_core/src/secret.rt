@@ -9,15 +9,15 @@ use mac_core::copy_of;
 use std::marker::Model;
 
 /// The least length of a secret, in bytes.
-pub const SHORTEST_SECRET: usize = 10;
+pub const MIN_SECRET_LEN: usize = 10;
 
 /// The greatest length of a secret, in bytes.
-pub const LONGEST_SECRET: usize = 64;
+pub const MAX_SECRET_LEN: usize = 64;
 
 /// The key of a token's HMAC: 10 to 64 bytes. Contracts see it as the list of its bytes.
 #[derive(Drop)]
 pub struct Secret {
-    bytes: ArrayVec<u8, LONGEST_SECRET>,
+    bytes: ArrayVec<u8, MAX_SECRET_LEN>,
 }
 
 impl Model for Secret {
@@ -35,7 +35,7 @@ impl Secret {
             (λ secret. (secret ≡ bytes.now) × IsSecretLength (length bytes.now))
             (λ fault. (fault ≡ SecretLength) × (IsSecretLength (length bytes.now) → ⊥)) }
     {
-        if bytes.len() < SHORTEST_SECRET {
+        if bytes.len() < MIN_SECRET_LEN {
             return Err(OtpFault::SecretLength);
         }
         match ArrayVec::try_from(bytes) {

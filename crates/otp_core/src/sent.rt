@@ -2,7 +2,7 @@
 
 /// The text of one code, or the texts of two codes in a row (RFC 4226, section 7.4).
 #[derive(Clone, Copy)]
-pub enum Sent<'a> {
+pub enum SentCodes<'a> {
     /// The text of one code.
     One(&'a [u8]),
 

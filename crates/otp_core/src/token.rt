@@ -2,7 +2,7 @@
 ghost use Rattle.std.specs.Prelude.{◌≡◌, MatchResult};
 ghost use Rattle.otp_core.specs.TokenRanges.{IsHotpInRange, IsTotpInRange, IsInRange, IsRefusalOf, hotp_ranges, totp_ranges};
 ghost use Rattle.otp_core.specs.Attempt.CodeTexts.{one_text, two_texts};
-ghost use Rattle.otp_core.specs.Sent.{texts_of};
+ghost use Rattle.otp_core.specs.SentCodes.{texts_of};
 ghost use Rattle.otp_core.specs.State.{unlocked};
 ghost use Rattle.otp_core.specs.TokenAttempt.{IsTokenAttempt};
 ghost use Rattle.otp_core.specs.declared.token.kinds.TokenFields.TheVariants.{Hotp, Totp};
@@ -12,11 +12,11 @@ mod reply;
 mod window;
 
 use crate::fault::OtpFault;
-use crate::moment::{LAST_MOMENT, Moment};
-use crate::sent::Sent;
+use crate::moment::{MAX_MOMENT, Moment};
+use crate::sent::SentCodes;
 pub use kinds::{
-    HotpFields, LONGEST_STEP, MOST_COUNTER, MOST_DRIFT, MOST_LIMIT, MOST_LOOK_AHEAD,
-    MOST_STEPS_ASIDE, MOST_SYNC_AHEAD, TokenFields, TotpFields,
+    HotpFields, MAX_COUNTER, MAX_DRIFT_BOUND, MAX_LIMIT, MAX_LOOK_AHEAD, MAX_STEP, MAX_SYNC_AHEAD,
+    MAX_WINDOW_STEPS, TokenFields, TotpFields,
 };
 pub use reply::Reply;
 use reply::{judge_one, judge_pair};
@@ -101,7 +101,7 @@ impl Token {
     pub fn attempt(&mut self, moment: Moment, text: &[u8]) -> Reply
         ensures { IsTokenAttempt self.old moment (one_text text.now) result self.new }
     {
-        self.judge(moment, Sent::One(text))
+        self.judge(moment, SentCodes::One(text))
     }
 
     /// Judges two texts as codes in a row at `moment`, to find a HOTP counter that has run far ahead (RFC 4226, section 7.4):
@@ -116,17 +116,17 @@ impl Token {
     pub fn sync(&mut self, moment: Moment, first: &[u8], second: &[u8]) -> Reply
         ensures { IsTokenAttempt self.old moment (two_texts first.now second.now) result self.new }
     {
-        self.judge(moment, Sent::Two(first, second))
+        self.judge(moment, SentCodes::Two(first, second))
     }
 
     /// Judges what was sent, at `moment`: one text as `attempt` does, two as `sync` does.
-    pub fn judge(&mut self, moment: Moment, sent: Sent<'_>) -> Reply
+    pub fn judge(&mut self, moment: Moment, sent: SentCodes<'_>) -> Reply
         ensures { IsTokenAttempt self.old moment (texts_of sent.entry) result self.new }
     {
-        prove!(moment.seconds() <= LAST_MOMENT);
+        prove!(moment.seconds() <= MAX_MOMENT);
         match sent {
-            Sent::One(text) => judge_one(&mut self.fields, moment, text),
-            Sent::Two(first, second) => judge_pair(&mut self.fields, moment, first, second),
+            SentCodes::One(text) => judge_one(&mut self.fields, moment, text),
+            SentCodes::Two(first, second) => judge_pair(&mut self.fields, moment, first, second),
         }
     }
 

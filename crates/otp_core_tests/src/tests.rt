@@ -2,7 +2,7 @@
 //! of a few other counters are computed with Python's hmac.
 use mac_core::{HSha1, HSha256, HSha512, HashFn, Prepared, Tag};
 use otp_core::{
-    Code, Digits, HotpFields, Moment, OtpFault, OtpHash, Reply, Secret, Sent, Setting, Token,
+    Code, Digits, HotpFields, Moment, OtpFault, OtpHash, Reply, Secret, SentCodes, Setting, Token,
     TokenFields, TotpFields, hotp, hotp_with, step, truncate,
 };
 use std::process::Abort;
@@ -169,7 +169,7 @@ fn steps(rt: HostRuntime) {
     }
 }
 
-/// The number of each fault, as in docs/REFUSALS.md, and the text that a user reads.
+/// The number of each fault, as in docs/FAULTS.md, and the text that a user reads.
 #[test]
 fn fault_texts(rt: HostRuntime) -> Result<(), Fail> {
     let rows = [

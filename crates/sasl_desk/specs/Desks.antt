@@ -17,7 +17,7 @@ use Rattle.sasl_desk.specs.Sessions.{IsSessionAt, CanBeWritten}
 use Rattle.sasl_desk.specs.Spent.{AreSpent, spent_by}
 use Rattle.sasl_desk.specs.declared.session.Session.{Session}
 use Rattle.sasl_desk.specs.declared.session.Session.TheVariants.{WaitAuth, WaitFirst, WaitFinal, WaitCode}
-use Rattle.sasl_desk.specs.declared.keeper.Keeper.{Keeper}
+use Rattle.book_keeper.specs.declared.keeper.Keeper.{Keeper}
 use Rattle.sasl_desk.specs.declared.turn.AfterTurn.{AfterTurn}
 use Rattle.sasl_desk.specs.declared.turn.AfterTurn.TheVariants.{Going, Over}
 use Rattle.sasl_desk.specs.declared.turn.AfterTurn.TheVariants as after
@@ -53,6 +53,11 @@ IsStateAt accounts server_nonce place Halted = Unit {0}
 -- the store may hold this text: the one that it says it holds; or, if it has failed, the one that the failed save was given
 abbrev pub MayHold : StoreFacts → (text : List ℕ) → Type 0
 MayHold store text = (text ≡ store.saved) ⊎ ((store.failed ≡ true) × (text ≡ store.asked))
+
+-- while the store saves the text `asked`, it may hold this text: one that it may have held as the save began, or `asked`. That a store
+-- which is stopped within a save holds no other is assumed of it (`BookStore`).
+abbrev pub MayHoldWithinSave : (before : StoreFacts) → (asked : List ℕ) → (text : List ℕ) → Type 0
+MayHoldWithinSave before asked text = MayHold before text ⊎ (text ≡ asked)
 
 -- the store has not failed, and holds the text of the book, and `IsStored` is true of that text
 pub record HoldsBook (IsStored : List ℕ → Type 0) (book : BookFields) (store : StoreFacts) : Type 0 where

@@ -1,11 +1,11 @@
--- Which lines of the client are due at a place, and to which places they lead. The state machine of log_grammar says this of all
--- lines by a relation, `IsTransition`. A session needs it of what is recorded of a client only, by functions that compute. Laws say that the two agree
--- (`DueLinesStand`, `BadLinesStand`, `GoneClientsStand`).
-use Rattle.std.specs.Prelude.{ℕ, ◌≡◌, ◌↔◌, Bool, true, false, ◌||◌, List, [], ◌∷◌}
+-- Which lines of the client are due at a place, and to which places they lead, by functions that compute. They are for the contracts of
+-- private functions: the promises of a desk and a hall have the relation of log_grammar, `IsTransition`, in their place. The law
+-- `records_may_stand` says that the two agree (`DueLinesStand`, `BadLinesStand`, `GoneClientsStand`).
+use Rattle.std.specs.Prelude.{ℕ, ◌≡◌, ◌↔◌, Bool, true, false, ◌||◌, List}
 use Rattle.otp_core.specs.Attempt.{CodeTexts, one_text, two_texts}
 use Rattle.log_grammar.specs.Lines.{LogLine, heard, bad, gone, ClientLine, auth, auth_with, resp, abort, code, sync}
 use Rattle.log_grammar.specs.Places.{Place, offered, asks_bare, waits_first, got_first, waits_final, got_final, waits_code, got_code, leaving, over}
-use Rattle.log_grammar.specs.Demands.{Accounts, Demands, demands}
+use Rattle.log_grammar.specs.Demands.{Accounts, demands}
 use Rattle.log_grammar.specs.state_machine.Steps.{IsTransition}
 
 -- AUTH is due: after `S MECHS`
@@ -64,17 +64,6 @@ place_after_record place (heard line) = place_after_line place line
 place_after_record place bad = leaving
 place_after_record place gone = over
 place_after_record place line = place
-
--- the line contains a message
-abbrev pub BearsMessage : ClientLine → Type 0
-BearsMessage (auth_with mechanism message) = Unit {0}
-BearsMessage (resp message) = Unit {0}
-BearsMessage line = ⊥
-
--- lines that may stand one after the other, from a place to the one after the last of them
-abbrev pub IsPath : Demands → (place : Place) → List LogLine → (next : Place) → Type 0
-IsPath d place [] next = next ≡ place
-IsPath d place (line ∷ lines) next = (middle : Place) × IsTransition d place line middle × IsPath d middle lines next
 
 -- a line of the client may stand if and only if it is due, and leads to the place after it
 abbrev pub DueLinesStand : Type 0

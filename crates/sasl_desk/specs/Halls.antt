@@ -13,37 +13,38 @@ use Rattle.log_grammar.specs.LoggedAttempt.{LoggedAttempt}
 use Rattle.log_grammar.specs.Places.{Place, between, offered, waits_first, waits_final, waits_code, open_at}
 use Rattle.log_grammar.specs.Demands.{Accounts, demands}
 use Rattle.log_grammar.specs.Numbered.{Numbered, numbered, of_number, given_in, closed_in, SpellsNumbered}
-use Rattle.log_grammar.specs.Versions.{most_open}
-use Rattle.log_grammar.specs.NumberedLines.{numbered_text, IsNumberedWritable, last_session_number}
+use Rattle.log_grammar.specs.Versions.{max_open_sessions}
+use Rattle.log_grammar.specs.NumberedLines.{numbered_text, IsNumberedWritable, max_session_number}
 use Rattle.sasl_desk.specs.Desks.{session_phase, IsStoredAt, HoldsBook, IsBookAfterReplies, spent_by_all}
-use Rattle.sasl_desk.specs.Guests.{is_of}
+use Rattle.sasl_desk.specs.OpenSessions.{is_of}
 use Rattle.sasl_desk.specs.Runs.{Request, greets, Call, call_of, server_nonce_of, wire_bytes, IsRun}
 use Rattle.sasl_desk.specs.SavedCalls.{CountsSaves, AsksToSaveAttempt, IsQuiet, FailsInSave}
 use Rattle.sasl_desk.specs.Sessions.{IsSessionAt}
 use Rattle.sasl_desk.specs.Spent.{AreSpent}
-use Rattle.sasl_desk.specs.declared.keeper.Keeper.{Keeper}
+use Rattle.book_keeper.specs.declared.keeper.Keeper.{Keeper}
 use Rattle.sasl_desk.specs.declared.hall.Hall.{Hall}
-use Rattle.sasl_desk.specs.declared.hall.guest.Guest.{Guest}
+use Rattle.sasl_desk.specs.declared.hall.open_session.OpenSession.{OpenSession}
 use Rattle.sasl_desk.specs.declared.session.phase.Phase.{Phase}
 use Rattle.sasl_desk.specs.declared.session.phase.Phase.TheVariants as phase
 
 -- a hall
 pub record HallFields (S : Type 0) : Type 0 where
   pub keeper : Keeper S
-  -- its guests, in any order
-  pub guests : List Guest
+  -- its open sessions, in any order
+  pub open_sessions : List OpenSession
   -- how many session numbers it has given
   pub given : ℕ
   -- whether it has halted
   pub is_halted : Bool
 
 -- a hall of these parts
-abbrev pub hall_of : {S : Type 0} → Keeper S → (guests : List Guest) → (given : ℕ) → (is_halted : Bool) → HallFields S
-hall_of keeper guests given is_halted = record { keeper = keeper; guests = guests; given = given; is_halted = is_halted }
+abbrev pub hall_of : {S : Type 0} → Keeper S → (open_sessions : List OpenSession) → (given : ℕ) → (is_halted : Bool) → HallFields S
+hall_of keeper open_sessions given is_halted =
+    record { keeper = keeper; open_sessions = open_sessions; given = given; is_halted = is_halted }
 
--- the fields of a hall: its guests are those in its seats
+-- the fields of a hall
 abbrev pub hall_shown : {S : Type 0} → Hall S → HallFields S
-hall_shown hall = hall_of hall.keeper hall.seats hall.given hall.is_halted
+hall_shown hall = hall_of hall.keeper hall.open_sessions hall.given hall.is_halted
 
 -- the lines of a log after its first, after these calls: each call's lines have the number of its session
 abbrev pub hall_lines : List (Numbered Call) → List (Numbered LogLine)
@@ -71,10 +72,11 @@ IsTurnedAway calls = (server_nonce : List ℕ) × (calls ≡ call_of (greets ser
 abbrev pub IsSessionRun : Accounts → List Call → Place → Type 0
 IsSessionRun accounts calls place = IsRun accounts calls place ⊎ (IsTurnedAway calls × (place ≡ between))
 
--- a guest's session is at the place of its number, with the server's part of the nonce with which it was greeted
-abbrev pub IsSeated : Accounts → List (Numbered Call) → (ℕ → Place) → Guest → Type 0
-IsSeated accounts calls places guest =
-    IsSessionAt accounts (places guest.number) guest.session × (guest.server_nonce ≡ server_nonce_of (of_number guest.number calls))
+-- a session is at the place of its number, with the server's part of the nonce with which it was greeted
+abbrev pub IsOpenSessionAt : Accounts → List (Numbered Call) → (ℕ → Place) → OpenSession → Type 0
+IsOpenSessionAt accounts calls places open_session =
+    IsSessionAt accounts (places open_session.number) open_session.session
+    × (open_session.server_nonce ≡ server_nonce_of (of_number open_session.number calls))
 
 -- what the store holds after these calls: if the latest was answered by `S HALT`, its save has failed; else the book
 abbrev pub IsStoredAfter : (IsStored : List ℕ → Type 0) → Accounts → List (Numbered Call) → (ℕ → Place) → BookFields → StoreFacts → Type 0
@@ -94,21 +96,21 @@ IsPhaseOf place phase.WaitFinal =
 IsPhaseOf place phase.WaitCode = (account : List ℕ) × (place ≡ waits_code account)
 IsPhaseOf place phase.Halted = Unit {0}
 
--- the phase of a guest's session: after a halt it is Halted
-abbrev pub guest_phase : (is_halted : Bool) → Option Guest → Option Phase
-guest_phase is_halted None = None
-guest_phase true (Some guest) = Some phase.Halted
-guest_phase false (Some guest) = Some (session_phase guest.session)
+-- the phase of a session: after a halt it is Halted
+abbrev pub open_session_phase : (is_halted : Bool) → Option OpenSession → Option Phase
+open_session_phase is_halted None = None
+open_session_phase true (Some open_session) = Some phase.Halted
+open_session_phase false (Some open_session) = Some (session_phase open_session.session)
 
 -- the phase of the session of a number, or none if it is not open
 abbrev pub phase_in : {S : Type 0} → HallFields S → ℕ → Option Phase
-phase_in hall number = guest_phase hall.is_halted (find (is_of number) hall.guests)
+phase_in hall number = open_session_phase hall.is_halted (find (is_of number) hall.open_sessions)
 
 -- two halls have the same book, store and open sessions, in any order, have given the same numbers, and have both halted or neither
 pub record IsSameHall {S : Type 0} (old new : HallFields S) : Type 0 where
   pub book : new.keeper.book ≡ old.keeper.book
   pub store : new.keeper.store ≡ old.keeper.store
-  pub guests : IsPermutation old.guests new.guests
+  pub open_sessions : IsPermutation old.open_sessions new.open_sessions
   pub given : new.given ≡ old.given
   pub halted : new.is_halted ≡ old.is_halted
 
@@ -127,17 +129,17 @@ module _ {S : Type 0} (facts : S → StoreFacts) (IsStored : List ℕ → Type 0
     -- what each session was asked is recorded and answered; nothing was asked of a number that was not given
     pub session_runs : (number : ℕ) → IsSessionRun (accounts_in start) (of_number number calls) (places number)
     pub fresh : (number : ℕ) → given_in (hall_lines calls) < number → of_number number calls ≡ []
-    -- the lines are those of a log of version 2, at most `most_open` of whose sessions are open at once, and they can be written
-    pub spelled : SpellsNumbered most_open (demands (accounts_in start)) (hall_lines calls) places told
+    -- the lines are those of a log of version 2, at most `max_open_sessions` of whose sessions are open at once, and they can be written
+    pub spelled : SpellsNumbered max_open_sessions (demands (accounts_in start)) (hall_lines calls) places told
     pub writable : AllByRecursion IsNumberedWritable (hall_lines calls)
     -- the numbers that were given are 1, 2, and so on
     pub given : hall.given ≡ given_in (hall_lines calls)
-    pub last_number : hall.given ≤ last_session_number
-    -- each open session has one guest, and no other number has any
-    pub guests : (number : ℕ) → count_by (is_of number) hall.guests ≡ open_at (places number)
-    pub open_are : length hall.guests + closed_in (hall_lines calls) ≡ given_in (hall_lines calls)
-    -- each guest waits for what is due at its place, or the hall has halted
-    pub seated : hall.is_halted ≡ false → AllByRecursion (IsSeated (accounts_in start) calls places) hall.guests
+    pub last_number : hall.given ≤ max_session_number
+    -- a session that is open is kept once, and no other number is kept
+    pub open_sessions : (number : ℕ) → count_by (is_of number) hall.open_sessions ≡ open_at (places number)
+    pub open_are : length hall.open_sessions + closed_in (hall_lines calls) ≡ given_in (hall_lines calls)
+    -- each open session waits for what is due at its place, or the hall has halted
+    pub standing : hall.is_halted ≡ false → AllByRecursion (IsOpenSessionAt (accounts_in start) calls places) hall.open_sessions
     -- the book has each attempt in it, and the store holds its text, except after a save in which the store failed
     pub is_book : IsBookAfterReplies start (reverse told) hall.keeper.book
     pub is_stored : IsStoredAfter IsStored (accounts_in start) calls places hall.keeper.book (facts hall.keeper.store)

@@ -12,7 +12,7 @@ pub mod TurnResults
 pub mod Spent
 pub mod SavedCalls
 pub mod Desks
-pub mod Guests
+pub mod OpenSessions
 pub mod Halls
 pub mod Records
 pub mod Alone

@@ -23,8 +23,8 @@ pub record RunOf (C : Type 0) : Type 0 where
   pub left : BookFields
 
 -- what a run that kept this book may leave: the book, or that with one more attempt. The law `store_holds_a_book` says that
--- each text that the store may hold after a call is of such a book. Of a stop within a save it is assumed of the store (`BookStore`) that the
--- old text or the new one is left.
+-- each text that the store may hold after a call is of such a book. Of a stop within a save it is assumed of the store (`BookStore`) that
+-- the old text or the new one is left.
 abbrev pub MayLeave : (kept left : BookFields) → Type 0
 MayLeave kept left = (left ≡ kept) ⊎ ((attempt : LoggedAttempt) × IsAttemptJudged kept attempt left)
 

@@ -9,7 +9,7 @@ use Rattle.log_grammar.specs.Lines.{LogLine, log_bytes}
 use Rattle.log_grammar.specs.Numbered.{Numbered, SpellsNumbered}
 use Rattle.log_grammar.specs.Places.{Place}
 use Rattle.log_grammar.specs.LoggedAttempt.{LoggedAttempt}
-use Rattle.log_grammar.specs.Versions.{most_open}
+use Rattle.log_grammar.specs.Versions.{max_open_sessions}
 use Rattle.sasl_desk.specs.Desks.{IsBookAfterReplies}
 
 -- `IsStored` is true of some text of the book to which these replies lead
@@ -31,5 +31,5 @@ pub record IsLogSaved (IsStored : List ℕ → Type 0) (start : BookFields) (log
 pub record AreLinesSaved (IsStored : List ℕ → Type 0) (start : BookFields) (lines : List (Numbered LogLine)) : Type 0 where
   pub places : ℕ → Place
   pub told : List LoggedAttempt
-  pub spelled : SpellsNumbered most_open (demands (accounts_in start)) lines places told
+  pub spelled : SpellsNumbered max_open_sessions (demands (accounts_in start)) lines places told
   pub saved : IsToldSaved IsStored start told

@@ -10,7 +10,7 @@ use Rattle.log_grammar.specs.Places.{Place, waits_code}
 use Rattle.sasl_desk.specs.Events.{ClientEvent}
 use Rattle.sasl_desk.specs.Keeper.{IsAttemptJudged}
 use Rattle.sasl_desk.specs.Runs.{Request, hears}
-use Rattle.sasl_desk.specs.declared.keeper.Keeper.{Keeper}
+use Rattle.book_keeper.specs.declared.keeper.Keeper.{Keeper}
 
 -- a line for which the store was asked to save: a reply that needs it, or HALT
 abbrev pub is_saving : LogLine → Bool

@@ -7,7 +7,7 @@ use Rattle.account_book.specs.Store.{StoreFacts}
 use Rattle.log_grammar.specs.Lines.{LogLine, log_bytes}
 use Rattle.sasl_log.specs.Source.{SourceFacts}
 use Rattle.sasl_log.specs.Sink.{SinkFacts}
-use Rattle.sasl_desk.specs.Bounds.{most_turns}
+use Rattle.sasl_desk.specs.Bounds.{max_turns}
 use Rattle.sasl_desk.specs.Events.{goes_away}
 use Rattle.sasl_desk.specs.Inputs.{LineRead, ReadsLine, ReadsLines, event_read}
 use Rattle.sasl_desk.specs.Runs.{Request, greets, hears, Call, call_of}
@@ -130,17 +130,17 @@ module _ {S : Type 0} (facts : S → StoreFacts) (IsStored : List ℕ → Type 0
       pub written : AreWritten (call_lines (session_calls server_nonce greeting turns)) old.wire new.wire old.log new.log
       pub halts : HaltsOnlyByStore facts new.desk
 
-    -- a session that has ended, or in which the desk has halted, after at most `most_turns` turns
+    -- a session that has ended, or in which the desk has halted, after at most `max_turns` turns
     pub record IsServedToEnd (server_nonce : List ℕ) (old new : Service S) : Type 0 where
       pub turns : List ServedTurn
-      pub few : length turns ≤ most_turns
+      pub few : length turns ≤ max_turns
       pub served : IsServedUpTo server_nonce turns old new
       pub ended : (desk_phase new.desk ≡ phase.Closed) ⊎ (desk_phase new.desk ≡ phase.Halted)
 
     -- a session whose turns are used up. Nothing more was read of its client.
     pub record HasUsedAllTurns (server_nonce : List ℕ) (old middle new : Service S) : Type 0 where
       pub turns : List ServedTurn
-      pub all : length turns ≡ most_turns
+      pub all : length turns ≡ max_turns
       pub served : IsServedUpTo server_nonce turns old middle
       pub unread : new.input ≡ middle.input
 
@@ -160,7 +160,7 @@ module _ {S : Type 0} (facts : S → StoreFacts) (IsStored : List ℕ → Type 0
     pub record FailsInTurn (server_nonce : List ℕ) (old new : Service S) (fault : ServeFault) : Type 0 where
       pub middle : Service S
       pub turns : List ServedTurn
-      pub few : length turns < most_turns
+      pub few : length turns < max_turns
       pub served : IsServedUpTo server_nonce turns old middle
       pub moment : ℕ
       pub goes_on : fault ≢ Halted

@@ -1,7 +1,8 @@
 //! Why a desk does not do what it was asked, and why a client is not served.
 ghost use Rattle.std.specs.Prelude.{◌≡◌, ◌≢◌};
-ghost use Rattle.sasl_desk.specs.Faults.{desk_number, serve_number};
+ghost use Rattle.sasl_desk.specs.Faults.{desk_number, fault_of_save, serve_number};
 
+use book_keeper::SaveFault;
 use thiserror::Error;
 
 /// Why a desk or a hall refuses a call.
@@ -34,6 +35,16 @@ impl DeskFault {
             DeskFault::Unwritable => 73,
             DeskFault::NoNumber => 76,
             DeskFault::NoMemory => 99,
+        }
+    }
+
+    /// The fault of a desk or a hall whose first save has this fault.
+    pub(crate) fn from_save(fault: SaveFault) -> DeskFault
+        ensures { result ≡ fault_of_save fault }
+    {
+        match fault {
+            SaveFault::NotSaved => DeskFault::Halted,
+            SaveFault::NoMemory => DeskFault::NoMemory,
         }
     }
 }
@@ -77,7 +88,7 @@ impl ServeFault {
     }
 
     /// The fault of serving that has the same number as this fault of a desk.
-    pub(crate) fn of_desk(fault: DeskFault) -> ServeFault
+    pub(crate) fn from_desk(fault: DeskFault) -> ServeFault
         requires { fault ≢ DeskFault.NoNumber }
         ensures { serve_number result ≡ desk_number fault }
     {

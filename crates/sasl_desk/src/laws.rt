@@ -6,14 +6,14 @@ ghost use Rattle.log_grammar.specs.Books.{accounts_in};
 ghost use Rattle.log_grammar.specs.Versions.{IsLogFront, IsClean};
 ghost use Rattle.log_grammar.specs.Lines.{LogLine, said, halt, log_bytes};
 ghost use Rattle.log_grammar.specs.LoggedAttempt.{LoggedAttempt};
-ghost use Rattle.sasl_desk.specs.Desks.{MayHold, IsDeskAfter, desk_phase, spent_by_all};
+ghost use Rattle.sasl_desk.specs.Desks.{MayHold, MayHoldWithinSave, IsDeskAfter, IsBookAfterReplies, desk_phase, spent_by_all};
 ghost use Rattle.sasl_desk.specs.Keeper.{IsAttemptJudged};
 ghost use Rattle.sasl_desk.specs.Records.{HasItsRecords};
 ghost use Rattle.sasl_desk.specs.Restarts.{IsDeskRunLeaving, Change, AreChanges, spent_by_changes};
 ghost use Rattle.sasl_desk.specs.Runs.{Call, run_lines, wire_bytes};
 ghost use Rattle.sasl_desk.specs.Saved.{IsLogSaved};
 ghost use Rattle.sasl_desk.specs.Sessions.{LongTextsAreBad};
-ghost use Rattle.sasl_desk.specs.Spent.{SpentStaysSpent, AreSpent};
+ghost use Rattle.sasl_desk.specs.Spent.{SpentStaysSpent, AreSpent, spent_by};
 ghost use Rattle.sasl_desk.specs.declared.desk.Desk.{Desk};
 ghost use Rattle.sasl_desk.specs.declared.session.phase.Phase.TheVariants as phase;
 ghost use Rattle.sasl_desk.specs.DueLines.{DueLinesStand, BadLinesStand, GoneClientsStand};
@@ -32,6 +32,16 @@ pub fn spent_stays_spent()
 {
     legal_histories_join();
     candidates_are_new();
+}
+
+/// Over any number of replies, the counters that they use differ from each other and from those that were spent before. All of them
+/// are spent in the book after the replies.
+pub fn replies_spend_counters()
+    ensures { (start : BookFields) (latest_first : List LoggedAttempt) (last : BookFields) (spent : List (List ℕ × ℕ))
+        → IsBookAfterReplies start latest_first last → AreSpent spent start → AreSpent (spent_by_all latest_first ++ spent) last }
+{
+    begins_with_itself();
+    spent_stays_spent();
 }
 
 /// What a session records of its client may stand in a log: a line of the client if and only if it is due, `C BAD` and `C GONE` if
@@ -99,17 +109,24 @@ pub fn stops_leave_runs<S: BookStore>()
 {}
 
 /// At every moment of a run, whichever text the store may hold is that of a book in which each counter is spent that replies to
-/// clients have used, and each that was spent before the run. This holds after a call, also of the text that a failed save was given,
-/// and if the run stops within a call, while the store replaces the old text with that of the attempt that is judged.
+/// clients have used, and each that was spent before the run. `ended` says this of the end of a call, also of the text that a failed
+/// save was given. `within` says it of a call that is saving a text of `next`, the desk's book with the attempt that is judged.
+/// `next` says that in this book the counters that the attempt uses are spent as well.
 pub fn told_counters_are_saved<S: BookStore>()
     ensures ended { (start : BookFields) (calls : List Call) (desk : Desk S) (stands : IsDeskAfter S.facts S.IsStored start calls desk)
         (spent : List (List ℕ × ℕ)) (text : List ℕ) → AreSpent spent start → MayHold (S.facts desk.keeper.store) text
         → (saved : BookFields) × IsBookText text saved
         × AreSpent (spent_by_all (reverse stands.told) ++ spent) saved }
     ensures within { (start : BookFields) (calls : List Call) (desk : Desk S) (stands : IsDeskAfter S.facts S.IsStored start calls desk)
+        (spent : List (List ℕ × ℕ)) (attempt : LoggedAttempt) (next : BookFields) (asked text : List ℕ) → AreSpent spent start
+        → IsAttemptJudged desk.keeper.book attempt next → IsBookText asked next
+        → MayHoldWithinSave (S.facts desk.keeper.store) asked text
+        → (saved : BookFields) × IsBookText text saved
+        × AreSpent (spent_by_all (reverse stands.told) ++ spent) saved }
+    ensures next { (start : BookFields) (calls : List Call) (desk : Desk S) (stands : IsDeskAfter S.facts S.IsStored start calls desk)
         (spent : List (List ℕ × ℕ)) (attempt : LoggedAttempt) (next : BookFields) → AreSpent spent start
         → IsAttemptJudged desk.keeper.book attempt next
-        → AreSpent (spent_by_all (reverse stands.told) ++ spent) next }
+        → AreSpent (spent_by attempt ++ (spent_by_all (reverse stands.told) ++ spent)) next }
 {
     begins_with_itself();
     spent_stays_spent();

@@ -8,8 +8,8 @@
 //! A call of a law, in the modules below, does nothing at run time: it lets the proof use the law.
 //!
 //! A server calls `greet` when a client comes, and `client` for each thing that the client does. After each call it first writes
-//! what was appended to the log, and then sends what was appended to the wire; `serve` does both. The tests make these calls too, by
-//! `Service` of the crate `desk_in_memory`.
+//! what was appended to the log, and then sends what was appended to the wire: `log_then_send` does both, and `serve` all of this.
+//! Tests call `greet` and `client` by `Service` of the crate `desk_in_memory`, which keeps both texts in memory.
 //!
 //! ```rust
 //! use sasl_desk::{Book, Desk, Event, Moment, Phase};
@@ -35,7 +35,6 @@ mod clock;
 mod desk;
 mod fault;
 mod hall;
-mod keeper;
 pub mod laws;
 mod serving;
 mod session;
@@ -43,12 +42,12 @@ mod turn;
 mod write;
 
 pub use account_book::{Book, BookStore};
+pub use book_keeper::{CodeJudged, Keeper, SaveFault};
 pub use clock::Clock;
 pub use desk::Desk;
 pub use fault::{DeskFault, ServeFault};
 pub use hall::Hall;
-pub use keeper::{CodeJudged, Keeper};
-pub use otp_core::{Moment, Reply, Sent};
-pub use serving::{serve, serve_turn};
+pub use otp_core::{Moment, Reply, SentCodes};
+pub use serving::{log_then_send, serve, serve_turn};
 pub use session::{Event, Phase};
-pub use write::{MOST_CALL_BYTES, MOST_HALL_CALL_BYTES};
+pub use write::{MAX_CALL_BYTES, MAX_HALL_CALL_BYTES};

@@ -13,9 +13,10 @@ mod answer;
 mod last;
 mod start;
 
+use crate::lengths::{MAX_BARE_LEN, MAX_HEADER_LEN};
 use arrayvec::ArrayVec;
 use mac_core::{Mechanism, Tag};
-use scram_text::{LONGEST_CHANNEL, LONGEST_MESSAGE, LONGEST_NONCE_PART, TextFault, WriteFault};
+use scram_text::{MAX_NONCE_PART_LEN, TextFault, WriteFault};
 use thiserror::Error;
 
 /// The least iteration count that a client usually accepts: servers should ask for at least that (RFC 5802, section 5.1).
@@ -115,11 +116,11 @@ pub struct ClientOne {
     mechanism: Mechanism,
     limits: Limits,
     // The message without its gs2-header.
-    bare: ArrayVec<u8, LONGEST_MESSAGE>,
+    bare: ArrayVec<u8, MAX_BARE_LEN>,
     // The gs2-header.
-    header: ArrayVec<u8, LONGEST_CHANNEL>,
+    header: ArrayVec<u8, MAX_HEADER_LEN>,
     // The client's own nonce.
-    nonce: ArrayVec<u8, LONGEST_NONCE_PART>,
+    nonce: ArrayVec<u8, MAX_NONCE_PART_LEN>,
 }
 
 /// Why a `ClientOne` does not answer a challenge.

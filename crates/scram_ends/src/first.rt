@@ -6,13 +6,14 @@
 ghost use Rattle.std.specs.Prelude.{◌≡◌, ◌≤◌, ℕ, List, length, codes, IfOk, IfErr, IfSome, IfNone, ◌++◌};
 ghost use Rattle.std.specs.Bool.{OnTrue, OnFalse};
 ghost use Rattle.std.specs.declared.option.Option.{Option};
-ghost use Rattle.scram_text.specs.Limits.{longest_message, longest_nonce_part};
+ghost use Rattle.scram_text.specs.Limits.{max_nonce_part_len};
 ghost use Rattle.scram_text.specs.Messages.{ClientFirstParts, IsClientFirst};
 ghost use Rattle.scram_text.specs.Shown.{flag_text};
 ghost use Rattle.scram_ends.specs.Opening.{IsNameOf, IsAuthzidOf, IsUnbound, IsTakenUp};
 ghost use Rattle.scram_ends.specs.First.{IsRefusedWith};
 ghost use Rattle.scram_ends.specs.TakenFirst.{ShowsTakenFirst};
 ghost use Rattle.scram_ends.specs.Faults.{first_fault_number};
+ghost use Rattle.scram_ends.specs.declared.lengths.TheConstants.{MAX_HEADER_LEN};
 ghost use Rattle.scram_ends.specs.declared.first.FirstFault.TheVariants.{Text};
 
 use scram_text::{Flag, PlainName, SaslText, TextFault, read_client_first};
@@ -89,8 +90,8 @@ pub(crate) struct TakenFirst<'a> {
 pub(crate) fn take_up(client_first: &[u8]) -> Result<TakenFirst<'_>, FirstFault>
     ensures ok { IfOk result (λ taken. (first : ClientFirstParts) × IsClientFirst client_first.now first
         × ShowsTakenFirst taken first) }
-    ensures nonce { IfOk result (λ taken. length taken.nonce.now ≤ longest_nonce_part) }
-    ensures header { IfOk result (λ taken. length taken.header.now ≤ longest_message) }
+    ensures nonce { IfOk result (λ taken. length taken.nonce.now ≤ max_nonce_part_len) }
+    ensures header { IfOk result (λ taken. length taken.header.now ≤ MAX_HEADER_LEN) }
     ensures err { IfErr result (λ fault. IsRefusedWith client_first.now fault) }
 {
     let message = read_client_first(client_first)?;

@@ -25,6 +25,7 @@ mod first;
 mod honest;
 mod keys_view;
 pub mod laws;
+mod lengths;
 mod recorded;
 mod server;
 mod signing;

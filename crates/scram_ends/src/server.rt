@@ -12,7 +12,7 @@
 //! proof.
 ghost use Rattle.std.specs.Prelude.{◌≡◌, ◌≤◌, ◌<◌, ◌+◌, ◌↔◌, ℕ, List, ◌++◌, length, IsTrue, IfOk, IfErr, Contains};
 ghost use Rattle.std.specs.declared.option.Option.{Option};
-ghost use Rattle.scram_text.specs.Limits.{longest_message, longest_nonce};
+ghost use Rattle.scram_text.specs.Limits.{max_message_len, max_nonce_len};
 ghost use Rattle.scram_text.specs.Messages.{ClientFirstParts, client_first_bare, IsClientFirst, ClientFinalParts, IsServerFinal};
 ghost use Rattle.scram_text.specs.Shown.{ShowsClientFinal};
 ghost use Rattle.scram_text.specs.Appended.{IsUnchangedOnErr, KeepsRoom, LacksRoom};
@@ -26,19 +26,18 @@ ghost use Rattle.scram_ends.specs.Standing.{IsSigningFor, StandsForChallenged};
 ghost use Rattle.scram_ends.specs.First.{IsRefusedWith, IsChallengeTo};
 ghost use Rattle.scram_ends.specs.TakenFirst.{ShowsOpening};
 ghost use Rattle.scram_ends.specs.Faults.{first_refused_number};
+ghost use Rattle.scram_ends.specs.declared.lengths.TheConstants.{MAX_HEADER_LEN};
 
 use crate::bytes::{are_same, concatenated};
 use crate::first::{FirstFault, TakenFirst, take_up};
 use crate::keys_view::KeysView;
+use crate::lengths::MAX_HEADER_LEN;
 use crate::signing::Signing;
 use crate::verdict::{Judged, Refusal, Verdict};
 use crate::write::{write_challenge, write_judgement};
 use arrayvec::ArrayVec;
 use mac_core::{Mechanism, copy_of};
-use scram_text::{
-    ClientFinal, LONGEST_MESSAGE, LONGEST_NONCE, NoncePart, PlainName, WriteFault,
-    read_client_final,
-};
+use scram_text::{ClientFinal, MAX_NONCE_LEN, NoncePart, PlainName, WriteFault, read_client_final};
 use std::alloc::Allocator;
 use thiserror::Error;
 
@@ -73,9 +72,9 @@ impl FirstRefused {
 #[derive(Drop)]
 pub struct ServerWait {
     // The nonce that was sent: the client's, and the server's after it.
-    nonce: ArrayVec<u8, LONGEST_NONCE>,
+    nonce: ArrayVec<u8, MAX_NONCE_LEN>,
     // The gs2-header of client-first.
-    header: ArrayVec<u8, LONGEST_MESSAGE>,
+    header: ArrayVec<u8, MAX_HEADER_LEN>,
     // Whether the account may act as the name that was asked for.
     allowed: bool,
     // None if the account has no keys: no proof is then accepted.
@@ -114,7 +113,7 @@ pub fn server_first<A: Allocator>(
         Ok(taken) => taken,
         Err(fault) => return Err(FirstRefused::First(fault)),
     };
-    let nonce: ArrayVec<u8, LONGEST_NONCE> = concatenated(taken.nonce, server_nonce.bytes());
+    let nonce: ArrayVec<u8, MAX_NONCE_LEN> = concatenated(taken.nonce, server_nonce.bytes());
     let nonce = nonce.as_slice();
     let start = out.len();
     match write_challenge(nonce, &view.salt, view.count, out) {
@@ -131,8 +130,8 @@ pub(crate) fn wait_for(
     nonce: &[u8],
     challenge: &[u8],
 ) -> ServerWait
-    requires nonce { length nonce.now ≤ longest_nonce }
-    requires header { length taken.now.header.now ≤ longest_message }
+    requires nonce { length nonce.now ≤ max_nonce_len }
+    requires header { length taken.now.header.now ≤ MAX_HEADER_LEN }
     ensures { (client_first : List ℕ) (o : Opening)
         → IsOpening (entry_of view.now) client_first challenge.now o → ShowsOpening taken.now nonce.now o
         → StandsForChallenged result (challenged_login (entry_of view.now) mechanism client_first challenge.now) }
@@ -267,7 +266,7 @@ impl ServerWait {
         ensures back { IfErr result (λ r. (r.0 ≡ self) × (r.1 ≡ WriteFault.NoMemory)) }
         // It comes only if the message due is within the limit, and there was no room for it.
         ensures no_memory { IfErr result (λ r. (l : Challenged) → StandsForChallenged self l
-            → (d : Due) × IsDue l client_final.now d × (length (due_text d) ≤ longest_message) × LacksRoom out.old (due_text d)) }
+            → (d : Due) × IsDue l client_final.now d × (length (due_text d) ≤ max_message_len) × LacksRoom out.old (due_text d)) }
     {
         let judged = self.verdict_on(client_final);
         match write_judgement(&judged, out) {

@@ -1,7 +1,7 @@
 //! Writes the server's two messages. Their fields are within the limits and no signature is empty, so the only fault is that there is
 //! no memory for them.
 ghost use Rattle.std.specs.Prelude.{◌≡◌, ◌≤◌, ◌<◌, ℕ, List, [], length, OnOk, IsErrOf};
-ghost use Rattle.scram_text.specs.Limits.{longest_message, longest_nonce, longest_tag};
+ghost use Rattle.scram_text.specs.Limits.{max_message_len, max_nonce_len, max_tag_len};
 ghost use Rattle.scram_text.specs.Class.{IsNonce};
 ghost use Rattle.scram_text.specs.Messages.{server_first_text, IsServerFirst, IsServerFinal};
 ghost use Rattle.scram_text.specs.Written.{server_first_of};
@@ -20,7 +20,7 @@ pub(crate) fn write_challenge<A: Allocator>(
     count: u32,
     out: &mut Vec<u8, A>,
 ) -> Result<(), WriteFault>
-    requires nonce { IsNonce longest_nonce nonce.now }
+    requires nonce { IsNonce max_nonce_len nonce.now }
     requires count { 1 ≤ count }
     ensures appended { IsAppended result out.old out.new (server_first_text (server_first_of nonce.now salt.now count [])) }
     ensures is_message { let p = server_first_of nonce.now salt.now count [] in
@@ -48,7 +48,7 @@ pub(crate) fn write_judgement<A: Allocator>(
     ensures unwritable { IsErrOf result WriteFault.Unwritable → ⊥ }
     ensures over_limit { IsErrOf result WriteFault.OverLimit → ⊥ }
     ensures no_memory { let text = due_text (due_of judged.now) in IsErrOf result WriteFault.NoMemory
-        → (length text ≤ longest_message) × LacksRoom out.old text }
+        → (length text ≤ max_message_len) × LacksRoom out.old text }
 {
     match judged {
         Judged::Accepted(signature) => write_signature(signature.as_slice(), out),
@@ -59,14 +59,14 @@ pub(crate) fn write_judgement<A: Allocator>(
 // Appends the server-final message whose verifier is this signature.
 fn write_signature<A: Allocator>(signature: &[u8], out: &mut Vec<u8, A>) -> Result<(), WriteFault>
     requires some { 1 ≤ length signature.now }
-    requires most { length signature.now ≤ longest_tag }
+    requires most { length signature.now ≤ max_tag_len }
     ensures appended { IsAppended result out.old out.new (due_text (accept signature.now)) }
     ensures is_message { let d = accept signature.now in
         OnOk result (IsServerFinal (due_text d) (final_due d)) }
     ensures unwritable { IsErrOf result WriteFault.Unwritable → ⊥ }
     ensures over_limit { IsErrOf result WriteFault.OverLimit → ⊥ }
     ensures no_memory { let text = due_text (accept signature.now) in IsErrOf result WriteFault.NoMemory
-        → (length text ≤ longest_message) × LacksRoom out.old text }
+        → (length text ≤ max_message_len) × LacksRoom out.old text }
 {
     write_server_final(FinalResult::Verifier(copy_of(signature)), b"", out)
 }
@@ -79,7 +79,7 @@ fn write_refusal<A: Allocator>(refusal: Refusal, out: &mut Vec<u8, A>) -> Result
     ensures unwritable { IsErrOf result WriteFault.Unwritable → ⊥ }
     ensures over_limit { IsErrOf result WriteFault.OverLimit → ⊥ }
     ensures no_memory { let text = due_text (refuse refusal) in IsErrOf result WriteFault.NoMemory
-        → (length text ≤ longest_message) × LacksRoom out.old text }
+        → (length text ≤ max_message_len) × LacksRoom out.old text }
 {
     let value = refusal.error_value().as_bytes();
     write_server_final(FinalResult::ErrorValue(value), b"", out)

@@ -3,7 +3,7 @@
 use Rattle.std.specs.Prelude.{ℕ, ◌≤◌, nat_le, ◌==◌, Bool, not, ◌&&◌, ◌||◌, IsTrue, List, length}
 use Rattle.std.specs.List.{list_all}
 use Rattle.std.specs.Str.{IsUtf8, byte}
-use Rattle.scram_text.specs.Limits.{longest_name, longest_nonce_part, longest_password, longest_salt}
+use Rattle.scram_text.specs.Limits.{max_name_len, max_nonce_part_len, max_password_len, max_salt_len}
 
 -- a comma, which separates the parts of a message
 abbrev pub is_comma : ℕ → Bool
@@ -37,11 +37,11 @@ pub record IsRunOf (test : ℕ → Bool) (most : ℕ) (bytes : List ℕ) : Type 
 
 -- a name in plain bytes: 1 to 255 of %x20-7E
 abbrev pub IsPlainName : List ℕ → Type 0
-IsPlainName name = IsRunOf is_plain longest_name name
+IsPlainName name = IsRunOf is_plain max_name_len name
 
 -- a password: 1 to 1024 bytes of %x20-7E
 abbrev pub IsPassword : List ℕ → Type 0
-IsPassword password = IsRunOf is_plain longest_password password
+IsPassword password = IsRunOf is_plain max_password_len password
 
 -- a nonce of 1 to `most` characters: 1*(printable)
 abbrev pub IsNonce : (most : ℕ) → (nonce : List ℕ) → Type 0
@@ -49,12 +49,12 @@ IsNonce most nonce = IsRunOf is_printable most nonce
 
 -- what one end adds to a nonce: 1 to 256 characters
 abbrev pub IsNoncePart : List ℕ → Type 0
-IsNoncePart nonce = IsNonce longest_nonce_part nonce
+IsNoncePart nonce = IsNonce max_nonce_part_len nonce
 
 -- a salt: 1 to 64 bytes
 pub record IsSalt (salt : List ℕ) : Type 0 where
   pub at_least : 1 ≤ length salt
-  pub at_most : length salt ≤ longest_salt
+  pub at_most : length salt ≤ max_salt_len
 
 -- UTF-8 without NUL. In such a text, value-char is any character except the comma, and value-safe-char any except the comma and `=`.
 pub record IsUtf8Text (bytes : List ℕ) : Type 0 where

@@ -4,7 +4,7 @@ use Rattle.std.specs.Prelude.{ℕ, ◌≡◌, ◌<◌, ◌≤◌, ◌+◌, ◌-�
 use Rattle.std.specs.List.{zip}
 use Rattle.std.specs.Str.{byte}
 use Rattle.std.specs.declared.option.Option.{Option}
-use Rattle.scram_text.specs.Limits.{longest_channel, longest_message, longest_nonce, longest_nonce_part, longest_salt, longest_tag}
+use Rattle.scram_text.specs.Limits.{max_channel_len, max_message_len, max_nonce_len, max_nonce_part_len, max_salt_len, max_tag_len}
 use Rattle.scram_text.specs.FirstUnmet.{IsFirstUnmet}
 use Rattle.scram_text.specs.Class.{IsNonce, IsUtf8Text}
 use Rattle.scram_text.specs.Name.{IsSaslName}
@@ -59,12 +59,12 @@ Fits most Authzid part = IsAuthzid part
 Fits most Mandatory part = IsAttrVal (byte "m") IsValue part
 Fits most Name part = IsAttrVal (byte "n") IsSaslName part
 Fits most Nonce part = IsAttrVal (byte "r") (IsNonce most) part
-Fits most Salt part = IsAttrVal (byte "s") (SpellsField longest_salt) part
+Fits most Salt part = IsAttrVal (byte "s") (SpellsField max_salt_len) part
 Fits most Count part = IsAttrVal (byte "i") SpellsCount part
-Fits most Channel part = IsAttrVal (byte "c") (SpellsField longest_channel) part
+Fits most Channel part = IsAttrVal (byte "c") (SpellsField max_channel_len) part
 Fits most Extension part = IsExtension part
-Fits most Proof part = IsAttrVal (byte "p") (SpellsField longest_tag) part
-Fits most Verifier part = IsAttrVal (byte "v") (SpellsField longest_tag) part
+Fits most Proof part = IsAttrVal (byte "p") (SpellsField max_tag_len) part
+Fits most Verifier part = IsAttrVal (byte "v") (SpellsField max_tag_len) part
 Fits most ErrorValue part = IsAttrVal (byte "e") IsValue part
 
 -- the fault is that of the first part that does not fit its place, with parts counted from k
@@ -87,14 +87,14 @@ IsPartFault most front back pieces f =
 -- the text has more than 2048 bytes, or is not UTF-8 without NUL
 abbrev pub IsWholeFault : List ℕ → TextFault → Type 0
 IsWholeFault text f =
-    ((longest_message < length text) × (f ≡ fault 0 TooLong))
-    ⊎ ((length text ≤ longest_message) × (IsUtf8Text text → ⊥) × (f ≡ fault 0 NotText))
+    ((max_message_len < length text) × (f ≡ fault 0 TooLong))
+    ⊎ ((length text ≤ max_message_len) × (IsUtf8Text text → ⊥) × (f ≡ fault 0 NotText))
 
 -- the first fault of a text that is not a message with these fixed places
 abbrev pub IsFault : (most : ℕ) → (front back : List TextWhy) → (text : List ℕ) → TextFault → Type 0
 IsFault most front back text f =
     IsWholeFault text f
-    ⊎ ((length text ≤ longest_message) × IsUtf8Text text × IsPartFault most front back (parts text) f)
+    ⊎ ((length text ≤ max_message_len) × IsUtf8Text text × IsPartFault most front back (parts text) f)
 
 -- the first part, or the empty text if there is none
 abbrev pub first_of : List (List ℕ) → List ℕ
@@ -111,7 +111,7 @@ client_first_places pieces = Flag ∷ Authzid ∷ places_with_mext (drop 2 piece
 
 -- the first fault of a text that is not a client-first message
 abbrev pub IsClientFirstFault : List ℕ → TextFault → Type 0
-IsClientFirstFault text f = IsFault longest_nonce_part (client_first_places (parts text)) [] text f
+IsClientFirstFault text f = IsFault max_nonce_part_len (client_first_places (parts text)) [] text f
 
 -- the places of server-first
 abbrev pub server_first_places : List (List ℕ) → List TextWhy
@@ -119,11 +119,11 @@ server_first_places pieces = places_with_mext pieces (Nonce ∷ Salt ∷ Count �
 
 -- the first fault of a text that is not a server-first message
 abbrev pub IsServerFirstFault : List ℕ → TextFault → Type 0
-IsServerFirstFault text f = IsFault longest_nonce (server_first_places (parts text)) [] text f
+IsServerFirstFault text f = IsFault max_nonce_len (server_first_places (parts text)) [] text f
 
 -- the first fault of a text that is not a client-final message
 abbrev pub IsClientFinalFault : List ℕ → TextFault → Type 0
-IsClientFinalFault text f = IsFault longest_nonce (Channel ∷ Nonce ∷ []) (Proof ∷ []) text f
+IsClientFinalFault text f = IsFault max_nonce_len (Channel ∷ Nonce ∷ []) (Proof ∷ []) text f
 
 -- the place of server-final's first part: ErrorValue if it begins with "e=", else Verifier
 abbrev pub outcome_place : List ℕ → TextWhy
@@ -135,4 +135,4 @@ server_final_places pieces = outcome_place (first_of pieces) ∷ []
 
 -- the first fault of a text that is not a server-final message. It has no nonce, so the limit of a nonce plays no part.
 abbrev pub IsServerFinalFault : List ℕ → TextFault → Type 0
-IsServerFinalFault text f = IsFault longest_nonce (server_final_places (parts text)) [] text f
+IsServerFinalFault text f = IsFault max_nonce_len (server_final_places (parts text)) [] text f

@@ -5,7 +5,7 @@ use Rattle.std.specs.List.{AllByRecursion}
 use Rattle.std.specs.Str.{IsUtf8}
 use Rattle.std.specs.declared.result.Result.TheVariants.{Ok}
 use Rattle.base64.specs.GeneralPurpose.{IsBytes}
-use Rattle.scram_text.specs.Limits.{longest_channel}
+use Rattle.scram_text.specs.Limits.{max_channel_len}
 use Rattle.scram_text.specs.Class.{IsPlainName}
 use Rattle.scram_text.specs.Name.{LacksComma, SpellsName}
 use Rattle.scram_text.specs.Base64Field.{base64, base64_decoded}
@@ -21,7 +21,7 @@ pub record IsUsualBase64 (bytes : List ℕ) : Type 0 where
 
 -- base64 has its usual form, for 1 to 1536 bytes
 abbrev pub HasUsualBase64 : Type 0
-HasUsualBase64 = (bytes : List ℕ) → IsBytes bytes → 1 ≤ length bytes → length bytes ≤ longest_channel → IsUsualBase64 bytes
+HasUsualBase64 = (bytes : List ℕ) → IsBytes bytes → 1 ≤ length bytes → length bytes ≤ max_channel_len → IsUsualBase64 bytes
 
 -- the parts of a UTF-8 text are UTF-8
 abbrev pub PartsAreUtf8 : Type 0

@@ -3,37 +3,37 @@
 use Rattle.std.specs.Prelude.{ℕ}
 
 -- the most bytes of a message
-abbrev pub longest_message : ℕ
-longest_message = 2048
+abbrev pub max_message_len : ℕ
+max_message_len = 2048
 
 -- the most bytes that one end adds to the nonce
-abbrev pub longest_nonce_part : ℕ
-longest_nonce_part = 256
+abbrev pub max_nonce_part_len : ℕ
+max_nonce_part_len = 256
 
 -- the most bytes of a whole nonce, the client's part and the server's together
-abbrev pub longest_nonce : ℕ
-longest_nonce = 512
+abbrev pub max_nonce_len : ℕ
+max_nonce_len = 512
 
 -- the most bytes that a channel field holds, decoded: the base64 of more is longer than a message
-abbrev pub longest_channel : ℕ
-longest_channel = 1536
+abbrev pub max_channel_len : ℕ
+max_channel_len = 1536
 
 -- the most bytes of a name, unescaped
-abbrev pub longest_name : ℕ
-longest_name = 255
+abbrev pub max_name_len : ℕ
+max_name_len = 255
 
 -- the most bytes of a password
-abbrev pub longest_password : ℕ
-longest_password = 1024
+abbrev pub max_password_len : ℕ
+max_password_len = 1024
 
 -- the most bytes of a salt, decoded
-abbrev pub longest_salt : ℕ
-longest_salt = 64
+abbrev pub max_salt_len : ℕ
+max_salt_len = 64
 
 -- the most bytes of a proof or a signature, decoded
-abbrev pub longest_tag : ℕ
-longest_tag = 64
+abbrev pub max_tag_len : ℕ
+max_tag_len = 64
 
 -- the greatest iteration count
-abbrev pub most_count : ℕ
-most_count = 4294967295
+abbrev pub max_iteration_count : ℕ
+max_iteration_count = 4294967295

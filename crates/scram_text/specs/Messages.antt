@@ -4,7 +4,7 @@
 use Rattle.std.specs.Prelude.{ℕ, ◌≡◌, ◌≤◌, Bool, ◌||◌, IsTrue, List, [], ◌∷◌, ◌++◌, length, codes, decimal, IfSome, is_some}
 use Rattle.std.specs.Str.{byte}
 use Rattle.std.specs.declared.option.Option.{Option}
-use Rattle.scram_text.specs.Limits.{longest_channel, longest_message, longest_nonce, longest_nonce_part, longest_salt, longest_tag}
+use Rattle.scram_text.specs.Limits.{max_channel_len, max_message_len, max_nonce_len, max_nonce_part_len, max_salt_len, max_tag_len}
 use Rattle.scram_text.specs.Class.{IsNonce, IsUtf8Text}
 use Rattle.scram_text.specs.Name.{IsSaslName}
 use Rattle.scram_text.specs.Base64Field.{base64, IsField}
@@ -46,10 +46,10 @@ pub record IsClientFirst (text : List ℕ) (p : ClientFirstParts) : Type 0 where
   pub authzid : IfSome p.authzid IsSaslName
   pub mext : IfSome p.mext IsValue
   pub name : IsSaslName p.name
-  pub nonce : IsNonce longest_nonce_part p.nonce
+  pub nonce : IsNonce max_nonce_part_len p.nonce
   pub extensions : AreExtensions p.extensions
   pub utf8_text : IsUtf8Text text
-  pub short : length text ≤ longest_message
+  pub short : length text ≤ max_message_len
 
 -- the parts of server-first
 pub record ServerFirstParts : Type 0 where
@@ -74,12 +74,12 @@ server_first_mandatory p = is_some p.mext || have_mandatory p.extensions
 pub record IsServerFirst (text : List ℕ) (p : ServerFirstParts) : Type 0 where
   pub spelled : text ≡ server_first_text p
   pub mext : IfSome p.mext IsValue
-  pub nonce : IsNonce longest_nonce p.nonce
-  pub salt : IsField longest_salt p.salt
+  pub nonce : IsNonce max_nonce_len p.nonce
+  pub salt : IsField max_salt_len p.salt
   pub count : IsCount p.count
   pub extensions : AreExtensions p.extensions
   pub utf8_text : IsUtf8Text text
-  pub short : length text ≤ longest_message
+  pub short : length text ≤ max_message_len
 
 -- the parts of client-final
 pub record ClientFinalParts : Type 0 where
@@ -104,12 +104,12 @@ client_final_mandatory p = have_mandatory p.extensions
 -- the text is a client-final message with these parts
 pub record IsClientFinal (text : List ℕ) (p : ClientFinalParts) : Type 0 where
   pub spelled : text ≡ client_final_text p
-  pub channel : IsField longest_channel p.channel
-  pub nonce : IsNonce longest_nonce p.nonce
+  pub channel : IsField max_channel_len p.channel
+  pub nonce : IsNonce max_nonce_len p.nonce
   pub extensions : AreExtensions p.extensions
-  pub proof : IsField longest_tag p.proof
+  pub proof : IsField max_tag_len p.proof
   pub utf8_text : IsUtf8Text text
-  pub short : length text ≤ longest_message
+  pub short : length text ≤ max_message_len
 
 -- what server-final says: the server's signature, or why the login failed
 pub data VerifierOrError : Type 0 where
@@ -128,7 +128,7 @@ verifier_or_error_text (server_error value) = codes "e=" ++ value
 
 -- the signature has 1 to 64 bytes, or the error value has one or more value-chars
 abbrev pub IsVerifierOrError : VerifierOrError → Type 0
-IsVerifierOrError (verifier signature) = IsField longest_tag signature
+IsVerifierOrError (verifier signature) = IsField max_tag_len signature
 IsVerifierOrError (server_error value) = IsValue value
 
 -- server-final-message = (server-error / verifier) ["," extensions], as "v=rmF9pqV8S7suAoZWja4dJRkFsKQ="
@@ -146,4 +146,4 @@ pub record IsServerFinal (text : List ℕ) (p : ServerFinalParts) : Type 0 where
   pub outcome : IsVerifierOrError p.outcome
   pub extensions : AreExtensions p.extensions
   pub utf8_text : IsUtf8Text text
-  pub short : length text ≤ longest_message
+  pub short : length text ≤ max_message_len

@@ -8,7 +8,7 @@ use Rattle.std.specs.declared.option.Option.TheVariants.{None, Some}
 use Rattle.scram_text.specs.Class.{is_comma, is_letter, is_cb_char}
 use Rattle.scram_text.specs.Name.{LacksComma}
 use Rattle.scram_text.specs.Base64Field.{base64, IsField}
-use Rattle.scram_text.specs.Limits.{most_count}
+use Rattle.scram_text.specs.Limits.{max_iteration_count}
 
 -- the parts of a text: one more than it has commas, so that "a,,b" has three and "" has one
 abbrev pub parts : List ℕ → List (List ℕ)
@@ -61,7 +61,7 @@ mext_parts (Some value) = (codes "m=" ++ value) ∷ []
 -- an iteration count: posit-number = %x31-39 *DIGIT, here at most 4294967295
 pub record IsCount (count : ℕ) : Type 0 where
   pub at_least : 1 ≤ count
-  pub at_most : count ≤ most_count
+  pub at_most : count ≤ max_iteration_count
 
 -- the value is the decimal text of a count
 abbrev pub SpellsCount : List ℕ → Type 0

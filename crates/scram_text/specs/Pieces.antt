@@ -6,7 +6,7 @@ use Rattle.scram_text.specs.Class.{IsUtf8Text, IsNonce, is_letter}
 use Rattle.scram_text.specs.Name.{IsSaslName}
 use Rattle.scram_text.specs.Messages.{ClientFirstParts, bare_parts, client_first_mandatory}
 use Rattle.std.specs.declared.option.Option.{Option}
-use Rattle.scram_text.specs.Limits.{longest_message, longest_nonce_part}
+use Rattle.scram_text.specs.Limits.{max_message_len, max_nonce_part_len}
 use Rattle.scram_text.specs.Parts.{parts, parts_of_some, mext_parts, joined, IsValue, is_named, AreExtensions}
 use Rattle.scram_text.specs.Faults.{IsFirstMisfit, places, first_of, places_with_mext}
 use Rattle.scram_text.specs.declared.client_final.Pieces.{Pieces}
@@ -20,7 +20,7 @@ use Rattle.scram_text.specs.declared.fault.TextWhy.TheVariants.{Name, Nonce, Ext
 
 -- the most parts of a message: one more than it can have commas
 abbrev pub most_parts : ℕ
-most_parts = longest_message + 1
+most_parts = max_message_len + 1
 
 -- the fault is that of the first part that is not an extension, if all of them must be extensions, with parts counted from k
 abbrev pub IsExtensionMisfit : ℕ → List (List ℕ) → TextFault → Type 0
@@ -36,7 +36,7 @@ is_attribute (a ∷ b ∷ c ∷ value) = is_letter a && (b == byte "=")
 
 -- the parts of a text that may be client-final
 pub record IsCutClientFinal (message : List ℕ) (pieces : Pieces) : Type 0 where
-  pub short : length message ≤ longest_message
+  pub short : length message ≤ max_message_len
   pub utf8_text : IsUtf8Text message
   pub whole : message ≡ pieces.without_proof.now ++ byte "," ∷ pieces.proof.now
   pub cut : parts pieces.without_proof.now ≡ pieces.channel.now ∷ pieces.nonce.now ∷ parts_of_some (option_copied pieces.rest)
@@ -44,7 +44,7 @@ pub record IsCutClientFinal (message : List ℕ) (pieces : Pieces) : Type 0 wher
       ∷ (parts_of_some (option_copied pieces.rest) ++ pieces.proof.now ∷ [])
   pub count : pieces.parts ≡ length (parts message)
   pub few : length (parts message) ≤ most_parts
-  pub channel_len : length pieces.channel.now ≤ longest_message
+  pub channel_len : length pieces.channel.now ≤ max_message_len
 
 -- the parts are a mandatory extension, if the first begins with "m=", and then the others
 pub record IsMextAndRest (pieces rest : List (List ℕ)) (mext : Option (List ℕ)) : Type 0 where
@@ -59,7 +59,7 @@ IsMextMisfit k pieces f =
 
 -- the parts of a text that may be server-first
 pub record IsCutServerFirst (message : List ℕ) (pieces : ServerPieces) : Type 0 where
-  pub short : length message ≤ longest_message
+  pub short : length message ≤ max_message_len
   pub utf8_text : IsUtf8Text message
   pub mext : Option (List ℕ)
   pub mext_and_rest : IsMextAndRest (parts message) (pieces.nonce.now ∷ pieces.salt.now ∷ pieces.count.now
@@ -70,7 +70,7 @@ pub record IsCutServerFirst (message : List ℕ) (pieces : ServerPieces) : Type 
 
 -- the parts of a text that may be client-first
 pub record IsCutClientFirst (message : List ℕ) (pieces : FirstPieces) : Type 0 where
-  pub short : length message ≤ longest_message
+  pub short : length message ≤ max_message_len
   pub utf8_text : IsUtf8Text message
   pub header : message ≡ pieces.header.now ++ pieces.bare.now
   pub header_parts : pieces.header.now ≡ pieces.flag.now ++ byte "," ∷ (pieces.authzid.now ++ byte "," ∷ [])
@@ -91,7 +91,7 @@ pub record IsBare (pieces : List (List ℕ)) (p : ClientFirstParts) : Type 0 whe
   pub headed : is_named (byte "m") (first_of pieces) ≡ is_some p.mext
   pub mext : IfSome p.mext IsValue
   pub name : IsSaslName p.name
-  pub nonce : IsNonce longest_nonce_part p.nonce
+  pub nonce : IsNonce max_nonce_part_len p.nonce
   pub extensions : AreExtensions p.extensions
 
 -- what was read of client-first-bare shows these parts
@@ -104,4 +104,4 @@ pub record ShowsBare (m : Bare) (p : ClientFirstParts) : Type 0 where
 -- the fault is that of the first part of client-first-bare that does not fit its place, with parts counted from 2
 abbrev pub IsBareMisfit : List (List ℕ) → TextFault → Type 0
 IsBareMisfit pieces f =
-    IsFirstMisfit longest_nonce_part (places (places_with_mext pieces (Name ∷ Nonce ∷ [])) [] (length pieces)) 2 pieces f
+    IsFirstMisfit max_nonce_part_len (places (places_with_mext pieces (Name ∷ Nonce ∷ [])) [] (length pieces)) 2 pieces f

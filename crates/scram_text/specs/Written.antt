@@ -2,7 +2,7 @@
 use Rattle.std.specs.Prelude.{ℕ, ◌≡◌, ◌<◌, List, [], ◌∷◌, length, IsTrue, option_map, Result, OnOk, IsErrOf, Vec}
 use Rattle.std.specs.declared.option.Option.{Option}
 use Rattle.std.specs.declared.option.Option.TheVariants.{None}
-use Rattle.scram_text.specs.Limits.{longest_channel, longest_nonce, longest_salt, longest_tag, longest_message}
+use Rattle.scram_text.specs.Limits.{max_channel_len, max_nonce_len, max_salt_len, max_tag_len, max_message_len}
 use Rattle.scram_text.specs.Appended.{IsAppended, LacksRoom}
 use Rattle.scram_text.specs.Class.{IsNonce, IsUtf8Text}
 use Rattle.scram_text.specs.Name.{name_spelling}
@@ -53,8 +53,8 @@ server_first_of nonce salt count extensions = record {
 
 -- the arguments for server-first are in their classes
 pub record CanBeServerFirst (nonce salt : List ℕ) (count : ℕ) (extensions : List ℕ) : Type 0 where
-  pub nonce_class : IsNonce longest_nonce nonce
-  pub salt_class : IsField longest_salt salt
+  pub nonce_class : IsNonce max_nonce_len nonce
+  pub salt_class : IsField max_salt_len salt
   pub count_class : IsCount count
   pub extensions_class : IsExtensionText extensions
 
@@ -69,20 +69,20 @@ client_final_of channel nonce extensions proof = record {
 
 -- the arguments for client-final without its proof are in their classes
 pub record CanBeClientFinalWithoutProof (channel nonce extensions : List ℕ) : Type 0 where
-  pub channel_class : IsField longest_channel channel
-  pub nonce_class : IsNonce longest_nonce nonce
+  pub channel_class : IsField max_channel_len channel
+  pub nonce_class : IsNonce max_nonce_len nonce
   pub extensions_class : IsExtensionText extensions
 
 -- the arguments for client-final are in their classes
 pub record CanBeClientFinal (channel nonce extensions proof : List ℕ) : Type 0 where
   pub without_proof : CanBeClientFinalWithoutProof channel nonce extensions
-  pub proof_class : IsField longest_tag proof
+  pub proof_class : IsField max_tag_len proof
 
 -- the value holds the client-final-message-without-proof of these parts, which are in their classes. Their proof plays no part.
 pub record IsClientFinalWithoutProof (w : ClientFinalWithoutProof) (p : ClientFinalParts) : Type 0 where
   pub held : w.text.items ≡ client_final_without_proof p
-  pub channel : IsField longest_channel p.channel
-  pub nonce : IsNonce longest_nonce p.nonce
+  pub channel : IsField max_channel_len p.channel
+  pub nonce : IsNonce max_nonce_len p.nonce
   pub extensions : AreExtensions p.extensions
   pub utf8_text : IsUtf8Text (client_final_without_proof p)
 
@@ -108,5 +108,5 @@ pub record IsMessageWritten {T P Z : Type 0} (result : Result T WriteFault) (old
   pub appended : IsAppended result old new (text p)
   pub is_message : OnOk result (IsMessage (text p) p)
   pub unwritable : IsErrOf result WriteFault.Unwritable → CanBe → ⊥
-  pub over_limit : IsErrOf result WriteFault.OverLimit → CanBe × (longest_message < length (text p))
+  pub over_limit : IsErrOf result WriteFault.OverLimit → CanBe × (max_message_len < length (text p))
   pub no_memory : IsErrOf result WriteFault.NoMemory → IsMessage (text p) p × LacksRoom old (text p)

@@ -7,7 +7,7 @@
 //!
 //! For example: `c=biws,r=abcdef,p=v0X8v3Bz2T0CJGbJQyF0X+HI4Ts=`. The last part is the proof, even if an extension is named `p`.
 ghost use Rattle.std.specs.Prelude.{◌≡◌, ◌≤◌, ◌<◌, ◌+◌, ◌↔◌, ℕ, List, [], ◌++◌, length, IsTrue, IfOk, IfErr, OnOk, IsOkAnd, IsErrOf};
-ghost use Rattle.scram_text.specs.Limits.{longest_message, longest_tag};
+ghost use Rattle.scram_text.specs.Limits.{max_message_len, max_tag_len};
 ghost use Rattle.scram_text.specs.Class.{IsUtf8Text};
 ghost use Rattle.scram_text.specs.Base64Field.{IsField};
 ghost use Rattle.scram_text.specs.Messages.{ClientFinalParts, client_final_without_proof, client_final_text, IsClientFinal};
@@ -21,7 +21,7 @@ ghost use Rattle.scram_text.specs.Appended.{IsUnchangedOnErr, KeepsRoom, LacksRo
 
 use crate::draft::MessageDraft;
 use crate::fault::{TextFault, TextWhy, WriteFault};
-use crate::{LONGEST_CHANNEL, LONGEST_MESSAGE, LONGEST_NONCE, LONGEST_TAG, class, cut, field};
+use crate::{MAX_CHANNEL_LEN, MAX_MESSAGE_LEN, MAX_NONCE_LEN, MAX_TAG_LEN, class, cut, field};
 use arrayvec::ArrayVec;
 use mac_core::Tag;
 use std::alloc::Allocator;
@@ -36,7 +36,7 @@ pub struct ClientFinal<'a> {
     pub mandatory: bool,
 
     /// The bytes of the channel field, 1 to 1536.
-    pub channel: ArrayVec<u8, LONGEST_CHANNEL>,
+    pub channel: ArrayVec<u8, MAX_CHANNEL_LEN>,
 
     /// The nonce, 1 to 512 printable characters.
     pub nonce: &'a [u8],
@@ -77,7 +77,7 @@ fn read_parts(message: &[u8]) -> Result<ClientFinal<'_>, TextFault>
             why: TextWhy::Channel,
         });
     };
-    let Some(nonce) = field::nonce_of(pieces.nonce, LONGEST_NONCE) else {
+    let Some(nonce) = field::nonce_of(pieces.nonce, MAX_NONCE_LEN) else {
         return Err(TextFault {
             part: 1,
             why: TextWhy::Nonce,
@@ -145,7 +145,7 @@ fn pieces_of(message: &[u8]) -> Result<Pieces<'_>, TextFault>
 /// It does not keep its parts, so its contracts say which parts it stands for.
 #[derive(Drop)]
 pub struct ClientFinalWithoutProof {
-    text: ArrayVec<u8, LONGEST_MESSAGE>,
+    text: ArrayVec<u8, MAX_MESSAGE_LEN>,
 }
 
 impl ClientFinalWithoutProof {
@@ -165,7 +165,7 @@ impl ClientFinalWithoutProof {
             → CanBeClientFinalWithoutProof channel.now nonce.now extensions.now → ⊥ }
         ensures over_limit { IsErrOf result WriteFault.OverLimit
             → CanBeClientFinalWithoutProof channel.now nonce.now extensions.now
-            × (longest_message < length (client_final_without_proof (client_final_of channel.now nonce.now extensions.now []))) }
+            × (max_message_len < length (client_final_without_proof (client_final_of channel.now nonce.now extensions.now []))) }
         ensures no_memory { IsErrOf result WriteFault.NoMemory → ⊥ }
     {
         if !is_writable(channel, nonce, extensions) {
@@ -197,17 +197,17 @@ impl ClientFinalWithoutProof {
             → OnOk result (IsClientFinal (client_final_text p) p) }
         ensures unchanged { IsUnchangedOnErr result out.old out.new }
         ensures room { KeepsRoom out.old out.new }
-        ensures unwritable { IsErrOf result WriteFault.Unwritable → IsField longest_tag proof.now.items → ⊥ }
-        ensures over_limit { IsErrOf result WriteFault.OverLimit → IsField longest_tag proof.now.items
+        ensures unwritable { IsErrOf result WriteFault.Unwritable → IsField max_tag_len proof.now.items → ⊥ }
+        ensures over_limit { IsErrOf result WriteFault.OverLimit → IsField max_tag_len proof.now.items
             × ((p : ClientFinalParts) → IsClientFinalWithoutProof self p → p.proof ≡ proof.now.items
-            → longest_message < length (client_final_text p)) }
+            → max_message_len < length (client_final_text p)) }
         ensures no_memory { IsErrOf result WriteFault.NoMemory
             → (p : ClientFinalParts) → IsClientFinalWithoutProof self p → p.proof ≡ proof.now.items
             → IsClientFinal (client_final_text p) p
             × LacksRoom out.old (client_final_text p) }
     {
         let proof = proof.as_slice();
-        if !field::is_field(proof, LONGEST_TAG) {
+        if !field::is_field(proof, MAX_TAG_LEN) {
             return Err(WriteFault::Unwritable);
         }
         self.with_proof(proof).append_to(out)
@@ -215,11 +215,11 @@ impl ClientFinalWithoutProof {
 
     // The whole message: the text, `,p=` and the base64 of the proof.
     fn with_proof(self, proof: &[u8]) -> MessageDraft
-        requires { IsField longest_tag proof.now }
+        requires { IsField max_tag_len proof.now }
         ensures draft { (p : ClientFinalParts) → IsClientFinalWithoutProof self p → p.proof ≡ proof.now
             → IsDraftOf result (client_final_text p) }
         ensures is_message { (p : ClientFinalParts) → IsClientFinalWithoutProof self p → p.proof ≡ proof.now
-            → length (client_final_text p) ≤ longest_message → IsClientFinal (client_final_text p) p }
+            → length (client_final_text p) ≤ max_message_len → IsClientFinal (client_final_text p) p }
     {
         let mut draft = MessageDraft::of(self.text);
         draft.add(b",p=");
@@ -232,8 +232,8 @@ impl ClientFinalWithoutProof {
 fn is_writable(channel: &[u8], nonce: &[u8], extensions: &[u8]) -> bool
     ensures { IsTrue result ↔ CanBeClientFinalWithoutProof channel.now nonce.now extensions.now }
 {
-    field::is_field(channel, LONGEST_CHANNEL)
-        && class::is_nonce(nonce, LONGEST_NONCE)
+    field::is_field(channel, MAX_CHANNEL_LEN)
+        && class::is_nonce(nonce, MAX_NONCE_LEN)
         && cut::are_extensions(extensions)
 }
 
@@ -270,7 +270,7 @@ pub fn write_client_final<A: Allocator>(
         (client_final_of channel.now nonce.now extensions.now proof.now.items)
         (CanBeClientFinal channel.now nonce.now extensions.now proof.now.items) }
 {
-    if !field::is_field(proof.as_slice(), LONGEST_TAG) {
+    if !field::is_field(proof.as_slice(), MAX_TAG_LEN) {
         return Err(WriteFault::Unwritable);
     }
     let without_proof = ClientFinalWithoutProof::new(channel, nonce, extensions)?;

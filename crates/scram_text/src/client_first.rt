@@ -10,7 +10,7 @@
 ghost use Rattle.std.specs.Prelude.{◌≡◌, ◌≤◌, ◌+◌, [], length, IfOk, IfErr, IfSome, IsTrue, IsOkAnd, false};
 ghost use Rattle.std.specs.Prelude.{MatchOption};
 ghost use Rattle.std.specs.Option.{option_copied};
-ghost use Rattle.scram_text.specs.Limits.{longest_message};
+ghost use Rattle.scram_text.specs.Limits.{max_message_len};
 ghost use Rattle.scram_text.specs.Pieces.{most_parts};
 ghost use Rattle.scram_text.specs.Name.{IsSaslName};
 ghost use Rattle.scram_text.specs.Parts.{parts, is_flag, authzid_text};
@@ -25,7 +25,7 @@ use crate::draft::MessageDraft;
 use crate::fault::{TextFault, TextWhy, WriteFault};
 use crate::name::{PlainName, SaslText};
 use crate::values::NoncePart;
-use crate::{LONGEST_NONCE_PART, class, cut, field};
+use crate::{MAX_NONCE_PART_LEN, class, cut, field};
 use std::alloc::Allocator;
 
 /// The flag of a gs2-header: whether the client binds a channel.
@@ -206,7 +206,7 @@ fn read_bare(bare: &[u8]) -> Result<Bare<'_>, TextFault>
             why: TextWhy::Name,
         });
     };
-    let Some(nonce) = field::nonce_of(pieces.nonce, LONGEST_NONCE_PART) else {
+    let Some(nonce) = field::nonce_of(pieces.nonce, MAX_NONCE_PART_LEN) else {
         return Err(TextFault {
             part: pieces.index + 1,
             why: TextWhy::Nonce,
@@ -292,7 +292,7 @@ fn draft_of(
     ensures draft { IsDraftOf result (client_first_text
         (client_first_of flag.now (option_copied authzid.entry) name.now nonce.now extensions.now)) }
     ensures is_message { let p = client_first_of flag.now (option_copied authzid.entry) name.now nonce.now extensions.now in
-        length (client_first_text p) ≤ longest_message → IsClientFirst (client_first_text p) p }
+        length (client_first_text p) ≤ max_message_len → IsClientFirst (client_first_text p) p }
 {
     let mut draft = flag_draft(flag);
     draft.add(b",");

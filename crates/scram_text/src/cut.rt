@@ -4,7 +4,7 @@ ghost use Rattle.std.specs.Prelude.{is_some, OnOk, IfErr, MatchOption, true, fal
 ghost use Rattle.std.specs.Str.{byte};
 ghost use Rattle.std.specs.Option.{option_copied};
 ghost use Rattle.std.specs.declared.option.Option.{Option};
-ghost use Rattle.scram_text.specs.Limits.{longest_message};
+ghost use Rattle.scram_text.specs.Limits.{max_message_len};
 ghost use Rattle.scram_text.specs.Class.{is_comma, IsUtf8Text};
 ghost use Rattle.scram_text.specs.Name.{LacksComma};
 ghost use Rattle.scram_text.specs.Parts.{parts, parts_of_some, joined, is_named, IsExtension, AreExtensions, have_mandatory};
@@ -14,18 +14,18 @@ ghost use Rattle.scram_text.specs.Written.{IsExtensionText};
 ghost use Rattle.scram_text.specs.Pieces.{most_parts, is_attribute, IsExtensionMisfit, IsMextAndRest, IsMextMisfit};
 
 use crate::fault::{TextFault, TextWhy};
-use crate::{LONGEST_MESSAGE, class, field};
+use crate::{MAX_MESSAGE_LEN, class, field};
 
 /// The number of parts of a message. Errors: 1 TooLong if it has more than 2048 bytes, else 2 NotText if it contains a NUL or is
 /// not UTF-8.
 pub(crate) fn checked_part_count(message: &[u8]) -> Result<usize, TextFault>
-    ensures short { IfOk result (λ _. length message.now ≤ longest_message) }
+    ensures short { IfOk result (λ _. length message.now ≤ max_message_len) }
     ensures utf8_text { IfOk result (λ _. IsUtf8Text message.now) }
     ensures count { IfOk result (λ count. count ≡ length (parts message.now)) }
     ensures few { OnOk result (length (parts message.now) ≤ most_parts) }
     ensures fault { IfErr result (λ f. IsWholeFault message.now f) }
 {
-    if message.len() > LONGEST_MESSAGE {
+    if message.len() > MAX_MESSAGE_LEN {
         return Err(TextFault {
             part: 0,
             why: TextWhy::TooLong,
@@ -43,7 +43,7 @@ pub(crate) fn checked_part_count(message: &[u8]) -> Result<usize, TextFault>
 // The number of parts: one more than there are commas.
 #[tactic(auto, using(crate::proofs::lemmas::Parts::parts_exceed_commas_by_one))]
 fn part_count(text: &[u8]) -> usize
-    requires { length text.now ≤ longest_message }
+    requires { length text.now ≤ max_message_len }
     ensures count { result ≡ length (parts text.now) }
     ensures few { result ≤ length text.now + 1 }
 {

@@ -3,7 +3,7 @@
 ghost use Rattle.std.specs.Prelude.{◌≡◌, ◌≤◌, ℕ, List, ◌∷◌, ◌++◌, length, take, decimal, codes, IfNone, IfSome, IsTrue, ◌↔◌};
 ghost use Rattle.std.specs.Str.{byte};
 ghost use Rattle.base64.specs.Decode.{decoded_estimate};
-ghost use Rattle.scram_text.specs.Limits.{longest_channel, longest_message, longest_salt, longest_tag};
+ghost use Rattle.scram_text.specs.Limits.{max_channel_len, max_message_len, max_salt_len, max_tag_len};
 ghost use Rattle.scram_text.specs.Class.{IsNonce};
 ghost use Rattle.scram_text.specs.Name.{IsSaslName, LacksComma};
 ghost use Rattle.scram_text.specs.Base64Field.{base64, IsField};
@@ -12,7 +12,7 @@ ghost use Rattle.scram_text.specs.Parts.{IsAttrVal, IsValue, IsCount, SpellsCoun
 use crate::name::SaslText;
 use crate::number::decimal;
 use crate::values::Salt;
-use crate::{LONGEST_CHANNEL, MOST_COUNT, class, cut};
+use crate::{MAX_CHANNEL_LEN, MAX_ITERATION_COUNT, class, cut};
 use arrayvec::ArrayVec;
 use base64::engine::general_purpose::STANDARD;
 use mac_core::{Tag, copy_of};
@@ -85,18 +85,18 @@ fn count(digits: &[u8]) -> Option<u32>
     let Some(number) = decimal(digits) else {
         return None;
     };
-    if number < 1 || u64::from(MOST_COUNT) < number {
+    if number < 1 || u64::from(MAX_ITERATION_COUNT) < number {
         return None;
     }
     Some(number as u32)
 }
 
 /// The bytes of a part that is `c=` and the base64 of 1 to 1536 bytes.
-pub(crate) fn channel_of(part: &[u8]) -> Option<ArrayVec<u8, LONGEST_CHANNEL>>
-    requires { length part.now ≤ longest_message }
-    ensures none { IfNone result (IsAttrVal (byte "c") (SpellsField longest_channel) part.now → ⊥) }
+pub(crate) fn channel_of(part: &[u8]) -> Option<ArrayVec<u8, MAX_CHANNEL_LEN>>
+    requires { length part.now ≤ max_message_len }
+    ensures none { IfNone result (IsAttrVal (byte "c") (SpellsField max_channel_len) part.now → ⊥) }
     ensures spelled { IfSome result (λ channel. part.now ≡ codes "c=" ++ base64 channel.items) }
-    ensures class { IfSome result (λ channel. IsField longest_channel channel.items) }
+    ensures class { IfSome result (λ channel. IsField max_channel_len channel.items) }
 {
     let text = cut::headed(part, b'c')?;
     channel_bytes(text)
@@ -104,9 +104,9 @@ pub(crate) fn channel_of(part: &[u8]) -> Option<ArrayVec<u8, LONGEST_CHANNEL>>
 
 /// The bytes of a part that is a letter, `=` and the base64 of 1 to 64 bytes.
 pub(crate) fn short_bytes_of(part: &[u8], letter: u8) -> Option<Tag>
-    ensures none { IfNone result (IsAttrVal letter (SpellsField longest_tag) part.now → ⊥) }
+    ensures none { IfNone result (IsAttrVal letter (SpellsField max_tag_len) part.now → ⊥) }
     ensures spelled { IfSome result (λ tag. part.now ≡ letter ∷ byte "=" ∷ base64 tag.items) }
-    ensures class { IfSome result (λ tag. IsField longest_tag tag.items) }
+    ensures class { IfSome result (λ tag. IsField max_tag_len tag.items) }
 {
     let text = cut::headed(part, letter)?;
     short_bytes(text)
@@ -114,22 +114,22 @@ pub(crate) fn short_bytes_of(part: &[u8], letter: u8) -> Option<Tag>
 
 /// The salt of a part that is `s=` and the base64 of 1 to 64 bytes.
 pub(crate) fn salt_of(part: &[u8]) -> Option<Salt>
-    ensures none { IfNone result (IsAttrVal (byte "s") (SpellsField longest_salt) part.now → ⊥) }
+    ensures none { IfNone result (IsAttrVal (byte "s") (SpellsField max_salt_len) part.now → ⊥) }
     ensures spelled { IfSome result (λ salt. part.now ≡ codes "s=" ++ base64 salt) }
-    ensures class { IfSome result (λ salt. IsField longest_salt salt) }
+    ensures class { IfSome result (λ salt. IsField max_salt_len salt) }
 {
     let bytes = short_bytes_of(part, b's')?;
     Salt::new(bytes.as_slice())
 }
 
 // The 1 to 1536 bytes whose base64 this is, or None if it is that of no such bytes.
-fn channel_bytes(text: &[u8]) -> Option<ArrayVec<u8, LONGEST_CHANNEL>>
-    requires { length text.now ≤ longest_message }
-    ensures none { IfNone result (SpellsField longest_channel text.now → ⊥) }
+fn channel_bytes(text: &[u8]) -> Option<ArrayVec<u8, MAX_CHANNEL_LEN>>
+    requires { length text.now ≤ max_message_len }
+    ensures none { IfNone result (SpellsField max_channel_len text.now → ⊥) }
     ensures spelled { IfSome result (λ field. text.now ≡ base64 field.items) }
-    ensures class { IfSome result (λ field. IsField longest_channel field.items) }
+    ensures class { IfSome result (λ field. IsField max_channel_len field.items) }
 {
-    let mut buffer = [0; LONGEST_CHANNEL];
+    let mut buffer = [0; MAX_CHANNEL_LEN];
     let size = decode(text, &mut buffer)?;
     Some(copy_of(&buffer[..size]))
 }
@@ -138,9 +138,9 @@ fn channel_bytes(text: &[u8]) -> Option<ArrayVec<u8, LONGEST_CHANNEL>>
 // decode to at most 66 bytes.
 #[tactic(auto, using(crate::proofs::lemmas::Base64::base64_has_at_most_88_bytes))]
 fn short_bytes(text: &[u8]) -> Option<Tag>
-    ensures none { IfNone result (SpellsField longest_tag text.now → ⊥) }
+    ensures none { IfNone result (SpellsField max_tag_len text.now → ⊥) }
     ensures spelled { IfSome result (λ field. text.now ≡ base64 field.items) }
-    ensures class { IfSome result (λ field. IsField longest_tag field.items) }
+    ensures class { IfSome result (λ field. IsField max_tag_len field.items) }
 {
     if text.len() > 88 {
         return None;

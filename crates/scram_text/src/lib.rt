@@ -45,28 +45,28 @@ pub use server_first::{ServerFirst, read_server_first, write_server_first};
 pub use values::{NoncePart, Password, Salt};
 
 /// The greatest length of a message, in bytes.
-pub const LONGEST_MESSAGE: usize = 2048;
+pub const MAX_MESSAGE_LEN: usize = 2048;
 
 /// The greatest length of one end's part of the nonce, in characters.
-pub const LONGEST_NONCE_PART: usize = 256;
+pub const MAX_NONCE_PART_LEN: usize = 256;
 
 /// The greatest length of a whole nonce, with the parts of both ends, in characters.
-pub const LONGEST_NONCE: usize = 512;
+pub const MAX_NONCE_LEN: usize = 512;
 
 /// The greatest length of a decoded channel field, in bytes: the base64 of more is longer than a message.
-pub const LONGEST_CHANNEL: usize = 1536;
+pub const MAX_CHANNEL_LEN: usize = 1536;
 
 /// The greatest length of a name, in bytes.
-pub const LONGEST_NAME: usize = 255;
+pub const MAX_NAME_LEN: usize = 255;
 
 /// The greatest length of a password, in bytes.
-pub const LONGEST_PASSWORD: usize = 1024;
+pub const MAX_PASSWORD_LEN: usize = 1024;
 
 /// The greatest length of a salt, in bytes.
-pub const LONGEST_SALT: usize = 64;
+pub const MAX_SALT_LEN: usize = 64;
 
 /// The greatest iteration count.
-pub const MOST_COUNT: u32 = 4_294_967_295;
+pub const MAX_ITERATION_COUNT: u32 = 4_294_967_295;
 
 /// The greatest length of a proof or a signature, in bytes.
-pub const LONGEST_TAG: usize = 64;
+pub const MAX_TAG_LEN: usize = 64;

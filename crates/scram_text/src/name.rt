@@ -1,14 +1,14 @@
 //! User names, in plain bytes and as a message spells them (RFC 5802, section 5.1).
 ghost use Rattle.std.specs.Prelude.{◌≡◌, ◌≤◌, ℕ, List, [], ◌++◌, length, ◌↔◌, IsTrue, ◌<◌, ◌+◌, IfSome, IfNone, IfErr, MatchOption};
 ghost use Rattle.std.specs.Option.{SomeIff};
-ghost use Rattle.scram_text.specs.Limits.{longest_name};
+ghost use Rattle.scram_text.specs.Limits.{max_name_len};
 ghost use Rattle.scram_text.specs.Class.{IsPlainName};
 ghost use Rattle.scram_text.specs.Name.{IsSaslName, LacksComma, SpellsName, escape, name_spelling, is_escaped, begins_with_code};
 ghost use Rattle.scram_text.specs.Appended.{IsAppended, LacksRoom};
 
 use crate::draft::MessageDraft;
 use crate::fault::WriteFault;
-use crate::{LONGEST_NAME, class};
+use crate::{MAX_NAME_LEN, class};
 use arrayvec::ArrayVec;
 use mac_core::copy_of;
 use std::alloc::Allocator;
@@ -18,7 +18,7 @@ use std::marker::Model;
 /// `a`, `a.`, `aa`. Contracts see a name as its bytes.
 #[derive(PartialEq, Eq, PartialOrd, Ord, Drop)]
 pub struct PlainName {
-    bytes: ArrayVec<u8, LONGEST_NAME>,
+    bytes: ArrayVec<u8, MAX_NAME_LEN>,
 }
 
 impl Model for PlainName {
@@ -36,7 +36,7 @@ impl PlainName {
     pub fn new(bytes: &[u8]) -> Option<PlainName>
         ensures { SomeIff result (IsPlainName bytes.now) bytes.now }
     {
-        if !class::is_plain_run(bytes, LONGEST_NAME) {
+        if !class::is_plain_run(bytes, MAX_NAME_LEN) {
             return None;
         }
         Some(PlainName {
@@ -119,11 +119,11 @@ impl<'a> SaslText<'a> {
 }
 
 // The bytes of the name that is spelled, or None if there are more than 255.
-fn unescaped(spelled: &[u8]) -> Option<ArrayVec<u8, LONGEST_NAME>>
+fn unescaped(spelled: &[u8]) -> Option<ArrayVec<u8, MAX_NAME_LEN>>
     requires escaped { IsTrue (is_escaped spelled.now) }
     requires no_comma { LacksComma spelled.now }
     ensures some { IfSome result (λ name. SpellsName name.items spelled.now) }
-    ensures none { IfNone result ((name : List ℕ) → length name ≤ longest_name
+    ensures none { IfNone result ((name : List ℕ) → length name ≤ max_name_len
         → SpellsName name spelled.now → ⊥) }
 {
     let mut name = ArrayVec::new();

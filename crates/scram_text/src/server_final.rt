@@ -7,7 +7,7 @@
 //! For example: `v=rmF9pqV8S7suAoZWja4dJRkFsKQ=` or `e=invalid-proof`.
 ghost use Rattle.std.specs.Prelude.{◌≡◌, ◌≤◌, ◌+◌, ◌↔◌, ◌++◌, length, codes, IsTrue, IfOk, IfErr, IsOkAnd};
 ghost use Rattle.std.specs.Str.{byte};
-ghost use Rattle.scram_text.specs.Limits.{longest_message, longest_nonce, longest_tag};
+ghost use Rattle.scram_text.specs.Limits.{max_message_len, max_nonce_len, max_tag_len};
 ghost use Rattle.scram_text.specs.Class.{IsUtf8Text};
 ghost use Rattle.scram_text.specs.Name.{LacksComma};
 ghost use Rattle.scram_text.specs.Base64Field.{base64};
@@ -20,7 +20,7 @@ ghost use Rattle.scram_text.specs.Written.{server_final_of, CanBeVerifierOrError
 
 use crate::draft::MessageDraft;
 use crate::fault::{TextFault, TextWhy, WriteFault};
-use crate::{LONGEST_TAG, class, cut, field};
+use crate::{MAX_TAG_LEN, class, cut, field};
 use mac_core::Tag;
 use std::alloc::Allocator;
 
@@ -85,7 +85,7 @@ fn outcome_of(part: &[u8]) -> Result<FinalResult<'_>, TextFault>
     requires { LacksComma part.now }
     ensures spelled { IfOk result (λ r. part.now ≡ verifier_or_error_text (verifier_or_error_of r)) }
     ensures class { IfOk result (λ r. IsVerifierOrError (verifier_or_error_of r)) }
-    ensures fault { IfErr result (λ f. (Fits longest_nonce (outcome_place part.now) part.now → ⊥) × (f
+    ensures fault { IfErr result (λ f. (Fits max_nonce_len (outcome_place part.now) part.now → ⊥) × (f
         ≡ fault 0 (outcome_place part.now))) }
 {
     if is_error(part) {
@@ -138,7 +138,7 @@ fn is_writable(outcome: &FinalResult<'_>) -> bool
     ensures { IsTrue result ↔ CanBeVerifierOrError (verifier_or_error_of outcome.now) }
 {
     match outcome {
-        FinalResult::Verifier(signature) => field::is_field(signature.as_slice(), LONGEST_TAG),
+        FinalResult::Verifier(signature) => field::is_field(signature.as_slice(), MAX_TAG_LEN),
         FinalResult::ErrorValue(value) => field::is_value(value) && class::is_utf8_text(value),
     }
 }
@@ -148,7 +148,7 @@ fn draft_of(outcome: &FinalResult<'_>, extensions: &[u8]) -> MessageDraft
     requires { CanBeServerFinal (verifier_or_error_of outcome.now) extensions.now }
     ensures draft { IsDraftOf result (server_final_text (server_final_of (verifier_or_error_of outcome.now) extensions.now)) }
     ensures is_message { let p = server_final_of (verifier_or_error_of outcome.now) extensions.now in
-        length (server_final_text p) ≤ longest_message → IsServerFinal (server_final_text p) p }
+        length (server_final_text p) ≤ max_message_len → IsServerFinal (server_final_text p) p }
 {
     let mut draft = outcome_draft(outcome);
     draft.add_extensions(extensions);
@@ -169,7 +169,7 @@ fn outcome_draft(outcome: &FinalResult<'_>) -> MessageDraft
 
 // "v=" base64
 fn verifier_draft(signature: &[u8]) -> MessageDraft
-    requires { length signature.now ≤ longest_tag }
+    requires { length signature.now ≤ max_tag_len }
     ensures draft { IsDraftOf result (codes "v=" ++ base64 signature.now) }
     ensures utf8_text { IsUtf8Text (codes "v=" ++ base64 signature.now) }
 {

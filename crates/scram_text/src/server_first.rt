@@ -6,7 +6,7 @@
 //!
 //! For example: `r=abcdef,s=QSXCR+Q6sek8bf92,i=4096`.
 ghost use Rattle.std.specs.Prelude.{◌≤◌, ◌+◌, ◌↔◌, length, IsTrue, IfOk, IfErr, IsOkAnd};
-ghost use Rattle.scram_text.specs.Limits.{longest_message};
+ghost use Rattle.scram_text.specs.Limits.{max_message_len};
 ghost use Rattle.scram_text.specs.Messages.{ServerFirstParts, server_first_text, IsServerFirst};
 ghost use Rattle.scram_text.specs.Draft.{IsDraftOf};
 ghost use Rattle.scram_text.specs.Written.{server_first_of, CanBeServerFirst, IsMessageWritten};
@@ -17,7 +17,7 @@ ghost use Rattle.scram_text.specs.Pieces.{IsCutServerFirst};
 use crate::draft::MessageDraft;
 use crate::fault::{TextFault, TextWhy, WriteFault};
 use crate::values::Salt;
-use crate::{LONGEST_NONCE, LONGEST_SALT, class, cut, field};
+use crate::{MAX_NONCE_LEN, MAX_SALT_LEN, class, cut, field};
 use std::alloc::Allocator;
 
 /// A server-first message that was read. Its slices are parts of the message.
@@ -63,7 +63,7 @@ fn read_parts(message: &[u8]) -> Result<ServerFirst<'_>, TextFault>
     ensures fault { IfErr result (λ f. IsServerFirstFault message.now f) }
 {
     let pieces = pieces_of(message)?;
-    let Some(nonce) = field::nonce_of(pieces.nonce, LONGEST_NONCE) else {
+    let Some(nonce) = field::nonce_of(pieces.nonce, MAX_NONCE_LEN) else {
         return Err(TextFault {
             part: pieces.index,
             why: TextWhy::Nonce,
@@ -155,8 +155,8 @@ pub fn write_server_first<A: Allocator>(
 fn is_writable(nonce: &[u8], salt: &[u8], count: u32, extensions: &[u8]) -> bool
     ensures { IsTrue result ↔ CanBeServerFirst nonce.now salt.now count extensions.now }
 {
-    class::is_nonce(nonce, LONGEST_NONCE)
-        && field::is_field(salt, LONGEST_SALT)
+    class::is_nonce(nonce, MAX_NONCE_LEN)
+        && field::is_field(salt, MAX_SALT_LEN)
         && field::is_count(count)
         && cut::are_extensions(extensions)
 }
@@ -166,7 +166,7 @@ fn draft_of(nonce: &[u8], salt: &[u8], count: u32, extensions: &[u8]) -> Message
     requires { CanBeServerFirst nonce.now salt.now count extensions.now }
     ensures draft { IsDraftOf result (server_first_text (server_first_of nonce.now salt.now count extensions.now)) }
     ensures is_message { let p = server_first_of nonce.now salt.now count extensions.now in
-        length (server_first_text p) ≤ longest_message → IsServerFirst (server_first_text p) p }
+        length (server_first_text p) ≤ max_message_len → IsServerFirst (server_first_text p) p }
 {
     let mut draft = MessageDraft::new();
     draft.add(b"r=");

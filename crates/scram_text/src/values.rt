@@ -3,7 +3,7 @@ ghost use Rattle.std.specs.Prelude.{◌≡◌, ℕ, List};
 ghost use Rattle.std.specs.Option.{SomeIff};
 ghost use Rattle.scram_text.specs.Class.{IsPassword, IsNoncePart, IsSalt};
 
-use crate::{LONGEST_NONCE_PART, LONGEST_PASSWORD, LONGEST_SALT, class};
+use crate::{MAX_NONCE_PART_LEN, MAX_PASSWORD_LEN, MAX_SALT_LEN, class};
 use arrayvec::ArrayVec;
 use mac_core::copy_of;
 use std::marker::Model;
@@ -11,7 +11,7 @@ use std::marker::Model;
 /// A password: 1 to 1024 bytes from 0x20 to 0x7E, which SASLprep (RFC 4013) leaves as they are. Contracts see it as its bytes.
 #[derive(Drop)]
 pub struct Password {
-    bytes: ArrayVec<u8, LONGEST_PASSWORD>,
+    bytes: ArrayVec<u8, MAX_PASSWORD_LEN>,
 }
 
 impl Model for Password {
@@ -27,7 +27,7 @@ impl Password {
     pub fn new(bytes: &[u8]) -> Option<Password>
         ensures { SomeIff result (IsPassword bytes.now) bytes.now }
     {
-        if !class::is_plain_run(bytes, LONGEST_PASSWORD) {
+        if !class::is_plain_run(bytes, MAX_PASSWORD_LEN) {
             return None;
         }
         Some(Password {
@@ -48,7 +48,7 @@ impl Password {
 /// except the comma. Contracts see it as its bytes.
 #[derive(Drop)]
 pub struct NoncePart {
-    bytes: ArrayVec<u8, LONGEST_NONCE_PART>,
+    bytes: ArrayVec<u8, MAX_NONCE_PART_LEN>,
 }
 
 impl Model for NoncePart {
@@ -64,7 +64,7 @@ impl NoncePart {
     pub fn new(bytes: &[u8]) -> Option<NoncePart>
         ensures { SomeIff result (IsNoncePart bytes.now) bytes.now }
     {
-        if !class::is_nonce(bytes, LONGEST_NONCE_PART) {
+        if !class::is_nonce(bytes, MAX_NONCE_PART_LEN) {
             return None;
         }
         Some(NoncePart {
@@ -84,7 +84,7 @@ impl NoncePart {
 /// A salt: 1 to 64 bytes. Contracts see it as its bytes.
 #[derive(Drop)]
 pub struct Salt {
-    bytes: ArrayVec<u8, LONGEST_SALT>,
+    bytes: ArrayVec<u8, MAX_SALT_LEN>,
 }
 
 impl Model for Salt {
@@ -100,7 +100,7 @@ impl Salt {
     pub fn new(bytes: &[u8]) -> Option<Salt>
         ensures { SomeIff result (IsSalt bytes.now) bytes.now }
     {
-        if bytes.is_empty() || LONGEST_SALT < bytes.len() {
+        if bytes.is_empty() || MAX_SALT_LEN < bytes.len() {
             return None;
         }
         Some(Salt {

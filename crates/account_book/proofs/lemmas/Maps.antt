@@ -15,8 +15,8 @@ use Rattle.std.proofs.lemmas.Map.{lookup-set_value}
 use Rattle.std.proofs.lemmas.Map.Text.{is_eq-slice_cmp}
 use Rattle.book_format.specs.Account.{AccountFields}
 use Rattle.book_format.specs.Book.{BookFields}
-use Rattle.account_book.specs.Accounts.{name_cmp, account_at, account_map, with_account, with_changed, IsAdded, IsChanged, IsRemoved}
-use Rattle.account_book.specs.Laws.{AddedIsApart}
+use Rattle.account_book.specs.Accounts.{name_cmp, account_at, account_map, IsRemoved}
+use Rattle.account_book.specs.Laws.{AddedIsApart, MapsFollowChanges, MapsFollowAdditions}
 
 -- a look-up of a name by `find` and one by `lookup` give the same result
 find_is_lookup : (name : List ℕ) (es : List (List ℕ × AccountFields))
@@ -75,15 +75,12 @@ map_follows_change es name change (Some account) found =
     (λ x y at. (eq_by_cmp_equiv nat_list_cmp_total).congr name x y at) other (change account) es
     (subst IsSome (sym found) refl))
 
--- a book with the account of a name changed has it changed both in its order and as a map
-pub account_is_changed : (old : BookFields) (name : List ℕ) (change : AccountFields → AccountFields) (new : BookFields)
-    → new ≡ with_changed old name change → IsChanged old name change new
-account_is_changed old name change new same = record {
-  book = same;
-  accounts = ap account_map same ∙ map_follows_change old.accounts name change _ refl
-      ∙ ap (λ o. option_map_or (λ account. map.insert (account_map old) name (change account)) o (account_map old))
-      (sym (map_get_is_lookup old.accounts name));
-}
+-- the law: in the map of a book in which an account is changed, this account is changed, and no other
+pub maps_follow_changes : MapsFollowChanges
+maps_follow_changes old name change =
+    map_follows_change old.accounts name change _ refl
+    ∙ ap (λ o. option_map_or (λ account. map.insert (account_map old) name (change account)) o (account_map old))
+    (sym (map_get_is_lookup old.accounts name))
 
 -- the two functions that choose one of three by an ordering choose the same
 match_ordering_is_by_order : {A : Type 0} (o : Ordering) (x y z : A) → match_ordering o x y z ≡ by_order o x y z
@@ -111,16 +108,10 @@ lookup-insert_entry es name account other =
     ∙ ap (λ b. cond b (Some account) (find name_cmp other es)) ((eq_by_cmp_equiv nat_list_cmp_total).symm other name)
     ∙ ap (cond (is_at (name_cmp name) other) (Some account)) (find_is_lookup other es)
 
--- a book with an account of a free name has it added both in its order and as a map
-pub account_is_added : (old : BookFields) (name : List ℕ) (account : AccountFields) (new : BookFields)
-    → account_at old name ≡ None → new ≡ with_account old name account → IsAdded old name account new
-account_is_added old name account new free same = record {
-  free = free;
-  added = record {
-    book = same;
-    accounts = ap account_map same ∙ map_follows_insert old.accounts _ name account (lookup-insert_entry old.accounts name account);
-  };
-}
+-- the law: the map of a book with one more account is that of the book with this account inserted
+pub maps_follow_additions : MapsFollowAdditions
+maps_follow_additions old name account =
+    map_follows_insert old.accounts _ name account (lookup-insert_entry old.accounts name account)
 
 -- the law: after an account is added, its name has it, and each other name has what it had
 pub added_is_apart : AddedIsApart
@@ -128,14 +119,18 @@ added_is_apart old name account other =
     lookup-insert_entry old.accounts name account other
     ∙ ap (λ b. cond b (Some account) (account_at old other)) (is_eq-slice_cmp name other)
 
--- a book without the account of a name has it removed both in its order and as a map
+-- a book whose accounts are those of another without one is that book without this account
 pub account_is_removed : (inside old : BookFields) (name : List ℕ) (new : List (List ℕ × AccountFields)) → inside ≡ old
-    → new ≡ remove_entry (is_at (name_cmp name)) inside.accounts
+    → new ≡ remove_entry (is_at (name_cmp name)) inside.accounts → IsRemoved old name (record inside { accounts = new })
+account_is_removed inside old name new shown same =
+    subst (λ book. IsRemoved book name (record inside { accounts = new })) shown
+    (ap (λ accounts. record inside { accounts = accounts }) same)
+
+-- the map of a book without the account of a name is that of the book with this name removed
+pub map_follows_removal : (inside old : BookFields) (name : List ℕ) (new : List (List ℕ × AccountFields)) → inside ≡ old
     → ((other : List ℕ) → lookup (is_at (name_cmp other)) new
     ≡ cond (is_at (name_cmp name) other) None (account_at inside other))
-    → IsRemoved old name (record inside { accounts = new })
-account_is_removed inside old name new shown same alike =
-    subst (λ book. IsRemoved book name (record inside { accounts = new })) shown (record {
-      book = ap (λ accounts. record inside { accounts = accounts }) same;
-      accounts = map_follows_remove inside.accounts new name alike;
-    })
+    → account_map (record inside { accounts = new }) ≡ map.remove (account_map old) name
+map_follows_removal inside old name new shown alike =
+    subst (λ book. account_map (record inside { accounts = new }) ≡ map.remove (account_map book) name) shown
+    (map_follows_remove inside.accounts new name alike)

@@ -9,7 +9,7 @@ use Rattle.std.specs.BTreeMap.{insert_entry}
 use Rattle.std.specs.Option.{ForSome}
 use Rattle.std.specs.Map.{lookup, remove_entry, set_value}
 use Rattle.std.specs.Ordering.{match_ordering}
-use Rattle.book_format.specs.Account.{AccountFields, IsAccount, most_names}
+use Rattle.book_format.specs.Account.{AccountFields, IsAccount, max_names}
 use Rattle.otp_core.specs.declared.token.kinds.TokenFields.{TokenFields}
 use Rattle.book_format.specs.Book.{AreAccounts}
 use Rattle.account_book.specs.Accounts.{with_act_as}
@@ -83,7 +83,7 @@ pub token_keeps_ranges : (token : TokenFields) (account : AccountFields) → IsA
 token_keeps_ranges token account h = record { sha1 = h.sha1; sha256 = h.sha256; names = h.names }
 
 -- an account remains in its ranges with other names to act as, if there are not too many
-pub act_as_keeps_ranges : (names : List (List ℕ)) (account : AccountFields) → length names ≤ most_names → IsAccount account
+pub act_as_keeps_ranges : (names : List (List ℕ)) (account : AccountFields) → length names ≤ max_names → IsAccount account
     → IsAccount (with_act_as names account)
 act_as_keeps_ranges names account few h = record { sha1 = h.sha1; sha256 = h.sha256; names = few }
 

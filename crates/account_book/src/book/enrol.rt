@@ -35,8 +35,8 @@ impl EnrolFault {
 }
 
 impl Book {
-    /// Adds an account of this name, with the keys of `password` for both mechanisms: those of SCRAM-SHA-1 with `salt1`, those of
-    /// SCRAM-SHA-256 with `salt256`, and both with `count`, at least 1. It may act as no other name and has no token. Errors:
+    /// Adds an account of this name, with the keys of `password` for both mechanisms: those of SCRAM-SHA-1 with `sha1_salt`, those of
+    /// SCRAM-SHA-256 with `sha256_salt`, and both with `count`, at least 1. It may act as no other name and has no token. Errors:
     /// 50 NameTaken if the name has an account, else 99 NoMemory, only if memory runs out (no clause says so). After an error
     /// nothing has changed.
     pub fn enrol(
@@ -44,12 +44,12 @@ impl Book {
         alloc: Global,
         name: &PlainName,
         password: &Password,
-        salt1: &Salt,
-        salt256: &Salt,
+        sha1_salt: &Salt,
+        sha256_salt: &Salt,
         count: u32,
     ) -> Result<(), EnrolFault>
         requires { 1 ≤ count }
-        ensures added { OnOk result (IsAdded self.old name.now (enrolled password.now salt1.now salt256.now count) self.new) }
+        ensures added { OnOk result (IsAdded self.old name.now (enrolled password.now sha1_salt.now sha256_salt.now count) self.new) }
         ensures refused { IfErr result (λ fault. MatchOption (account_at self.old name.now)
             (fault ≡ EnrolFault.NoMemory) (λ account. fault ≡ EnrolFault.NameTaken)) }
         ensures err { OnErr result (self.new ≡ self.old) }
@@ -58,8 +58,8 @@ impl Book {
             return Err(EnrolFault::NameTaken);
         }
         let account = Account {
-            sha1: Some(made_keys(Mechanism::ScramSha1, password, salt1, count)),
-            sha256: Some(made_keys(Mechanism::ScramSha256, password, salt256, count)),
+            sha1: Some(made_keys(Mechanism::ScramSha1, password, sha1_salt, count)),
+            sha256: Some(made_keys(Mechanism::ScramSha256, password, sha256_salt, count)),
             act_as: Vec::new(alloc),
             token: None,
         };

@@ -1,12 +1,12 @@
 //! The tokens of accounts, and attempts with codes.
 ghost use Rattle.std.specs.Prelude.{◌≡◌, is_some};
 ghost use Rattle.otp_core.specs.Attempt.CodeTexts.{one_text, two_texts};
-ghost use Rattle.otp_core.specs.Sent.{texts_of};
+ghost use Rattle.otp_core.specs.SentCodes.{texts_of};
 ghost use Rattle.account_book.specs.Accounts.{account_at, IsChanged};
 ghost use Rattle.account_book.specs.Tokens.{IsBookAttempt, IsUnlocked, token_at, with_token};
 
 use crate::book::Book;
-use otp_core::{Moment, Reply, Sent, Token};
+use otp_core::{Moment, Reply, SentCodes, Token};
 use scram_text::PlainName;
 
 impl Book {
@@ -39,7 +39,7 @@ impl Book {
     pub fn attempt(&mut self, name: &PlainName, moment: Moment, text: &[u8]) -> Option<Reply>
         ensures { IsBookAttempt self.old name.now moment (one_text text.now) result self.new }
     {
-        self.judge(name, moment, Sent::One(text))
+        self.judge(name, moment, SentCodes::One(text))
     }
 
     /// Judges two texts as codes in a row at `moment` with the token of the account of this name, as `Token::sync` does, and keeps
@@ -53,12 +53,12 @@ impl Book {
     ) -> Option<Reply>
         ensures { IsBookAttempt self.old name.now moment (two_texts first.now second.now) result self.new }
     {
-        self.judge(name, moment, Sent::Two(first, second))
+        self.judge(name, moment, SentCodes::Two(first, second))
     }
 
     /// Judges what was sent, at `moment`, with the token of the account of this name: one text as `attempt` does, two as `sync`
     /// does.
-    pub fn judge(&mut self, name: &PlainName, moment: Moment, sent: Sent<'_>) -> Option<Reply>
+    pub fn judge(&mut self, name: &PlainName, moment: Moment, sent: SentCodes<'_>) -> Option<Reply>
         ensures { IsBookAttempt self.old name.now moment (texts_of sent.entry) result self.new }
     {
         let mut token = self.token(name)?;

@@ -112,7 +112,7 @@ fn an_account_is_removed(rt: HostRuntime) -> Result<(), Fail> {
     Ok(())
 }
 
-/// The number of each refusal, as in docs/REFUSALS.md, and the text that a user reads.
+/// The number of each refusal, as in docs/FAULTS.md, and the text that a user reads.
 #[test]
 fn refusals_to_enrol(rt: HostRuntime) -> Result<(), Fail> {
     for (fault, number, text) in [

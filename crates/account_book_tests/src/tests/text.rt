@@ -75,7 +75,7 @@ fn a_book_is_read_back(rt: HostRuntime) -> Result<(), Fail> {
     Ok(())
 }
 
-/// The number of each fault, as in docs/REFUSALS.md, and the account at fault, counted from 0 in the order of the names.
+/// The number of each fault, as in docs/FAULTS.md, and the account at fault, counted from 0 in the order of the names.
 #[test]
 fn faults_of_a_text(rt: HostRuntime) -> Result<(), Fail> {
     for (text, number, account) in [

@@ -1,7 +1,7 @@
 //! Codes of RFC 4226, appendix D, judged by the tokens of accounts.
 use crate::tests::{name, two_accounts};
 use account_book::{Book, Reply, Token};
-use otp_core::{Digits, HotpFields, Moment, OtpFault, Secret, Sent, TokenFields};
+use otp_core::{Digits, HotpFields, Moment, OtpFault, Secret, SentCodes, TokenFields};
 use scram_text::PlainName;
 use std::process::Abort;
 use std::test::Fail;
@@ -117,10 +117,10 @@ fn one_text_or_two(rt: HostRuntime) -> Result<(), Fail> {
     let mut book = two_tokens(&rt)?;
     let user = name(&rt, b"user");
     let now = moment(&rt);
-    let one = book.judge(&user, now, Sent::One(b"755224"));
+    let one = book.judge(&user, now, SentCodes::One(b"755224"));
     assert_eq!(rt; one, Some(Reply::Pass(0)));
     assert_eq!(rt; state(&book, &user), Some((1, 0)));
-    let two = book.judge(&user, now, Sent::Two(b"969429", b"338314"));
+    let two = book.judge(&user, now, SentCodes::Two(b"969429", b"338314"));
     assert_eq!(rt; two, Some(Reply::Pass(4)));
     assert_eq!(rt; state(&book, &user), Some((5, 0)));
     Ok(())

@@ -10,7 +10,8 @@ use Rattle.command_line.specs.declared.fault.Fault.{Fault}
 use Rattle.command_line.specs.declared.fault.Fault.TheVariants.{NameTaken, NoMemory}
 use Rattle.command_line.specs.declared.option_name.OptionName.TheVariants as option
 use Rattle.command_words.specs.Values.{given_value}
-use Rattle.account_commands.specs.Enrol.{CannotBeChanged, CannotEnrol, IsReadOrNew, IsNameTakenIn, IsThisOrReadBook}
+use Rattle.account_commands.specs.Enrol.{CannotBeChanged, CannotEnrol}
+use Rattle.account_commands.specs.Enrolling.{IsReadOrMade, IsNameTakenIn, IsThisOrReadBook}
 use Rattle.command_io.specs.HeldBook.{IsReadBook}
 
 -- if an account was not added and saved, the fault is that its name is taken, or that the book can't be changed
@@ -44,7 +45,7 @@ failed_saving_has_reason bytes_of path name text this book fault read other =
 -- a name that is taken in a book, new or read, is taken in one that was read: a new book has no accounts
 book_with_name_was_read : {File : Type 0} (bytes_of : File → Option (List ℕ)) (old new : Option (List ℕ)) (name : List ℕ)
     (this book : BookFields)
-    → IsReadOrNew bytes_of old new this → IsThisOrReadBook bytes_of this book → is_some (account_at book name) ≡ true
+    → IsReadOrMade bytes_of old new this → IsThisOrReadBook bytes_of this book → is_some (account_at book name) ≡ true
     → (text : List ℕ) × IsReadBook bytes_of text book
 book_with_name_was_read bytes_of old new name this book known (inr read) taken = read
 book_with_name_was_read bytes_of old new name this book (inl (text, read, same)) (inl is) taken =
@@ -55,7 +56,7 @@ book_with_name_was_read bytes_of old new name this book (inr (key, long, lost, m
 -- if an account was not added and saved, the fault is one that ends `enrol`
 pub unsaved_account_ends_enrol : {File : Type 0} (bytes_of : File → Option (List ℕ)) (old new input : Option (List ℕ)) (words : ArgMatches)
     (path name : List ℕ) (book : BookFields) (fault : Fault) → path ≡ given_value words option.Book → name ≡ given_value words option.Name
-    → IsReadOrNew bytes_of old new book → IsNameTakenIn bytes_of book name fault ⊎ CannotBeChanged bytes_of path fault
+    → IsReadOrMade bytes_of old new book → IsNameTakenIn bytes_of book name fault ⊎ CannotBeChanged bytes_of path fault
     → CannotEnrol bytes_of words input fault
 unsaved_account_ends_enrol bytes_of old new input words path name book fault at named known (inl (is, first, where_from, taken)) =
     let read = book_with_name_was_read bytes_of old new name book first known where_from taken in

@@ -42,9 +42,9 @@ fn written(alloc: Global, book: &Book) -> Option<(String, u32)> {
 // if the book did not keep the text `before`.
 fn enrolled(alloc: Global, book: &mut Book, before: &str) -> Option<u32> {
     let (name, password) = (PlainName::new(b"new")?, Password::new(b"pencil")?);
-    let (salt1, salt256) = (Salt::new(SALT_1)?, Salt::new(SALT_256)?);
+    let (sha1_salt, sha256_salt) = (Salt::new(SALT_1)?, Salt::new(SALT_256)?);
     for refused in [0, 1] {
-        match book.enrol(alloc, &name, &password, &salt1, &salt256, 1) {
+        match book.enrol(alloc, &name, &password, &sha1_salt, &sha256_salt, 1) {
             Ok(()) => return Some(refused),
             Err(EnrolFault::NoMemory) if book.write(alloc).ok()?.as_str() == before => {}
             Err(_) => return None,

@@ -4,7 +4,7 @@ use Rattle.std.proofs.lemmas.Bool.Decides.{nat_tests}
 use Rattle.toml.specs.Data.{Items}
 use Rattle.toml.specs.View.{items_view}
 use Rattle.toml.specs.declared.value.Value.{Value}
-use Rattle.book_format.specs.Account.{most_names}
+use Rattle.book_format.specs.Account.{max_names}
 use Rattle.book_format.specs.Names.{are_texts, item_count}
 use Rattle.book_format.specs.reading.Values.{names_in, names_of}
 use Rattle.book_format.specs.reading.Steps.{◌>>=◌}
@@ -29,14 +29,14 @@ unfolding names_of
 untyped_names_are_refused list untyped = rw untyped refl
 
 -- a list of more texts than an account may have names is refused for its names
-pub many_names_are_refused : (list : Items) → are_texts list ≡ true → most_names < item_count list → names_of list ≡ Err Name
+pub many_names_are_refused : (list : Items) → are_texts list ≡ true → max_names < item_count list → names_of list ≡ Err Name
 unfolding names_of
 many_names_are_refused list typed many = rw (typed, too_many (item_count list) many) refl
   where
-    too_many : (n : ℕ) → most_names < n → nat_le n most_names ≡ false
+    too_many : (n : ℕ) → max_names < n → nat_le n max_names ≡ false
     too_many n h = grind (arith, nat_tests)
 
 -- a list of at most as many texts as an account may have names is read name by name
-pub few_names_are_read : (list : Items) → are_texts list ≡ true → item_count list ≤ most_names → names_of list ≡ names_in list
+pub few_names_are_read : (list : Items) → are_texts list ≡ true → item_count list ≤ max_names → names_of list ≡ names_in list
 unfolding names_of
-few_names_are_read list typed few = rw (typed, le-leb (item_count list) most_names few) refl
+few_names_are_read list typed few = rw (typed, le-leb (item_count list) max_names few) refl

@@ -7,7 +7,7 @@ use Rattle.std.specs.List.{list_all}
 use Rattle.toml.specs.Data.{Data, string, array, Items, no_items, item, as_str}
 use Rattle.toml.specs.View.{items_of}
 use Rattle.scram_text.specs.Class.{IsPlainName, is_plain}
-use Rattle.book_format.specs.Account.{most_names}
+use Rattle.book_format.specs.Account.{max_names}
 use Rattle.book_format.specs.reading.Values.{value_or, text_in, plain_name_of, names_in, names_of, name_list_in}
 use Rattle.book_format.specs.Names.{is_plain_name, are_names, are_texts, item_count, AreNames, IsNameList}
 use Rattle.book_format.specs.ValueTypes.{name_list_type}
@@ -75,10 +75,10 @@ read_list_stands : (list : Items) (names : List (List ℕ)) → names_of list �
 unfolding names_of
 read_list_stands list names h =
     let (u, typed, h0) = each_step_gives_value (pass_or (are_texts list) Key) _ names h in
-    let (v, few, h1) = each_step_gives_value (pass_or (nat_le (item_count list) most_names) Name) _ names h0 in
+    let (v, few, h1) = each_step_gives_value (pass_or (nat_le (item_count list) max_names) Name) _ names h0 in
     let (same, plain) = read_names_stand list names h1 in
     let count : item_count list ≡ length names = ap item_count same ∙ written_names_keep_count names in
-    let most : item_count list ≤ most_names = number_is_at_most (item_count list) most_names (test_was_passed _ Name v few) in
+    let most : item_count list ≤ max_names = number_is_at_most (item_count list) max_names (test_was_passed _ Name v few) in
     record { there = ap array same; plain = plain; few = omega (arith, count, most) }
 
 -- if a value is read as a list of names, it is one, and of these names
@@ -95,7 +95,7 @@ name_list_is_read d names h =
       h.there,
       written_names_are_texts names,
       written_names_keep_count names,
-      le-leb (length names) most_names h.few,
+      le-leb (length names) max_names h.few,
       names_are_read names
           h.plain,
     ) refl
@@ -124,9 +124,9 @@ few_names_follow false plain names h = refl
 name_list_follows : (d : Data) → FollowsDemands (name_list_type.demands d) (name_list_in d)
 unfolding name_list_in names_of
 name_list_follows (array list) = test_follows (are_texts list) Key
-    (must (nat_le (item_count list) most_names && are_names list) Name ∷ [])
-    (λ u. pass_or (nat_le (item_count list) most_names) Name >>= λ u. names_in list)
-    (λ typed. few_names_follow (nat_le (item_count list) most_names) (are_names list) (names_in list) (names_follow list typed))
+    (must (nat_le (item_count list) max_names && are_names list) Name ∷ [])
+    (λ u. pass_or (nat_le (item_count list) max_names) Name >>= λ u. names_in list)
+    (λ typed. few_names_follow (nat_le (item_count list) max_names) (are_names list) (names_in list) (names_follow list typed))
 name_list_follows d = refl
 
 -- the type of lists of names reads the lists of plain names, and only those

@@ -4,7 +4,7 @@ use Rattle.hex.proofs.HexLemmas.{decode_of-ok}
 use Rattle.toml.specs.Data.{Data, Members, no_members, member, get_member}
 use Rattle.mac_core.specs.Mechanism.{length_by}
 use Rattle.mac_core.specs.declared.mechanism.Mechanism.TheVariants.{ScramSha1, ScramSha256}
-use Rattle.book_format.specs.Account.{AccountFields, AreKeys, IsAccount, most_names}
+use Rattle.book_format.specs.Account.{AccountFields, AreKeys, IsAccount, max_names}
 use Rattle.book_format.specs.Book.{BookFields, AreAccounts, IsBook}
 use Rattle.book_format.specs.ValueTypes.{name_list_type}
 use Rattle.book_format.specs.Rows.{IsTableIn}
@@ -21,8 +21,11 @@ keys_are_in_range len d keys h =
     let stored = h.2.rows.1.1.0 in
     let server = h.2.rows.1.1.1.0 in
     record {
-      salt = record { at_least = salt.2.at_least; at_most = salt.2.at_most };
-      salt_bytes = (decode_of-ok salt.2.text keys.salt salt.2.spelled).3;
+      salt = record {
+        at_least = salt.2.at_least;
+        at_most = salt.2.at_most;
+        each = (decode_of-ok salt.2.text keys.salt salt.2.spelled).3;
+      };
       count = record { at_least = count.2.at_least; at_most = count.2.at_most };
       stored = omega (arith, stored.2.at_least, stored.2.at_most);
       server = omega (arith, server.2.at_least, server.2.at_most);
@@ -40,7 +43,7 @@ optional_keys_are_in_range len key (Some held) ms h keys is =
 
 -- the names in an account's table are at most as many as an account may have
 names_are_in_range : (names : List (List ℕ)) (key : List ℕ) (ms : Members) → ((get_member key ms ≡ None) × (names ≡ []))
-    ⊎ HasAt key name_list_type ms names → length names ≤ most_names
+    ⊎ HasAt key name_list_type ms names → length names ≤ max_names
 names_are_in_range names key ms (inl h) = rw h.1 (omega arith)
 names_are_in_range names key ms (inr h) = h.2.few
 

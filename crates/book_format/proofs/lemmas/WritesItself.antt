@@ -6,9 +6,9 @@ use Rattle.toml.specs.Data.{integer, Members, no_members, get_member}
 use Rattle.mac_core.specs.Mechanism.{length_by}
 use Rattle.mac_core.specs.declared.mechanism.Mechanism.TheVariants.{ScramSha256}
 use Rattle.scram_text.specs.Class.{IsPlainName}
-use Rattle.scram_text.specs.Limits.{most_count, longest_salt}
-use Rattle.otp_core.specs.Ranges.{IsSecretLength, IsDigitCount, IsMoment, shortest_secret, longest_secret, least_digits, most_digits, last_moment}
-use Rattle.otp_core.specs.Ranges.{most_counter, most_look_ahead, most_sync_ahead, longest_step, most_steps_aside, most_drift, most_limit}
+use Rattle.scram_text.specs.Limits.{max_iteration_count, max_salt_len}
+use Rattle.otp_core.specs.Ranges.{IsSecretLength, IsDigitCount, IsMoment, min_secret_len, max_secret_len, min_digits, max_digits, max_moment}
+use Rattle.otp_core.specs.Ranges.{max_counter, max_look_ahead, max_sync_ahead, max_step, max_window_steps, max_drift_bound, max_limit}
 use Rattle.otp_core.specs.TokenRanges.{IsHotpInRange, IsTotpInRange}
 use Rattle.otp_core.specs.declared.token.kinds.HotpFields.{HotpFields}
 use Rattle.otp_core.specs.declared.token.kinds.TotpFields.{TotpFields}
@@ -69,8 +69,8 @@ mech_writes_itself len m fits salt stored server =
       refl,
       table_writes_itself (keys_table len) m refl refl (λ ms at. (
         tt,
-        (_, at.0, written_bytes_stand 1 longest_salt m.salt salt fits.salt.at_least fits.salt.at_most)
-            & (_, at.1.0, written_number_stands 1 most_count m.count fits.count.at_least fits.count.at_most)
+        (_, at.0, written_bytes_stand 1 max_salt_len m.salt salt fits.salt.at_least fits.salt.at_most)
+            & (_, at.1.0, written_number_stands 1 max_iteration_count m.count fits.count.at_least fits.count.at_most)
             & (_, at.1.1.0, written_bytes_stand len len _ stored (lengths _ fits.stored).0 (lengths _ fits.stored).1)
             & (_, at.1.1.1.0, written_bytes_stand len len _ server (lengths _ fits.server).0 (lengths _ fits.server).1)
             & tt,
@@ -86,12 +86,12 @@ hotp_writes_itself t (next, (look_ahead, (sync_ahead, (limit, (failures, end))))
   table_writes_itself hotp_table t refl refl (λ ms at.
       let rows = at.1 in (
         (at.0, tt),
-        (_, rows.0, written_bytes_stand shortest_secret longest_secret t.secret back secret.0 secret.1)
-            & (_, rows.1.0, written_number_stands least_digits most_digits t.digits digits.0 digits.1)
+        (_, rows.0, written_bytes_stand min_secret_len max_secret_len t.secret back secret.0 secret.1)
+            & (_, rows.1.0, written_number_stands min_digits max_digits t.digits digits.0 digits.1)
             & (_, rows.1.1.0, written_number_stands 0 _ t.next (omega arith) next)
-            & (_, rows.1.1.1.0, written_number_stands 0 most_look_ahead t.look_ahead (omega arith) look_ahead)
-            & inr (_, rows.1.1.1.1.0, written_number_stands 0 most_sync_ahead t.sync_ahead (omega arith) sync_ahead)
-            & (_, rows.1.1.1.1.1.0, written_number_stands 1 most_limit t.limit limit.0 limit.1)
+            & (_, rows.1.1.1.0, written_number_stands 0 max_look_ahead t.look_ahead (omega arith) look_ahead)
+            & inr (_, rows.1.1.1.1.0, written_number_stands 0 max_sync_ahead t.sync_ahead (omega arith) sync_ahead)
+            & (_, rows.1.1.1.1.1.0, written_number_stands 1 max_limit t.limit limit.0 limit.1)
             & (_, rows.1.1.1.1.1.1.0, bounded_number_stands (codes "limit") ms t.limit t.failures rows.1.1.1.1.1.0 failures)
             & tt,
       )),
@@ -99,8 +99,8 @@ hotp_writes_itself t (next, (look_ahead, (sync_ahead, (limit, (failures, end))))
 
 -- the last step is written as the key that may be missing, if it is in its range
 last_step_writes_itself : (ms : Members) (last : Option ℕ) → get_member (codes "last") ms ≡ option_map (λ n. integer (pos n)) last
-    → ForSome last (λ l. l ≤ most_counter) → HasSome (codes "last") (number_type Token 0 most_counter) ms last
-last_step_writes_itself ms last there few = optional_writes_itself (number_type Token 0 most_counter) (codes "last") ms last there
+    → ForSome last (λ l. l ≤ max_counter) → HasSome (codes "last") (number_type Token 0 max_counter) ms last
+last_step_writes_itself ms last there few = optional_writes_itself (number_type Token 0 max_counter) (codes "last") ms last there
     (λ l is. written_number_stands 0 _ l (omega arith) (few l is))
 
 -- a TOTP token in its ranges whose secret can be read back from its text is written as its table
@@ -114,16 +114,16 @@ totp_writes_itself t (step, (back, (ahead, (max_drift, (last, (drift, (limit, (f
       let then = first.1.1.1.1.1.1.1 in (
         (at.0, tt),
         (_, first.0, refl)
-            & (_, first.1.0, written_bytes_stand shortest_secret longest_secret t.secret hex secret.0 secret.1)
-            & (_, first.1.1.0, written_number_stands least_digits most_digits t.digits digits.0 digits.1)
-            & (_, first.1.1.1.0, written_number_stands 0 last_moment t.t0 (omega arith) t0)
-            & (_, first.1.1.1.1.0, written_number_stands 1 longest_step t.step step.0 step.1)
-            & (_, first.1.1.1.1.1.0, written_number_stands 0 most_steps_aside t.back (omega arith) back)
-            & (_, first.1.1.1.1.1.1.0, written_number_stands 0 most_steps_aside t.ahead (omega arith) ahead)
-            & (_, then.0, written_number_stands 0 most_drift t.max_drift (omega arith) max_drift)
+            & (_, first.1.0, written_bytes_stand min_secret_len max_secret_len t.secret hex secret.0 secret.1)
+            & (_, first.1.1.0, written_number_stands min_digits max_digits t.digits digits.0 digits.1)
+            & (_, first.1.1.1.0, written_number_stands 0 max_moment t.t0 (omega arith) t0)
+            & (_, first.1.1.1.1.0, written_number_stands 1 max_step t.step step.0 step.1)
+            & (_, first.1.1.1.1.1.0, written_number_stands 0 max_window_steps t.back (omega arith) back)
+            & (_, first.1.1.1.1.1.1.0, written_number_stands 0 max_window_steps t.ahead (omega arith) ahead)
+            & (_, then.0, written_number_stands 0 max_drift_bound t.max_drift (omega arith) max_drift)
             & last_step_writes_itself ms t.last then.1.0 last
             & (_, then.1.1.0, bounded_signed_stands (codes "max_drift") ms t.max_drift t.drift then.0 drift)
-            & (_, then.1.1.1.0, written_number_stands 1 most_limit t.limit limit.0 limit.1)
+            & (_, then.1.1.1.0, written_number_stands 1 max_limit t.limit limit.0 limit.1)
             & (_, then.1.1.1.1.0, bounded_number_stands (codes "limit") ms t.limit t.failures then.1.1.1.0 failures)
             & tt,
       )),
@@ -185,7 +185,7 @@ book_writes_itself b fits key back accounts =
       top = table_writes_itself document_table _ refl refl (λ ms at. (
         (at.0, tt),
         (_, at.1.0, written_bytes_stand len len b.decoy_key back (omega (arith, key)) (omega (arith, key)))
-            & (_, at.1.1.0, written_number_stands 1 most_count b.decoy_count fits.count.at_least fits.count.at_most)
+            & (_, at.1.1.0, written_number_stands 1 max_iteration_count b.decoy_count fits.count.at_least fits.count.at_most)
             & (_, at.1.1.1.0, refl)
             & tt,
       ));

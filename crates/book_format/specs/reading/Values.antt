@@ -5,7 +5,7 @@ use Rattle.hex.specs.Hex.{decode_of}
 use Rattle.toml.specs.Data.{Data, string, integer, array, Items, no_items, item, Members, as_str, as_table}
 use Rattle.otp_core.specs.Hash.{hash_named}
 use Rattle.otp_core.specs.declared.hash.OtpHash.{OtpHash}
-use Rattle.book_format.specs.Account.{most_names}
+use Rattle.book_format.specs.Account.{max_names}
 use Rattle.book_format.specs.Names.{is_plain_name, are_texts, item_count}
 use Rattle.book_format.specs.reading.Steps.{◌>>=◌, pass_or}
 use Rattle.book_format.specs.declared.fault.BookWhy.{BookWhy}
@@ -57,11 +57,11 @@ names_in (item d ds) = do
   names ← names_in ds
   Ok (name ∷ names)
 
--- the names of a list. First each item must be a text, then there may be at most most_names, then each must be a plain name.
+-- the names of a list. First each item must be a text, then there may be at most max_names, then each must be a plain name.
 unfoldable pub names_of : Items → Result (List (List ℕ)) BookWhy
 names_of list = do
   typed ← pass_or (are_texts list) Key
-  few ← pass_or (nat_le (item_count list) most_names) Name
+  few ← pass_or (nat_le (item_count list) max_names) Name
   names_in list
 
 -- the list of the names that an account may act as

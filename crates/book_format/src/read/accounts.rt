@@ -23,7 +23,7 @@ use std::collections::BTreeMap;
 use toml::{Table, Value};
 
 // The most names that an account may act as.
-const MOST_NAMES: usize = 16;
+const MAX_NAMES: usize = 16;
 
 /// The accounts of a table, in byte order of names, each read as a whole before the next. Errors: the fault of the first account at
 /// fault, with its index; `NoMemory` at any place.
@@ -149,7 +149,7 @@ fn names_of(alloc: Global, list: &[Value]) -> Result<Vec<PlainName>, BookWhy>
     if !are_texts(list) {
         return Err(BookWhy::Key);
     }
-    if list.len() > MOST_NAMES {
+    if list.len() > MAX_NAMES {
         return Err(BookWhy::Name);
     }
     names_in(alloc, list)

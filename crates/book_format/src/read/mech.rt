@@ -8,7 +8,7 @@ use crate::account::MechKeys;
 use crate::fault::BookWhy;
 use crate::read::field::{bytes_at, check_keys, number_at, table_of};
 use mac_core::{ScramKeys, Tag};
-use scram_text::{LONGEST_SALT, MOST_COUNT, Salt};
+use scram_text::{MAX_ITERATION_COUNT, MAX_SALT_LEN, Salt};
 use toml::Value;
 
 /// What is kept for a mechanism whose keys have `len` bytes. Errors: `Key` if the value is not a table or a key is unknown; then
@@ -21,8 +21,14 @@ pub(crate) fn mech_of(len: usize, value: &Value) -> Result<MechKeys, BookWhy>
 {
     let table = table_of(value)?;
     check_keys(table, &["salt", "count", "stored", "server"])?;
-    let salt = bytes_at(table, "salt", 1, LONGEST_SALT, BookWhy::Salt)?;
-    let count = number_at(table, "count", 1, u64::from(MOST_COUNT), BookWhy::Count)?;
+    let salt = bytes_at(table, "salt", 1, MAX_SALT_LEN, BookWhy::Salt)?;
+    let count = number_at(
+        table,
+        "count",
+        1,
+        u64::from(MAX_ITERATION_COUNT),
+        BookWhy::Count,
+    )?;
     let stored = bytes_at(table, "stored", len, len, BookWhy::KeyLength)?;
     let server = bytes_at(table, "server", len, len, BookWhy::KeyLength)?;
     Ok(MechKeys {

@@ -51,7 +51,7 @@ const ACCOUNT_EDITS: [(&str, &str, u16); 35] = [
     ("server = \"0f", "server = \"-f", 66),
 ];
 
-/// Each edit of USER has this fault, with its number in docs/REFUSALS.md. Of two faults, the one that is looked for first counts.
+/// Each edit of USER has this fault, with its number in docs/FAULTS.md. Of two faults, the one that is looked for first counts.
 #[test]
 fn faults_of_an_account(rt: HostRuntime) -> Result<(), Fail> {
     for (old, new, number) in ACCOUNT_EDITS {

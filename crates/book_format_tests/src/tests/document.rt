@@ -64,7 +64,7 @@ const DOCUMENT_EDITS: [(&str, &str, u16); 25] = [
     ),
 ];
 
-/// Each edit of TOP has this fault, with its number in docs/REFUSALS.md. Of two faults, the one that is looked for first counts.
+/// Each edit of TOP has this fault, with its number in docs/FAULTS.md. Of two faults, the one that is looked for first counts.
 #[test]
 fn faults_of_the_document(rt: HostRuntime) -> Result<(), Fail> {
     for (old, new, number) in DOCUMENT_EDITS {

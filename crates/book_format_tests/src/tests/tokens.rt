@@ -44,7 +44,7 @@ const HOTP_EDITS: [(&str, &str, u16); 39] = [
     ("failures = 0", "failures = -1", 67),
 ];
 
-/// Each edit of HOTP has this fault: 62 for a key, 67 for a value out of range (docs/REFUSALS.md).
+/// Each edit of HOTP has this fault: 62 for a key, 67 for a value out of range (docs/FAULTS.md).
 #[test]
 fn faults_of_a_hotp_token(rt: HostRuntime) -> Result<(), Fail> {
     for (old, new, number) in HOTP_EDITS {
@@ -92,7 +92,7 @@ const TOTP_EDITS: [(&str, &str, u16); 36] = [
     ("failures = 0", "failures = 4", 67),
 ];
 
-/// Each edit of TOTP has this fault: 62 for a key, 67 for a value out of range (docs/REFUSALS.md).
+/// Each edit of TOTP has this fault: 62 for a key, 67 for a value out of range (docs/FAULTS.md).
 #[test]
 fn faults_of_a_totp_token(rt: HostRuntime) -> Result<(), Fail> {
     for (old, new, number) in TOTP_EDITS {

@@ -6,7 +6,9 @@ pub(crate) const STATUSES: &str = "Exit status:
   0  done, passed or clean
   1  something was refused or is at fault, such as a login, a code, a book or a log
   2  wrong usage, an invalid option value, or an input line that cannot be a password
-  3  a file, a socket, the input or the output failed, or memory ran out";
+  3  a file, a socket, the input or the output failed, or memory ran out
+
+The form of a book, recipes and the causes of faults are in docs/ of the sources.";
 
 /// The notes of `keys`.
 pub(crate) const KEYS_NOTES: &str =
@@ -168,6 +170,9 @@ Prints the log, in version 2. All lines for an event are printed before the next
 the client of session N the rest of each line that begins with `N S `. What a code changes in the
 book is saved before the reply is printed. The run holds the book until the input ends. Other runs
 wait for it, up to 30 seconds.
+
+The run ends with the fault `cannot read input` once its events have more than 16777216 bytes in
+all. So begin a new run in good time.
 
 If the book cannot be saved after a code, the run ends, and the last line of the log is `N S HALT`
 for that client. If it cannot be saved at the start, nothing is printed.

@@ -21,15 +21,16 @@ use Rattle.sasl_desk.proofs.lemmas.halls.Working.{reordered_hall_stands}
 use Rattle.commands.specs.PrintedLog.{IsUnsavedOrUnlogged}
 use Rattle.commands.specs.Hall.{InputEvent, opens, does_at, SaysEvent, SaysNoEvent, IsCallFor, IsHallLogOf, Hears}
 
--- a hall that is the same, up to the order of its guests, differs from what it was in its guests alone
-same_hall_differs_in_guests : {S : Type 0} (old new : HallFields S) → IsSameHall old new
-    → new ≡ hall_of old.keeper new.guests old.given old.is_halted
-same_hall_differs_in_guests {S} old new same =
+-- a hall that is the same, up to the order of its open sessions, differs from what it was in its open sessions alone
+same_hall_differs_in_open_sessions : {S : Type 0} (old new : HallFields S) → IsSameHall old new
+    → new ≡ hall_of old.keeper new.open_sessions old.given old.is_halted
+same_hall_differs_in_open_sessions {S} old new same =
     let book = ap (λ (b : BookFields). hall_of
-    (record { book = b; store = new.keeper.store }) new.guests new.given new.is_halted) same.book in
-    let store = ap (λ (s : S). hall_of (record { book = old.keeper.book; store = s }) new.guests new.given new.is_halted) same.store in
-    let given = ap (λ (n : ℕ). hall_of old.keeper new.guests n new.is_halted) same.given in
-    let halted = ap (λ (b : Bool). hall_of old.keeper new.guests old.given b) same.halted in
+    (record { book = b; store = new.keeper.store }) new.open_sessions new.given new.is_halted) same.book in
+    let store = ap (λ (s : S). hall_of (record { book = old.keeper.book; store = s }) new.open_sessions new.given new.is_halted)
+    same.store in
+    let given = ap (λ (n : ℕ). hall_of old.keeper new.open_sessions n new.is_halted) same.given in
+    let halted = ap (λ (b : Bool). hall_of old.keeper new.open_sessions old.given b) same.halted in
     book ∙ (store ∙ (given ∙ halted))
 
 -- a hall and its log before and after a step
@@ -51,14 +52,14 @@ module _ {S : Type 0} {facts : S → StoreFacts} {IsStored : List ℕ → Type 0
             (Appends-trans before log.given log'.given (hall_bytes l.calls) more l.logged putting);
       }
 
-  -- a hall that stays the same, up to the order of its guests, while its log takes nothing has heard no event more
+  -- a hall that stays the same, up to the order of its open sessions, while its log takes nothing has heard no event more
   pub same_hall_hears_nothing : IsSameHall (hall_shown old) (hall_shown new) → log' ≡ log → Hears facts IsStored [] old log new log'
   same_hall_hears_nothing same unlogged start before earlier l = record {
     calls = l.calls;
     heard = l.heard;
     stands = subst (λ (h : HallFields S). IsHallAfter facts IsStored start l.calls h)
-        (sym (same_hall_differs_in_guests (hall_shown old) (hall_shown new) same))
-        (reordered_hall_stands same.guests l.stands);
+        (sym (same_hall_differs_in_open_sessions (hall_shown old) (hall_shown new) same))
+        (reordered_hall_stands same.open_sessions l.stands);
     logged = subst (λ (k : SinkFacts). Appends before k.given (hall_bytes l.calls)) (sym unlogged) l.logged;
   }
 

@@ -3,12 +3,12 @@ ghost use Rattle.std.specs.Prelude.{◌≡◌, [], ◌∷◌, ◌++◌, IfOk, If
 ghost use Rattle.std.specs.Str.{byte};
 ghost use Rattle.otp_core.specs.Attempt.{CodeTexts};
 ghost use Rattle.commands.specs.SentCodes.{sent_for, SaysCodes};
-ghost use Rattle.commands.specs.declared.login.TheConstants.{LONGEST_WITH_LF};
+ghost use Rattle.commands.specs.declared.login.TheConstants.{MAX_LINE_AND_LF_LEN};
 
-use crate::login::LONGEST_WITH_LF;
+use crate::login::MAX_LINE_AND_LF_LEN;
 use crate::sent_codes::codes_in;
 use command_line::Fault;
-use otp_core::Sent;
+use otp_core::SentCodes;
 use sasl_log::word;
 use std::alloc::Global;
 
@@ -19,14 +19,14 @@ pub(crate) fn code_line(alloc: Global, line: &[u8]) -> Result<Vec<u8>, Fault>
     ensures err { IfErr result (λ fault. fault ≡ Fault.NoMemory) }
 {
     match codes_in(line) {
-        Sent::One(_) => code_text_line(alloc, word::CODE, line),
-        Sent::Two(_, _) => code_text_line(alloc, b"", line),
+        SentCodes::One(_) => code_text_line(alloc, word::CODE, line),
+        SentCodes::Two(_, _) => code_text_line(alloc, b"", line),
     }
 }
 
-// The front, then at most LONGEST_WITH_LF bytes of the text, then an LF. A server reads no more of a line.
+// The front, then at most MAX_LINE_AND_LF_LEN bytes of the text, then an LF. A server reads no more of a line.
 fn code_text_line(alloc: Global, front: &[u8], text: &[u8]) -> Result<Vec<u8>, Fault>
-    ensures ok { IfOk result (λ line. line.items ≡ front.now ++ (take LONGEST_WITH_LF text.now ++ byte "\n" ∷ [])) }
+    ensures ok { IfOk result (λ line. line.items ≡ front.now ++ (take MAX_LINE_AND_LF_LEN text.now ++ byte "\n" ∷ [])) }
     ensures err { IfErr result (λ fault. fault ≡ Fault.NoMemory) }
 {
     let mut line = Vec::new(alloc);
@@ -36,11 +36,11 @@ fn code_text_line(alloc: Global, front: &[u8], text: &[u8]) -> Result<Vec<u8>, F
     Ok(line)
 }
 
-// The first LONGEST_WITH_LF bytes of the text, or all of it if it has fewer.
+// The first MAX_LINE_AND_LF_LEN bytes of the text, or all of it if it has fewer.
 fn first_bytes(text: &[u8]) -> &[u8]
-    ensures { result.now ≡ take LONGEST_WITH_LF text.now }
+    ensures { result.now ≡ take MAX_LINE_AND_LF_LEN text.now }
 {
-    match text.get(..LONGEST_WITH_LF) {
+    match text.get(..MAX_LINE_AND_LF_LEN) {
         Some(front) => front,
         None => text,
     }

@@ -1,4 +1,4 @@
--- For src/replies.rt and src/numbered_replies.rt: the counters that passed.
+-- For src/version_one/replies.rt and src/version_two/replies.rt: the counters that passed.
 pub mod Passed
 pub mod UsedCounters
 pub mod NumberedPassed

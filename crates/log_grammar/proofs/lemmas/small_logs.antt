@@ -1,4 +1,4 @@
--- For src/examples.rt, src/upgraded_examples.rt and src/numbered.rt: logs of a few lines, judged line by line.
+-- For src/version_one/examples.rt, src/upgraded/examples.rt and src/version_two/sequences.rt: logs of a few lines, judged line by line.
 pub mod SmallLines
 pub mod CleanLogs
 pub mod CutLogs

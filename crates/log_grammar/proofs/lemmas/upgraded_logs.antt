@@ -1,4 +1,4 @@
--- For src/upgrades.rt: a log of version 1, and the same log with numbers.
+-- For src/upgraded/logs.rt: a log of version 1, and the same log with numbers.
 pub mod WithNumbers
 pub mod GoesOnAlike
 pub mod Texts

@@ -5,7 +5,7 @@ use Rattle.std.specs.Str.{byte}
 use Rattle.log_grammar.specs.Bytes.{LacksLf}
 use Rattle.log_grammar.specs.Lines.{LogLine, IsLogLine}
 use Rattle.log_grammar.specs.Numbered.{Numbered, numbered}
-use Rattle.log_grammar.specs.NumberedLines.{IsSessionNumber, IsNoFirstLine, longest_numbered_line, IsNumberedLine, IsNoNumberedLine}
+use Rattle.log_grammar.specs.NumberedLines.{IsSessionNumber, IsNoFirstLine, max_numbered_line_len, IsNumberedLine, IsNoNumberedLine}
 
 -- each text is one numbered line or none
 abbrev pub IsOneNumberedLineOrNone : Type 0
@@ -20,7 +20,7 @@ UnnumberedLinesAreNone = (text : List ℕ) (line : LogLine) → IsLogLine text l
 -- the text of a numbered line has no LF and is not too long
 abbrev pub NumberedLinesLackLf : Type 0
 NumberedLinesLackLf = (text : List ℕ) (x : Numbered LogLine) → IsNumberedLine text x
-    → LacksLf text × (length text ≤ longest_numbered_line)
+    → LacksLf text × (length text ≤ max_numbered_line_len)
 
 -- a number in its range, a space and a text are a numbered line, with this number, if and only if the text is a line that may have a number
 abbrev pub NumbersGoBeforeLines : Type 0

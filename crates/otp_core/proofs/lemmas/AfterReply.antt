@@ -1,7 +1,7 @@
 -- What can pass after a reply: the same after two alike pasts, and in the token that the reply makes.
 use Rattle.std.proofs.Common.{◌≡◌, ◌≤◌, ◌<◌, ◌+◌, ◌-◌, ◌↔◌, ◌++◌, ℕ, pos, ◌-ℤ◌, List, [], ◌∷◌, Option, Some, None, max, refl, sym, subst, arith}
 use Rattle.std.specs.Option.{option_map_or}
-use Rattle.otp_core.specs.Ranges.{IsMoment, most_counter}
+use Rattle.otp_core.specs.Ranges.{IsMoment, max_counter}
 use Rattle.otp_core.specs.Attempt.{Attempt, CodeTexts, attempt_of, counters_of, used_in}
 use Rattle.otp_core.specs.Attempt.CodeTexts.{one_text, two_texts}
 use Rattle.otp_core.specs.Window.{IsCandidate, IsPairCandidate, IsInHotpWindow, IsInTotpWindow, IsAbove, first_in_window, greatest, step_at}
@@ -67,7 +67,7 @@ IsInWindowAfter (Totp t) moment passed later c =
 
 -- a counter can be the first of a pair in the window that the settings give after a pass of another counter
 IsPairCandidateAfter : TokenFields → (passed c : ℕ) → Type 0
-IsPairCandidateAfter (Hotp t) passed c = IsInHotpWindow (passed + 1) t.sync_ahead c × (c + 1 ≤ most_counter)
+IsPairCandidateAfter (Hotp t) passed c = IsInHotpWindow (passed + 1) t.sync_ahead c × (c + 1 ≤ max_counter)
 IsPairCandidateAfter (Totp t) passed c = ⊥
 
 -- the same counters can pass after two pasts, by themselves and as the first of a pair
@@ -89,8 +89,8 @@ token_agrees_after_pass (Hotp s) (Hotp t) history moment sent p same fits =
       )),
       (λ c. (
         (λ can. subst (λ f. IsPairCandidateAfter f p c) same
-            (subst (λ n. IsInHotpWindow n s.sync_ahead c × (c + 1 ≤ most_counter)) first can)),
-        (λ can. subst (λ n. IsInHotpWindow n s.sync_ahead c × (c + 1 ≤ most_counter)) (sym first)
+            (subst (λ n. IsInHotpWindow n s.sync_ahead c × (c + 1 ≤ max_counter)) first can)),
+        (λ can. subst (λ n. IsInHotpWindow n s.sync_ahead c × (c + 1 ≤ max_counter)) (sym first)
             (subst (λ f. IsPairCandidateAfter f p c) (sym same) can)),
       )),
     )

@@ -1,7 +1,7 @@
 -- The least counter that fits what was sent: how it is found, and that the reply for it is the one that is due.
 use Rattle.std.proofs.Common.{◌≡◌, ◌≤◌, ◌<◌, ◌+◌, ◌↔◌, ℕ, List, [], Option, None, Some, sym, subst, arith}
 use Rattle.std.specs.Prelude.{IfSome}
-use Rattle.otp_core.specs.Ranges.{most_counter}
+use Rattle.otp_core.specs.Ranges.{max_counter}
 use Rattle.otp_core.specs.Hash.{hotp_text_by}
 use Rattle.otp_core.specs.Attempt.{CodeTexts}
 use Rattle.otp_core.specs.Attempt.CodeTexts.{one_text, two_texts}
@@ -32,7 +32,7 @@ least_candidate_fits token moment counters text found candidates least =
 -- if these are the counters that can be the first of a pair, the second counter of the least pair among them that has the two texts is
 -- the least counter that fits the two texts
 pub least_pair_fits : (token : HotpFields) (moment : ℕ) (counters : Counters) (first second : List ℕ) (found : Option ℕ)
-    → ((c : ℕ) → (IsInHotpWindow token.next token.sync_ahead c × (c + 1 ≤ most_counter)) ↔ IsOneOf counters c)
+    → ((c : ℕ) → (IsInHotpWindow token.next token.sync_ahead c × (c + 1 ≤ max_counter)) ↔ IsOneOf counters c)
     → IsLeast (λ c. (first_counter : ℕ) × (c ≡ first_counter + 1) × IsOneOf counters first_counter
     × (hotp_text_by Sha1 token.digits token.secret first_counter ≡ first)
     × (hotp_text_by Sha1 token.digits token.secret (first_counter + 1) ≡ second)) found

@@ -5,7 +5,7 @@ use Rattle.std.proofs.lemmas.Bool.{cases_Bool, cases_lt}
 use Rattle.std.specs.Prelude.{◌≤ℤ◌, ◌+ℤ◌, ◌-ℤ◌, pos}
 use Rattle.std.specs.Option.{ForSome}
 use Rattle.mac_core.proofs.lemmas.Decided.{Decided, decided_equivalent, decided_both, decided_le, decided_lt, decided_same_text}
-use Rattle.otp_core.specs.Ranges.{most_counter}
+use Rattle.otp_core.specs.Ranges.{max_counter}
 use Rattle.otp_core.specs.Attempt.{Attempt, CodeTexts, used_in}
 use Rattle.otp_core.specs.Window.{IsAbove, IsCandidate, IsPairCandidate, IsInHotpWindow, IsInTotpWindow, first_in_window, drift_after, step_at}
 use Rattle.otp_core.specs.Reply.{IsDueReply, IsFitting, code_text, failures_after, limit_of}
@@ -41,10 +41,10 @@ decided_above_last (Some last) w =
 -- it is decidable whether a counter is in HOTP's window
 decided_hotp_window : (first look_ahead c : ℕ) → Decided (IsInHotpWindow first look_ahead c)
 decided_hotp_window first look_ahead c =
-    decided_equivalent ((first ≤ c) × ((c ≤ first + look_ahead) × (c ≤ most_counter))) (IsInHotpWindow first look_ahead c)
+    decided_equivalent ((first ≤ c) × ((c ≤ first + look_ahead) × (c ≤ max_counter))) (IsInHotpWindow first look_ahead c)
     (λ h. record { not_before = h.0; within = h.1.0; most = h.1.1 })
     (λ d. (d.not_before, (d.within, d.most)))
-    (decided_both _ _ (decided_le first c) (decided_both _ _ (decided_le c (first + look_ahead)) (decided_le c most_counter)))
+    (decided_both _ _ (decided_le first c) (decided_both _ _ (decided_le c (first + look_ahead)) (decided_le c max_counter)))
 
 -- it is decidable whether a step is in TOTP's window
 decided_totp_window : (now : ℕ) (drift : ℤ) (back ahead max_drift w : ℕ) → Decided (IsInTotpWindow now drift back ahead max_drift w)
@@ -74,7 +74,7 @@ decided_candidate (Totp t) h m w =
 -- it is decidable whether a counter can be the first of a pair
 decided_pair_candidate : (s : TokenFields) (h : List Attempt) (c : ℕ) → Decided (IsPairCandidate s h c)
 decided_pair_candidate (Hotp t) h c = decided_both _ _ (decided_hotp_window (first_in_window t.next (used_in h)) t.sync_ahead c)
-    (decided_le (c + 1) most_counter)
+    (decided_le (c + 1) max_counter)
 decided_pair_candidate (Totp t) h c = inr (λ pair. pair)
 
 -- it is decidable whether a counter fits what was sent

@@ -1,6 +1,6 @@
 -- One more attempt keeps two pasts alike, and leads to the token that a due reply makes.
 use Rattle.std.proofs.Common.{◌≡◌, ◌≤◌, ◌+◌, ℕ, List, [], ◌∷◌, refl, sym, ap, subst, arith, ◌∙◌}
-use Rattle.otp_core.specs.Ranges.{IsMoment, most_counter}
+use Rattle.otp_core.specs.Ranges.{IsMoment, max_counter}
 use Rattle.otp_core.specs.TokenRanges.{IsInRange}
 use Rattle.otp_core.specs.Attempt.{Attempt, CodeTexts, attempt_of}
 use Rattle.otp_core.specs.Reply.{IsDueReply, failures_after_reply}
@@ -41,8 +41,8 @@ due_reply_leads_on s t h m sent reply is after due =
     }
 
 -- if the token after a pass is in its ranges, the counter that passed is at most the greatest that can pass
-passed_counter_is_in_range : (t : TokenFields) (m c : ℕ) → IsInRange (after_pass t m c) → c ≤ most_counter
-passed_counter_is_in_range (Hotp t) m c range = let next : c + 1 ≤ most_counter + 1 = range.0 in omega arith
+passed_counter_is_in_range : (t : TokenFields) (m c : ℕ) → IsInRange (after_pass t m c) → c ≤ max_counter
+passed_counter_is_in_range (Hotp t) m c range = let next : c + 1 ≤ max_counter + 1 = range.0 in omega arith
 passed_counter_is_in_range (Totp t) m c range = range.1.1.1.1.0 c refl
 
 -- a due reply, and the token after it if it is in its ranges, are what an attempt gives

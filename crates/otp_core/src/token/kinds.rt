@@ -1,7 +1,7 @@
 //! The two kinds of tokens: their settings and state.
 ghost use Rattle.std.specs.Prelude.{◌≡◌, ◌↔◌, ◌≤◌, IfSome, IfNone, IsTrue};
 ghost use Rattle.std.specs.Option.{ForSome};
-ghost use Rattle.otp_core.specs.Ranges.{most_counter};
+ghost use Rattle.otp_core.specs.Ranges.{max_counter};
 ghost use Rattle.otp_core.specs.TokenRanges.{IsHotpInRange, IsTotpInRange, IsFirstOutside, hotp_ranges, totp_ranges};
 
 use crate::digits::Digits;
@@ -11,25 +11,25 @@ use crate::moment::Moment;
 use crate::secret::Secret;
 
 /// The greatest `limit` of a token.
-pub const MOST_LIMIT: u64 = 100;
+pub const MAX_LIMIT: u64 = 100;
 
 /// The greatest counter that can pass, 2^63 - 2: the one after it still fits an `i64`, which is what a TOML number is.
-pub const MOST_COUNTER: u64 = 9_223_372_036_854_775_806;
+pub const MAX_COUNTER: u64 = 9_223_372_036_854_775_806;
 
 /// The greatest `look_ahead` of a HOTP token.
-pub const MOST_LOOK_AHEAD: u64 = 100;
+pub const MAX_LOOK_AHEAD: u64 = 100;
 
 /// The greatest `sync_ahead` of a HOTP token.
-pub const MOST_SYNC_AHEAD: u64 = 1000;
+pub const MAX_SYNC_AHEAD: u64 = 1000;
 
 /// The greatest `step` of a TOTP token, in seconds.
-pub const LONGEST_STEP: u64 = 3600;
+pub const MAX_STEP: u64 = 3600;
 
 /// The greatest `back` and the greatest `ahead` of a TOTP token, in steps.
-pub const MOST_STEPS_ASIDE: u64 = 10;
+pub const MAX_WINDOW_STEPS: u64 = 10;
 
 /// The greatest `max_drift` of a TOTP token, in steps.
-pub const MOST_DRIFT: u64 = 100;
+pub const MAX_DRIFT_BOUND: u64 = 100;
 
 /// The settings and the state of a HOTP token (RFC 4226, section 7).
 #[derive(Drop)]
@@ -62,13 +62,13 @@ impl HotpFields {
         ensures some { IfSome result (IsFirstOutside (hotp_ranges self.now)) }
         ensures none { IfNone result (IsHotpInRange self.now) }
     {
-        if self.next > MOST_COUNTER + 1 {
+        if self.next > MAX_COUNTER + 1 {
             Some(Setting::Next)
-        } else if self.look_ahead > MOST_LOOK_AHEAD {
+        } else if self.look_ahead > MAX_LOOK_AHEAD {
             Some(Setting::LookAhead)
-        } else if self.sync_ahead > MOST_SYNC_AHEAD {
+        } else if self.sync_ahead > MAX_SYNC_AHEAD {
             Some(Setting::SyncAhead)
-        } else if self.limit < 1 || self.limit > MOST_LIMIT {
+        } else if self.limit < 1 || self.limit > MAX_LIMIT {
             Some(Setting::Limit)
         } else if self.failures > self.limit {
             Some(Setting::Failures)
@@ -140,19 +140,19 @@ impl TotpFields {
         ensures some { IfSome result (IsFirstOutside (totp_ranges self.now)) }
         ensures none { IfNone result (IsTotpInRange self.now) }
     {
-        if self.step < 1 || self.step > LONGEST_STEP {
+        if self.step < 1 || self.step > MAX_STEP {
             Some(Setting::Step)
-        } else if self.back > MOST_STEPS_ASIDE {
+        } else if self.back > MAX_WINDOW_STEPS {
             Some(Setting::Back)
-        } else if self.ahead > MOST_STEPS_ASIDE {
+        } else if self.ahead > MAX_WINDOW_STEPS {
             Some(Setting::Ahead)
-        } else if self.max_drift > MOST_DRIFT {
+        } else if self.max_drift > MAX_DRIFT_BOUND {
             Some(Setting::MaxDrift)
         } else if !self.is_last_in_range() {
             Some(Setting::Last)
         } else if self.drift.unsigned_abs() > self.max_drift {
             Some(Setting::Drift)
-        } else if self.limit < 1 || self.limit > MOST_LIMIT {
+        } else if self.limit < 1 || self.limit > MAX_LIMIT {
             Some(Setting::Limit)
         } else if self.failures > self.limit {
             Some(Setting::Failures)
@@ -161,12 +161,12 @@ impl TotpFields {
         }
     }
 
-    // Whether `last`, if there is one, is at most `MOST_COUNTER`.
+    // Whether `last`, if there is one, is at most `MAX_COUNTER`.
     fn is_last_in_range(&self) -> bool
-        ensures { IsTrue result ↔ ForSome self.now.last (λ l. l ≤ most_counter) }
+        ensures { IsTrue result ↔ ForSome self.now.last (λ l. l ≤ max_counter) }
     {
         match self.last {
-            Some(last) => last <= MOST_COUNTER,
+            Some(last) => last <= MAX_COUNTER,
             None => true,
         }
     }

@@ -4,11 +4,11 @@ ghost use Rattle.std.specs.Option.{ForSome};
 ghost use Rattle.otp_core.specs.TokenRanges.{IsHotpInRange, IsTotpInRange, IsInRange};
 ghost use Rattle.otp_core.specs.Window.{IsInHotpWindow, IsInTotpWindow, IsCandidate};
 ghost use Rattle.otp_core.specs.Passes.{IsOneOf};
-ghost use Rattle.otp_core.specs.Ranges.{IsMoment, last_moment, most_counter, most_steps_aside, most_drift};
+ghost use Rattle.otp_core.specs.Ranges.{IsMoment, max_moment, max_counter, max_window_steps, max_drift_bound};
 
 use crate::code::step;
 use crate::moment::Moment;
-use crate::token::kinds::{HotpFields, MOST_COUNTER, TokenFields, TotpFields};
+use crate::token::kinds::{HotpFields, MAX_COUNTER, TokenFields, TotpFields};
 
 /// The counters from `first` up to but not including `end`.
 #[derive(Clone, Copy)]
@@ -39,29 +39,29 @@ fn hotp_candidates(token: &HotpFields) -> Counters
 {
     Counters {
         first: token.next,
-        end: (token.next + token.look_ahead).min(MOST_COUNTER) + 1,
+        end: (token.next + token.look_ahead).min(MAX_COUNTER) + 1,
     }
 }
 
 /// The counters that can be the first of a pair that passes.
 pub(crate) fn pair_candidates(token: &HotpFields) -> Counters
     requires { IsHotpInRange token.now }
-    ensures pairs { (c : ℕ) → (IsInHotpWindow token.now.next token.now.sync_ahead c × (c + 1 ≤ most_counter))
+    ensures pairs { (c : ℕ) → (IsInHotpWindow token.now.next token.now.sync_ahead c × (c + 1 ≤ max_counter))
         ↔ IsOneOf result c }
     ensures most { result.end ≤ 2 ^ 63 }
 {
     Counters {
         first: token.next,
-        end: (token.next + token.sync_ahead).min(MOST_COUNTER - 1) + 1,
+        end: (token.next + token.sync_ahead).min(MAX_COUNTER - 1) + 1,
     }
 }
 
 // By how many steps a clock is fast, and by how many it is slow; at least one of them is 0.
 fn fast_and_slow(drift: i64) -> (u64, u64)
-    requires { nat_abs drift ≤ most_drift }
+    requires { nat_abs drift ≤ max_drift_bound }
     ensures value { drift ≡ pos result.0 -ℤ pos result.1 }
-    ensures fast { result.0 ≤ most_drift }
-    ensures slow { result.1 ≤ most_drift }
+    ensures fast { result.0 ≤ max_drift_bound }
+    ensures slow { result.1 ≤ max_drift_bound }
 {
     if drift < 0 {
         (0, drift.unsigned_abs())
@@ -72,11 +72,11 @@ fn fast_and_slow(drift: i64) -> (u64, u64)
 
 // The steps from `back` before to `ahead` after the present one, moved by the drift, but at most `max_drift` from the present one.
 fn totp_window(now: u64, drift: i64, back: u64, ahead: u64, max_drift: u64) -> Counters
-    requires now { now ≤ last_moment }
-    requires drift { nat_abs drift ≤ most_drift }
-    requires back { back ≤ most_steps_aside }
-    requires ahead { ahead ≤ most_steps_aside }
-    requires max_drift { max_drift ≤ most_drift }
+    requires now { now ≤ max_moment }
+    requires drift { nat_abs drift ≤ max_drift_bound }
+    requires back { back ≤ max_window_steps }
+    requires ahead { ahead ≤ max_window_steps }
+    requires max_drift { max_drift ≤ max_drift_bound }
     ensures { (w : ℕ) → IsInTotpWindow now drift back ahead max_drift w ↔ IsOneOf result w }
 {
     let (fast, slow) = fast_and_slow(drift);
@@ -91,7 +91,7 @@ fn totp_window(now: u64, drift: i64, back: u64, ahead: u64, max_drift: u64) -> C
 // The steps near the present one that are after the last one that passed.
 fn totp_candidates(token: &TotpFields, now: u64) -> Counters
     requires range { IsTotpInRange token.now }
-    requires now { now ≤ last_moment }
+    requires now { now ≤ max_moment }
     ensures { (w : ℕ) → (IsInTotpWindow now token.now.drift token.now.back token.now.ahead token.now.max_drift w
         × ForSome token.now.last (λ l. l < w)) ↔ IsOneOf result w }
 {

@@ -45,9 +45,9 @@ fn one_text_or_two(rt: HostRuntime) {
     let token = Token::hotp(hotp_fields(&rt, (0, 3, 8, 3, 0)));
     let mut token = token.ok().expect(&rt, "a token");
     let now = moment(&rt, 5);
-    assert_eq!(rt; token.judge(now, Sent::One(b"755224")), Reply::Pass(0));
+    assert_eq!(rt; token.judge(now, SentCodes::One(b"755224")), Reply::Pass(0));
     assert_eq!(rt;
-        token.judge(now, Sent::Two(b"969429", b"338314")),
+        token.judge(now, SentCodes::Two(b"969429", b"338314")),
         Reply::Pass(4)
     );
 }

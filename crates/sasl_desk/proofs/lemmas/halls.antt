@@ -1,9 +1,9 @@
 -- What a hall stands for after each call; in the order in which to read it.
-pub mod Guests
+pub mod OpenSessions
 pub mod Paths
 pub mod Numbers
 pub mod Working
-pub mod Seats
+pub mod OpenAfterTurns
 pub mod Turns
 pub mod Steps
 pub mod Calls

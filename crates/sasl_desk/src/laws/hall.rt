@@ -8,7 +8,7 @@ ghost use Rattle.log_grammar.specs.Numbered.{Numbered, numbered, of_number};
 ghost use Rattle.log_grammar.specs.LoggedAttempt.{LoggedAttempt};
 ghost use Rattle.log_grammar.specs.Versions.{IsLogFront, IsClean};
 ghost use Rattle.sasl_desk.specs.Alone.{HaveSameRequests, HaveSameEntries, up_to_acceptance};
-ghost use Rattle.sasl_desk.specs.Desks.{MayHold, spent_by_all};
+ghost use Rattle.sasl_desk.specs.Desks.{MayHold, MayHoldWithinSave, spent_by_all};
 ghost use Rattle.sasl_desk.specs.Halls.{HallFields, busy_lines, hall_lines, hall_bytes, numbered_bytes, phase_in, IsPhaseIn, IsHallAfter};
 ghost use Rattle.sasl_desk.specs.Keeper.{IsAttemptJudged};
 ghost use Rattle.sasl_desk.specs.Records.{HasSessionRecords};
@@ -16,7 +16,7 @@ ghost use Rattle.sasl_desk.specs.Restarts.{IsHallRunLeaving};
 ghost use Rattle.sasl_desk.specs.Runs.{Call, wire_bytes};
 ghost use Rattle.sasl_desk.specs.Saved.{AreLinesSaved};
 ghost use Rattle.sasl_desk.specs.Serves.{call_lines};
-ghost use Rattle.sasl_desk.specs.Spent.{AreSpent};
+ghost use Rattle.sasl_desk.specs.Spent.{AreSpent, spent_by};
 
 use crate::laws::spent_stays_spent;
 use account_book::BookStore;
@@ -95,8 +95,9 @@ pub fn stops_leave_runs<S: BookStore>()
 {}
 
 /// At every moment of a run, whichever text the store may hold is that of a book in which each counter is spent that replies to
-/// clients have used, and each that was spent before the run. This holds after a call, also of the text that a failed save was given,
-/// and if the run stops within a call.
+/// clients have used, and each that was spent before the run. `ended` says this of the end of a call, also of the text that a failed
+/// save was given. `within` says it of a call that is saving a text of `next`, the hall's book with the attempt that is judged.
+/// `next` says that in this book the counters that the attempt uses are spent as well.
 pub fn told_counters_are_saved<S: BookStore>()
     ensures ended { (start : BookFields) (calls : List (Numbered Call)) (hall : HallFields S)
         (stands : IsHallAfter S.facts S.IsStored start calls hall) (spent : List (List ℕ × ℕ)) (text : List ℕ)
@@ -105,8 +106,15 @@ pub fn told_counters_are_saved<S: BookStore>()
         × AreSpent (spent_by_all (reverse stands.told) ++ spent) saved }
     ensures within { (start : BookFields) (calls : List (Numbered Call)) (hall : HallFields S)
         (stands : IsHallAfter S.facts S.IsStored start calls hall) (spent : List (List ℕ × ℕ)) (attempt : LoggedAttempt) (next : BookFields)
+        (asked text : List ℕ) → AreSpent spent start
+        → IsAttemptJudged hall.keeper.book attempt next → IsBookText asked next
+        → MayHoldWithinSave (S.facts hall.keeper.store) asked text
+        → (saved : BookFields) × IsBookText text saved
+        × AreSpent (spent_by_all (reverse stands.told) ++ spent) saved }
+    ensures next { (start : BookFields) (calls : List (Numbered Call)) (hall : HallFields S)
+        (stands : IsHallAfter S.facts S.IsStored start calls hall) (spent : List (List ℕ × ℕ)) (attempt : LoggedAttempt) (next : BookFields)
         → AreSpent spent start → IsAttemptJudged hall.keeper.book attempt next
-        → AreSpent (spent_by_all (reverse stands.told) ++ spent) next }
+        → AreSpent (spent_by attempt ++ (spent_by_all (reverse stands.told) ++ spent)) next }
 {
     begins_with_itself();
     spent_stays_spent();

@@ -9,8 +9,8 @@ ghost use Rattle.sasl_log.specs.Logins.{KeepsEntries};
 ghost use Rattle.sasl_log.specs.Shown.{client_shown};
 ghost use Rattle.sasl_log.specs.Texts.{IsLineWritable};
 ghost use Rattle.sasl_desk.specs.Events.{ClientEvent};
-ghost use Rattle.sasl_desk.specs.DueLines.{is_client_turn, is_due, BearsMessage};
-ghost use Rattle.sasl_desk.specs.Sessions.{IsWaitingAt, IsRecord, turn_lines, heard_lines, CanBeWritten};
+ghost use Rattle.sasl_desk.specs.DueLines.{is_client_turn, is_due};
+ghost use Rattle.sasl_desk.specs.Sessions.{IsWaitingAt, IsRecord, BearsMessage, turn_lines, heard_lines, CanBeWritten};
 ghost use Rattle.sasl_desk.specs.Sessions.{IsTurnOnEvent, IsTurnOnLine, ComesOfLine, JudgesOnlyWhereCodeIsDue, JudgesOnlyLine};
 
 use crate::session::Session;
@@ -20,7 +20,7 @@ use crate::session::event::{HearResult, Recorded, Turn};
 use crate::session::first::{answer_to_auth_with_message, answer_to_client_first};
 use account_book::Book;
 use mac_core::Mechanism;
-use otp_core::Sent;
+use otp_core::SentCodes;
 use sasl_log::ClientLine;
 use scram_text::{NoncePart, PlainName};
 use std::alloc::{Allocator, Global};
@@ -189,8 +189,8 @@ pub(crate) fn hear_code<'a>(name: PlainName, line: ClientLine<'a>) -> HearResult
     ensures lines { CanBeWritten (heard_lines result []) }
 {
     match line {
-        ClientLine::Code(text) => HearResult::ToJudge(name, Sent::One(text)),
-        ClientLine::Sync(first, second) => HearResult::ToJudge(name, Sent::Two(first, second)),
+        ClientLine::Code(text) => HearResult::ToJudge(name, SentCodes::One(text)),
+        ClientLine::Sync(first, second) => HearResult::ToJudge(name, SentCodes::Two(first, second)),
         ClientLine::Abort => HearResult::Answered(abort_turn()),
         _ => HearResult::Answered(bad_turn()),
     }

@@ -1,4 +1,4 @@
-//! The phase: a session without what it keeps.
+//! What a desk or a hall waits for, without what its session keeps.
 use crate::session::Session;
 
 /// What a desk, or a session of a hall, waits for.

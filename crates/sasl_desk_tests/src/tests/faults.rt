@@ -2,7 +2,7 @@
 use sasl_desk::{DeskFault, ServeFault};
 use std::test::Fail;
 
-/// The number of each fault of a desk, as in docs/REFUSALS.md, and its text.
+/// The number of each fault of a desk, as in docs/FAULTS.md, and its text.
 #[test]
 fn numbers_and_texts(rt: HostRuntime) -> Result<(), Fail> {
     for (fault, number, text) in [
@@ -29,7 +29,7 @@ fn numbers_and_texts(rt: HostRuntime) -> Result<(), Fail> {
     Ok(())
 }
 
-/// The number of each fault of serving, as in docs/REFUSALS.md, and its text. The first three are also a desk's.
+/// The number of each fault of serving, as in docs/FAULTS.md, and its text. The first three are also a desk's.
 #[test]
 fn numbers_and_texts_of_serving(rt: HostRuntime) -> Result<(), Fail> {
     for (fault, number, text) in [

@@ -125,7 +125,7 @@ fn lines_need_not_be_due(rt: HostRuntime) -> Result<(), Fail> {
     Ok(())
 }
 
-/// A log that ends in a line, before its LF, is cut in this line (80 in docs/REFUSALS.md).
+/// A log that ends in a line, before its LF, is cut in this line (80 in docs/FAULTS.md).
 #[test]
 fn a_log_is_cut_in_each_line(rt: HostRuntime) -> Result<(), Fail> {
     let alloc = rt.alloc();
@@ -139,7 +139,7 @@ fn a_log_is_cut_in_each_line(rt: HostRuntime) -> Result<(), Fail> {
     Ok(())
 }
 
-/// A first line other than `SCRAMLOG 1`, and a text that is no line of a log, are at fault (81 in docs/REFUSALS.md), whatever follows.
+/// A first line other than `SCRAMLOG 1`, and a text that is no line of a log, are at fault (81 in docs/FAULTS.md), whatever follows.
 #[test]
 fn lines_that_are_none(rt: HostRuntime) -> Result<(), Fail> {
     let alloc = rt.alloc();

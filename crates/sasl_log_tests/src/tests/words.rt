@@ -1,5 +1,5 @@
 //! The words of a line: what comes after a word, before a space, after a number, and moments at their limits.
-use sasl_log::word::{after, after_session_number, cut, moment};
+use sasl_log::word::{after, cut, moment, strip_session_number};
 
 // Whether the text begins with this word, and `rest` follows.
 fn goes_on(text: &[u8], word: &[u8], rest: &[u8]) -> bool {
@@ -13,7 +13,7 @@ fn is_cut(text: &[u8], word: &[u8], rest: &[u8]) -> bool {
 
 // Whether the text begins with this number and a space, and `rest` follows.
 fn is_numbered(text: &[u8], number: u64, rest: &[u8]) -> bool {
-    after_session_number(text).is_some_and(|found| found.0 == number && found.1 == rest)
+    strip_session_number(text).is_some_and(|found| found.0 == number && found.1 == rest)
 }
 
 // Whether the text is this moment, in seconds since 1970.
@@ -40,7 +40,7 @@ fn numbers(rt: HostRuntime) {
     assert!(rt; is_numbered(b"1 C GONE", 1, b"C GONE"));
     assert!(rt; is_numbered(b"9223372036854775806 ", 9_223_372_036_854_775_806, b""));
     for text in ["0 x", "01 x", "+1 x", "1", "x 1", "9223372036854775807 x"] {
-        assert!(rt; after_session_number(text.as_bytes()).is_none(), "{text}");
+        assert!(rt; strip_session_number(text.as_bytes()).is_none(), "{text}");
     }
     assert!(rt; is_moment(b"0", 0));
     assert!(rt; is_moment(b"253402300799", 253_402_300_799));

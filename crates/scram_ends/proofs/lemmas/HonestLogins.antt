@@ -5,7 +5,7 @@ use Rattle.mac_core.specs.Mechanism.{length_by, hi_by, client_key_by, stored_key
 use Rattle.mac_core.specs.Keys.{xor_bytes}
 use Rattle.mac_core.specs.declared.mechanism.Mechanism.{Mechanism}
 use Rattle.mac_core.specs.declared.mechanism.Mechanism.TheVariants.{ScramSha1, ScramSha256}
-use Rattle.scram_text.specs.Limits.{longest_tag}
+use Rattle.scram_text.specs.Limits.{max_tag_len}
 use Rattle.scram_text.specs.Parts.{have_mandatory}
 use Rattle.scram_text.specs.Messages.{ClientFirstParts, ServerFirstParts, server_first_mandatory, client_final_text, verifier}
 use Rattle.scram_text.specs.Written.{client_final_of}
@@ -24,7 +24,7 @@ use Rattle.scram_ends.specs.Honest.{IsHonest, honest_signature}
 use Rattle.scram_ends.specs.Laws.{HonestLogsIn}
 use Rattle.scram_ends.proofs.lemmas.client_messages.ClientFirst.{honest_is_taken_up}
 use Rattle.scram_ends.proofs.lemmas.client_messages.ClientFinal.{length-client_final_text}
-use Rattle.scram_ends.proofs.lemmas.client_messages.Headers.{longest_header, header_is_in_range}
+use Rattle.scram_ends.proofs.lemmas.client_messages.Headers.{honest_header_is_short}
 use Rattle.scram_ends.proofs.lemmas.client_messages.Expectations.{proofs_are_same, signatures_are_same}
 use Rattle.scram_ends.proofs.lemmas.Verdicts.{acceptance_is_due}
 use Rattle.scram_ends.proofs.lemmas.Written.{signature_can_be_written, signature_is_short}
@@ -38,11 +38,11 @@ digest_length_is_in_range ScramSha256 = (omega arith, omega arith)
 
 -- the server-final message that accepts with a signature has this signature as its verifier
 pub due_text_is_authentic : (signature : List ℕ)
-    → AreBytes signature → 1 ≤ length signature → length signature ≤ longest_tag → IsAuthentic (due_text (accept signature)) signature
+    → AreBytes signature → 1 ≤ length signature → length signature ≤ max_tag_len → IsAuthentic (due_text (accept signature)) signature
 due_text_is_authentic signature fits some within = record {
   last = final_due (accept signature);
   is_last = written_is_server_final (verifier signature) [] (signature_is_text signature fits)
-      (signature_can_be_written signature (bytes_are_field longest_tag signature fits some within)) (signature_is_short signature within);
+      (signature_can_be_written signature (bytes_are_field max_tag_len signature fits some within)) (signature_is_short signature within);
   not_mandatory = refl;
   is_verifier = refl;
 }
@@ -65,8 +65,7 @@ password_proof_passes m password salt auth proof count is =
 pub honest_final_is_short : (l : Answered) → IsHonest l → length l.client_final ≤ 1592
 honest_final_is_short l honest =
     let final = honest.final in
-    let header : length final.channel ≤ longest_header =
-    omega (arith, ap length honest.is_final.channel, (header_is_in_range honest.is_first).1) in
+    let header = honest_header_is_short honest.is_first final.channel honest.is_final.channel in
     let is_proof = password_proof_passes l.mechanism l.password _ _ final.proof _ honest.is_final.proof in
     let proof : length final.proof ≤ 32 = omega (arith, is_proof.len, (digest_length_is_in_range l.mechanism).1) in
     let parts : final ≡ client_final_of final.channel final.nonce [] final.proof =

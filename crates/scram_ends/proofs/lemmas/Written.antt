@@ -3,7 +3,7 @@ use Rattle.std.proofs.Common.{◌≡◌, ◌≤◌, ◌<◌, ◌^◌, ◌-◌, �
 use Rattle.std.specs.Prelude.{decimal}
 use Rattle.std.proofs.lemmas.Fmt.{length-decimal-le}
 use Rattle.std.proofs.lemmas.Grind.{common_steps}
-use Rattle.scram_text.specs.Limits.{longest_message, longest_nonce, longest_salt, longest_tag}
+use Rattle.scram_text.specs.Limits.{max_message_len, max_nonce_len, max_salt_len, max_tag_len}
 use Rattle.scram_text.specs.Class.{IsNonce}
 use Rattle.scram_text.specs.Base64Field.{IsField}
 use Rattle.scram_text.specs.Messages.{server_first_text, verifier, server_error, server_final_text}
@@ -28,7 +28,7 @@ empty_is_extension_text = record { utf8_text = empty_is_text; each = tt }
 
 -- a nonce, a salt and a count within their bounds can be written as server-first
 pub challenge_can_be_written : (nonce salt : List ℕ) (count : ℕ)
-    → IsNonce longest_nonce nonce → IsField longest_salt salt → 1 ≤ count → count < 2 ^ 32 → CanBeServerFirst nonce salt count []
+    → IsNonce max_nonce_len nonce → IsField max_salt_len salt → 1 ≤ count → count < 2 ^ 32 → CanBeServerFirst nonce salt count []
 challenge_can_be_written nonce salt count is_nonce is_salt least most =
     record {
       nonce_class = is_nonce;
@@ -39,8 +39,8 @@ challenge_can_be_written nonce salt count is_nonce is_salt least most =
 
 -- the server-first of a nonce, a salt and a count within their bounds is not longer than the longest message
 pub challenge_fits : (nonce salt : List ℕ) (count : ℕ)
-    → IsNonce longest_nonce nonce → IsField longest_salt salt → count < 2 ^ 32
-    → longest_message < length (server_first_text (server_first_of nonce salt count []))
+    → IsNonce max_nonce_len nonce → IsField max_salt_len salt → count < 2 ^ 32
+    → max_message_len < length (server_first_text (server_first_of nonce salt count []))
     → ⊥
 challenge_fits nonce salt count is_nonce is_salt most over =
     let composed = simp length-append at (ap length (pieces_compose_server_first nonce salt count [])) in
@@ -48,18 +48,18 @@ challenge_fits nonce salt count is_nonce is_salt most over =
     omega (arith, composed, digits, over, is_nonce.at_most, is_salt.at_most, length-base64 salt)
 
 -- a signature within its bounds can be written as server-final
-pub signature_can_be_written : (signature : List ℕ) → IsField longest_tag signature → CanBeServerFinal (verifier signature) []
+pub signature_can_be_written : (signature : List ℕ) → IsField max_tag_len signature → CanBeServerFinal (verifier signature) []
 signature_can_be_written signature is_field = record { outcome_class = is_field; extensions_class = empty_is_extension_text }
 
 -- the server-final of a signature of at most the longest tag's length has at most the longest message's length
 pub signature_is_short : (signature : List ℕ)
-    → length signature ≤ longest_tag → length (server_final_text (server_final_of (verifier signature) [])) ≤ longest_message
+    → length signature ≤ max_tag_len → length (server_final_text (server_final_of (verifier signature) [])) ≤ max_message_len
 unfolding server_final_text
 signature_is_short signature most = omega (arith, most, length-base64 signature)
 
 -- the server-final of a signature of at most the longest tag's length is not longer than the longest message
 pub signature_fits : (signature : List ℕ)
-    → length signature ≤ longest_tag → longest_message < length (server_final_text (server_final_of (verifier signature) [])) → ⊥
+    → length signature ≤ max_tag_len → max_message_len < length (server_final_text (server_final_of (verifier signature) [])) → ⊥
 signature_fits signature most over = omega (arith, over, signature_is_short signature most)
 
 -- a refusal's value can be the outcome of server-final
@@ -85,7 +85,7 @@ error_value_is_short InvalidProof = omega arith
 error_value_is_short NotAuthorised = omega arith
 
 -- the server-final message of a refusal is within the limit
-pub refusal_fits : (r : Refusal) → longest_message < length (server_final_text (server_final_of (server_error (error_value r)) [])) → ⊥
+pub refusal_fits : (r : Refusal) → max_message_len < length (server_final_text (server_final_of (server_error (error_value r)) [])) → ⊥
 refusal_fits r over =
     let composed = simp length-append at (ap length (pieces_compose_server_final (server_error (error_value r)) [])) in
     omega (arith, composed, over, error_value_is_short r)

@@ -1,5 +1,5 @@
 //! The text of each fault of both ends, which says what is wrong and what to do about it; and the numbers of the client's
-//! faults, as in docs/REFUSALS.md.
+//! faults, as in docs/FAULTS.md.
 use super::*;
 use scram_ends::ClientFault;
 

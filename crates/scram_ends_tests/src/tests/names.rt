@@ -33,7 +33,7 @@ fn refused_client_first(rt: HostRuntime) {
     }
 }
 
-/// The numbers of the server's faults, as in docs/REFUSALS.md.
+/// The numbers of the server's faults, as in docs/FAULTS.md.
 #[test]
 fn numbers_of_faults(rt: HostRuntime) {
     let name = FirstFault::Text(TextFault {

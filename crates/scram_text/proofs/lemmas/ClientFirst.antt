@@ -9,7 +9,7 @@ use Rattle.std.specs.declared.result.Result.{Result}
 use Rattle.std.proofs.lemmas.Bool.{cases_Bool, eqb-true, both_ways, and_parts}
 use Rattle.std.proofs.lemmas.List.Splits.{join_with_byte-slice_split}
 use Rattle.std.specs.Str.{byte}
-use Rattle.scram_text.specs.Limits.{longest_message, longest_nonce_part}
+use Rattle.scram_text.specs.Limits.{max_message_len, max_nonce_part_len}
 use Rattle.scram_text.specs.Class.{is_cb_char, IsNonce, IsUtf8Text}
 use Rattle.scram_text.specs.Name.{LacksComma, IsSaslName}
 use Rattle.scram_text.specs.Parts.{parts, joined, is_flag, is_cb_name, authzid_text, mext_parts, is_named, IsValue, AreExtensions}
@@ -56,14 +56,14 @@ authzid_lacks_comma None is = refl
 authzid_lacks_comma (Some spelled) is = is.no_comma
 
 -- the bare message is cut into its parts
-parts-client_first_bare : (p : ClientFirstParts) → IfSome p.mext IsValue → IsSaslName p.name → IsNonce longest_nonce_part p.nonce
+parts-client_first_bare : (p : ClientFirstParts) → IfSome p.mext IsValue → IsSaslName p.name → IsNonce max_nonce_part_len p.nonce
     → AreExtensions p.extensions
     → parts (client_first_bare p) ≡ bare_parts p
 unfolding client_first_bare
 parts-client_first_bare p mext name nonce extensions =
     parts-joined_list (bare_parts p) (mext_and_rest_are_nonempty p.mext (codes "n=" ++ p.name) _)
     (mext_and_rest_lack_comma p.mext (client_first_rest p) mext
-    (name.no_comma, (nonce_lacks_comma longest_nonce_part p.nonce nonce, extensions_lack_comma p.extensions extensions)))
+    (name.no_comma, (nonce_lacks_comma max_nonce_part_len p.nonce nonce, extensions_lack_comma p.extensions extensions)))
 
 -- a header of two parts and what follows it are the parts, with a comma after each, and what follows
 pub header_pieces_regroup : (flag authzid rest : List ℕ) → (flag ++ byte "," ∷ (authzid ++ byte "," ∷ [])) ++ rest ≡ flag ++ byte ","
@@ -122,14 +122,14 @@ client_first_rest_places_unfold name nonce extensions =
     front_places_unfold (Name ∷ Nonce ∷ []) (length (name ∷ nonce ∷ extensions)) (length extensions) (omega arith)
 
 -- if the name and the nonce of client-first fit, and the parts after them are extensions, all fit their places
-name_and_nonce_fit : (name nonce : List ℕ) (extensions : List (List ℕ)) → Fits longest_nonce_part Name name
-    → Fits longest_nonce_part Nonce nonce
+name_and_nonce_fit : (name nonce : List ℕ) (extensions : List (List ℕ)) → Fits max_nonce_part_len Name name
+    → Fits max_nonce_part_len Nonce nonce
     → AreExtensions extensions
-    → AllFit longest_nonce_part (places (Name ∷ Nonce ∷ []) [] (length (name ∷ nonce ∷ extensions))) (name ∷ nonce ∷ extensions)
+    → AllFit max_nonce_part_len (places (Name ∷ Nonce ∷ []) [] (length (name ∷ nonce ∷ extensions))) (name ∷ nonce ∷ extensions)
 name_and_nonce_fit name nonce extensions is_name is_nonce are =
     rw (client_first_rest_places_unfold name nonce extensions)
-    (AllFit-cons longest_nonce_part Name _ name _ is_name (AllFit-cons longest_nonce_part Nonce _ nonce _ is_nonce
-    (extensions_fit longest_nonce_part extensions are)))
+    (AllFit-cons max_nonce_part_len Name _ name _ is_name (AllFit-cons max_nonce_part_len Nonce _ nonce _ is_nonce
+    (extensions_fit max_nonce_part_len extensions are)))
 
 -- the places of the header's parts and of those after it are Flag, Authzid and the places of those after it
 pub header_places_unfold : (later : List TextWhy) (n : ℕ)
@@ -146,26 +146,26 @@ later_places_add_up pieces later = elim (cases_Bool (is_named (byte "m") (first_
 ]
 
 -- if the flag, the name to act as and the parts of the bare message fit their places, all parts of client-first do
-pub client_first_parts_fit : (flag authzid : List ℕ) (bare : List (List ℕ)) → Fits longest_nonce_part Flag flag
-    → Fits longest_nonce_part Authzid authzid
-    → AllFit longest_nonce_part (places (places_with_mext bare (Name ∷ Nonce ∷ [])) [] (length bare)) bare
-    → AllFit longest_nonce_part (places (client_first_places (flag ∷ authzid ∷ bare)) [] (length (flag ∷ authzid ∷ bare)))
+pub client_first_parts_fit : (flag authzid : List ℕ) (bare : List (List ℕ)) → Fits max_nonce_part_len Flag flag
+    → Fits max_nonce_part_len Authzid authzid
+    → AllFit max_nonce_part_len (places (places_with_mext bare (Name ∷ Nonce ∷ [])) [] (length bare)) bare
+    → AllFit max_nonce_part_len (places (client_first_places (flag ∷ authzid ∷ bare)) [] (length (flag ∷ authzid ∷ bare)))
     (flag ∷ authzid ∷ bare)
 client_first_parts_fit flag authzid bare is_flag is_authzid fit =
-    subst (λ (ps : List TextWhy). AllFit longest_nonce_part ps (flag ∷ authzid ∷ bare))
+    subst (λ (ps : List TextWhy). AllFit max_nonce_part_len ps (flag ∷ authzid ∷ bare))
     (sym (header_places_unfold (places_with_mext bare (Name ∷ Nonce ∷ [])) (length bare)))
-    (AllFit-cons longest_nonce_part Flag _ flag _ is_flag (AllFit-cons longest_nonce_part Authzid _ authzid _ is_authzid fit))
+    (AllFit-cons max_nonce_part_len Flag _ flag _ is_flag (AllFit-cons max_nonce_part_len Authzid _ authzid _ is_authzid fit))
 
 -- the parts of the bare message are its mandatory extension, if it has one, and the others
 pub bare_has_mext_and_rest : (p : ClientFirstParts) → IfSome p.mext IsValue → IsMextAndRest (bare_parts p) (client_first_rest p) p.mext
 bare_has_mext_and_rest p mext = joined_are_mext_and_rest p.mext (codes "n=" ++ p.name) _ refl mext
 
 -- the parts of a bare message fit their places
-pub bare_parts_fit : (p : ClientFirstParts) → IfSome p.mext IsValue → IsSaslName p.name → IsNonce longest_nonce_part p.nonce
+pub bare_parts_fit : (p : ClientFirstParts) → IfSome p.mext IsValue → IsSaslName p.name → IsNonce max_nonce_part_len p.nonce
     → AreExtensions p.extensions
-    → AllFit longest_nonce_part (places (places_with_mext (bare_parts p) (Name ∷ Nonce ∷ [])) [] (length (bare_parts p))) (bare_parts p)
+    → AllFit max_nonce_part_len (places (places_with_mext (bare_parts p) (Name ∷ Nonce ∷ [])) [] (length (bare_parts p))) (bare_parts p)
 bare_parts_fit p mext name nonce extensions =
-    mext_and_rest_fit longest_nonce_part (Name ∷ Nonce ∷ []) (bare_parts p) (client_first_rest p) p.mext (bare_has_mext_and_rest p mext)
+    mext_and_rest_fit max_nonce_part_len (Name ∷ Nonce ∷ []) (bare_parts p) (client_first_rest p) p.mext (bare_has_mext_and_rest p mext)
     (name_and_nonce_fit (codes "n=" ++ p.name) (codes "r=" ++ p.nonce) p.extensions (p.name, refl, name) (p.nonce, refl, nonce) extensions)
 
 -- a client-first message has no fault
@@ -173,7 +173,7 @@ client_first_has_no_fault : (text : List ℕ) (p : ClientFirstParts) (f : TextFa
 client_first_has_no_fault text p f is =
     let lengths = mext_and_rest_lengths_add_up (Name ∷ Nonce ∷ []) (bare_parts p) (client_first_rest p) p.mext
     (bare_has_mext_and_rest p is.mext) in
-    fitting_text_has_no_fault longest_nonce_part client_first_places [] text (p.flag ∷ authzid_text p.authzid ∷ bare_parts p) f is.short
+    fitting_text_has_no_fault max_nonce_part_len client_first_places [] text (p.flag ∷ authzid_text p.authzid ∷ bare_parts p) f is.short
     is.utf8_text
     (parts-client_first text p is)
     (omega (arith, lengths.0, lengths.1))
@@ -189,24 +189,24 @@ client_first_is_read text r =
     (has_one_client_first text) (client_first_has_no_fault text)
 
 -- the first part of client-first that does not fit is a fault of the text
-module _ (text flag authzid : List ℕ) (bare : List (List ℕ)) (short : length text ≤ longest_message) (utf8_text : IsUtf8Text text)
+module _ (text flag authzid : List ℕ) (bare : List (List ℕ)) (short : length text ≤ max_message_len) (utf8_text : IsUtf8Text text)
     (cut : parts text ≡ flag ∷ authzid ∷ bare) (enough : length (places_with_mext bare []) + 2 ≤ length bare) where
   -- the first misfit of all parts is a fault of the text
   client_first_misfit_is_fault : (f : TextFault)
-      → IsFirstMisfit longest_nonce_part (Flag ∷ Authzid ∷ places (places_with_mext bare (Name ∷ Nonce ∷ [])) [] (length bare)) 0
+      → IsFirstMisfit max_nonce_part_len (Flag ∷ Authzid ∷ places (places_with_mext bare (Name ∷ Nonce ∷ [])) [] (length bare)) 0
       (flag ∷ authzid ∷ bare) f
       → IsClientFirstFault text f
   client_first_misfit_is_fault f misfit =
-      part_fault_is_fault longest_nonce_part client_first_places [] text (flag ∷ authzid ∷ bare) f short utf8_text cut
+      part_fault_is_fault max_nonce_part_len client_first_places [] text (flag ∷ authzid ∷ bare) f short utf8_text cut
       (inr (
         omega (arith, enough, later_places_add_up bare (Name ∷ Nonce ∷ [])),
-        subst (λ (ps : List TextWhy). IsFirstMisfit longest_nonce_part ps 0 (flag ∷ authzid ∷ bare) f)
+        subst (λ (ps : List TextWhy). IsFirstMisfit max_nonce_part_len ps 0 (flag ∷ authzid ∷ bare) f)
             (sym (header_places_unfold (places_with_mext bare (Name ∷ Nonce ∷ [])) (length bare))) misfit,
       ))
 
   -- a flag that does not fit is the fault of the text
   pub unfit_flag_is_fault : is_flag flag ≡ false → IsClientFirstFault text (fault 0 Flag)
-  unfit_flag_is_fault no_flag = client_first_misfit_is_fault _ (unfit_part_is_misfit longest_nonce_part 0 Flag _ flag _
+  unfit_flag_is_fault no_flag = client_first_misfit_is_fault _ (unfit_part_is_misfit max_nonce_part_len 0 Flag _ flag _
       (λ is. both_ways (is_flag flag) no_flag is))
 
   -- if the flag fits, a name to act as that does not is the fault of the text
@@ -215,47 +215,47 @@ module _ (text flag authzid : List ℕ) (bare : List (List ℕ)) (short : length
   unfit_authzid_is_fault f is_a_flag (no_authzid, is) =
       subst (λ (g : TextFault). IsClientFirstFault text g) (sym is)
       (client_first_misfit_is_fault (fault 1 Authzid)
-      (fitting_part_keeps_misfit longest_nonce_part 0 Flag _ flag _ _ is_a_flag
-      (unfit_part_is_misfit longest_nonce_part 1 Authzid _ authzid _ no_authzid)))
+      (fitting_part_keeps_misfit max_nonce_part_len 0 Flag _ flag _ _ is_a_flag
+      (unfit_part_is_misfit max_nonce_part_len 1 Authzid _ authzid _ no_authzid)))
 
   -- if the flag and the name to act as fit, the first part of the bare message that does not is the fault of the text
   pub bare_misfit_is_fault : (f : TextFault) → is_flag flag ≡ true → IsAuthzid authzid → IsBareMisfit bare f → IsClientFirstFault text f
   bare_misfit_is_fault f is_a_flag is_authzid misfit =
       client_first_misfit_is_fault f
-      (fitting_part_keeps_misfit longest_nonce_part 0 Flag _ flag _ f is_a_flag
-      (fitting_part_keeps_misfit longest_nonce_part 1 Authzid _ authzid _ f is_authzid misfit))
+      (fitting_part_keeps_misfit max_nonce_part_len 0 Flag _ flag _ f is_a_flag
+      (fitting_part_keeps_misfit max_nonce_part_len 1 Authzid _ authzid _ f is_authzid misfit))
 
 -- the first part of a bare message that does not fit, after its mandatory extension; k is the index of the name
 module _ (pieces : List (List ℕ)) (name nonce : List ℕ) (extensions : List (List ℕ)) (mext : Option (List ℕ)) (k : ℕ)
     (marked : IsMextAndRest pieces (name ∷ nonce ∷ extensions) mext) (at : k ≡ 2 + length (mext_parts mext)) where
   -- a misfit after the mandatory extension is one of the bare message
   rest_misfit_is_bare_misfit : (f : TextFault)
-      → IsFirstMisfit longest_nonce_part (Name ∷ Nonce ∷ replicate (length extensions) Extension) k (name ∷ nonce ∷ extensions) f
+      → IsFirstMisfit max_nonce_part_len (Name ∷ Nonce ∷ replicate (length extensions) Extension) k (name ∷ nonce ∷ extensions) f
       → IsBareMisfit pieces f
   rest_misfit_is_bare_misfit f misfit =
-      rest_misfit_is_of_all_parts longest_nonce_part 2 k (Name ∷ Nonce ∷ []) pieces (name ∷ nonce ∷ extensions) mext f marked at
+      rest_misfit_is_of_all_parts max_nonce_part_len 2 k (Name ∷ Nonce ∷ []) pieces (name ∷ nonce ∷ extensions) mext f marked at
       (rw (client_first_rest_places_unfold name nonce extensions) misfit)
 
   -- a name that does not fit is the misfit of the bare message
-  pub unfit_name_is_bare_misfit : (Fits longest_nonce_part Name name → ⊥) → IsBareMisfit pieces (fault k Name)
-  unfit_name_is_bare_misfit no_name = rest_misfit_is_bare_misfit _ (unfit_part_is_misfit longest_nonce_part k Name _ name _ no_name)
+  pub unfit_name_is_bare_misfit : (Fits max_nonce_part_len Name name → ⊥) → IsBareMisfit pieces (fault k Name)
+  unfit_name_is_bare_misfit no_name = rest_misfit_is_bare_misfit _ (unfit_part_is_misfit max_nonce_part_len k Name _ name _ no_name)
 
   -- if the name fits, a nonce that does not is the misfit of the bare message
-  pub unfit_nonce_is_bare_misfit : Fits longest_nonce_part Name name → (Fits longest_nonce_part Nonce nonce → ⊥)
+  pub unfit_nonce_is_bare_misfit : Fits max_nonce_part_len Name name → (Fits max_nonce_part_len Nonce nonce → ⊥)
       → IsBareMisfit pieces (fault (k + 1) Nonce)
   unfit_nonce_is_bare_misfit is_name no_nonce =
       rest_misfit_is_bare_misfit _
-      (fitting_part_keeps_misfit longest_nonce_part k Name _ name _ _ is_name (unfit_part_is_misfit longest_nonce_part
+      (fitting_part_keeps_misfit max_nonce_part_len k Name _ name _ _ is_name (unfit_part_is_misfit max_nonce_part_len
       (k + 1) Nonce _ nonce _ no_nonce))
 
   -- if the name and the nonce fit, the first extension that does not is the misfit of the bare message
-  pub extension_misfit_is_bare_misfit : (f : TextFault) → Fits longest_nonce_part Name name → Fits longest_nonce_part Nonce nonce
+  pub extension_misfit_is_bare_misfit : (f : TextFault) → Fits max_nonce_part_len Name name → Fits max_nonce_part_len Nonce nonce
       → IsExtensionMisfit (k + 2) extensions f → IsBareMisfit pieces f
   extension_misfit_is_bare_misfit f is_name is_nonce misfit =
       rest_misfit_is_bare_misfit f
-      (fitting_part_keeps_misfit longest_nonce_part k Name _ name _ f is_name (fitting_part_keeps_misfit longest_nonce_part
+      (fitting_part_keeps_misfit max_nonce_part_len k Name _ name _ f is_name (fitting_part_keeps_misfit max_nonce_part_len
       (k + 1) Nonce _ nonce _ f is_nonce
-      (equal_index_keeps_misfit longest_nonce_part (k + 2) (k + 1 + 1) _ _ f (omega arith) (misfit longest_nonce_part))))
+      (equal_index_keeps_misfit max_nonce_part_len (k + 2) (k + 1 + 1) _ _ f (omega arith) (misfit max_nonce_part_len))))
 
 -- the pieces of a bare message, with their letters, are its parts
 pub bare_pieces_are_parts : (pieces : List (List ℕ)) (name nonce : List ℕ) (p : ClientFirstParts)

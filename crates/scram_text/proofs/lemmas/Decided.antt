@@ -13,7 +13,7 @@ use Rattle.mac_core.proofs.lemmas.Decided.{Decided, decided_equivalent, decided_
 use Rattle.mac_core.proofs.lemmas.Decided.{decided_same_text}
 use Rattle.base64.specs.GeneralPurpose.{IsBytes}
 use Rattle.base64.specs.declared.decode.DecodeError.{DecodeError}
-use Rattle.scram_text.specs.Limits.{longest_channel, longest_salt, longest_tag, most_count}
+use Rattle.scram_text.specs.Limits.{max_channel_len, max_salt_len, max_tag_len, max_iteration_count}
 use Rattle.scram_text.specs.Class.{is_printable, IsRunOf, IsNonce, IsUtf8Text}
 use Rattle.scram_text.specs.Name.{LacksComma, is_escaped, IsSaslName}
 use Rattle.scram_text.specs.Base64Field.{base64, base64_decoded, IsField}
@@ -69,9 +69,9 @@ decided_extension part =
 -- it is decidable whether a number is a count
 decided_count : (count : ℕ) → Decided (IsCount count)
 decided_count count =
-    decided_equivalent ((1 ≤ count) × (count ≤ most_count)) (IsCount count)
+    decided_equivalent ((1 ≤ count) × (count ≤ max_iteration_count)) (IsCount count)
     (λ h. record { at_least = h.0; at_most = h.1 }) (λ r. (r.at_least, r.at_most))
-    (decided_both _ _ (decided_le 1 count) (decided_le count most_count))
+    (decided_both _ _ (decided_le 1 count) (decided_le count max_iteration_count))
 
 -- it is decidable whether a value spells a count: it can only be the decimal of its digits' number
 decided_spells_count : (value : List ℕ) → Decided (SpellsCount value)
@@ -155,12 +155,12 @@ decided_fits most Authzid part = decided_authzid part
 decided_fits most Mandatory part = decided_attr_val (byte "m") IsValue part decided_value
 decided_fits most Name part = decided_attr_val (byte "n") IsSaslName part decided_saslname
 decided_fits most Nonce part = decided_attr_val (byte "r") (IsNonce most) part (decided_run is_printable most)
-decided_fits most Salt part = decided_attr_val (byte "s") (SpellsField longest_salt) part (decided_spells_field longest_salt)
+decided_fits most Salt part = decided_attr_val (byte "s") (SpellsField max_salt_len) part (decided_spells_field max_salt_len)
 decided_fits most Count part = decided_attr_val (byte "i") SpellsCount part decided_spells_count
-decided_fits most Channel part = decided_attr_val (byte "c") (SpellsField longest_channel) part (decided_spells_field longest_channel)
+decided_fits most Channel part = decided_attr_val (byte "c") (SpellsField max_channel_len) part (decided_spells_field max_channel_len)
 decided_fits most Extension part = decided_extension part
-decided_fits most Proof part = decided_attr_val (byte "p") (SpellsField longest_tag) part (decided_spells_field longest_tag)
-decided_fits most Verifier part = decided_attr_val (byte "v") (SpellsField longest_tag) part (decided_spells_field longest_tag)
+decided_fits most Proof part = decided_attr_val (byte "p") (SpellsField max_tag_len) part (decided_spells_field max_tag_len)
+decided_fits most Verifier part = decided_attr_val (byte "v") (SpellsField max_tag_len) part (decided_spells_field max_tag_len)
 decided_fits most ErrorValue part = decided_attr_val (byte "e") IsValue part decided_value
 
 -- it is decidable whether all parts fit their places

@@ -1,7 +1,7 @@
 -- It is decidable whether a text spells a plain name.
 use Rattle.std.proofs.Common.{◌≡◌, inl, inr, ℕ, List, sym, ◌∙◌, ap, subst}
 use Rattle.mac_core.proofs.lemmas.Decided.{Decided, decided_equivalent, decided_both, decided_same_text}
-use Rattle.scram_text.specs.Limits.{longest_name}
+use Rattle.scram_text.specs.Limits.{max_name_len}
 use Rattle.scram_text.specs.Class.{is_plain, IsPlainName}
 use Rattle.scram_text.specs.Name.{SpellsName, name_spelling}
 use Rattle.scram_text.specs.Laws.{NameIsDecided}
@@ -17,7 +17,7 @@ decided_plain_name spelled =
     (λ (name, plain, spells).
     let same : found ≡ name = ap (unescaped_from 0) spells ∙ unescaped_from-spelling name in
     (subst IsPlainName (sym same) plain, subst (λ (n : List ℕ). SpellsName n spelled) (sym same) spells))
-    (decided_both _ _ (decided_run is_plain longest_name found) (decided_same_text spelled (name_spelling found)))
+    (decided_both _ _ (decided_run is_plain max_name_len found) (decided_same_text spelled (name_spelling found)))
 
 -- the law: it is decidable whether a text spells a plain name
 pub name_is_decided : NameIsDecided

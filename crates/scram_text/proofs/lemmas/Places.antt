@@ -3,7 +3,7 @@ use Rattle.std.proofs.Common.{◌≡◌, inl, inr, ℕ, ◌+◌, ◌-◌, ◌≤
 use Rattle.std.specs.List.{AllByRecursion, zip}
 use Rattle.std.proofs.lemmas.List.{append_assoc}
 use Rattle.std.specs.Str.{byte}
-use Rattle.scram_text.specs.Limits.{longest_message}
+use Rattle.scram_text.specs.Limits.{max_message_len}
 use Rattle.scram_text.specs.Class.{is_printable, IsNonce, IsUtf8Text}
 use Rattle.scram_text.specs.Name.{LacksComma}
 use Rattle.scram_text.specs.Base64Field.{base64, IsField}
@@ -121,7 +121,7 @@ places_unfold front back n middle count =
 
 -- a fault of the parts is one of the text; the places before the extensions may depend on the parts
 pub part_fault_is_fault : (most : ℕ) (front : List (List ℕ) → List TextWhy) (back : List TextWhy) (text : List ℕ) (pieces : List (List ℕ))
-    (f : TextFault) → length text ≤ longest_message → IsUtf8Text text → parts text ≡ pieces → IsPartFault most (front pieces) back pieces f
+    (f : TextFault) → length text ≤ max_message_len → IsUtf8Text text → parts text ≡ pieces → IsPartFault most (front pieces) back pieces f
     → IsFault most (front (parts text)) back text f
 part_fault_is_fault most front back text pieces f short utf8_text cut misfit =
     inr (short, utf8_text, subst (λ (ps : List (List ℕ)). IsPartFault most (front ps) back ps f) (sym cut) misfit)
@@ -129,7 +129,7 @@ part_fault_is_fault most front back text pieces f short utf8_text cut misfit =
 -- a text whose parts fit has no fault
 pub fitting_text_has_no_fault : (most : ℕ) (front : List (List ℕ) → List TextWhy) (back : List TextWhy) (text : List ℕ)
     (pieces : List (List ℕ))
-    (f : TextFault) → length text ≤ longest_message → IsUtf8Text text → parts text ≡ pieces
+    (f : TextFault) → length text ≤ max_message_len → IsUtf8Text text → parts text ≡ pieces
     → length (front pieces) + length back ≤ length pieces → AllFit most (places (front pieces) back (length pieces)) pieces
     → IsFault most (front (parts text)) back text f → ⊥
 fitting_text_has_no_fault most front back text pieces f short utf8_text cut enough fit faulty = elim faulty [

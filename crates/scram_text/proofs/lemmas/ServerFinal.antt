@@ -4,7 +4,7 @@ use Rattle.std.specs.Prelude.{IfOk, IfErr, IsOkAnd}
 use Rattle.std.specs.declared.result.Result.{Result}
 use Rattle.std.proofs.lemmas.List.Splits.{join_with_byte-slice_split}
 use Rattle.std.specs.Str.{byte}
-use Rattle.scram_text.specs.Limits.{longest_message, longest_nonce, longest_tag}
+use Rattle.scram_text.specs.Limits.{max_message_len, max_nonce_len, max_tag_len}
 use Rattle.scram_text.specs.Class.{IsUtf8Text}
 use Rattle.scram_text.specs.Name.{LacksComma}
 use Rattle.scram_text.specs.Base64Field.{base64}
@@ -43,7 +43,7 @@ parts-server_final text p is =
 one_outcome_per_text : (one other : VerifierOrError) → IsVerifierOrError one → IsVerifierOrError other
     → verifier_or_error_text one ≡ verifier_or_error_text other → one ≡ other
 one_outcome_per_text (verifier one) (verifier other) is also same =
-    let texts : base64 one ≡ base64 other = cc same in ap verifier (one_field_per_base64 longest_tag one other is also texts)
+    let texts : base64 one ≡ base64 other = cc same in ap verifier (one_field_per_base64 max_tag_len one other is also texts)
 one_outcome_per_text (verifier one) (server_error other) is also same = absurd (omega (arith, (same_head_and_tail 118 101 _ _ same).0))
 one_outcome_per_text (server_error one) (verifier other) is also same = absurd (omega (arith, (same_head_and_tail 101 118 _ _ same).0))
 one_outcome_per_text (server_error one) (server_error other) is also same = let values : one ≡ other = cc same in ap server_error values
@@ -66,23 +66,23 @@ server_final_places_unfold first extensions =
 
 -- an outcome's text fits its place
 pub outcome_fits : (outcome : VerifierOrError) → IsVerifierOrError outcome
-    → Fits longest_nonce (outcome_place (verifier_or_error_text outcome)) (verifier_or_error_text outcome)
-outcome_fits (verifier signature) is = field_part_spells_field (byte "v") longest_tag _ signature refl is
+    → Fits max_nonce_len (outcome_place (verifier_or_error_text outcome)) (verifier_or_error_text outcome)
+outcome_fits (verifier signature) is = field_part_spells_field (byte "v") max_tag_len _ signature refl is
 outcome_fits (server_error value) is = (value, refl, is)
 
 -- if the first part of server-final fits its place, and the others are extensions, all parts fit their places
-pub server_final_parts_fit : (first : List ℕ) (extensions : List (List ℕ)) → Fits longest_nonce (outcome_place first) first
+pub server_final_parts_fit : (first : List ℕ) (extensions : List (List ℕ)) → Fits max_nonce_len (outcome_place first) first
     → AreExtensions extensions
-    → AllFit longest_nonce (places (outcome_place first ∷ []) [] (length (first ∷ extensions))) (first ∷ extensions)
+    → AllFit max_nonce_len (places (outcome_place first ∷ []) [] (length (first ∷ extensions))) (first ∷ extensions)
 server_final_parts_fit first extensions fits are =
     rw (server_final_places_unfold first extensions)
-    (AllFit-cons longest_nonce (outcome_place first) _ first extensions fits
-    (extensions_fit longest_nonce extensions are))
+    (AllFit-cons max_nonce_len (outcome_place first) _ first extensions fits
+    (extensions_fit max_nonce_len extensions are))
 
 -- a server-final message has no fault
 server_final_has_no_fault : (text : List ℕ) (p : ServerFinalParts) (f : TextFault) → IsServerFinal text p → IsServerFinalFault text f → ⊥
 server_final_has_no_fault text p f is =
-    fitting_text_has_no_fault longest_nonce server_final_places [] text (verifier_or_error_text p.outcome ∷ p.extensions) f is.short
+    fitting_text_has_no_fault max_nonce_len server_final_places [] text (verifier_or_error_text p.outcome ∷ p.extensions) f is.short
     is.utf8_text
     (parts-server_final text p is)
     (omega arith) (server_final_parts_fit (verifier_or_error_text p.outcome) p.extensions (outcome_fits p.outcome is.outcome) is.extensions)
@@ -96,36 +96,36 @@ server_final_is_read text r =
     (has_one_server_final text) (server_final_has_no_fault text)
 
 -- the first part of server-final that does not fit is a fault of the text
-module _ (text first : List ℕ) (extensions : List (List ℕ)) (short : length text ≤ longest_message) (utf8_text : IsUtf8Text text)
+module _ (text first : List ℕ) (extensions : List (List ℕ)) (short : length text ≤ max_message_len) (utf8_text : IsUtf8Text text)
     (cut : parts text ≡ first ∷ extensions) where
   -- the first misfit of the parts is a fault of the text
   server_final_misfit_is_fault : (f : TextFault)
-      → IsFirstMisfit longest_nonce (outcome_place first ∷ replicate (length extensions) Extension) 0 (first ∷ extensions) f
+      → IsFirstMisfit max_nonce_len (outcome_place first ∷ replicate (length extensions) Extension) 0 (first ∷ extensions) f
       → IsServerFinalFault text f
   server_final_misfit_is_fault f misfit =
-      part_fault_is_fault longest_nonce server_final_places [] text (first ∷ extensions) f short utf8_text cut
+      part_fault_is_fault max_nonce_len server_final_places [] text (first ∷ extensions) f short utf8_text cut
       (inr (omega arith, rw (server_final_places_unfold first extensions) misfit))
 
   -- a first part that does not fit the place of an outcome is the fault of the text
-  pub unfit_outcome_is_fault : (f : TextFault) → (Fits longest_nonce (outcome_place first) first → ⊥) × (f ≡ fault 0 (outcome_place first))
+  pub unfit_outcome_is_fault : (f : TextFault) → (Fits max_nonce_len (outcome_place first) first → ⊥) × (f ≡ fault 0 (outcome_place first))
       → IsServerFinalFault text f
   unfit_outcome_is_fault f (no_fit, is) =
       subst (λ (g : TextFault). IsServerFinalFault text g) (sym is)
       (server_final_misfit_is_fault (fault 0 (outcome_place first))
-      (unfit_part_is_misfit longest_nonce 0 (outcome_place first) _ first extensions no_fit))
+      (unfit_part_is_misfit max_nonce_len 0 (outcome_place first) _ first extensions no_fit))
 
   -- if the first part fits, the first extension that does not is the fault of the text
-  pub extension_misfit_is_fault : (f : TextFault) → Fits longest_nonce (outcome_place first) first → IsExtensionMisfit 1 extensions f
+  pub extension_misfit_is_fault : (f : TextFault) → Fits max_nonce_len (outcome_place first) first → IsExtensionMisfit 1 extensions f
       → IsServerFinalFault text f
   extension_misfit_is_fault f fits misfit =
-      server_final_misfit_is_fault f (fitting_part_keeps_misfit longest_nonce 0 (outcome_place first) _ first extensions f fits
-      (misfit longest_nonce))
+      server_final_misfit_is_fault f (fitting_part_keeps_misfit max_nonce_len 0 (outcome_place first) _ first extensions f fits
+      (misfit max_nonce_len))
 
 -- a part that is the text of an outcome fits the outcome's place
 pub outcome_part_fits : (part : List ℕ) (outcome : VerifierOrError) → part ≡ verifier_or_error_text outcome → IsVerifierOrError outcome
-    → Fits longest_nonce (outcome_place part) part
+    → Fits max_nonce_len (outcome_place part) part
 outcome_part_fits part outcome spelled is =
-    subst (λ (t : List ℕ). Fits longest_nonce (outcome_place t) t) (sym spelled) (outcome_fits outcome is)
+    subst (λ (t : List ℕ). Fits max_nonce_len (outcome_place t) t) (sym spelled) (outcome_fits outcome is)
 
 -- the pieces of server-final make its text
 pub pieces_spell_server_final : (text first : List ℕ) (p : ServerFinalParts) → parts text ≡ first ∷ p.extensions

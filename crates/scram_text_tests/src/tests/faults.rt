@@ -1,7 +1,7 @@
 //! The number and the text that a user reads for each fault.
 use super::*;
 
-// What is wrong with a message, its number as in docs/REFUSALS.md, and its text.
+// What is wrong with a message, its number as in docs/FAULTS.md, and its text.
 const TEXTS: [(TextWhy, u16, &str); 15] = [
     (
         TextWhy::TooLong,
@@ -94,7 +94,7 @@ fn text_of_a_part_at_fault(rt: HostRuntime) -> Result<(), Fail> {
     check_words(&rt, rt.alloc(), &fault, want)
 }
 
-/// The number of each refusal to write, as in docs/REFUSALS.md, and its text.
+/// The number of each refusal to write, as in docs/FAULTS.md, and its text.
 #[test]
 fn texts_of_refusals_to_write(rt: HostRuntime) -> Result<(), Fail> {
     let rows = [

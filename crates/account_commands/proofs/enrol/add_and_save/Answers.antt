@@ -11,9 +11,9 @@ returns-in_ok-held-in-Some-found-clause-saved g c =
     let saved = rw (sym c.in_ok-held-in-Some-found.ensures.saved) at read in
     on_ok_from_both c.enrol.result c.enrol.ensures.added c.enrol.ensures.saved
     (λ added done. record {
-      first = c.in_ok-held-in-Some-found.held.book;
+      first = c.in_ok-held-in-Some-found.held.keeper.book;
       is_first = inr (_, record { is_text = c.in_ok-held-in-Some-found.ensures.text; is_read = saved });
-      last = c.enrol.new.self.book;
+      last = c.enrol.new.self.keeper.book;
       is_enrolled = added;
       is_saved = (done.text, done.is_text, done.stored);
     })

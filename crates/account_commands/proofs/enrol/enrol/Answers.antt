@@ -1,4 +1,5 @@
 use Rattle.std.proofs.lemmas.Result.{err_from_is_err_and, on_ok_weaker}
+use Rattle.account_commands.proofs.lemmas.AddedAccounts.{account_is_added}
 use Rattle.account_commands.proofs.lemmas.EnrolFaults.{unsaved_account_ends_enrol}
 use Rattle.account_commands.proofs.enrol.enrol.Goals as goal
 
@@ -14,13 +15,10 @@ returns-clause-ok g c =
       is_count = c.in_ok-account.ensures.count.0;
       count_range = c.in_ok-account.ensures.count.1;
       file = c.in_ok-random.random.file;
-      middle = g.R.File.Read.remaining c.read_or_new.new.random.file;
       after = c.two_salts.new.random.file;
-      book = c.in_ok-book.book;
-      is_book = c.in_ok-book.ensures.book;
-      salts = c.in_ok-salts.salts;
-      takes_salts = c.in_ok-salts.ensures.salts;
-      is_saved = c.in_ok-add_and_save.ensures.saved;
+      is_added = account_is_added g.R.File.Read.remaining _ c.in_ok-book.book c.in_ok-account.account c.in_ok-salts.salts _
+          (g.R.File.Read.remaining c.read_or_new.new.random.file) _ c.in_ok-book.ensures.book c.in_ok-salts.ensures.salts
+          c.in_ok-add_and_save.ensures.saved;
       printed = rw c.text.ensures.value at printed;
     })
     c.print_done.ensures.printed

@@ -3,15 +3,19 @@ ghost use Rattle.std.specs.Prelude.{◌≡◌, IfOk};
 ghost use Rattle.toml.specs.View.{table_view};
 ghost use Rattle.otp_core.specs.TokenRanges.{IsHotpInRange};
 ghost use Rattle.otp_core.specs.declared.token.kinds.TokenFields.TheVariants.{Hotp};
+ghost use Rattle.book_format.specs.Keys.{is_among, has_only};
+ghost use Rattle.book_format.specs.reading.Steps.{pass_or};
 ghost use Rattle.book_format.specs.reading.Rows.{read_table};
+ghost use Rattle.book_format.specs.Rows.{table_keys};
 ghost use Rattle.book_format.specs.Tokens.{hotp_table};
+ghost use Rattle.book_format.specs.declared.fault.BookWhy.TheVariants as why;
 
 use crate::fault::BookWhy;
 use crate::read::field::{bytes_at, check_keys, number_at, number_or_zero};
 use crate::read::token::setting::{digits_of, secret_of};
 use otp_core::{
-    HotpFields, LEAST_DIGITS, LONGEST_SECRET, MOST_COUNTER, MOST_DIGITS, MOST_LIMIT,
-    MOST_LOOK_AHEAD, MOST_SYNC_AHEAD, SHORTEST_SECRET, Token,
+    HotpFields, MAX_COUNTER, MAX_DIGITS, MAX_LIMIT, MAX_LOOK_AHEAD, MAX_SECRET_LEN, MAX_SYNC_AHEAD,
+    MIN_DIGITS, MIN_SECRET_LEN, Token,
 };
 use toml::Table;
 
@@ -22,6 +26,41 @@ use toml::Table;
 pub(crate) fn hotp_of(table: &Table) -> Result<HotpFields, BookWhy>
     ensures value { result ≡ read_table hotp_table (table_view table.now) }
     ensures range { IfOk result IsHotpInRange }
+{
+    check_hotp_keys(table)?;
+    let secret = bytes_at(
+        table,
+        "secret",
+        MIN_SECRET_LEN,
+        MAX_SECRET_LEN,
+        BookWhy::Token,
+    )?;
+    let digits = number_at(
+        table,
+        "digits",
+        u64::from(MIN_DIGITS),
+        u64::from(MAX_DIGITS),
+        BookWhy::Token,
+    )?;
+    let next = number_at(table, "next", 0, MAX_COUNTER + 1, BookWhy::Token)?;
+    let look_ahead = number_at(table, "look_ahead", 0, MAX_LOOK_AHEAD, BookWhy::Token)?;
+    let sync_ahead = number_or_zero(table, "sync_ahead", MAX_SYNC_AHEAD, BookWhy::Token)?;
+    let limit = number_at(table, "limit", 1, MAX_LIMIT, BookWhy::Token)?;
+    let failures = number_at(table, "failures", 0, limit, BookWhy::Token)?;
+    Ok(HotpFields {
+        secret: secret_of(&secret),
+        digits: digits_of(digits),
+        next,
+        look_ahead,
+        sync_ahead,
+        limit,
+        failures,
+    })
+}
+
+// Checks the keys of a table. Errors: `Key` if it has a key that a HOTP token does not have.
+fn check_hotp_keys(table: &Table) -> Result<(), BookWhy>
+    ensures { result ≡ pass_or (has_only (is_among (table_keys hotp_table)) (table_view table.now)) why.Key }
 {
     check_keys(
         table,
@@ -35,35 +74,7 @@ pub(crate) fn hotp_of(table: &Table) -> Result<HotpFields, BookWhy>
             "limit",
             "failures",
         ],
-    )?;
-    let secret = bytes_at(
-        table,
-        "secret",
-        SHORTEST_SECRET,
-        LONGEST_SECRET,
-        BookWhy::Token,
-    )?;
-    let digits = number_at(
-        table,
-        "digits",
-        u64::from(LEAST_DIGITS),
-        u64::from(MOST_DIGITS),
-        BookWhy::Token,
-    )?;
-    let next = number_at(table, "next", 0, MOST_COUNTER + 1, BookWhy::Token)?;
-    let look_ahead = number_at(table, "look_ahead", 0, MOST_LOOK_AHEAD, BookWhy::Token)?;
-    let sync_ahead = number_or_zero(table, "sync_ahead", MOST_SYNC_AHEAD, BookWhy::Token)?;
-    let limit = number_at(table, "limit", 1, MOST_LIMIT, BookWhy::Token)?;
-    let failures = number_at(table, "failures", 0, limit, BookWhy::Token)?;
-    Ok(HotpFields {
-        secret: secret_of(&secret),
-        digits: digits_of(digits),
-        next,
-        look_ahead,
-        sync_ahead,
-        limit,
-        failures,
-    })
+    )
 }
 
 /// The token with these settings, which are in their ranges.

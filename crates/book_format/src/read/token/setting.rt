@@ -1,13 +1,13 @@
 //! Makes the settings that have types of their own, from values in their ranges.
 ghost use Rattle.std.specs.Prelude.{◌≡◌, ◌≤◌, length};
-ghost use Rattle.otp_core.specs.Ranges.{shortest_secret, IsDigitCount, IsMoment};
+ghost use Rattle.otp_core.specs.Ranges.{min_secret_len, IsDigitCount, IsMoment};
 
 use mac_core::Tag;
 use otp_core::{Digits, Moment, Secret};
 
 /// The secret with these bytes, at least 10.
 pub(crate) fn secret_of(bytes: &Tag) -> Secret
-    requires { shortest_secret ≤ length bytes.now.items }
+    requires { min_secret_len ≤ length bytes.now.items }
     ensures { result ≡ bytes.now.items }
 {
     let Ok(secret) = Secret::new(bytes.as_slice()) else {

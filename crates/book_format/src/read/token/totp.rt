@@ -3,7 +3,7 @@
 ghost use Rattle.std.specs.Prelude.{◌≡◌, ◌≤◌, codes, nat_abs, IfOk};
 ghost use Rattle.std.specs.Option.{ForSome};
 ghost use Rattle.toml.specs.View.{table_view};
-ghost use Rattle.otp_core.specs.Ranges.{most_counter};
+ghost use Rattle.otp_core.specs.Ranges.{max_counter};
 ghost use Rattle.otp_core.specs.TokenRanges.{IsTotpInRange};
 ghost use Rattle.otp_core.specs.declared.token.kinds.TokenFields.TheVariants.{Totp};
 ghost use Rattle.book_format.specs.Keys.{is_among, has_only};
@@ -18,8 +18,8 @@ use crate::fault::BookWhy;
 use crate::read::field::{at, bytes_at, check_keys, number_at, number_of, required, text_at};
 use crate::read::token::setting::{digits_of, moment_of, secret_of};
 use otp_core::{
-    LAST_MOMENT, LEAST_DIGITS, LONGEST_SECRET, LONGEST_STEP, MOST_COUNTER, MOST_DIGITS, MOST_DRIFT,
-    MOST_LIMIT, MOST_STEPS_ASIDE, OtpHash, SHORTEST_SECRET, Token, TotpFields,
+    MAX_COUNTER, MAX_DIGITS, MAX_DRIFT_BOUND, MAX_LIMIT, MAX_MOMENT, MAX_SECRET_LEN, MAX_STEP,
+    MAX_WINDOW_STEPS, MIN_DIGITS, MIN_SECRET_LEN, OtpHash, Token, TotpFields,
 };
 use toml::Table;
 
@@ -36,25 +36,25 @@ pub(crate) fn totp_of(table: &Table) -> Result<TotpFields, BookWhy>
     let secret = bytes_at(
         table,
         "secret",
-        SHORTEST_SECRET,
-        LONGEST_SECRET,
+        MIN_SECRET_LEN,
+        MAX_SECRET_LEN,
         BookWhy::Token,
     )?;
     let digits = number_at(
         table,
         "digits",
-        u64::from(LEAST_DIGITS),
-        u64::from(MOST_DIGITS),
+        u64::from(MIN_DIGITS),
+        u64::from(MAX_DIGITS),
         BookWhy::Token,
     )?;
-    let t0 = number_at(table, "t0", 0, LAST_MOMENT, BookWhy::Token)?;
-    let step = number_at(table, "step", 1, LONGEST_STEP, BookWhy::Token)?;
-    let back = number_at(table, "back", 0, MOST_STEPS_ASIDE, BookWhy::Token)?;
-    let ahead = number_at(table, "ahead", 0, MOST_STEPS_ASIDE, BookWhy::Token)?;
-    let max_drift = number_at(table, "max_drift", 0, MOST_DRIFT, BookWhy::Token)?;
+    let t0 = number_at(table, "t0", 0, MAX_MOMENT, BookWhy::Token)?;
+    let step = number_at(table, "step", 1, MAX_STEP, BookWhy::Token)?;
+    let back = number_at(table, "back", 0, MAX_WINDOW_STEPS, BookWhy::Token)?;
+    let ahead = number_at(table, "ahead", 0, MAX_WINDOW_STEPS, BookWhy::Token)?;
+    let max_drift = number_at(table, "max_drift", 0, MAX_DRIFT_BOUND, BookWhy::Token)?;
     let last = last_if_any(table)?;
     let drift = drift_at(table, "drift", max_drift)?;
-    let limit = number_at(table, "limit", 1, MOST_LIMIT, BookWhy::Token)?;
+    let limit = number_at(table, "limit", 1, MAX_LIMIT, BookWhy::Token)?;
     let failures = number_at(table, "failures", 0, limit, BookWhy::Token)?;
     Ok(TotpFields {
         hash,
@@ -119,11 +119,11 @@ fn hash_at(table: &Table, key: &str) -> Result<OtpHash, BookWhy>
 
 // The last step, or None if there is no key `last`. Errors: `Key` if it has the wrong type; `Token` if it is out of its range.
 fn last_if_any(table: &Table) -> Result<Option<u64>, BookWhy>
-    ensures value { result ≡ read_some (codes "last") (number_type why.Token 0 most_counter) (table_view table.now) }
-    ensures range { IfOk result (λ last. ForSome last (λ l. l ≤ most_counter)) }
+    ensures value { result ≡ read_some (codes "last") (number_type why.Token 0 max_counter) (table_view table.now) }
+    ensures range { IfOk result (λ last. ForSome last (λ l. l ≤ max_counter)) }
 {
     match at(table, "last") {
-        Some(value) => Ok(Some(number_of(value, 0, MOST_COUNTER, BookWhy::Token)?)),
+        Some(value) => Ok(Some(number_of(value, 0, MAX_COUNTER, BookWhy::Token)?)),
         None => Ok(None),
     }
 }

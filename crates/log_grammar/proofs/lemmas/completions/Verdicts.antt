@@ -3,7 +3,7 @@ use Rattle.std.proofs.Common.{◌≡◌, inl, inr, ℕ, ◌≤◌, List, [], len
 use Rattle.std.proofs.lemmas.Bool.{cases_lt}
 use Rattle.mac_core.specs.Mechanism.{length_by}
 use Rattle.mac_core.specs.declared.mechanism.Mechanism.{Mechanism}
-use Rattle.scram_text.specs.Limits.{longest_message, longest_tag}
+use Rattle.scram_text.specs.Limits.{max_message_len, max_tag_len}
 use Rattle.scram_text.specs.Laws.{HasOneClientFirst, ClientFirstIsDecided, NameIsDecided}
 use Rattle.scram_text.specs.Messages.{verifier, server_error, IsServerFinal}
 use Rattle.scram_text.proofs.lemmas.Base64.{bytes_are_field}
@@ -43,12 +43,12 @@ some_verdict verdicts accounts mechanism account first challenge last is =
     (due.0, (is.m, is.offered, due.1))
 
 -- the message that accepts with a signature is a server-final message
-acceptance_is_server_final : (signature : List ℕ) → AreBytes signature → 1 ≤ length signature → length signature ≤ longest_tag
+acceptance_is_server_final : (signature : List ℕ) → AreBytes signature → 1 ≤ length signature → length signature ≤ max_tag_len
     → IsServerFinal (due_text (accept signature)) (final_due (accept signature))
 acceptance_is_server_final signature fits some within =
-    let field = bytes_are_field longest_tag signature fits some within in
-    let short : length (due_text (accept signature)) ≤ longest_message = elim
-    (cases_lt longest_message (length (due_text (accept signature)))) [
+    let field = bytes_are_field max_tag_len signature fits some within in
+    let short : length (due_text (accept signature)) ≤ max_message_len = elim
+    (cases_lt max_message_len (length (due_text (accept signature)))) [
       | inl long ↦ absurd (signature_fits signature within long)
       | inr fits ↦ fits
     ] in
@@ -58,14 +58,14 @@ acceptance_is_server_final signature fits some within =
 refusal_is_server_final : (why : Refusal) → IsServerFinal (due_text (refuse why)) (final_due (refuse why))
 refusal_is_server_final why =
     let can = refusal_can_be_written why in
-    let short : length (due_text (refuse why)) ≤ longest_message = elim (cases_lt longest_message (length (due_text (refuse why)))) [
+    let short : length (due_text (refuse why)) ≤ max_message_len = elim (cases_lt max_message_len (length (due_text (refuse why)))) [
       | inl long ↦ absurd (refusal_fits why long)
       | inr fits ↦ fits
     ] in
     written_is_server_final (server_error (error_value why)) [] (error_is_text (error_value why) can.outcome_class.1) can short
 
 -- a signature as long as a mechanism's digests has from 1 to 64 bytes
-signature_length_is_in_range : (m : Mechanism) (n : ℕ) → n ≡ length_by m → (1 ≤ n) × (n ≤ longest_tag)
+signature_length_is_in_range : (m : Mechanism) (n : ℕ) → n ≡ length_by m → (1 ≤ n) × (n ≤ max_tag_len)
 signature_length_is_in_range m n is = let range = digest_length_is_in_range m in (omega (arith, is, range.0), omega (arith, is, range.1))
 
 -- `S NO` with the message of a refusal can be written

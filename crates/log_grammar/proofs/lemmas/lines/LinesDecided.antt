@@ -5,15 +5,15 @@ use Rattle.std.specs.declared.option.Option.{Option}
 use Rattle.std.specs.declared.option.Option.TheVariants.{None, Some}
 use Rattle.mac_core.proofs.lemmas.Decided.{Decided, decided_equivalent, decided_both, decided_le, decided_same_text}
 use Rattle.scram_text.proofs.lemmas.Decided.{decided_run}
-use Rattle.otp_core.specs.Ranges.{last_moment, most_counter}
+use Rattle.otp_core.specs.Ranges.{max_moment, max_counter}
 use Rattle.otp_core.specs.declared.token.reply.Reply.{Reply}
 use Rattle.otp_core.specs.declared.token.reply.Reply.TheVariants.{Pass, Fail, Locked}
 use Rattle.log_grammar.specs.Payload.{IsMessage}
-use Rattle.log_grammar.specs.Words.{is_mech_char, is_code_char, is_space, longest_mech_name, longest_code, IsMechName}
+use Rattle.log_grammar.specs.Words.{is_mech_char, is_code_char, is_space, max_mech_name_len, max_code_len, IsMechName}
 use Rattle.log_grammar.specs.Lines.{ServerLine, mechs, cont, accepts, refuses, replies, halt, busy, ClientLine, auth, auth_with, resp, abort, code}
 use Rattle.log_grammar.specs.Lines.{sync, Line, from_server, from_client, LogLine, header, header_two, said, heard, bad, gone, ended, line_text}
 use Rattle.log_grammar.specs.Lines.{log_line_text, IsReplyInRange, IsServerLineInRange, IsClientLineInRange, IsLineInRange, IsLogLineInRange, IsLine}
-use Rattle.log_grammar.specs.Lines.{IsLogLine, IsNoLogLine, longest_line, longest_log_line}
+use Rattle.log_grammar.specs.Lines.{IsLogLine, IsNoLogLine, max_line_len, max_log_line_len}
 use Rattle.log_grammar.proofs.lemmas.lines.ReadBack.{line_in, line_is_read_back, log_line_in, log_line_is_read_back}
 use Rattle.log_grammar.proofs.lemmas.DecidedFacts.{decided_each}
 
@@ -23,11 +23,11 @@ decided_message message = decided_each (λ c. c < 256) (λ c. decided_le (suc c)
 
 -- it is decidable whether a text is a mechanism's name
 decided_mech_name : (name : List ℕ) → Decided (IsMechName name)
-decided_mech_name name = decided_run is_mech_char longest_mech_name name
+decided_mech_name name = decided_run is_mech_char max_mech_name_len name
 
 -- it is decidable whether a reply is in its ranges
 decided_reply_range : (reply : Option Reply) → Decided (IsReplyInRange reply)
-decided_reply_range (Some (Pass counter)) = decided_le counter most_counter
+decided_reply_range (Some (Pass counter)) = decided_le counter max_counter
 decided_reply_range (Some Fail) = inl tt
 decided_reply_range (Some Locked) = inl tt
 decided_reply_range None = inl tt
@@ -38,7 +38,7 @@ decided_server_range (mechs names) = decided_each IsMechName decided_mech_name (
 decided_server_range (cont message) = decided_message message
 decided_server_range (accepts message) = decided_message message
 decided_server_range (refuses message) = decided_message message
-decided_server_range (replies moment reply) = decided_both _ _ (decided_le moment last_moment) (decided_reply_range reply)
+decided_server_range (replies moment reply) = decided_both _ _ (decided_le moment max_moment) (decided_reply_range reply)
 decided_server_range halt = inl tt
 decided_server_range busy = inl tt
 
@@ -48,9 +48,9 @@ decided_client_range (auth mechanism) = decided_mech_name mechanism
 decided_client_range (auth_with mechanism message) = decided_both _ _ (decided_mech_name mechanism) (decided_message message)
 decided_client_range (resp message) = decided_message message
 decided_client_range abort = inl tt
-decided_client_range (code text) = decided_run is_code_char longest_code text
-decided_client_range (sync first second) = decided_both _ _ (decided_run is_code_char longest_code first)
-    (decided_run is_code_char longest_code second)
+decided_client_range (code text) = decided_run is_code_char max_code_len text
+decided_client_range (sync first second) = decided_both _ _ (decided_run is_code_char max_code_len first)
+    (decided_run is_code_char max_code_len second)
 
 -- it is decidable whether a line of the protocol is in its ranges
 decided_line_range : (line : Line) → Decided (IsLineInRange line)
@@ -78,18 +78,18 @@ read_log_line_fits_text text line is = subst (IsLogLine text) (sym (ap log_line_
 -- it is decidable whether a text is this line of the protocol
 decided_this_line : (text : List ℕ) (line : Line) → Decided (IsLine text line)
 decided_this_line text line =
-    decided_equivalent ((text ≡ line_text line) × (IsLineInRange line × (length text ≤ longest_line))) (IsLine text line)
+    decided_equivalent ((text ≡ line_text line) × (IsLineInRange line × (length text ≤ max_line_len))) (IsLine text line)
     (λ h. record { spelled = h.0; ranges = h.1.0; short = h.1.1 }) (λ r. (r.spelled, (r.ranges, r.short)))
     (decided_both _ _ (decided_same_text text (line_text line)) (decided_both _ _ (decided_line_range line)
-    (decided_le (length text) longest_line)))
+    (decided_le (length text) max_line_len)))
 
 -- it is decidable whether a text is this line of a log
 pub decided_this_log_line : (text : List ℕ) (line : LogLine) → Decided (IsLogLine text line)
 decided_this_log_line text line =
-    decided_equivalent ((text ≡ log_line_text line) × (IsLogLineInRange line × (length text ≤ longest_log_line))) (IsLogLine text line)
+    decided_equivalent ((text ≡ log_line_text line) × (IsLogLineInRange line × (length text ≤ max_log_line_len))) (IsLogLine text line)
     (λ h. record { spelled = h.0; ranges = h.1.0; short = h.1.1 }) (λ r. (r.spelled, (r.ranges, r.short)))
     (decided_both _ _ (decided_same_text text (log_line_text line))
-    (decided_both _ _ (decided_log_line_range line) (decided_le (length text) longest_log_line)))
+    (decided_both _ _ (decided_log_line_range line) (decided_le (length text) max_log_line_len)))
 
 -- the law: it is decidable whether a text is a line of the protocol, and which one
 pub line_is_decided : (text : List ℕ) → ((line : Line) × IsLine text line) ⊎ ((line : Line) → IsLine text line → ⊥)

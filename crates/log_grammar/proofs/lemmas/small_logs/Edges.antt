@@ -3,7 +3,7 @@ use Rattle.std.proofs.Common.{◌≤◌, ◌<◌, ◌+◌, inl, inr, ℕ, List, 
 use Rattle.std.specs.List.{AllByRecursion, AllZip}
 use Rattle.std.proofs.lemmas.List.{same_from_push}
 use Rattle.scram_text.specs.Laws.{SpellsOneName, HasOneClientFirst}
-use Rattle.log_grammar.specs.Lines.{LogLine, IsLogLine, longest_log_line, header}
+use Rattle.log_grammar.specs.Lines.{LogLine, IsLogLine, max_log_line_len, header}
 use Rattle.log_grammar.specs.Bytes.{LacksLf, ended_by_lf, IsSplit}
 use Rattle.log_grammar.specs.LoggedAttempt.{LoggedAttempt}
 use Rattle.log_grammar.specs.Places.{Place, halted, between}
@@ -61,7 +61,7 @@ rest_alone_is_split : (rest : List ℕ) → LacksLf rest → IsSplit rest [] res
 rest_alone_is_split rest lacks = record { bytes_are = refl; lines = tt; after = lacks }
 
 -- bytes without an LF that are not too long for a line are a cut log: line 1 is at fault
-pub short_bytes_are_cut : (accounts : Accounts) (rest : List ℕ) → LacksLf rest → length rest ≤ longest_log_line
+pub short_bytes_are_cut : (accounts : Accounts) (rest : List ℕ) → LacksLf rest → length rest ≤ max_log_line_len
     → IsWhy accounts rest 1 is_cut
 short_bytes_are_cut accounts rest lacks short =
     let cut = rest_alone_is_split rest lacks in
@@ -70,7 +70,7 @@ short_bytes_are_cut accounts rest lacks short =
     any_version_empty_is_unclean accounts (subst (any_version accounts).AreClean (one_split rest texts [] [] rest also cut).0 ends)) short
 
 -- more bytes without an LF than a line may have are no line: line 1 is at fault
-pub long_bytes_are_no_line : (accounts : Accounts) (rest : List ℕ) → LacksLf rest → longest_log_line < length rest
+pub long_bytes_are_no_line : (accounts : Accounts) (rest : List ℕ) → LacksLf rest → max_log_line_len < length rest
     → IsWhy accounts rest 1 no_line
 long_bytes_are_no_line accounts rest lacks long =
     long_rest_is_no_line (no_lines_were_read accounts) rest rest (rest_alone_is_split rest lacks) long
@@ -87,21 +87,21 @@ module _ (accounts : Accounts) (texts : List (List ℕ)) (log : List LogLine) (p
 
   -- after lines that a log may begin with, a line without its LF is cut and at fault, if it has a byte and is not too long
   pub unended_line_is_cut : (rest : List ℕ) → AreWhole texts log → Begins (demands accounts) log place told → LacksLf rest → 1 ≤ length rest
-      → length rest ≤ longest_log_line → IsWhy accounts (ended_by_lf texts ++ rest) (length texts + 1) is_cut
+      → length rest ≤ max_log_line_len → IsWhy accounts (ended_by_lf texts ++ rest) (length texts + 1) is_cut
   unended_line_is_cut rest are begins lacks some short =
       rest_is_cut (whole_lines_were_read are begins) (ended_by_lf texts ++ rest) rest
       (whole_lines_and_rest_are_split texts rest are.1 lacks) some short
 
   -- after lines that a log may begin with, more bytes without an LF than a line may have are no line, and are at fault
   pub long_unended_line_is_no_line : (rest : List ℕ) → AreWhole texts log → Begins (demands accounts) log place told → LacksLf rest
-      → longest_log_line < length rest → IsWhy accounts (ended_by_lf texts ++ rest) (length texts + 1) no_line
+      → max_log_line_len < length rest → IsWhy accounts (ended_by_lf texts ++ rest) (length texts + 1) no_line
   long_unended_line_is_no_line rest are begins lacks long =
       long_rest_is_no_line (whole_lines_were_read are begins) (ended_by_lf texts ++ rest) rest
       (whole_lines_and_rest_are_split texts rest are.1 lacks) long
 
   -- after lines that a log may begin with, a text with an LF that is longer than a line may be is no line, and is at fault
   pub long_line_is_no_line : (text : List ℕ) → AreWhole texts log → Begins (demands accounts) log place told → LacksLf text
-      → longest_log_line < length text → IsWhy accounts (ended_by_lf (texts ++ text ∷ [])) (length texts + 1) no_line
+      → max_log_line_len < length text → IsWhy accounts (ended_by_lf (texts ++ text ∷ [])) (length texts + 1) no_line
   long_line_is_no_line text are begins lacks long =
       let all = texts ++ text ∷ [] in
       long_text_is_at_fault accounts (ended_by_lf all) texts text [] [] log place told
@@ -113,14 +113,14 @@ header_is_whole : AreWhole (header_one_text ∷ []) (header ∷ [])
 header_is_whole = ((header_is_writable, tt), (refl, tt))
 
 -- a text after the first line that is longer than a line may be, with its LF, is no line: line 2 is at fault
-pub long_second_is_no_line : (accounts : Accounts) (text : List ℕ) → LacksLf text → longest_log_line < length text
+pub long_second_is_no_line : (accounts : Accounts) (text : List ℕ) → LacksLf text → max_log_line_len < length text
     → IsWhy accounts (ended_by_lf (header_one_text ∷ text ∷ [])) 2 no_line
 long_second_is_no_line accounts text lacks long =
     long_line_is_no_line accounts (header_one_text ∷ []) (header ∷ []) between [] text header_is_whole (header_was_read accounts).begins
     lacks long
 
 -- more bytes after the first line than a line may have, without an LF, are no line: line 2 is at fault
-pub long_unended_second_is_no_line : (accounts : Accounts) (rest : List ℕ) → LacksLf rest → longest_log_line < length rest
+pub long_unended_second_is_no_line : (accounts : Accounts) (rest : List ℕ) → LacksLf rest → max_log_line_len < length rest
     → IsWhy accounts (first_alone ++ rest) 2 no_line
 long_unended_second_is_no_line accounts rest lacks long =
     long_unended_line_is_no_line accounts (header_one_text ∷ []) (header ∷ []) between [] rest header_is_whole
@@ -128,7 +128,7 @@ long_unended_second_is_no_line accounts rest lacks long =
     lacks long
 
 -- after the first line, a second without its LF is cut and at fault, if it has a byte and is not too long
-pub unended_second_is_cut : (accounts : Accounts) (rest : List ℕ) → LacksLf rest → 1 ≤ length rest → length rest ≤ longest_log_line
+pub unended_second_is_cut : (accounts : Accounts) (rest : List ℕ) → LacksLf rest → 1 ≤ length rest → length rest ≤ max_log_line_len
     → IsWhy accounts (first_alone ++ rest) 2 is_cut
 unended_second_is_cut accounts rest lacks some short =
     unended_line_is_cut accounts (header_one_text ∷ []) (header ∷ []) between [] rest header_is_whole

@@ -8,7 +8,7 @@ use Rattle.log_grammar.specs.Bytes.{LacksLf, ended_by_lf}
 use Rattle.log_grammar.specs.Demands.{Accounts}
 use Rattle.log_grammar.specs.Why.{Why, no_line, out_of_order}
 use Rattle.log_grammar.specs.VersionTwo.{IsFirstText, IsReasonAfterFirst}
-use Rattle.log_grammar.specs.Versions.{most_open, any_version, IsWhy}
+use Rattle.log_grammar.specs.Versions.{max_open_sessions, any_version, IsWhy}
 use Rattle.log_grammar.specs.NumberedLines.{IsNoFirstLine, numbered_text, IsNoNumberedLine}
 use Rattle.log_grammar.specs.laws.Examples.{header_one_text}
 use Rattle.log_grammar.specs.laws.UpgradedExamples.{header_two_text}
@@ -48,13 +48,14 @@ numbered_header_is_no_header (inr is) = let wrong : byte "1" ≡ byte "S" = ap (
 module _ (accounts : Accounts) where
   -- a text after the first line of version 2, which is no numbered line, is at fault in line 2, for the reason for which it is wrong
   text_after_header_is_at_fault : (text : List ℕ) (why : Why) → LacksLf text → IsNoNumberedLine text
-      → IsReasonAfterFirst most_open accounts [] text why → IsWhy accounts (ended_by_lf (header_two_text ∷ text ∷ [])) 2 why
+      → IsReasonAfterFirst max_open_sessions accounts [] text why → IsWhy accounts (ended_by_lf (header_two_text ∷ text ∷ [])) 2 why
   text_after_header_is_at_fault text why lacks none wrong =
       text_is_at_fault (any_version accounts) (any_version_can_be_shortened accounts) (ended_by_lf (header_two_text ∷ text ∷ []))
       (header_two_text ∷ [])
       text [] [] why
-      (whole_lines_are_split (header_two_text ∷ text ∷ []) (refl, (lacks, tt))) (inr (version_two_is_headed most_open accounts).begins)
-      (λ stands. let last = last_is_numbered most_open accounts header_two_text [] text
+      (whole_lines_are_split (header_two_text ∷ text ∷ []) (refl, (lacks, tt)))
+      (inr (version_two_is_headed max_open_sessions accounts).begins)
+      (λ stands. let last = last_is_numbered max_open_sessions accounts header_two_text [] text
       (header_two_shows_version_two accounts (text ∷ []) stands) in none last.0 last.1)
       (inr (refl, ([], tt, wrong)))
 

@@ -13,7 +13,7 @@ use Rattle.log_grammar.specs.Sessions.{Session, session_lines, session}
 use Rattle.log_grammar.specs.Begins.{Spells}
 use Rattle.log_grammar.specs.Counts.{counts_of}
 use Rattle.log_grammar.specs.Numbered.{Numbered, numbered, is_end}
-use Rattle.log_grammar.specs.NumberedLines.{last_session_number, IsSessionNumber, IsNoFirstLine, numbered_text, IsNumberedLine}
+use Rattle.log_grammar.specs.NumberedLines.{max_session_number, IsSessionNumber, IsNoFirstLine, numbered_text, IsNumberedLine}
 use Rattle.log_grammar.specs.Upgrades.{with_numbers, CanBeUpgraded}
 use Rattle.log_grammar.specs.laws.UpgradedLogs.{UpgradedLogsHaveTheSameCounts}
 use Rattle.log_grammar.proofs.lemmas.session_laws.LaterLines.{IsInnerLine, HoldsFromTheLast, later_lines_hold}
@@ -75,7 +75,7 @@ next_number_stays_or_rises n line = elim (cases_Bool (is_end line)) [
 
 -- numbers that are given to so many lines are in their range
 abbrev FitNumbers : ℕ → List LogLine → Type 0
-FitNumbers n lines = (1 ≤ n) × (n + length lines ≤ last_session_number)
+FitNumbers n lines = (1 ≤ n) × (n + length lines ≤ max_session_number)
 
 -- if the numbers from this one on fit the lines, it is a session's number
 first_number_fits : (n : ℕ) (lines : List LogLine) → FitNumbers n lines → IsSessionNumber n

@@ -1,4 +1,4 @@
--- A hall whose session took a turn has answered the call, in whichever order its guests stand.
+-- A hall whose session took a turn has answered the call, in whichever order its open sessions stand.
 use Rattle.std.proofs.Common.{◌≡◌, ◌↔◌, Bool, true, false, ℕ, List, [], ◌∷◌, ◌++◌, map, refl, sym, ◌∙◌, ap, subst, append_assoc}
 use Rattle.std.specs.Prelude.{decimal}
 use Rattle.std.specs.List.Sorted.{IsPermutation}
@@ -16,15 +16,15 @@ use Rattle.log_grammar.specs.NumberedLines.{numbered_text}
 use Rattle.scram_text.proofs.lemmas.ListEnds.{same_cons}
 use Rattle.sasl_desk.specs.Desks.{session_phase}
 use Rattle.sasl_desk.specs.Events.{ClientEvent}
-use Rattle.sasl_desk.specs.Guests.{guest_of}
+use Rattle.sasl_desk.specs.OpenSessions.{open_session_of}
 use Rattle.sasl_desk.specs.Halls.{HallFields, hall_of, numbered_bytes, IsPhaseOf, AnswersIn, IsSameHall}
 use Rattle.sasl_desk.specs.TurnResults.{IsTurnWritten}
 use Rattle.sasl_desk.specs.Prefix.{prefix, prefixed_bytes}
 use Rattle.sasl_desk.specs.Runs.{Request, hears}
 use Rattle.sasl_desk.specs.Sessions.{IsSessionAt}
 use Rattle.sasl_desk.specs.Spent.{SpentStaysSpent}
-use Rattle.sasl_desk.specs.declared.hall.guest.Guest.{Guest}
-use Rattle.sasl_desk.specs.declared.keeper.Keeper.{Keeper}
+use Rattle.sasl_desk.specs.declared.hall.open_session.OpenSession.{OpenSession}
+use Rattle.book_keeper.specs.declared.keeper.Keeper.{Keeper}
 use Rattle.sasl_desk.specs.declared.session.Session.{Session}
 use Rattle.sasl_desk.specs.declared.session.Session.TheVariants.{WaitAuth, WaitFirst, WaitFinal, WaitCode}
 use Rattle.sasl_desk.specs.declared.session.phase.Phase.{Phase}
@@ -33,7 +33,7 @@ use Rattle.sasl_desk.specs.declared.turn.AfterTurn.{AfterTurn}
 use Rattle.sasl_desk.specs.declared.turn.AfterTurn.TheVariants.{Going, Over, Halted}
 use Rattle.sasl_desk.proofs.lemmas.turns.Saves.{halted_after, turn_counts_saves, turn_asks_for_save, turn_is_quiet, halting_turn_failed_saving}
 use Rattle.sasl_desk.proofs.lemmas.runs.Calls.{open_session_is_not_halted}
-use Rattle.sasl_desk.proofs.lemmas.halls.Seats.{LeavesSession, guests_after}
+use Rattle.sasl_desk.proofs.lemmas.halls.OpenAfterTurns.{LeavesSession, open_sessions_after}
 use Rattle.sasl_desk.proofs.lemmas.halls.Steps.{turn_is_hall_step}
 use Rattle.sasl_desk.proofs.lemmas.halls.Turns.{step_adds_hall_call}
 use Rattle.sasl_desk.proofs.lemmas.halls.Working.{working_hall_holds_book, reordered_hall_stands}
@@ -76,15 +76,15 @@ halted_phase_iff_halted (Going going) = (λ is. absurd (open_session_is_not_halt
 halted_phase_iff_halted Over = (λ is. absurd (cc is), λ is. absurd (cc is))
 halted_phase_iff_halted (Halted going) = (λ is. refl, λ is. refl)
 
--- a hall in which the guest of this number takes a turn
+-- a hall in which the open session of this number takes a turn
 module _ (itself : BeginsWithItself) (stays : SpentStaysSpent) {S : Type 0} {facts : S → StoreFacts} {IsStored : List ℕ → Type 0}
-    {old new : Keeper S} {n : ℕ} {going : Session} {server_nonce : List ℕ} (others : List Guest) (given : ℕ) {event : ClientEvent}
+    {old new : Keeper S} {n : ℕ} {going : Session} {server_nonce : List ℕ} (others : List OpenSession) (given : ℕ) {event : ClientEvent}
     {moment : ℕ} {left : AfterTurn} {wire wire' log log' : List ℕ} where
   -- a hall has answered a call when the session's turn was taken and its lines were written
   pub turn_answers_hall_call : IsTurnWritten facts IsStored old going server_nonce event moment (Some n) wire wire' log log' left new
-      → AnswersIn facts IsStored (hall_of old (guest_of n going server_nonce ∷ others) given false) n (hears event moment)
+      → AnswersIn facts IsStored (hall_of old (open_session_of n going server_nonce ∷ others) given false) n (hears event moment)
       (phase_left left) wire wire' log log'
-      (hall_of new (guests_after n server_nonce left others) given (halted_after left))
+      (hall_of new (open_sessions_after n server_nonce left others) given (halted_after left))
   turn_answers_hall_call (lines, t, written) = record {
     lines = lines;
     logged = written.logged ∙ ap (λ (b : List ℕ). log ++ b) (prefixed_bytes_are_numbered n lines);
@@ -98,19 +98,19 @@ module _ (itself : BeginsWithItself) (stays : SpentStaysSpent) {S : Type 0} {fac
         );
     tells = halted_phase_iff_halted left;
     saves = λ start calls s. turn_counts_saves t (working_hall_holds_book s refl);
-    asks = λ start calls s. turn_asks_for_save (accounts_in start) (s.places n) (s.seated refl).0.0 t (working_hall_holds_book s refl);
+    asks = λ start calls s. turn_asks_for_save (accounts_in start) (s.places n) (s.standing refl).0.0 t (working_hall_holds_book s refl);
     quiet = turn_is_quiet t;
     halts = halting_turn_failed_saving t;
   }
 
--- a hall whose guests stand in this order or in that
-module _ {S : Type 0} {keeper : Keeper S} {guests others : List Guest} {given : ℕ} {is_halted : Bool} {new : HallFields S}
-    (same : IsPermutation guests others) where
-  -- what a call of a hall did does not depend on the order of the hall's guests
+-- a hall whose open sessions stand in this order or in that
+module _ {S : Type 0} {keeper : Keeper S} {open_sessions others : List OpenSession} {given : ℕ} {is_halted : Bool} {new : HallFields S}
+    (same : IsPermutation open_sessions others) where
+  -- what a call of a hall did does not depend on the order of the hall's open sessions
   pub reordered_hall_answers : {facts : S → StoreFacts} {IsStored : List ℕ → Type 0} {m n : ℕ} {request : Request} {answered : Phase}
       {wire wire' log log' : List ℕ} → m ≡ n
       → AnswersIn facts IsStored (hall_of keeper others given is_halted) m request answered wire wire' log log' new
-      → AnswersIn facts IsStored (hall_of keeper guests given is_halted) n request answered wire wire' log log' new
+      → AnswersIn facts IsStored (hall_of keeper open_sessions given is_halted) n request answered wire wire' log log' new
   unfolding reordered_hall_stands
   reordered_hall_answers is was =
       let a = rw is at was in
@@ -126,13 +126,13 @@ module _ {S : Type 0} {keeper : Keeper S} {guests others : List Guest} {given : 
         halts = a.halts;
       }
 
-  -- whether two halls are the same does not depend on the order of their guests
+  -- whether two halls are the same does not depend on the order of their open sessions
   pub reordered_hall_is_same : IsSameHall (hall_of keeper others given is_halted) new
-      → IsSameHall (hall_of keeper guests given is_halted) new
+      → IsSameHall (hall_of keeper open_sessions given is_halted) new
   reordered_hall_is_same is = record {
     book = is.book;
     store = is.store;
-    guests = IsPermutation-trans guests others new.guests same is.guests;
+    open_sessions = IsPermutation-trans open_sessions others new.open_sessions same is.open_sessions;
     given = is.given;
     halted = is.halted;
   }

@@ -8,7 +8,7 @@ use Rattle.book_format.specs.Book.{BookFields}
 use Rattle.account_book.specs.Store.{StoreFacts}
 use Rattle.log_grammar.specs.Books.{accounts_in}
 use Rattle.log_grammar.specs.Bytes.{ended_by_lf, IsSplit}
-use Rattle.log_grammar.specs.Versions.{most_open, IsLogFront, IsClean}
+use Rattle.log_grammar.specs.Versions.{max_open_sessions, IsLogFront, IsClean}
 use Rattle.log_grammar.specs.Lines.{LogLine, header_two, said, halt, log_line_text}
 use Rattle.log_grammar.specs.Places.{Place}
 use Rattle.log_grammar.specs.Demands.{Accounts, demands}
@@ -19,12 +19,12 @@ use Rattle.log_grammar.proofs.lemmas.lines.NumberedReadBack.{numbered_line_lacks
 use Rattle.log_grammar.proofs.lemmas.lines.ReadAndWritten.{writable_lines_are_read, writable_lines_lack_lf}
 use Rattle.log_grammar.proofs.lemmas.many_sessions.HaltAndBusy.{visit_halt_leads_to_halted}
 use Rattle.log_grammar.proofs.lemmas.lines.Cuts.{ended_by_lf-append}
-use Rattle.sasl_desk.specs.Guests.{is_of}
-use Rattle.sasl_desk.specs.Halls.{HallFields, hall_lines, hall_bytes, IsStoredAfter, IsHallAfter, guest_phase, phase_in}
+use Rattle.sasl_desk.specs.OpenSessions.{is_of}
+use Rattle.sasl_desk.specs.Halls.{HallFields, hall_lines, hall_bytes, IsStoredAfter, IsHallAfter, open_session_phase, phase_in}
 use Rattle.sasl_desk.specs.Runs.{Call}
-use Rattle.sasl_desk.specs.declared.hall.guest.Guest.{Guest}
+use Rattle.sasl_desk.specs.declared.hall.open_session.OpenSession.{OpenSession}
 use Rattle.sasl_desk.proofs.lemmas.runs.HeldBooks.{failed_store_means_halted}
-use Rattle.sasl_desk.proofs.lemmas.halls.Phases.{number_without_guest_is_between}
+use Rattle.sasl_desk.proofs.lemmas.halls.Phases.{number_without_open_session_is_between}
 
 -- the log of a hall is cut into its first line and the texts of its calls' lines, if these can be written
 hall_log_is_split : (calls : List (Numbered Call)) → AllByRecursion IsNumberedWritable (hall_lines calls)
@@ -36,11 +36,12 @@ hall_log_is_split calls written = record {
   after = refl;
 }
 
--- a number without a phase has no guest
-number_without_phase_has_no_guest : (is_halted : Bool) (guest : Option Guest) → guest_phase is_halted guest ≡ None → guest ≡ None
-number_without_phase_has_no_guest is_halted None is = refl
-number_without_phase_has_no_guest true (Some guest) is = absurd (cc is)
-number_without_phase_has_no_guest false (Some guest) is = absurd (cc is)
+-- a number without a phase has no open session
+number_without_phase_has_no_open_session : (is_halted : Bool) (open_session : Option OpenSession)
+    → open_session_phase is_halted open_session ≡ None → open_session ≡ None
+number_without_phase_has_no_open_session is_halted None is = refl
+number_without_phase_has_no_open_session true (Some open_session) is = absurd (cc is)
+number_without_phase_has_no_open_session false (Some open_session) is = absurd (cc is)
 
 -- after calls at whose end the store has failed, a log may end
 failed_store_lets_end : (IsStored : List ℕ → Type 0) (accounts : Accounts) (calls : List (Numbered Call)) (places : ℕ → Place)
@@ -91,8 +92,8 @@ module _ {S : Type 0} {facts : S → StoreFacts} {IsStored : List ℕ → Type 0
   pub log_is_clean_closed : ((n : ℕ) → phase_in hall n ≡ None) → IsClean (accounts_in start) (hall_bytes calls)
   log_is_clean_closed none =
       ended_hall_log_is_clean
-      (inl (λ n. number_without_guest_is_between s n
-      (number_without_phase_has_no_guest hall.is_halted (find (is_of n) hall.guests) (none n))))
+      (inl (λ n. number_without_open_session_is_between s n
+      (number_without_phase_has_no_open_session hall.is_halted (find (is_of n) hall.open_sessions) (none n))))
 
   -- the law: the log of a hall is clean when the store has failed
   pub log_is_clean_failed : (facts hall.keeper.store).failed ≡ true → IsClean (accounts_in start) (hall_bytes calls)
@@ -105,6 +106,6 @@ module _ {S : Type 0} {facts : S → StoreFacts} {IsStored : List ℕ → Type 0
       → IsClean (accounts_in start) (hall_bytes calls)
   log_is_clean_halted lines n last =
       let d = demands (accounts_in start) in
-      let b = numbered_log_has_last_transition most_open d lines n (said halt) s.places s.told
-      (subst (λ (l : List (Numbered LogLine)). SpellsNumbered most_open d l s.places s.told) last s.spelled) in
+      let b = numbered_log_has_last_transition max_open_sessions d lines n (said halt) s.places s.told
+      (subst (λ (l : List (Numbered LogLine)). SpellsNumbered max_open_sessions d l s.places s.told) last s.spelled) in
       ended_hall_log_is_clean (inr (n, visit_halt_leads_to_halted d (b.before n) (said halt) (s.places n) refl b.goes.goes))

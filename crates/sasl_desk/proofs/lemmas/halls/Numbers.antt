@@ -11,10 +11,10 @@ use Rattle.log_grammar.specs.Numbered.{Numbered, numbered, of_number}
 use Rattle.log_grammar.specs.state_machine.NumberedSteps.{put}
 use Rattle.log_grammar.proofs.lemmas.many_sessions.LinesOfNumber.{one_and_others_cover_each, put_sets_own, put_keeps_others}
 use Rattle.sasl_desk.specs.Desks.{IsStoredAt}
-use Rattle.sasl_desk.specs.Halls.{IsSessionRun, IsSeated}
+use Rattle.sasl_desk.specs.Halls.{IsSessionRun, IsOpenSessionAt}
 use Rattle.sasl_desk.specs.Runs.{Call, server_nonce_of}
 use Rattle.sasl_desk.specs.Sessions.{IsSessionAt}
-use Rattle.sasl_desk.specs.declared.hall.guest.Guest.{Guest}
+use Rattle.sasl_desk.specs.declared.hall.open_session.OpenSession.{OpenSession}
 use Rattle.sasl_desk.proofs.lemmas.Lists.{each_follows_from_both}
 
 -- the first element of a numbered list is the first of those of its number
@@ -59,12 +59,14 @@ module _ (n : ℕ) (call : Call) (calls : List (Numbered Call)) (next : Place) (
       → IsStoredAt IsStored accounts (of_number n (numbered n call ∷ calls)) (put n next places n) book store
   store_fits_next_call IsStored accounts book store = own_calls_lead_on (λ l p. IsStoredAt IsStored accounts l p book store)
 
-  -- after one call more, guests of other numbers stand where they stood
-  pub other_guests_stay_seated : (accounts : Accounts) (others : List Guest) → AllByRecursion (IsSeated accounts calls places) others
-      → AllByRecursion (λ guest. guest.number ≡ n → ⊥) others
-      → AllByRecursion (IsSeated accounts (numbered n call ∷ calls) (put n next places)) others
-  other_guests_stay_seated accounts others seated differ =
-      each_follows_from_both (IsSeated accounts calls places) (λ guest. guest.number ≡ n → ⊥)
-      (IsSeated accounts (numbered n call ∷ calls) (put n next places)) others seated differ
-      (λ guest is apart. other_calls_stay (λ l p. IsSessionAt accounts p guest.session × (guest.server_nonce ≡ server_nonce_of l))
-      guest.number (λ same. apart (sym same)) is)
+  -- after one call more, open sessions of other numbers stand where they stood
+  pub other_open_sessions_stay : (accounts : Accounts) (others : List OpenSession)
+      → AllByRecursion (IsOpenSessionAt accounts calls places) others
+      → AllByRecursion (λ open_session. open_session.number ≡ n → ⊥) others
+      → AllByRecursion (IsOpenSessionAt accounts (numbered n call ∷ calls) (put n next places)) others
+  other_open_sessions_stay accounts others standing differ =
+      each_follows_from_both (IsOpenSessionAt accounts calls places) (λ open_session. open_session.number ≡ n → ⊥)
+      (IsOpenSessionAt accounts (numbered n call ∷ calls) (put n next places)) others standing differ
+      (λ open_session is apart. other_calls_stay (λ l p. IsSessionAt accounts p open_session.session
+      × (open_session.server_nonce ≡ server_nonce_of l))
+      open_session.number (λ same. apart (sym same)) is)

@@ -13,32 +13,33 @@ use Rattle.log_grammar.specs.LoggedAttempt.{logged_attempt_of}
 use Rattle.log_grammar.specs.Places.{Place, waits_code, halted}
 use Rattle.log_grammar.specs.Demands.{Accounts, demands}
 use Rattle.log_grammar.specs.Numbered.{Numbered, of_number}
-use Rattle.log_grammar.specs.Versions.{most_open}
+use Rattle.log_grammar.specs.Versions.{max_open_sessions}
 use Rattle.log_grammar.proofs.lemmas.lines.LackLf.{reply_is_writable}
 use Rattle.log_grammar.proofs.lemmas.lines.Written.{halt_is_writable}
 use Rattle.sasl_desk.specs.Desks.{IsBookAfterReplies, spent_by_all}
 use Rattle.sasl_desk.specs.Events.{ClientEvent}
-use Rattle.sasl_desk.specs.Guests.{guest_of}
+use Rattle.sasl_desk.specs.OpenSessions.{open_session_of}
 use Rattle.sasl_desk.specs.Halls.{hall_of, hall_lines, IsHallAfter}
-use Rattle.sasl_desk.specs.Keeper.{IsJudged, IsJudgedInRange}
+use Rattle.book_keeper.specs.Keeper.{IsJudged}
+use Rattle.sasl_desk.specs.Keeper.{IsJudgedInRange}
 use Rattle.sasl_desk.specs.Runs.{hears, Call, call_of, server_nonce_of}
 use Rattle.sasl_desk.specs.Sessions.{IsLeftAt, IsCodeDue, turn_lines}
 use Rattle.sasl_desk.specs.Spent.{AreSpent, SpentStaysSpent}
 use Rattle.sasl_desk.specs.TurnResults.{after_turn_of, judged_lines, after_judged, SessionAnswers, IsTurnOf}
-use Rattle.sasl_desk.specs.declared.hall.guest.Guest.{Guest}
-use Rattle.sasl_desk.specs.declared.keeper.Keeper.{Keeper}
-use Rattle.sasl_desk.specs.declared.keeper.CodeJudged.{CodeJudged}
-use Rattle.sasl_desk.specs.declared.keeper.CodeJudged.TheVariants.{Replied, NotSaved}
+use Rattle.sasl_desk.specs.declared.hall.open_session.OpenSession.{OpenSession}
+use Rattle.book_keeper.specs.declared.keeper.Keeper.{Keeper}
+use Rattle.book_keeper.specs.declared.keeper.CodeJudged.{CodeJudged}
+use Rattle.book_keeper.specs.declared.keeper.CodeJudged.TheVariants.{Replied, NotSaved}
 use Rattle.sasl_desk.specs.declared.session.Session.{Session}
 use Rattle.sasl_desk.specs.declared.turn.AfterTurn.{AfterTurn}
 use Rattle.sasl_desk.proofs.lemmas.turns.Keepers.{judged_reply_is_due}
 use Rattle.sasl_desk.proofs.lemmas.turns.Paths.{session_has_client_turn, left_place_is_not_halted, turn_has_no_reply}
 use Rattle.sasl_desk.proofs.lemmas.turns.Taken.{session_turn_is_taken, reply_turn_is_taken, halt_turn_is_taken}
 use Rattle.sasl_desk.proofs.lemmas.runs.HeldBooks.{held_book_fits_place, kept_store_holds_book, lost_save_fits_halt}
-use Rattle.sasl_desk.proofs.lemmas.runs.BooksAfterReplies.{book_after_told, reply_adds_to_book, reply_spends_counters}
+use Rattle.sasl_desk.proofs.lemmas.runs.BooksAfterReplies.{book_after_told, reply_adds_to_book, replies_spend_counters}
 use Rattle.sasl_desk.proofs.lemmas.halls.Paths.{ends_of, turn_has_turn_lines, turn_closes_its_session, numbered_goes_on_by_path}
 use Rattle.sasl_desk.proofs.lemmas.halls.Paths.{numbered_goes_on_by_reply}
-use Rattle.sasl_desk.proofs.lemmas.halls.Seats.{LeavesSession}
+use Rattle.sasl_desk.proofs.lemmas.halls.OpenAfterTurns.{LeavesSession}
 use Rattle.sasl_desk.proofs.lemmas.halls.Turns.{IsHallStep}
 use Rattle.sasl_desk.proofs.lemmas.halls.Working.{any_line_follows_log, working_hall_holds_book, client_turn_is_open, open_session_has_run}
 
@@ -49,17 +50,19 @@ left_session_leaves_place : (accounts : Accounts) (next : Place) (ends : ℕ) (g
 left_session_leaves_place accounts next ends (Some going) is same = (is, same)
 left_session_leaves_place accounts next ends None is same = (is, same)
 
--- a hall in which the guest of this number takes a turn, on this event and at this moment
+-- a hall in which the open session of this number takes a turn, on this event and at this moment
 module _ (itself : BeginsWithItself) {S : Type 0} {facts : S → StoreFacts} {IsStored : List ℕ → Type 0} {start : BookFields}
-    {calls : List (Numbered Call)} {old : Keeper S} {n : ℕ} {going : Session} {server_nonce : List ℕ} {others : List Guest} {given : ℕ}
-    (s : IsHallAfter facts IsStored start calls (hall_of old (guest_of n going server_nonce ∷ others) given false)) (event : ClientEvent)
+    {calls : List (Numbered Call)} {old : Keeper S} {n : ℕ} {going : Session} {server_nonce : List ℕ} {others : List OpenSession}
+    {given : ℕ}
+    (s : IsHallAfter facts IsStored start calls (hall_of old (open_session_of n going server_nonce ∷ others) given false))
+    (event : ClientEvent)
     (moment : ℕ) where
   -- a turn that the session itself answers is a step of the hall
   answer_is_hall_step : (lines : List LogLine) (left : AfterTurn) (new : Keeper S)
       → SessionAnswers old going server_nonce event lines left new → IsHallStep s event moment lines left new
   answer_is_hall_step lines left new t =
       let accounts = accounts_in start in
-      let (is, same) = (s.seated refl).0 in
+      let (is, same) = (s.standing refl).0 in
       let turn = t.hears accounts (s.places n) (book_after_told itself start s.told old.book s.is_book).entries is in
       let next = turn.is_answer.next in
       let lines = turn_lines t.turn t.message in
@@ -69,7 +72,7 @@ module _ (itself : BeginsWithItself) {S : Type 0} {facts : S → StoreFacts} {Is
         next = next;
         told = s.told;
         taken = taken;
-        spelled = numbered_goes_on_by_path most_open (demands accounts) (hall_lines calls) s.places s.told n lines next s.spelled
+        spelled = numbered_goes_on_by_path max_open_sessions (demands accounts) (hall_lines calls) s.places s.told n lines next s.spelled
             (turn_has_turn_lines t.turn t.message)
             (turn_has_no_reply accounts server_nonce event (s.places n) t.turn t.message turn)
             (λ line to goes. any_line_follows_log s refl n line) taken.path;
@@ -92,6 +95,7 @@ module _ (itself : BeginsWithItself) {S : Type 0} {facts : S → StoreFacts} {Is
   code_is_hall_step stays name sent new due written (Replied reply) (one, kept) range =
       let accounts = accounts_in start in
       let t = logged_attempt_of name moment sent reply in
+      let is_book = reply_adds_to_book start old.book new.book s.told t s.is_book one in
       record {
         next = waits_code name;
         told = s.told ++ t ∷ [];
@@ -101,22 +105,22 @@ module _ (itself : BeginsWithItself) {S : Type 0} {facts : S → StoreFacts} {Is
         turns = (tt, (tt, tt));
         writable = (written, (reply_is_writable moment reply one.is_moment range, tt));
         leaves = (refl, refl);
-        is_book = reply_adds_to_book start old.book new.book s.told t s.is_book one;
+        is_book = is_book;
         stored = kept_store_holds_book IsStored (needs_save reply) old.book new.book (facts old.store) (facts new.store) kept
             (working_hall_holds_book s refl);
-        spent = reply_spends_counters itself stays old.book new.book t one start s.told s.spent;
+        spent = λ ps. replies_spend_counters itself stays start (reverse (s.told ++ t ∷ [])) new.book ps is_book;
       }
   code_is_hall_step stays name sent new due written NotSaved judged range =
       let accounts = accounts_in start in
       let lines = judged_lines moment sent NotSaved in
       let taken = halt_turn_is_taken accounts (server_nonce_of (of_number n calls)) event moment (s.places n) name sent due in
-      let is_open = client_turn_is_open (s.places n) (session_has_client_turn accounts (s.places n) going (s.seated refl).0.0) in
+      let is_open = client_turn_is_open (s.places n) (session_has_client_turn accounts (s.places n) going (s.standing refl).0.0) in
       let run = open_session_has_run accounts (of_number n calls) (s.places n) is_open (s.session_runs n) in
       record {
         next = halted;
         told = s.told;
         taken = taken;
-        spelled = numbered_goes_on_by_path most_open (demands accounts) (hall_lines calls) s.places s.told n lines halted s.spelled
+        spelled = numbered_goes_on_by_path max_open_sessions (demands accounts) (hall_lines calls) s.places s.told n lines halted s.spelled
             (tt, (tt, tt)) (tt, (tt, tt)) (λ line to goes. any_line_follows_log s refl n line) taken.path;
         turns = (tt, (tt, tt));
         writable = (written, (halt_is_writable, tt));
@@ -134,5 +138,5 @@ module _ (itself : BeginsWithItself) {S : Type 0} {facts : S → StoreFacts} {Is
   turn_is_hall_step stays lines left new (inl t) = answer_is_hall_step lines left new t
   turn_is_hall_step stays lines left new (inr (name, sent, asked, t)) =
       let after = book_after_told itself start s.told old.book s.is_book in
-      let due = asked.asks (accounts_in start) (s.places n) after.entries (s.seated refl).0.0 in
+      let due = asked.asks (accounts_in start) (s.places n) after.entries (s.standing refl).0.0 in
       rw (t.lines_are, t.is_left) (code_is_hall_step stays name sent new due asked.writable t.judged t.is_judged t.in_range)

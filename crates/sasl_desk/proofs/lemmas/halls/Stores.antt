@@ -10,15 +10,16 @@ use Rattle.log_grammar.specs.LoggedAttempt.{LoggedAttempt}
 use Rattle.log_grammar.specs.Places.{Place}
 use Rattle.log_grammar.specs.Demands.{Accounts}
 use Rattle.log_grammar.specs.Numbered.{Numbered, of_number}
-use Rattle.sasl_desk.specs.Desks.{MayHold, spent_by_all}
+use Rattle.sasl_desk.specs.Desks.{MayHold, MayHoldWithinSave, spent_by_all}
 use Rattle.sasl_desk.specs.Saved.{AreLinesSaved}
 use Rattle.sasl_desk.specs.Halls.{HallFields, hall_lines, IsStoredAfter, IsHallAfter}
 use Rattle.sasl_desk.specs.Keeper.{IsAttemptJudged}
 use Rattle.sasl_desk.specs.Restarts.{MayLeave, IsHallRunLeaving}
 use Rattle.sasl_desk.specs.Runs.{Call}
-use Rattle.sasl_desk.specs.Spent.{AreSpent, SpentStaysSpent}
+use Rattle.sasl_desk.specs.Spent.{AreSpent, spent_by, SpentStaysSpent}
 use Rattle.sasl_desk.proofs.lemmas.runs.Stores.{IsTextLeft, held_text_may_be_left, store_holds_left_book, book_was_saved}
-use Rattle.sasl_desk.proofs.lemmas.runs.Stores.{left_text_keeps_told_counters, next_book_keeps_told_counters}
+use Rattle.sasl_desk.proofs.lemmas.runs.Stores.{left_text_keeps_told_counters, text_within_save_keeps_told_counters}
+use Rattle.sasl_desk.proofs.lemmas.runs.Stores.{next_book_keeps_told_counters}
 
 -- a store that is as it has to be after calls
 module _ (IsStored : List ℕ → Type 0) (accounts : Accounts) (places : ℕ → Place) (book : BookFields) (store : StoreFacts) where
@@ -80,10 +81,20 @@ module _ {S : Type 0} {facts : S → StoreFacts} {IsStored : List ℕ → Type 0
   told_counters_are_saved_ended itself stays ps text spent holds =
       left_text_keeps_told_counters itself stays start hall.keeper.book s.told s.spent ps text spent (hall_text_may_be_left text holds)
 
-  -- the law, within a call: in the hall's book with one more attempt, what was spent before the run is spent, and so is each counter
-  -- that a reply used
+  -- the law, within a call: in each book whose text the store may hold while it saves a text of the hall's book with one more attempt,
+  -- what was spent before the run is spent, and so is each counter that a reply used
   pub told_counters_are_saved_within : BeginsWithItself → SpentStaysSpent → (ps : List (List ℕ × ℕ)) (t : LoggedAttempt)
+      (next : BookFields) (asked text : List ℕ) → AreSpent ps start → IsAttemptJudged hall.keeper.book t next → IsBookText asked next
+      → MayHoldWithinSave (facts hall.keeper.store) asked text
+      → (saved : BookFields) × IsBookText text saved × AreSpent (spent_by_all (reverse s.told) ++ ps) saved
+  told_counters_are_saved_within itself stays ps t next asked text spent one =
+      text_within_save_keeps_told_counters itself stays start hall.keeper.book s.told s.spent ps t next spent one (facts hall.keeper.store)
+      hall_text_may_be_left asked text
+
+  -- the law, of the book that is saved: in the hall's book with one more attempt, what was spent before the run is spent, and so is each
+  -- counter that a reply used, and each that the attempt used
+  pub told_counters_are_saved_next : BeginsWithItself → SpentStaysSpent → (ps : List (List ℕ × ℕ)) (t : LoggedAttempt)
       (next : BookFields) → AreSpent ps start → IsAttemptJudged hall.keeper.book t next
-      → AreSpent (spent_by_all (reverse s.told) ++ ps) next
-  told_counters_are_saved_within itself stays =
+      → AreSpent (spent_by t ++ (spent_by_all (reverse s.told) ++ ps)) next
+  told_counters_are_saved_next itself stays =
       next_book_keeps_told_counters itself stays start hall.keeper.book s.told s.spent

@@ -11,7 +11,7 @@ use Rattle.log_grammar.specs.Places.{Place, open_at}
 use Rattle.log_grammar.specs.Demands.{demands}
 use Rattle.log_grammar.specs.Numbered.{Numbered, numbered, of_number, closed_in, SpellsNumbered}
 use Rattle.log_grammar.specs.NumberedLines.{IsSessionNumber, IsNumberedWritable}
-use Rattle.log_grammar.specs.Versions.{most_open}
+use Rattle.log_grammar.specs.Versions.{max_open_sessions}
 use Rattle.log_grammar.specs.state_machine.NumberedSteps.{put}
 use Rattle.log_grammar.proofs.lemmas.many_sessions.OpenCounts.{open_number_is_in_range}
 use Rattle.log_grammar.proofs.lemmas.many_sessions.LinesOfNumber.{one_and_others_cover_each, put_sets_own, put_keeps_others, given_in-append}
@@ -19,23 +19,24 @@ use Rattle.log_grammar.proofs.lemmas.many_sessions.LinesOfNumber.{closed_in-appe
 use Rattle.log_grammar.proofs.lemmas.ListEnds.{appended_lists_keep_all}
 use Rattle.sasl_desk.specs.Desks.{IsStoredAt, IsBookAfterReplies, spent_by_all}
 use Rattle.sasl_desk.specs.Events.{ClientEvent}
-use Rattle.sasl_desk.specs.Guests.{is_of, guest_of}
+use Rattle.sasl_desk.specs.OpenSessions.{is_of, open_session_of}
 use Rattle.sasl_desk.specs.Halls.{hall_of, hall_lines, IsHallAfter}
 use Rattle.sasl_desk.specs.Runs.{hears, Call, call_of, server_nonce_of, IsTurnTaken}
 use Rattle.sasl_desk.specs.Sessions.{CanBeWritten}
 use Rattle.sasl_desk.specs.Spent.{AreSpent}
-use Rattle.sasl_desk.specs.declared.hall.guest.Guest.{Guest}
-use Rattle.sasl_desk.specs.declared.keeper.Keeper.{Keeper}
+use Rattle.sasl_desk.specs.declared.hall.open_session.OpenSession.{OpenSession}
+use Rattle.book_keeper.specs.declared.keeper.Keeper.{Keeper}
 use Rattle.sasl_desk.specs.declared.session.Session.{Session}
 use Rattle.sasl_desk.specs.declared.turn.AfterTurn.{AfterTurn}
 use Rattle.sasl_desk.proofs.lemmas.turns.Paths.{session_has_client_turn}
 use Rattle.sasl_desk.proofs.lemmas.turns.Saves.{halted_after}
-use Rattle.sasl_desk.proofs.lemmas.halls.Guests.{own_guest_counts, other_guest_is_not_counted, guests_are_of_others}
+use Rattle.sasl_desk.proofs.lemmas.halls.OpenSessions.{own_open_session_counts, other_open_session_is_not_counted, open_sessions_are_of_others}
 use Rattle.sasl_desk.proofs.lemmas.halls.Paths.{IsTurnLine, turn_line_may_have_number, turn_gives_no_number}
-use Rattle.sasl_desk.proofs.lemmas.halls.Seats.{LeavesSession, guests_after, seats_count_open, seat_or_end, turn_adds_its_seats, own_seats_count}
-use Rattle.sasl_desk.proofs.lemmas.halls.Seats.{other_seats_stay, turn_leaves_guests_seated}
+use Rattle.sasl_desk.proofs.lemmas.halls.OpenAfterTurns.{LeavesSession, open_sessions_after, still_open_counts_open, is_open_or_ended}
+use Rattle.sasl_desk.proofs.lemmas.halls.OpenAfterTurns.{turn_adds_what_is_still_open, own_sessions_count}
+use Rattle.sasl_desk.proofs.lemmas.halls.OpenAfterTurns.{other_counts_stay, turn_leaves_sessions_standing}
 use Rattle.sasl_desk.proofs.lemmas.halls.Numbers.{own_item_comes_first, other_item_is_skipped, each_session_has_run, store_fits_next_call}
-use Rattle.sasl_desk.proofs.lemmas.halls.Numbers.{other_guests_stay_seated}
+use Rattle.sasl_desk.proofs.lemmas.halls.Numbers.{other_open_sessions_stay}
 use Rattle.sasl_desk.proofs.lemmas.halls.Working.{open_place_counts_one, client_turn_is_open, open_session_has_run}
 
 -- lines of a turn that can be written can be written under a session's number too
@@ -52,10 +53,10 @@ numbered_turn_is_writable n number (line ∷ lines) turns written = (
   numbered_turn_is_writable n number lines turns.1 written.1,
 )
 
--- a hall in which the guest of this number takes a turn
+-- a hall in which the open session of this number takes a turn
 module _ {S : Type 0} {facts : S → StoreFacts} {IsStored : List ℕ → Type 0} {start : BookFields} {calls : List (Numbered Call)}
-    {old : Keeper S} {n : ℕ} {going : Session} {server_nonce : List ℕ} {others : List Guest} {given : ℕ}
-    (s : IsHallAfter facts IsStored start calls (hall_of old (guest_of n going server_nonce ∷ others) given false)) where
+    {old : Keeper S} {n : ℕ} {going : Session} {server_nonce : List ℕ} {others : List OpenSession} {given : ℕ}
+    (s : IsHallAfter facts IsStored start calls (hall_of old (open_session_of n going server_nonce ∷ others) given false)) where
   -- what a hall's turn gives: the lines, the place to which they lead, and the keeper with which the hall goes on
   pub record IsHallStep (event : ClientEvent) (moment : ℕ) (lines : List LogLine) (left : AfterTurn) (new : Keeper S) : Type 0 where
     -- the place to which the turn leads
@@ -65,7 +66,7 @@ module _ {S : Type 0} {facts : S → StoreFacts} {IsStored : List ℕ → Type 0
     -- the lines are the turn that the session takes on the event
     pub taken : IsTurnTaken (accounts_in start) (server_nonce_of (of_number n calls)) event moment (s.places n) lines next
     -- the hall's log with these lines is one of version 2, which may be cut short, with the number at that place and the others as before
-    pub spelled : SpellsNumbered most_open (demands (accounts_in start)) (hall_lines calls ++ map (numbered n) lines)
+    pub spelled : SpellsNumbered max_open_sessions (demands (accounts_in start)) (hall_lines calls ++ map (numbered n) lines)
         (put n next s.places) told
     -- no line is the first of a log or of a session
     pub turns : AllByRecursion IsTurnLine lines
@@ -85,20 +86,20 @@ module _ {S : Type 0} {facts : S → StoreFacts} {IsStored : List ℕ → Type 0
   pub step_adds_hall_call : (event : ClientEvent) (moment : ℕ) (lines : List LogLine) (left : AfterTurn) (new : Keeper S)
       (step : IsHallStep event moment lines left new)
       → (after : IsHallAfter facts IsStored start (numbered n (call_of (hears event moment) lines) ∷ calls)
-      (hall_of new (guests_after n server_nonce left others) given (halted_after left)))
+      (hall_of new (open_sessions_after n server_nonce left others) given (halted_after left)))
       × (after.places n ≡ step.next)
   step_adds_hall_call event moment lines left new step =
       let accounts = accounts_in start in
       let call = call_of (hears event moment) lines in
-      let guest = guest_of n going server_nonce in
+      let open_session = open_session_of n going server_nonce in
       let places = put n step.next s.places in
       let here = put_sets_own n step.next s.places in
-      let is = s.seated refl in
+      let is = s.standing refl in
       let is_open = client_turn_is_open (s.places n) (session_has_client_turn accounts (s.places n) going is.0.0) in
-      let range = open_number_is_in_range most_open (demands accounts) (hall_lines calls) s.places s.told s.spelled n is_open in
+      let range = open_number_is_in_range max_open_sessions (demands accounts) (hall_lines calls) s.places s.told s.spelled n is_open in
       let number : IsSessionNumber n = (range.0, omega (arith, range.1, s.given, s.last_number)) in
-      let counted = own_guest_counts n guest others refl in
-      let alone : count_by (is_of n) others ≡ 0 = omega (arith, counted, s.guests n, open_place_counts_one (s.places n) is_open) in
+      let counted = own_open_session_counts n open_session others refl in
+      let alone : count_by (is_of n) others ≡ 0 = omega (arith, counted, s.open_sessions n, open_place_counts_one (s.places n) is_open) in
       let none = turn_gives_no_number n lines step.turns in
       let all_begun = given_in-append (hall_lines calls) (map (numbered n) lines) in
       let all_closed = closed_in-append (hall_lines calls) (map (numbered n) lines) in
@@ -116,22 +117,23 @@ module _ {S : Type 0} {facts : S → StoreFacts} {IsStored : List ℕ → Type 0
               (numbered_turn_is_writable n number lines step.turns step.writable);
           given = omega (arith, s.given, none, all_begun);
           last_number = s.last_number;
-          guests = one_and_others_cover_each
-              (λ (m : ℕ). count_by (is_of m) (guests_after n server_nonce left others) ≡ open_at (places m)) n
-              (own_seats_count n server_nonce others left alone ∙ sym (seats_count_open accounts (places n) _ left leaves))
-              (λ m other. other_seats_stay n server_nonce others m left other ∙ sym (other_guest_is_not_counted m guest others other)
-              ∙ s.guests m ∙ ap open_at (sym (put_keeps_others n step.next s.places m other)));
+          open_sessions = one_and_others_cover_each
+              (λ (m : ℕ). count_by (is_of m) (open_sessions_after n server_nonce left others) ≡ open_at (places m)) n
+              (own_sessions_count n server_nonce others left alone ∙ sym (still_open_counts_open accounts (places n) _ left leaves))
+              (λ m other. other_counts_stay n server_nonce others m left other ∙ sym
+              (other_open_session_is_not_counted m open_session others other)
+              ∙ s.open_sessions m ∙ ap open_at (sym (put_keeps_others n step.next s.places m other)));
           open_are = omega (
             arith,
-            turn_adds_its_seats n server_nonce others left,
-            seat_or_end accounts step.next _ left step.leaves,
+            turn_adds_what_is_still_open n server_nonce others left,
+            is_open_or_ended accounts step.next _ left step.leaves,
             s.open_are,
             none,
             all_begun,
             all_closed,
           );
-          seated = turn_leaves_guests_seated n server_nonce others accounts (numbered n call ∷ calls) places _ left leaves
-              (other_guests_stay_seated n call calls step.next s.places accounts others is.1 (guests_are_of_others n others alone))
+          standing = turn_leaves_sessions_standing n server_nonce others accounts (numbered n call ∷ calls) places _ left leaves
+              (other_open_sessions_stay n call calls step.next s.places accounts others is.1 (open_sessions_are_of_others n others alone))
               (is.0.1 ∙ ap server_nonce_of (sym (own_item_comes_first n call calls)));
           is_book = step.is_book;
           is_stored = store_fits_next_call n call calls step.next s.places IsStored accounts new.book (facts new.store) step.stored;

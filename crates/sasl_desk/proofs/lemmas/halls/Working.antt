@@ -1,4 +1,4 @@
--- What is known of a hall that has not halted: who is its guest, what may follow in its log, and what its store holds.
+-- What is known of a hall that has not halted: which sessions are open, what may follow in its log, and what its store holds.
 use Rattle.std.proofs.Common.{◌≡◌, ◌⊎◌, inl, inr, Bool, true, false, ℕ, List, [], ◌∷◌, refl, ◌∙◌, subst, arith}
 use Rattle.std.specs.List.Sorted.{IsPermutation}
 use Rattle.std.proofs.lemmas.List.Sorted.{length_permutation}
@@ -11,18 +11,18 @@ use Rattle.log_grammar.specs.Places.{Place, before_all, between, over, halted, i
 use Rattle.log_grammar.specs.Demands.{Accounts, Demands, demands}
 use Rattle.log_grammar.specs.Numbered.{Numbered, of_number, MayFollow, SpellsNumbered, FollowsLast}
 use Rattle.log_grammar.specs.state_machine.NumberedSteps.{IsVisitTransition}
-use Rattle.log_grammar.specs.Versions.{most_open}
+use Rattle.log_grammar.specs.Versions.{max_open_sessions}
 use Rattle.log_grammar.proofs.lemmas.many_sessions.WithoutLast.{numbered_log_has_last_transition}
 use Rattle.log_grammar.proofs.lemmas.many_sessions.HaltAndBusy.{visit_halt_leads_to_halted, visit_busy_leads_to_over}
 use Rattle.sasl_log.proofs.lemmas.ListCounts.{permutation_keeps_all, permutation_keeps_count}
 use Rattle.sasl_desk.specs.Desks.{HoldsBook}
 use Rattle.sasl_desk.specs.DueLines.{is_client_turn}
-use Rattle.sasl_desk.specs.Guests.{is_of}
-use Rattle.sasl_desk.specs.Halls.{HallFields, hall_of, hall_lines, IsSessionRun, IsSeated, IsStoredAfter, IsHallAfter}
+use Rattle.sasl_desk.specs.OpenSessions.{is_of}
+use Rattle.sasl_desk.specs.Halls.{HallFields, hall_of, hall_lines, IsSessionRun, IsOpenSessionAt, IsStoredAfter, IsHallAfter}
 use Rattle.sasl_desk.specs.Runs.{Call, IsRun}
-use Rattle.sasl_desk.specs.declared.hall.guest.Guest.{Guest}
-use Rattle.sasl_desk.specs.declared.keeper.Keeper.{Keeper}
-use Rattle.sasl_desk.proofs.lemmas.halls.Guests.{some_guest_has_number}
+use Rattle.sasl_desk.specs.declared.hall.open_session.OpenSession.{OpenSession}
+use Rattle.book_keeper.specs.declared.keeper.Keeper.{Keeper}
+use Rattle.sasl_desk.proofs.lemmas.halls.OpenSessions.{some_open_session_has_number}
 use Rattle.sasl_desk.proofs.lemmas.turns.Paths.{session_has_client_turn}
 use Rattle.sasl_desk.proofs.lemmas.runs.HeldBooks.{unhalted_store_holds_book}
 
@@ -83,19 +83,19 @@ unhalted_hall_holds_book IsStored accounts (c ∷ calls) places book store going
 -- a hall that has answered these calls and has not halted
 module _ {S : Type 0} {facts : S → StoreFacts} {IsStored : List ℕ → Type 0} {start : BookFields} {calls : List (Numbered Call)}
     {hall : HallFields S} (s : IsHallAfter facts IsStored start calls hall) (working : hall.is_halted ≡ false) where
-  -- in a hall that has not halted, each open session has a guest, who stands at the place of the session
-  open_session_has_guest : (n : ℕ) → is_closed (s.places n) ≡ false
-      → (guest : Guest) × IsSeated (accounts_in start) calls s.places guest × (guest.number ≡ n)
-  open_session_has_guest n is_open =
-      some_guest_has_number (IsSeated (accounts_in start) calls s.places) n hall.guests (s.seated working)
-      (λ none. absurd (omega (arith, none, s.guests n, open_place_counts_one (s.places n) is_open)))
+  -- in a hall that has not halted, the session of each number that is open at its place is kept, and stands at that place
+  session_of_open_place_is_open : (n : ℕ) → is_closed (s.places n) ≡ false
+      → (open_session : OpenSession) × IsOpenSessionAt (accounts_in start) calls s.places open_session × (open_session.number ≡ n)
+  session_of_open_place_is_open n is_open =
+      some_open_session_has_number (IsOpenSessionAt (accounts_in start) calls s.places) n hall.open_sessions (s.standing working)
+      (λ none. absurd (omega (arith, none, s.open_sessions n, open_place_counts_one (s.places n) is_open)))
 
   -- in a hall that has not halted, the session of each number is not open, or it is its client's turn
   each_place_is_closed_or_client_turn : (n : ℕ) → IsClosedOrClientTurn (s.places n)
   each_place_is_closed_or_client_turn n = elim (cases_Bool (is_closed (s.places n))) [
     | inl closed ↦ inl closed
     | inr is_open ↦
-        let found = open_session_has_guest n is_open in
+        let found = session_of_open_place_is_open n is_open in
         let turn = session_has_client_turn (accounts_in start) (s.places found.0.number) found.0.session found.1.0 in
         inr (subst (λ (m : ℕ). is_client_turn (s.places m) ≡ true) found.2 turn)
   ]
@@ -104,8 +104,8 @@ module _ {S : Type 0} {facts : S → StoreFacts} {IsStored : List ℕ → Type 0
   pub any_line_follows_log : (n : ℕ) (line : LogLine) → FollowsLast (hall_lines calls) n line
   any_line_follows_log n line before x same =
       let d = demands (accounts_in start) in
-      let b = numbered_log_has_last_transition most_open d before x.number x.value s.places s.told
-      (subst (λ (l : List (Numbered LogLine)). SpellsNumbered most_open d l s.places s.told) same s.spelled) in
+      let b = numbered_log_has_last_transition max_open_sessions d before x.number x.value s.places s.told
+      (subst (λ (l : List (Numbered LogLine)). SpellsNumbered max_open_sessions d l s.places s.told) same s.spelled) in
       any_line_may_follow d (b.before x.number) (s.places x.number) x.number n x.value line b.goes.goes
       (each_place_is_closed_or_client_turn x.number)
 
@@ -116,9 +116,10 @@ module _ {S : Type 0} {facts : S → StoreFacts} {IsStored : List ℕ → Type 0
       (λ n is. halted_place_is_neither_closed_nor_turn (s.places n) is (each_place_is_closed_or_client_turn n)) s.is_stored
 
 module _ {S : Type 0} {facts : S → StoreFacts} {IsStored : List ℕ → Type 0} {start : BookFields} {calls : List (Numbered Call)}
-    {keeper : Keeper S} {guests others : List Guest} {given : ℕ} {is_halted : Bool} (same : IsPermutation guests others) where
-  -- a hall stands for the same calls with its guests in another order
-  unfoldable pub reordered_hall_stands : IsHallAfter facts IsStored start calls (hall_of keeper guests given is_halted)
+    {keeper : Keeper S} {open_sessions others : List OpenSession} {given : ℕ} {is_halted : Bool}
+    (same : IsPermutation open_sessions others) where
+  -- a hall stands for the same calls with its open sessions in another order
+  unfoldable pub reordered_hall_stands : IsHallAfter facts IsStored start calls (hall_of keeper open_sessions given is_halted)
       → IsHallAfter facts IsStored start calls (hall_of keeper others given is_halted)
   reordered_hall_stands s = record {
     places = s.places;
@@ -129,9 +130,10 @@ module _ {S : Type 0} {facts : S → StoreFacts} {IsStored : List ℕ → Type 0
     writable = s.writable;
     given = s.given;
     last_number = s.last_number;
-    guests = λ n. permutation_keeps_count (is_of n) guests others same ∙ s.guests n;
-    open_are = omega (arith, length_permutation guests others same, s.open_are);
-    seated = λ working. permutation_keeps_all (IsSeated (accounts_in start) calls s.places) guests others same (s.seated working);
+    open_sessions = λ n. permutation_keeps_count (is_of n) open_sessions others same ∙ s.open_sessions n;
+    open_are = omega (arith, length_permutation open_sessions others same, s.open_are);
+    standing = λ working. permutation_keeps_all (IsOpenSessionAt (accounts_in start) calls s.places) open_sessions others same
+        (s.standing working);
     is_book = s.is_book;
     is_stored = s.is_stored;
     spent = s.spent;

@@ -1,7 +1,6 @@
 -- The shapes of answers: which lines may answer at each place where an answer is due, and to which place they lead.
 use Rattle.std.proofs.Common.{◌≡◌, ◌⊎◌, inl, inr, true, ℕ, List, [], ◌∷◌, refl, sym, ◌∙◌, ap, subst}
 use Rattle.std.specs.List.{AllByRecursion}
-use Rattle.std.proofs.lemmas.Bool.{false≢true}
 use Rattle.mac_core.specs.declared.mechanism.Mechanism.{Mechanism}
 use Rattle.scram_ends.specs.Login.{IsAuthentic}
 use Rattle.scram_ends.specs.Verdict.{accept, refuse, due_text}
@@ -11,7 +10,8 @@ use Rattle.log_grammar.specs.Places.{Place, between, offered, asks_bare, waits_f
 use Rattle.log_grammar.specs.Demands.{Accounts, Demands, NamesMechanism, IsFirstOf, IsChallenged, IsVerdictDue, demands}
 use Rattle.log_grammar.specs.state_machine.Steps.{IsTransition}
 use Rattle.sasl_desk.specs.Runs.{IsAtRest, IsAnswerLine}
-use Rattle.sasl_desk.specs.DueLines.{is_client_turn, IsPath}
+use Rattle.sasl_desk.specs.DueLines.{is_client_turn}
+use Rattle.sasl_desk.specs.Sessions.{IsPath}
 use Rattle.sasl_desk.proofs.lemmas.runs.Acceptances.{has_acceptance}
 
 -- at this place the server has something to say, other than a reply
@@ -35,7 +35,7 @@ module _ (d : Demands) where
   -- a path of lines of an answer that leads from where `E` is due is `E` alone
   pub over_path_is_end : (lines : List LogLine) (next : Place) → IsPath d over lines next → AllByRecursion IsAnswerLine lines
       → IsAtRest next → (lines ≡ ended ∷ []) × (next ≡ between)
-  over_path_is_end [] next path all rests = absurd (false≢true (subst IsAtRest path rests))
+  over_path_is_end [] next path all rests = absurd (subst IsAtRest path rests).1
   over_path_is_end (ended ∷ lines) next (middle, goes, path) all rests =
       let rest = between_path_is_empty lines next (subst (λ (p : Place). IsPath d p lines next) goes path) all.1 in
       (ap (λ (l : List LogLine). ended ∷ l) rest.0, rest.1)
@@ -119,12 +119,12 @@ module _ (accounts : Accounts) where
   -- each answer that is due at a place has the shape of the place
   pub answer_has_shape : (at : Place) (lines : List LogLine) (next : Place) → IsPath (demands accounts) at lines next
       → AllByRecursion IsAnswerLine lines → IsAtRest next → HasShapeAt accounts at lines next
-  answer_has_shape leaving [] next path all rests = absurd (false≢true (subst IsAtRest path rests))
+  answer_has_shape leaving [] next path all rests = absurd (subst IsAtRest path rests).1
   answer_has_shape leaving (said (refuses text) ∷ lines) next (middle, goes, path) all rests =
       refusal_is_whole_answer (demands accounts) lines next middle path all.1 text [] goes.0 goes.1 rests
   answer_has_shape leaving (line ∷ lines) next (middle, goes, path) all rests = absurd goes
   answer_has_shape over lines next path all rests = over_path_is_end (demands accounts) lines next path all rests
-  answer_has_shape (asks_bare m) [] next path all rests = absurd (false≢true (subst IsAtRest path rests))
+  answer_has_shape (asks_bare m) [] next path all rests = absurd (subst IsAtRest path rests).1
   answer_has_shape (asks_bare m) (said (refuses text) ∷ lines) next (middle, goes, path) all rests =
       inl (goes.0.0, refusal_is_whole_answer (demands accounts) lines next middle path all.1 text [] goes.0.1 goes.1 rests)
   answer_has_shape (asks_bare m) (said (cont text) ∷ lines) next (middle, goes, path) all rests =
@@ -134,7 +134,7 @@ module _ (accounts : Accounts) where
             (ap (λ (t : List ℕ). said (cont t)) goes.0.1) goes.1 refl,
       )
   answer_has_shape (asks_bare m) (line ∷ lines) next (middle, goes, path) all rests = absurd goes
-  answer_has_shape (got_first m first) [] next path all rests = absurd (false≢true (subst IsAtRest path rests))
+  answer_has_shape (got_first m first) [] next path all rests = absurd (subst IsAtRest path rests).1
   answer_has_shape (got_first m first) (said (refuses text) ∷ lines) next (middle, goes, path) all rests =
       inl (goes.0.0, refusal_is_whole_answer (demands accounts) lines next middle path all.1 text [] goes.0.1 goes.1 rests)
   answer_has_shape (got_first m first) (said (cont text) ∷ lines) next (middle, goes, path) all rests =
@@ -146,7 +146,7 @@ module _ (accounts : Accounts) where
             (waits_final m goes.0 first text) refl goes.2 refl,
       )
   answer_has_shape (got_first m first) (line ∷ lines) next (middle, goes, path) all rests = absurd goes
-  answer_has_shape (got_final m account first challenge last) [] next path all rests = absurd (false≢true (subst IsAtRest path rests))
+  answer_has_shape (got_final m account first challenge last) [] next path all rests = absurd (subst IsAtRest path rests).1
   answer_has_shape (got_final m account first challenge last) (said (refuses text) ∷ lines) next (middle, goes, path) all rests =
       inl (
         goes.0.0,

@@ -36,21 +36,20 @@ pub reply_adds_to_book : (start old new : BookFields) (told : List LoggedAttempt
 reply_adds_to_book start old new told t before one =
     subst (λ (l : List LoggedAttempt). IsBookAfterReplies start l new) (sym (reverse-append told (t ∷ []))) (old, before, one)
 
--- what an attempt spends
-module _ (itself : BeginsWithItself) (stays : SpentStaysSpent) (old new : BookFields) (t : LoggedAttempt)
-    (one : IsAttemptJudged old t new) where
+-- what replies spend
+module _ (itself : BeginsWithItself) (stays : SpentStaysSpent) where
   -- what was spent, and what an attempt used, is spent in the book after it
-  pub attempt_spends_counters : (ps : List (List ℕ × ℕ)) → AreSpent ps old → AreSpent (spent_by t ++ ps) new
-  attempt_spends_counters ps spent =
+  pub attempt_spends_counters : (old new : BookFields) (t : LoggedAttempt) → IsAttemptJudged old t new → (ps : List (List ℕ × ℕ))
+      → AreSpent ps old → AreSpent (spent_by t ++ ps) new
+  attempt_spends_counters old new t one ps spent =
       let self = book_follows_no_replies itself old in
       stays old new t ps one.is_moment (judged_reply_is_due old new t one (accounts_in old) [] self)
       (judged_book_is_after old new t one (accounts_in old) [] self) spent
 
-  -- with one reply more, what was spent at the start is still spent, and so is each counter that a reply used
-  pub reply_spends_counters : (start : BookFields) (told : List LoggedAttempt)
-      → ((ps : List (List ℕ × ℕ)) → AreSpent ps start → AreSpent (spent_by_all (reverse told) ++ ps) old)
-      → (ps : List (List ℕ × ℕ)) → AreSpent ps start → AreSpent (spent_by_all (reverse (told ++ t ∷ [])) ++ ps) new
-  reply_spends_counters start told before ps spent =
-      subst (λ (l : List LoggedAttempt). AreSpent (spent_by_all l ++ ps) new) (sym (reverse-append told (t ∷ [])))
-      (subst (λ (l : List (List ℕ × ℕ)). AreSpent l new) (sym (append_assoc (spent_by t) (spent_by_all (reverse told)) ps))
-      (attempt_spends_counters (spent_by_all (reverse told) ++ ps) (before ps spent)))
+  -- the law: what was spent, and what replies used, is spent in the book after them
+  pub replies_spend_counters : (start : BookFields) (latest_first : List LoggedAttempt) (last : BookFields) (ps : List (List ℕ × ℕ))
+      → IsBookAfterReplies start latest_first last → AreSpent ps start → AreSpent (spent_by_all latest_first ++ ps) last
+  replies_spend_counters start [] last ps same spent = subst (λ (b : BookFields). AreSpent ps b) (sym same) spent
+  replies_spend_counters start (t ∷ before) last ps (old, earlier, one) spent =
+      subst (λ (l : List (List ℕ × ℕ)). AreSpent l last) (sym (append_assoc (spent_by t) (spent_by_all before) ps))
+      (attempt_spends_counters old last t one (spent_by_all before ++ ps) (replies_spend_counters start before old ps earlier spent))

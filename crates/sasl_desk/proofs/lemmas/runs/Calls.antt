@@ -14,7 +14,7 @@ use Rattle.sasl_desk.specs.TurnResults.{IsTurnWritten}
 use Rattle.sasl_desk.specs.Desks.{IsDeskAfter, Answers, phase_of, session_phase, desk_of, state_after}
 use Rattle.sasl_desk.specs.declared.turn.AfterTurn.{AfterTurn}
 use Rattle.sasl_desk.specs.declared.turn.AfterTurn.TheVariants.{Going, Over, Halted}
-use Rattle.sasl_desk.specs.declared.keeper.Keeper.{Keeper}
+use Rattle.book_keeper.specs.declared.keeper.Keeper.{Keeper}
 use Rattle.sasl_desk.specs.declared.desk.Desk.{Desk}
 use Rattle.sasl_desk.specs.declared.desk.state.State.{State}
 use Rattle.sasl_desk.specs.declared.desk.state.State.TheVariants.{Closed, Open}

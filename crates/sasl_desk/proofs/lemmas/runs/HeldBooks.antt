@@ -13,10 +13,10 @@ use Rattle.log_grammar.specs.Demands.{Accounts}
 use Rattle.sasl_desk.specs.Desks.{HoldsBook, IsLostAfter, IsStoredAt}
 use Rattle.sasl_desk.specs.DueLines.{is_client_turn}
 use Rattle.sasl_desk.specs.Events.{ClientEvent}
-use Rattle.sasl_desk.specs.Keeper.{IsKept, IsJudged}
+use Rattle.book_keeper.specs.Keeper.{IsKept, IsJudged}
 use Rattle.sasl_desk.specs.Runs.{hears, Call, call_of, IsRun}
 use Rattle.sasl_desk.specs.TurnResults.{judged_lines}
-use Rattle.sasl_desk.specs.declared.keeper.CodeJudged.TheVariants.{NotSaved}
+use Rattle.book_keeper.specs.declared.keeper.CodeJudged.TheVariants.{NotSaved}
 use Rattle.sasl_desk.proofs.lemmas.turns.Keepers.{store_failed_in_this_save}
 
 module _ (IsStored : List ℕ → Type 0) where

@@ -19,15 +19,16 @@ use Rattle.log_grammar.proofs.lemmas.lines.LackLf.{reply_is_writable}
 use Rattle.log_grammar.proofs.lemmas.ListEnds.{appended_lists_keep_all}
 use Rattle.log_grammar.proofs.lemmas.lines.Written.{offer_is_writable, header_is_writable, halt_is_writable}
 use Rattle.sasl_desk.specs.Events.{ClientEvent}
-use Rattle.sasl_desk.specs.Keeper.{IsJudged, IsJudgedInRange}
+use Rattle.book_keeper.specs.Keeper.{IsJudged}
+use Rattle.sasl_desk.specs.Keeper.{IsJudgedInRange}
 use Rattle.sasl_desk.specs.Sessions.{IsLeftAt, IsCodeDue, turn_lines}
 use Rattle.sasl_desk.specs.Runs.{greets, hears, Call, call_of, run_lines, server_nonce_of}
 use Rattle.sasl_desk.specs.Spent.{AreSpent, SpentStaysSpent}
 use Rattle.sasl_desk.specs.TurnResults.{after_turn_of, judged_lines, after_judged, SessionAnswers, IsTurnOf}
 use Rattle.sasl_desk.specs.Desks.{IsStateAt, HoldsBook, IsStoredAt, IsBookAfterReplies, spent_by_all, IsDeskAfter, desk_of, state_after}
-use Rattle.sasl_desk.specs.declared.keeper.Keeper.{Keeper}
-use Rattle.sasl_desk.specs.declared.keeper.CodeJudged.{CodeJudged}
-use Rattle.sasl_desk.specs.declared.keeper.CodeJudged.TheVariants.{Replied, NotSaved}
+use Rattle.book_keeper.specs.declared.keeper.Keeper.{Keeper}
+use Rattle.book_keeper.specs.declared.keeper.CodeJudged.{CodeJudged}
+use Rattle.book_keeper.specs.declared.keeper.CodeJudged.TheVariants.{Replied, NotSaved}
 use Rattle.sasl_desk.specs.declared.desk.Desk.{Desk}
 use Rattle.sasl_desk.specs.declared.desk.state.State.TheVariants.{Closed, Open, Halted}
 use Rattle.sasl_desk.specs.declared.session.Session.{Session}
@@ -39,7 +40,7 @@ use Rattle.sasl_desk.proofs.lemmas.turns.Paths.{log_goes_on_by_reply}
 use Rattle.sasl_desk.proofs.lemmas.turns.Taken.{session_turn_is_taken, reply_turn_is_taken, halt_turn_is_taken}
 use Rattle.sasl_desk.proofs.lemmas.runs.HeldBooks.{saved_store_holds_book, kept_store_holds_book, client_turn_store_holds_book, held_book_fits_place}
 use Rattle.sasl_desk.proofs.lemmas.runs.HeldBooks.{lost_save_fits_halt}
-use Rattle.sasl_desk.proofs.lemmas.runs.BooksAfterReplies.{book_after_told, reply_adds_to_book, reply_spends_counters}
+use Rattle.sasl_desk.proofs.lemmas.runs.BooksAfterReplies.{book_after_told, reply_adds_to_book, replies_spend_counters}
 
 -- after a turn that leaves its session at a place, its desk is in the state that is due there
 left_desk_fits_place : (accounts : Accounts) (server_nonce kept : List ℕ) (at : Place) (going : Option Session) → kept ≡ server_nonce
@@ -136,6 +137,7 @@ module _ {S : Type 0} {facts : S → StoreFacts} {IsStored : List ℕ → Type 0
     code_adds_desk_call stays name sent new due written (Replied reply) (one, kept) range =
         let accounts = accounts_in start in
         let t = logged_attempt_of name moment sent reply in
+        let is_book = reply_adds_to_book start old.book new.book s.told t s.is_book one in
         record {
           place = waits_code name;
           told = s.told ++ t ∷ [];
@@ -146,10 +148,10 @@ module _ {S : Type 0} {facts : S → StoreFacts} {IsStored : List ℕ → Type 0
           writable = appended_lists_keep_all IsWritable (run_lines calls) (judged_lines moment sent (Replied reply)) s.writable
               (written, (reply_is_writable moment reply one.is_moment range, tt));
           is_state = (refl, s.is_state.1);
-          is_book = reply_adds_to_book start old.book new.book s.told t s.is_book one;
+          is_book = is_book;
           is_stored = kept_store_holds_book IsStored (needs_save reply) old.book new.book (facts old.store) (facts new.store) kept
               open_desk_holds_book;
-          spent = reply_spends_counters itself stays old.book new.book t one start s.told s.spent;
+          spent = λ ps. replies_spend_counters itself stays start (reverse (s.told ++ t ∷ [])) new.book ps is_book;
         }
     code_adds_desk_call stays name sent new due written NotSaved judged range =
         let accounts = accounts_in start in

@@ -19,8 +19,8 @@ use Rattle.log_grammar.proofs.lemmas.kinds.OneWhy.{one_mechanism, one_due_verdic
 use Rattle.sasl_desk.specs.Alone.{IsSameRequest}
 use Rattle.sasl_desk.specs.Events.{ClientEvent}
 use Rattle.sasl_desk.specs.Runs.{Request, greets, hears, IsTurnTaken, IsAnsweredBy}
-use Rattle.sasl_desk.specs.Sessions.{IsChallengeWith, LacksExtensions}
-use Rattle.sasl_desk.specs.DueLines.{place_after_record, IsPath}
+use Rattle.sasl_desk.specs.Sessions.{IsPath, IsChallengeWith, LacksExtensions}
+use Rattle.sasl_desk.specs.DueLines.{place_after_record}
 use Rattle.sasl_desk.proofs.lemmas.runs.Acceptances.{has_acceptance, rest_brings_acceptance}
 use Rattle.sasl_desk.proofs.lemmas.runs.AnswerShapes.{IsAnswerDue, HasShapeAt, answer_has_shape, acceptance_or_no_code}
 use Rattle.sasl_desk.proofs.lemmas.runs.OneRecord.{one_record, record_awaits_answer, record_leads_to_place}

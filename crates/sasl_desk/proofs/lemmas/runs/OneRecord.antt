@@ -1,5 +1,5 @@
 -- There is one record of an event: one line, one place to which it leads, and at that place an answer is due.
-use Rattle.std.proofs.Common.{◌≡◌, true, ℕ, List, refl, sym, ◌∙◌, ap, subst}
+use Rattle.std.proofs.Common.{◌≡◌, true, ℕ, List, refl, sym, ap, subst}
 use Rattle.log_grammar.specs.laws.LineLaws.{EachTextIsAtMostOneLine}
 use Rattle.log_grammar.specs.Lines.{LogLine, heard, bad, gone, ClientLine, auth, auth_with, resp, abort, code, sync, from_client}
 use Rattle.log_grammar.specs.Places.{Place, waits_first, waits_final, waits_code}
@@ -17,8 +17,8 @@ pub one_record : EachTextIsAtMostOneLine → (event : ClientEvent) (at : Place) 
     → IsRecord event at other → one ≡ other
 one_record law (sends text) at (heard line) (heard other) a b = ap heard
     (from_client_is_injective line other (law text (from_client line) (from_client other) a.0 b.0))
-one_record law (sends text) at (heard line) bad a b = let undue = sym a.1 ∙ b line a.0 in absurd (cc undue)
-one_record law (sends text) at bad (heard line) a b = let undue = sym b.1 ∙ a line b.0 in absurd (cc undue)
+one_record law (sends text) at (heard line) bad a b = absurd (b line a.0 a.1)
+one_record law (sends text) at bad (heard line) a b = absurd (a line b.0 b.1)
 one_record law (sends text) at bad bad a b = refl
 one_record law goes_away at gone gone a b = refl
 one_record law (sends text) at (heard line) other a b = absurd b

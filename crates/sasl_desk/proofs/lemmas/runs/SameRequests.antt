@@ -12,8 +12,7 @@ use Rattle.log_grammar.specs.state_machine.Steps.{IsTransition}
 use Rattle.sasl_desk.specs.Alone.{IsSameRequest, HaveSameRequests, up_to_acceptance, HaveSameEntries}
 use Rattle.sasl_desk.specs.Runs.{Request, greets, hears, Call, server_nonce_after, server_nonce_of, IsAnsweredBy, IsRun}
 use Rattle.sasl_desk.specs.Serves.{call_lines}
-use Rattle.sasl_desk.specs.Sessions.{IsChallengeWith}
-use Rattle.sasl_desk.specs.DueLines.{IsPath}
+use Rattle.sasl_desk.specs.Sessions.{IsPath, IsChallengeWith}
 use Rattle.sasl_desk.proofs.lemmas.runs.Acceptances.{has_acceptance, front_brings_acceptance, rest_brings_acceptance, acceptance_cuts_rest}
 use Rattle.sasl_desk.proofs.lemmas.runs.OneAnswer.{AnswerUniquenessLaws, one_answer_to_call}
 

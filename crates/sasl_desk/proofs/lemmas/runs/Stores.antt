@@ -14,10 +14,11 @@ use Rattle.log_grammar.specs.Demands.{Accounts}
 use Rattle.sasl_desk.specs.Keeper.{IsAttemptJudged}
 use Rattle.sasl_desk.specs.Runs.{Call, run_lines}
 use Rattle.sasl_desk.specs.Saved.{IsLogSaved}
-use Rattle.sasl_desk.specs.Spent.{AreSpent, SpentStaysSpent}
-use Rattle.sasl_desk.specs.Desks.{MayHold, HoldsBook, IsLostAfter, IsStoredAt, spent_by_all, IsDeskAfter}
+use Rattle.sasl_desk.specs.Spent.{AreSpent, spent_by, SpentStaysSpent}
+use Rattle.sasl_desk.specs.Desks.{MayHold, MayHoldWithinSave, HoldsBook, IsLostAfter, IsStoredAt, spent_by_all, IsDeskAfter}
 use Rattle.sasl_desk.specs.Restarts.{MayLeave, IsDeskRunLeaving}
 use Rattle.sasl_desk.specs.declared.desk.Desk.{Desk}
+use Rattle.sasl_desk.proofs.lemmas.runs.BooksAfterReplies.{attempt_spends_counters}
 use Rattle.sasl_desk.proofs.lemmas.runs.Restarts.{left_book_keeps_spent_counters}
 
 -- the text is that of a book that a run may leave: of this book, which the run kept, or of that with one more attempt
@@ -71,11 +72,21 @@ module _ (itself : BeginsWithItself) (stays : SpentStaysSpent) (start kept : Boo
   left_text_keeps_told_counters text spent (left, leaves, is_text) =
       (left, is_text, left_book_keeps_spent_counters itself stays kept left (spent_by_all (reverse told) ++ ps) leaves (spends ps spent))
 
-  -- it is spent in the book with one more attempt, within a call
-  pub next_book_keeps_told_counters : (t : LoggedAttempt) (next : BookFields) → AreSpent ps start → IsAttemptJudged kept t next
-      → AreSpent (spent_by_all (reverse told) ++ ps) next
-  next_book_keeps_told_counters t next spent one =
-      left_book_keeps_spent_counters itself stays kept next (spent_by_all (reverse told) ++ ps) (inr (t, one)) (spends ps spent)
+  -- within a call that judges an attempt
+  module _ (t : LoggedAttempt) (next : BookFields) (spent : AreSpent ps start) (one : IsAttemptJudged kept t next) where
+    -- it is spent in the book of each text that the store may hold while it saves a text of the book with the attempt
+    pub text_within_save_keeps_told_counters : (store : StoreFacts) → ((text : List ℕ) → MayHold store text → IsTextLeft kept text)
+        → (asked text : List ℕ) → IsBookText asked next → MayHoldWithinSave store asked text
+        → (saved : BookFields) × IsBookText text saved × AreSpent (spent_by_all (reverse told) ++ ps) saved
+    text_within_save_keeps_told_counters store left asked text is_text (inl holds) =
+        left_text_keeps_told_counters text spent (left text holds)
+    text_within_save_keeps_told_counters store left asked text is_text (inr same) =
+        left_text_keeps_told_counters text spent (next, inr (t, one), subst (λ (x : List ℕ). IsBookText x next) (sym same) is_text)
+
+    -- it is spent in the book with the attempt, and so is what the attempt used
+    pub next_book_keeps_told_counters : AreSpent (spent_by t ++ (spent_by_all (reverse told) ++ ps)) next
+    next_book_keeps_told_counters =
+        attempt_spends_counters itself stays kept next t one (spent_by_all (reverse told) ++ ps) (spends ps spent)
 
 -- a desk that has answered these calls
 module _ {S : Type 0} {facts : S → StoreFacts} {IsStored : List ℕ → Type 0} {start : BookFields} {calls : List Call} {desk : Desk S}
@@ -123,10 +134,20 @@ module _ {S : Type 0} {facts : S → StoreFacts} {IsStored : List ℕ → Type 0
   told_counters_are_saved_ended itself stays ps text spent holds =
       left_text_keeps_told_counters itself stays start desk.keeper.book s.told s.spent ps text spent (desk_text_may_be_left text holds)
 
-  -- the law, within a call: in the desk's book with one more attempt, what was spent before the run is spent, and so is each counter
-  -- that a reply used
+  -- the law, within a call: in each book whose text the store may hold while it saves a text of the desk's book with one more attempt,
+  -- what was spent before the run is spent, and so is each counter that a reply used
   pub told_counters_are_saved_within : BeginsWithItself → SpentStaysSpent → (ps : List (List ℕ × ℕ)) (t : LoggedAttempt)
+      (next : BookFields) (asked text : List ℕ) → AreSpent ps start → IsAttemptJudged desk.keeper.book t next → IsBookText asked next
+      → MayHoldWithinSave (facts desk.keeper.store) asked text
+      → (saved : BookFields) × IsBookText text saved × AreSpent (spent_by_all (reverse s.told) ++ ps) saved
+  told_counters_are_saved_within itself stays ps t next asked text spent one =
+      text_within_save_keeps_told_counters itself stays start desk.keeper.book s.told s.spent ps t next spent one (facts desk.keeper.store)
+      desk_text_may_be_left asked text
+
+  -- the law, of the book that is saved: in the desk's book with one more attempt, what was spent before the run is spent, and so is each
+  -- counter that a reply used, and each that the attempt used
+  pub told_counters_are_saved_next : BeginsWithItself → SpentStaysSpent → (ps : List (List ℕ × ℕ)) (t : LoggedAttempt)
       (next : BookFields) → AreSpent ps start → IsAttemptJudged desk.keeper.book t next
-      → AreSpent (spent_by_all (reverse s.told) ++ ps) next
-  told_counters_are_saved_within itself stays =
+      → AreSpent (spent_by t ++ (spent_by_all (reverse s.told) ++ ps)) next
+  told_counters_are_saved_next itself stays =
       next_book_keeps_told_counters itself stays start desk.keeper.book s.told s.spent

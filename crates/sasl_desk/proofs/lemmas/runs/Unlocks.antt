@@ -109,7 +109,7 @@ unlock_keeps_spent_counter apart fresh old new name None has changed other count
     let same : new ≡ old = rw has at changed in subst (λ (b : BookFields). IsCounterSpent b other counter) (sym same) used
 unlock_keeps_spent_counter apart fresh old new name (Some token) has changed other counter used =
     let is = rw has at changed in
-    subst (λ (b : BookFields). IsCounterSpent b other counter) (sym is.book)
+    subst (λ (b : BookFields). IsCounterSpent b other counter) (sym is)
     (unlocked_token_keeps_spent_counter apart fresh old name token has other counter used)
 
 -- what was spent stays spent when a token is unlocked
@@ -148,6 +148,6 @@ pub addition_keeps_spent_counters : AddedIsApart → (old new : BookFields) (nam
 addition_keeps_spent_counters apart old new name account ps is spent = record {
   different = spent.different;
   spent = each_follows (λ p. IsCounterSpent old p.0 p.1) (λ p. IsCounterSpent new p.0 p.1)
-      (λ p used. subst (λ (b : BookFields). IsCounterSpent b p.0 p.1) (sym is.added.book)
+      (λ p used. subst (λ (b : BookFields). IsCounterSpent b p.0 p.1) (sym is.added)
       (addition_keeps_spent_counter apart old name account is.free p.0 p.1 used)) ps spent.spent;
 }

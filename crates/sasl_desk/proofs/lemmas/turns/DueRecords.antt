@@ -2,8 +2,9 @@
 use Rattle.std.proofs.Common.{◌≡◌, true, refl, sym, subst}
 use Rattle.log_grammar.specs.Lines.{heard, bad, gone, ClientLine, auth, auth_with, resp, abort, code, sync}
 use Rattle.log_grammar.specs.Places.{Place, offered, waits_first, waits_final, waits_code, leaving, over}
-use Rattle.log_grammar.specs.Demands.{Demands, demands}
+use Rattle.log_grammar.specs.Demands.{Demands, demands, no_demands}
 use Rattle.log_grammar.specs.state_machine.Steps.{IsTransition}
+use Rattle.sasl_desk.specs.Sessions.{MayBeHeard}
 use Rattle.sasl_desk.specs.DueLines.{is_client_turn, is_due, place_after_line, DueLinesStand, BadLinesStand, GoneClientsStand}
 
 -- a line that is due may stand, and leads to the place after it
@@ -46,6 +47,14 @@ standing_client_line_is_due d (code text) (waits_code account) next goes = (refl
 standing_client_line_is_due d (code text) at next goes = absurd goes
 standing_client_line_is_due d (sync one two) (waits_code account) next goes = (refl, goes)
 standing_client_line_is_due d (sync one two) at next goes = absurd goes
+
+-- a line that is due may be heard
+pub due_line_may_be_heard : (at : Place) (line : ClientLine) → is_due at line ≡ true → MayBeHeard at line
+due_line_may_be_heard at line due = (place_after_line at line, due_line_may_stand no_demands line at due)
+
+-- a line that may be heard is due
+pub heard_line_is_due : (at : Place) (line : ClientLine) → MayBeHeard at line → is_due at line ≡ true
+heard_line_is_due at line (next, goes) = (standing_client_line_is_due no_demands line at next goes).0
 
 -- `C BAD` may stand when it is the client's turn
 pub bad_may_stand : (d : Demands) (at : Place) → is_client_turn at ≡ true → IsTransition d at bad leaving

@@ -1,17 +1,19 @@
 -- What is recorded of a line, and what came of it, is recorded of the event by which the line was sent, and came of that event.
-use Rattle.std.proofs.Common.{◌≡◌, true, false, ℕ, List, refl, sym, subst, arith}
+use Rattle.std.proofs.Common.{◌≡◌, true, false, ℕ, List, refl, sym, ◌∙◌, subst, arith}
+use Rattle.std.proofs.lemmas.Bool.{false≢true}
 use Rattle.log_grammar.specs.laws.LineLaws.{EachTextIsAtMostOneLine}
 use Rattle.otp_core.specs.Attempt.{CodeTexts, one_text, two_texts}
 use Rattle.log_grammar.specs.Lines.{LogLine, heard, bad, ClientLine, code_line, from_client, IsLine}
 use Rattle.log_grammar.specs.Places.{Place}
 use Rattle.log_grammar.specs.Demands.{Accounts}
 use Rattle.sasl_desk.specs.Events.{ClientEvent, sends, goes_away}
-use Rattle.otp_core.specs.Sent.{texts_of}
+use Rattle.otp_core.specs.SentCodes.{texts_of}
 use Rattle.sasl_desk.specs.DueLines.{is_due}
 use Rattle.sasl_desk.specs.Sessions.{IsLineOf, IsRecord, IsRecordOfLine, ComesOfEvent, ComesOfLine, TakesMemory, JudgesOnlyLine}
 use Rattle.sasl_desk.specs.Sessions.{JudgesOnlyWhatWasSent, SentWhatTakesMemory, LongTextsAreBad}
 use Rattle.sasl_desk.specs.declared.session.event.HearResult.{HearResult}
 use Rattle.sasl_desk.specs.declared.session.event.HearResult.TheVariants.{Answered, ToJudge}
+use Rattle.sasl_desk.proofs.lemmas.turns.DueRecords.{due_line_may_be_heard, heard_line_is_due}
 
 -- two lines of a client are the same if they are the same as lines of the protocol
 pub from_client_is_injective : (one other : ClientLine) → from_client one ≡ from_client other → one ≡ other
@@ -24,11 +26,11 @@ pub line_record_is_event_record : EachTextIsAtMostOneLine → (event : ClientEve
 line_record_is_event_record once goes_away line at recorded is kept = absurd is
 line_record_is_event_record once (sends text) line at (heard recorded) is kept = (
   subst (λ (l : ClientLine). IsLine text (from_client l)) (sym kept.0) is,
-  subst (λ (l : ClientLine). is_due at l ≡ true) (sym kept.0) kept.1,
+  due_line_may_be_heard at recorded (subst (λ (l : ClientLine). is_due at l ≡ true) (sym kept.0) kept.1),
 )
-line_record_is_event_record once (sends text) line at bad is kept = λ other also.
-    subst (λ (l : ClientLine). is_due at l ≡ false) (from_client_is_injective line other
-    (once text (from_client line) (from_client other) is also)) kept
+line_record_is_event_record once (sends text) line at bad is kept = λ other also may_be_heard.
+    let same = from_client_is_injective line other (once text (from_client line) (from_client other) is also) in
+    false≢true (sym (subst (λ (l : ClientLine). is_due at l ≡ false) same kept) ∙ heard_line_is_due at other may_be_heard)
 line_record_is_event_record once (sends text) line at recorded is kept = absurd kept
 
 -- what came of a line of the client came of the event that was this line

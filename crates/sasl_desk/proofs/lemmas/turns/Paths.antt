@@ -7,19 +7,19 @@ use Rattle.otp_core.specs.Attempt.{CodeTexts}
 use Rattle.otp_core.specs.declared.token.reply.Reply.{Reply}
 use Rattle.log_grammar.specs.Lines.{LogLine, said, heard, bad, gone, replies, code_line}
 use Rattle.log_grammar.specs.LoggedAttempt.{LoggedAttempt, logged_attempt_of}
-use Rattle.log_grammar.specs.Places.{Place, got_code, between, offered, waits_first, waits_final, waits_code, halted}
+use Rattle.log_grammar.specs.Places.{Place, got_code, between, offered, waits_first, waits_final, waits_code, over, halted}
 use Rattle.log_grammar.specs.Demands.{Accounts, Demands, demands, HaveDueReplies, HasDueReply}
 use Rattle.log_grammar.specs.state_machine.Steps.{IsTransition, told_at}
 use Rattle.log_grammar.specs.Begins.{Begins}
 use Rattle.log_grammar.proofs.lemmas.state_machine.Shortening.{code_may_stand}
 use Rattle.sasl_desk.specs.Events.{ClientEvent, sends, goes_away}
-use Rattle.sasl_desk.specs.DueLines.{is_client_turn, place_after_record, IsPath}
-use Rattle.sasl_desk.specs.Sessions.{IsSessionAt, IsRecord, IsTurnOnEvent, recorded_shown, turn_lines, IsLeftAt}
+use Rattle.sasl_desk.specs.DueLines.{is_client_turn, place_after_record}
+use Rattle.sasl_desk.specs.Sessions.{IsSessionAt, IsRecord, IsPath, IsTurnOnEvent, recorded_shown, turn_lines, IsLeftAt}
 use Rattle.sasl_desk.specs.declared.session.Session.{Session}
 use Rattle.sasl_desk.specs.declared.session.Session.TheVariants.{WaitAuth, WaitFirst, WaitFinal, WaitCode}
 use Rattle.sasl_desk.specs.declared.session.event.Turn.{Turn}
 use Rattle.sasl_desk.proofs.lemmas.turns.AnswerLines.{answer_lines_have}
-use Rattle.sasl_desk.proofs.lemmas.turns.DueRecords.{due_line_may_stand, bad_may_stand, gone_may_stand}
+use Rattle.sasl_desk.proofs.lemmas.turns.DueRecords.{due_line_may_stand, heard_line_is_due, bad_may_stand, gone_may_stand}
 use Rattle.std.specs.declared.option.Option.{Option}
 use Rattle.std.specs.declared.option.Option.TheVariants.{None, Some}
 use Rattle.sasl_desk.specs.Runs.{IsAtRest}
@@ -36,10 +36,10 @@ session_has_client_turn accounts at (WaitCode name) is = rw is refl
 pub client_turn_rests : (at : Place) → is_client_turn at ≡ true → IsAtRest at
 client_turn_rests between turn = tt
 client_turn_rests halted turn = tt
-client_turn_rests offered turn = refl
-client_turn_rests (waits_first mechanism) turn = refl
-client_turn_rests (waits_final mechanism account first challenge) turn = refl
-client_turn_rests (waits_code account) turn = refl
+client_turn_rests offered turn = (over, refl)
+client_turn_rests (waits_first mechanism) turn = (over, refl)
+client_turn_rests (waits_final mechanism account first challenge) turn = (over, refl)
+client_turn_rests (waits_code account) turn = (over, refl)
 client_turn_rests at turn = absurd (cc turn)
 
 -- where a session is left, whether it goes on or is over, nothing is left to be said
@@ -57,7 +57,7 @@ left_place_is_not_halted accounts at (Some going) is same =
 pub record_may_stand : (d : Demands) (at : Place) (event : ClientEvent) (recorded : LogLine) → is_client_turn at ≡ true
     → IsRecord event at recorded
     → IsTransition d at recorded (place_after_record at recorded)
-record_may_stand d at (sends text) (heard line) turn is = due_line_may_stand d line at is.1
+record_may_stand d at (sends text) (heard line) turn is = due_line_may_stand d line at (heard_line_is_due at line is.1)
 record_may_stand d at (sends text) bad turn is = bad_may_stand d at turn
 record_may_stand d at goes_away gone turn is = gone_may_stand d at turn
 record_may_stand d at event recorded turn is = absurd is

@@ -4,15 +4,14 @@ use Rattle.std.specs.declared.option.Option.{Option}
 use Rattle.otp_core.specs.Attempt.{CodeTexts}
 use Rattle.otp_core.specs.declared.token.reply.Reply.{Reply}
 use Rattle.log_grammar.specs.Lines.{said, heard, replies, halt, code_line}
-use Rattle.log_grammar.specs.Places.{Place, waits_code, got_code, halted}
+use Rattle.log_grammar.specs.Places.{Place, waits_code, got_code, over, halted}
 use Rattle.log_grammar.specs.Demands.{Accounts, demands}
 use Rattle.log_grammar.proofs.lemmas.state_machine.Shortening.{code_may_stand}
-use Rattle.sasl_desk.specs.DueLines.{IsPath}
 use Rattle.sasl_desk.specs.Events.{ClientEvent}
 use Rattle.sasl_desk.specs.Runs.{BearsMoment, IsAnswerLine, IsTurnTaken}
-use Rattle.sasl_desk.specs.Sessions.{IsSessionAt, IsCodeDue, IsTurnOnEvent, IsChallengeWith, recorded_shown, lines_of_answer, turn_lines}
+use Rattle.sasl_desk.specs.Sessions.{IsSessionAt, IsPath, IsCodeDue, IsTurnOnEvent, IsChallengeWith, recorded_shown, lines_of_answer, turn_lines}
 use Rattle.sasl_desk.specs.TurnResults.{judged_lines}
-use Rattle.sasl_desk.specs.declared.keeper.CodeJudged.TheVariants.{Replied, NotSaved}
+use Rattle.book_keeper.specs.declared.keeper.CodeJudged.TheVariants.{Replied, NotSaved}
 use Rattle.sasl_desk.specs.declared.session.Session.{Session}
 use Rattle.sasl_desk.specs.declared.session.event.Turn.{Turn}
 use Rattle.sasl_desk.proofs.lemmas.turns.AnswerLines.{answer_lines_have}
@@ -48,7 +47,7 @@ module _ (accounts : Accounts) (server_nonce : List ℕ) (event : ClientEvent) (
     answers = (tt, tt);
     path = subst (λ (p : Place). IsPath (demands accounts) p (judged_lines moment sent (Replied reply)) (waits_code name)) (sym due.place)
         (got_code name sent, code_may_stand name sent, (waits_code name, refl, refl));
-    rests = refl;
+    rests = (over, refl);
     challenge = tt;
     plain = (tt, tt);
     moments = (refl, tt);

@@ -1,5 +1,5 @@
 use Rattle.std.proofs.Common.{arith}
-use Rattle.scram_text.specs.Limits.{longest_tag}
+use Rattle.scram_text.specs.Limits.{max_tag_len}
 use Rattle.scram_text.proofs.lemmas.Base64.{bytes_are_field}
 use Rattle.scram_ends.proofs.lemmas.Written.{signature_can_be_written, signature_fits}
 use Rattle.scram_ends.proofs.write.write_signature.Goals as goal
@@ -8,7 +8,7 @@ pub returns-clause-unwritable : goal.returns-clause-unwritable
 returns-clause-unwritable g c = λ refused.
     let signature = c.args.signature.now in
     let can = signature_can_be_written signature
-    (bytes_are_field longest_tag signature (λ i. omega (arith, c.type_inv.signature i)) c.requires.some c.requires.most) in
+    (bytes_are_field max_tag_len signature (λ i. omega (arith, c.type_inv.signature i)) c.requires.some c.requires.most) in
     c.write_server_final.ensures.unwritable refused (rw c.copy_of.ensures can)
 
 pub returns-clause-over_limit : goal.returns-clause-over_limit

@@ -3,7 +3,7 @@ use Rattle.std.proofs.Common.{◌≡◌, ℕ, ◌≤◌, List, [], ◌∷◌, �
 use Rattle.std.specs.Prelude.{codes}
 use Rattle.std.specs.Str.{byte}
 use Rattle.base64.specs.GeneralPurpose.{IsBytes}
-use Rattle.scram_text.specs.Limits.{longest_message, longest_nonce, longest_tag}
+use Rattle.scram_text.specs.Limits.{max_message_len, max_nonce_len, max_tag_len}
 use Rattle.scram_text.specs.Class.{IsUtf8Text}
 use Rattle.scram_text.specs.Base64Field.{base64, IsField}
 use Rattle.scram_text.specs.Messages.{ClientFinalParts, client_final_without_proof, client_final_text, IsClientFinal}
@@ -34,7 +34,7 @@ pub without_proof_is_text : (channel nonce extensions proof : List ℕ) → IsBy
 without_proof_is_text channel nonce extensions proof bytes can =
     let lead = IsUtf8Text-append (codes "c=") (base64 channel) (plain_is_text (codes "c=") refl) (base64_is_text channel bytes) in
     let middle = IsUtf8Text-append _ nonce (IsUtf8Text-append _ (codes ",r=") lead (plain_is_text (codes ",r=") refl))
-    (nonce_is_text longest_nonce nonce can.nonce_class) in
+    (nonce_is_text max_nonce_len nonce can.nonce_class) in
     subst IsUtf8Text (pieces_compose_without_proof channel nonce extensions proof)
     (IsUtf8Text-append _ (after_comma extensions) middle (after_comma_is_text extensions can.extensions_class.utf8_text))
 
@@ -55,13 +55,13 @@ with_proof_is_text p front bytes =
 -- what was written before the proof, with the proof, is a client-final message, if it is within the limit
 pub with_proof_is_client_final : (w : ClientFinalWithoutProof) (p : ClientFinalParts) (proof : List ℕ) → IsClientFinalWithoutProof w p
     → p.proof ≡ proof
-    → IsBytes proof → IsField longest_tag proof → length (client_final_text p) ≤ longest_message → IsClientFinal (client_final_text p) p
+    → IsBytes proof → IsField max_tag_len proof → length (client_final_text p) ≤ max_message_len → IsClientFinal (client_final_text p) p
 with_proof_is_client_final w p proof is same bytes field short = record {
   spelled = refl;
   channel = is.channel;
   nonce = is.nonce;
   extensions = is.extensions;
-  proof = subst (IsField longest_tag) (sym same) field;
+  proof = subst (IsField max_tag_len) (sym same) field;
   utf8_text = with_proof_is_text p is.utf8_text (subst IsBytes (sym same) bytes);
   short = short;
 }
@@ -81,7 +81,7 @@ with_proof_is_no_shorter channel nonce extensions proof =
 -- the text of what can be written as client-final is a client-final message, if it is within the limit
 pub written_is_client_final : (channel nonce extensions proof : List ℕ) → IsBytes channel → IsBytes proof
     → CanBeClientFinal channel nonce extensions proof
-    → length (client_final_text (client_final_of channel nonce extensions proof)) ≤ longest_message
+    → length (client_final_text (client_final_of channel nonce extensions proof)) ≤ max_message_len
     → IsClientFinal (client_final_text (client_final_of channel nonce extensions proof)) (client_final_of channel nonce extensions proof)
 written_is_client_final channel nonce extensions proof channel_bytes proof_bytes can short = record {
   spelled = refl;

@@ -4,7 +4,7 @@ use Rattle.std.specs.Prelude.{codes, option_map, IfSome}
 use Rattle.std.specs.declared.option.Option.{Option}
 use Rattle.std.specs.declared.option.Option.TheVariants.{None, Some}
 use Rattle.std.specs.Str.{byte}
-use Rattle.scram_text.specs.Limits.{longest_message, longest_nonce_part}
+use Rattle.scram_text.specs.Limits.{max_message_len, max_nonce_part_len}
 use Rattle.scram_text.specs.Class.{IsUtf8Text, IsPlainName, IsNoncePart}
 use Rattle.scram_text.specs.Name.{IsSaslName, name_spelling}
 use Rattle.scram_text.specs.Parts.{is_flag, authzid_text}
@@ -58,7 +58,7 @@ flag_is_text (Binding name) is = IsUtf8Text-append (codes "p=") name.now (plain_
 -- the text of what can be written as client-first is a client-first message, if it is within the limit
 pub written_is_client_first : (flag : Flag) (authzid : Option (List ℕ)) (name nonce extensions : List ℕ)
     → IfSome authzid IsPlainName → IsPlainName name → IsNoncePart nonce → CanBeClientFirst flag extensions
-    → length (client_first_text (client_first_of flag authzid name nonce extensions)) ≤ longest_message
+    → length (client_first_text (client_first_of flag authzid name nonce extensions)) ≤ max_message_len
     → IsClientFirst (client_first_text (client_first_of flag authzid name nonce extensions))
     (client_first_of flag authzid name nonce extensions)
 written_is_client_first flag authzid name nonce extensions is_authzid is_name is_nonce can short =
@@ -67,7 +67,7 @@ written_is_client_first flag authzid name nonce extensions is_authzid is_name is
     let named = IsUtf8Text-append _ (name_spelling name) (IsUtf8Text-append _ (codes ",n=") authorised (plain_is_text (codes ",n=") refl))
     (spelling_is_text name is_name.each) in
     let fresh = IsUtf8Text-append _ nonce (IsUtf8Text-append _ (codes ",r=") named (plain_is_text (codes ",r=") refl))
-    (nonce_is_text longest_nonce_part nonce is_nonce) in
+    (nonce_is_text max_nonce_part_len nonce is_nonce) in
     let whole = IsUtf8Text-append _ (after_comma extensions) fresh (after_comma_is_text extensions can.extensions_class.utf8_text) in
     record {
       spelled = refl;

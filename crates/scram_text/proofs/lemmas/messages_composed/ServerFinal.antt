@@ -2,7 +2,7 @@
 use Rattle.std.proofs.Common.{◌≡◌, ℕ, ◌≤◌, List, ◌++◌, length, refl, sym, subst}
 use Rattle.std.specs.Prelude.{codes}
 use Rattle.base64.specs.GeneralPurpose.{IsBytes}
-use Rattle.scram_text.specs.Limits.{longest_message}
+use Rattle.scram_text.specs.Limits.{max_message_len}
 use Rattle.scram_text.specs.Class.{IsUtf8Text}
 use Rattle.scram_text.specs.Base64Field.{base64}
 use Rattle.scram_text.specs.Messages.{VerifierOrError, verifier, server_error, verifier_or_error_text, IsVerifierOrError, server_final_text}
@@ -34,7 +34,7 @@ writable_outcome_is_outcome (server_error value) can = can.0
 
 -- the text of what can be written as server-final is a server-final message, if it is within the limit
 pub written_is_server_final : (outcome : VerifierOrError) (extensions : List ℕ) → IsUtf8Text (verifier_or_error_text outcome)
-    → CanBeServerFinal outcome extensions → length (server_final_text (server_final_of outcome extensions)) ≤ longest_message
+    → CanBeServerFinal outcome extensions → length (server_final_text (server_final_of outcome extensions)) ≤ max_message_len
     → IsServerFinal (server_final_text (server_final_of outcome extensions)) (server_final_of outcome extensions)
 written_is_server_final outcome extensions told can short =
     let whole = IsUtf8Text-append _ (after_comma extensions) told (after_comma_is_text extensions can.extensions_class.utf8_text) in

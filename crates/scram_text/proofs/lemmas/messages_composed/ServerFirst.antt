@@ -3,7 +3,7 @@ use Rattle.std.proofs.Common.{◌≡◌, ℕ, ◌≤◌, List, ◌∷◌, ◌++�
 use Rattle.std.specs.Prelude.{codes, decimal}
 use Rattle.std.specs.Str.{byte}
 use Rattle.base64.specs.GeneralPurpose.{IsBytes}
-use Rattle.scram_text.specs.Limits.{longest_message, longest_nonce}
+use Rattle.scram_text.specs.Limits.{max_message_len, max_nonce_len}
 use Rattle.scram_text.specs.Class.{IsUtf8Text}
 use Rattle.scram_text.specs.Base64Field.{base64}
 use Rattle.scram_text.specs.Messages.{server_first_text, IsServerFirst}
@@ -30,10 +30,10 @@ pieces_compose_server_first nonce salt count extensions =
 -- the text of what can be written as server-first is a server-first message, if it is within the limit
 pub written_is_server_first : (nonce salt : List ℕ) (count : ℕ) (extensions : List ℕ) → IsBytes salt
     → CanBeServerFirst nonce salt count extensions
-    → length (server_first_text (server_first_of nonce salt count extensions)) ≤ longest_message
+    → length (server_first_text (server_first_of nonce salt count extensions)) ≤ max_message_len
     → IsServerFirst (server_first_text (server_first_of nonce salt count extensions)) (server_first_of nonce salt count extensions)
 written_is_server_first nonce salt count extensions bytes can short =
-    let lead = IsUtf8Text-append (codes "r=") nonce (plain_is_text (codes "r=") refl) (nonce_is_text longest_nonce nonce can.nonce_class) in
+    let lead = IsUtf8Text-append (codes "r=") nonce (plain_is_text (codes "r=") refl) (nonce_is_text max_nonce_len nonce can.nonce_class) in
     let salted = IsUtf8Text-append _ (base64 salt) (IsUtf8Text-append _ (codes ",s=") lead (plain_is_text (codes ",s=") refl))
     (base64_is_text salt bytes) in
     let counted = IsUtf8Text-append _ (decimal count) (IsUtf8Text-append _ (codes ",i=") salted (plain_is_text (codes ",i=") refl))

@@ -5,7 +5,7 @@ use Rattle.std.specs.declared.option.Option.{Option}
 use Rattle.std.proofs.lemmas.List.Splits.{join_with_byte-slice_split}
 use Rattle.std.specs.Str.{byte}
 use Rattle.mac_core.proofs.lemmas.Decided.{Decided, decided_equivalent}
-use Rattle.scram_text.specs.Limits.{longest_message, longest_nonce_part}
+use Rattle.scram_text.specs.Limits.{max_message_len, max_nonce_part_len}
 use Rattle.scram_text.specs.Class.{IsNonce, IsUtf8Text}
 use Rattle.scram_text.specs.Name.{IsSaslName}
 use Rattle.scram_text.specs.Parts.{parts, joined, authzid_text, mext_parts, AreExtensions}
@@ -33,17 +33,17 @@ joined-client_first_parts p =
 
 -- parts of a bare message that fit are its name, its nonce and extensions, after a mandatory one if there is one
 fitting_rest_is_bare : (pieces rest : List (List ℕ)) (mext : Option (List ℕ)) → IsMextAndRest pieces rest mext → 2 ≤ length rest
-    → AllFit longest_nonce_part (places (Name ∷ Nonce ∷ []) [] (length rest)) rest
+    → AllFit max_nonce_part_len (places (Name ∷ Nonce ∷ []) [] (length rest)) rest
     → (name : List ℕ) × (nonce : List ℕ) × (extensions : List (List ℕ))
     × (pieces ≡ mext_parts mext ++ ((codes "n=" ++ name) ∷ (codes "r=" ++ nonce) ∷ extensions))
-    × IsSaslName name × IsNonce longest_nonce_part nonce × AreExtensions extensions
+    × IsSaslName name × IsNonce max_nonce_part_len nonce × AreExtensions extensions
 fitting_rest_is_bare pieces [] mext marked enough fit = absurd (omega (arith, enough))
 fitting_rest_is_bare pieces (name ∷ []) mext marked enough fit = absurd (omega (arith, enough))
 fitting_rest_is_bare pieces (name ∷ nonce ∷ extensions) mext marked enough fit =
-    let placed = subst (λ (ps : List TextWhy). AllFit longest_nonce_part ps (name ∷ nonce ∷ extensions))
+    let placed = subst (λ (ps : List TextWhy). AllFit max_nonce_part_len ps (name ∷ nonce ∷ extensions))
     (first_later_places name nonce extensions) fit in
-    let first = first_part_fits longest_nonce_part Name _ name _ placed in
-    let second = first_part_fits longest_nonce_part Nonce _ nonce _ first.1 in
+    let first = first_part_fits max_nonce_part_len Name _ name _ placed in
+    let second = first_part_fits max_nonce_part_len Nonce _ nonce _ first.1 in
     let (name_text, name_is, name_class) = first.0 in
     let (nonce_text, nonce_is, nonce_class) = second.0 in
     let later : name ∷ nonce ∷ extensions ≡ (codes "n=" ++ name_text) ∷ (codes "r=" ++ nonce_text) ∷ extensions = cc
@@ -56,23 +56,23 @@ fitting_rest_is_bare pieces (name ∷ nonce ∷ extensions) mext marked enough f
           ++ ps) later,
       name_class,
       nonce_class,
-      fitting_are_extensions longest_nonce_part extensions second.1,
+      fitting_are_extensions max_nonce_part_len extensions second.1,
     )
 
 -- a short text with a header and a bare message whose parts fit is client-first
 fitting_bare_is_client_first : (text flag authzid : List ℕ) (bare : List (List ℕ)) → parts text ≡ flag ∷ authzid ∷ bare
-    → length text ≤ longest_message → IsUtf8Text text
+    → length text ≤ max_message_len → IsUtf8Text text
     → length (places_with_mext bare (Name ∷ Nonce ∷ [])) ≤ length bare
-    → AllFit longest_nonce_part (places (Flag ∷ Authzid ∷ places_with_mext bare (Name ∷ Nonce ∷ [])) [] (length (flag ∷ authzid ∷ bare)))
+    → AllFit max_nonce_part_len (places (Flag ∷ Authzid ∷ places_with_mext bare (Name ∷ Nonce ∷ [])) [] (length (flag ∷ authzid ∷ bare)))
     (flag ∷ authzid ∷ bare)
     → (p : ClientFirstParts) × IsClientFirst text p
 fitting_bare_is_client_first text flag authzid bare cut short utf8_text enough fit =
-    let placed = subst (λ (ps : List TextWhy). AllFit longest_nonce_part ps (flag ∷ authzid ∷ bare))
+    let placed = subst (λ (ps : List TextWhy). AllFit max_nonce_part_len ps (flag ∷ authzid ∷ bare))
     (header_places_unfold (places_with_mext bare (Name ∷ Nonce ∷ [])) (length bare)) fit in
-    let first = first_part_fits longest_nonce_part Flag _ flag _ placed in
-    let second = first_part_fits longest_nonce_part Authzid _ authzid _ first.1 in
+    let first = first_part_fits max_nonce_part_len Flag _ flag _ placed in
+    let second = first_part_fits max_nonce_part_len Authzid _ authzid _ first.1 in
     let (spelled, authzid_is, authzid_class) = second.0 in
-    let (mext, rest, marked, some, later) = some_mext_and_rest longest_nonce_part 2 (Name ∷ Nonce ∷ []) bare refl enough second.1 in
+    let (mext, rest, marked, some, later) = some_mext_and_rest max_nonce_part_len 2 (Name ∷ Nonce ∷ []) bare refl enough second.1 in
     let (name, nonce, extensions, bare_is, name_class, nonce_class, are) = fitting_rest_is_bare bare rest mext marked some later in
     let p : ClientFirstParts = record {
       flag = flag;
@@ -98,10 +98,10 @@ fitting_bare_is_client_first text flag authzid bare cut short utf8_text enough f
     )
 
 -- a short text with enough parts, which fit those of client-first, is one
-fitting_text_is_client_first : (text : List ℕ) (pieces : List (List ℕ)) → parts text ≡ pieces → length text ≤ longest_message
+fitting_text_is_client_first : (text : List ℕ) (pieces : List (List ℕ)) → parts text ≡ pieces → length text ≤ max_message_len
     → IsUtf8Text text
     → length (client_first_places pieces) ≤ length pieces
-    → AllFit longest_nonce_part (places (client_first_places pieces) [] (length pieces)) pieces
+    → AllFit max_nonce_part_len (places (client_first_places pieces) [] (length pieces)) pieces
     → (p : ClientFirstParts) × IsClientFirst text p
 fitting_text_is_client_first text [] cut short utf8_text enough fit = absurd (omega (arith, enough))
 fitting_text_is_client_first text (flag ∷ []) cut short utf8_text enough fit = absurd (omega (arith, enough))
@@ -110,7 +110,7 @@ fitting_text_is_client_first text (flag ∷ authzid ∷ bare) cut short utf8_tex
 
 -- a text is short, and has enough parts, all of which fit those of client-first
 abbrev FitsClientFirst : List ℕ → Type 0
-FitsClientFirst text = IsFittingText longest_nonce_part (length (client_first_places (parts text)))
+FitsClientFirst text = IsFittingText max_nonce_part_len (length (client_first_places (parts text)))
     (places (client_first_places (parts text)) [] (length (parts text))) text
 
 -- a client-first message is a short text with enough parts, all of which fit
@@ -121,7 +121,7 @@ client_first_is_fitting text p is =
       short = is.short;
       utf8_text = is.utf8_text;
       enough = subst (λ (ps : List (List ℕ)). length (client_first_places ps) ≤ length ps) (sym cut) (omega (arith, lengths.0, lengths.1));
-      fit = subst (λ (ps : List (List ℕ)). AllFit longest_nonce_part (places (client_first_places ps) [] (length ps)) ps) (sym cut)
+      fit = subst (λ (ps : List (List ℕ)). AllFit max_nonce_part_len (places (client_first_places ps) [] (length ps)) ps) (sym cut)
           (client_first_parts_fit p.flag (authzid_text p.authzid) (bare_parts p) is.flag (p.authzid, refl, is.authzid)
           (bare_parts_fit p is.mext is.name is.nonce is.extensions));
     }
@@ -131,7 +131,7 @@ decided_client_first : (text : List ℕ) → Decided ((p : ClientFirstParts) × 
 decided_client_first text =
     decided_equivalent (FitsClientFirst text) ((p : ClientFirstParts) × IsClientFirst text p)
     (λ r. fitting_text_is_client_first text (parts text) refl r.short r.utf8_text r.enough r.fit)
-    (λ (p, is). client_first_is_fitting text p is) (decided_fitting_text longest_nonce_part _ _ text)
+    (λ (p, is). client_first_is_fitting text p is) (decided_fitting_text max_nonce_part_len _ _ text)
 
 -- the law: it is decidable whether a text is client-first
 pub client_first_is_decided : ClientFirstIsDecided

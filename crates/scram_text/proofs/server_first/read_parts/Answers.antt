@@ -2,7 +2,7 @@ use Rattle.std.proofs.Common.{refl}
 use Rattle.std.specs.Option.{option_copied}
 use Rattle.std.proofs.lemmas.Result.{err_from_is_err_and}
 use Rattle.std.specs.Str.{byte}
-use Rattle.scram_text.specs.Limits.{longest_salt}
+use Rattle.scram_text.specs.Limits.{max_salt_len}
 use Rattle.scram_text.specs.Parts.{parts_of_some}
 use Rattle.scram_text.specs.Messages.{ServerFirstParts}
 use Rattle.scram_text.proofs.lemmas.Places.{field_part_spells_field}
@@ -26,7 +26,7 @@ returns-in_default-count_of-clause-fault c =
     let cut = c.in_ok-pieces.ensures.cut in
     unfit_count_is_fault c.args.message.now _ _ _ _ cut.mext _ cut.short cut.utf8_text cut.mext_and_rest cut.index
     (c.in-Some.nonce.now, c.in-Some.ensures.spelled, c.in-Some.ensures.class)
-    (field_part_spells_field (byte "s") longest_salt _ _ c.in-Some-salt_of.ensures.spelled c.in-Some-salt_of.ensures.class)
+    (field_part_spells_field (byte "s") max_salt_len _ _ c.in-Some-salt_of.ensures.spelled c.in-Some-salt_of.ensures.class)
     c.in_default-count_of.ensures.none
 
 pub returns-in_err-extensions-clause-fault : goal.returns-in_err-extensions-clause-fault
@@ -35,7 +35,7 @@ returns-in_err-extensions-clause-fault c =
     let p = err_from_is_err_and c.from_residual-in_err-extensions.result c.from_residual-in_err-extensions.ensures.1 in
     rw (p.1, p.2) (extension_misfit_is_fault c.args.message.now _ _ _ _ cut.mext _ cut.short cut.utf8_text cut.mext_and_rest cut.index _
     (c.in-Some.nonce.now, c.in-Some.ensures.spelled, c.in-Some.ensures.class)
-    (field_part_spells_field (byte "s") longest_salt _ _ c.in-Some-salt_of.ensures.spelled c.in-Some-salt_of.ensures.class)
+    (field_part_spells_field (byte "s") max_salt_len _ _ c.in-Some-salt_of.ensures.spelled c.in-Some-salt_of.ensures.class)
     (_, c.in-Some-count_of.ensures.spelled, (c.in-Some-count_of.count, refl, c.in-Some-count_of.ensures.class))
     c.in_err-extensions.ensures.fault)
 

@@ -1,9 +1,8 @@
-use Rattle.std.proofs.Common.{rules, ◌≤◌, length, lit≤, sym, subst}
+use Rattle.std.proofs.Common.{◌≤◌, length, lit≤, sym, subst}
 use Rattle.mac_core.specs.Mechanism.{length_by}
 use Rattle.mac_core.specs.declared.mechanism.Mechanism.TheVariants.{ScramSha1, ScramSha256}
-use Rattle.book_format.specs.Account.{AreKeys, most_names}
+use Rattle.book_format.specs.Account.{AreKeys, max_names}
 use Rattle.account_book.proofs.lemmas.Ranges.{insertion_keeps_ranges, fact_holds_for_some}
-use Rattle.account_book.proofs.lemmas.Maps.{account_is_added}
 use Rattle.account_book.proofs.book.Book.enrol.Goals as goal
 
 pub invariant_of-self-inside : goal.invariant_of-self-inside
@@ -15,9 +14,6 @@ invariant_of-self-inside c =
           (record {
             sha1 = fact_holds_for_some (AreKeys (length_by ScramSha1)) _ c.made_keys.ensures.range;
             sha256 = fact_holds_for_some (AreKeys (length_by ScramSha256)) _ c.made_keys-2.ensures.range;
-            names = subst (λ names. length names ≤ most_names) (sym c.new.ensures.items) (lit≤ tt);
+            names = subst (λ names. length names ≤ max_names) (sym c.new.ensures.items) (lit≤ tt);
           });
     }
-
-pub returns-in-Ok-clause-added : goal.returns-in-Ok-clause-added
-returns-in-Ok-clause-added c = account_is_added _ _ _ _ (search rules) (search rules)

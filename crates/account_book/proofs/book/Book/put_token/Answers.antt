@@ -1,8 +1,7 @@
-use Rattle.std.proofs.Common.{rules, sym, subst, IfSome}
+use Rattle.std.proofs.Common.{sym, subst, IfSome}
 use Rattle.book_format.specs.Account.{IsAccount}
 use Rattle.book_format.specs.Book.{AreAccounts}
 use Rattle.account_book.proofs.lemmas.Ranges.{token_keeps_ranges, set_value_keeps_ranges, found_account_is_in_range}
-use Rattle.account_book.proofs.lemmas.Maps.{account_is_changed}
 use Rattle.account_book.proofs.book.Book.put_token.Goals as goal
 
 pub invariant_of-self-inside : goal.invariant_of-self-inside
@@ -14,9 +13,3 @@ invariant_of-self-inside c =
       accounts = subst AreAccounts (sym (c.get_mut.follows.holds _).0)
           (set_value_keeps_ranges _ _ _ c.self-inside.invariant.accounts (token_keeps_ranges _ _ account));
     }
-
-pub returns-in-Some-clause-put : goal.returns-in-Some-clause-put
-returns-in-Some-clause-put c = account_is_changed _ _ _ _ (search rules)
-
-pub returns-in-None-clause-put : goal.returns-in-None-clause-put
-returns-in-None-clause-put c = account_is_changed _ _ _ _ (search rules)

@@ -1,7 +1,7 @@
 use Rattle.std.proofs.Common.{ap, ◌∙◌, sym, subst}
 use Rattle.book_format.specs.Book.{AreAccounts}
 use Rattle.account_book.proofs.lemmas.Ranges.{remove_entry_keeps_ranges}
-use Rattle.account_book.proofs.lemmas.Maps.{account_is_removed}
+use Rattle.account_book.proofs.lemmas.Maps.{account_is_removed, map_follows_removal}
 use Rattle.account_book.proofs.book.Book.remove.Goals as goal
 
 pub invariant_of-self-inside : goal.invariant_of-self-inside
@@ -13,5 +13,8 @@ invariant_of-self-inside c =
 
 pub returns-clause-removed : goal.returns-clause-removed
 returns-clause-removed c =
-    account_is_removed _ _ _ _ (ap (λ book. book.contents) c.self-inside.view_is ∙ c.self.view_is)
-    c.remove.ensures.entries c.remove.ensures.updates.0
+    account_is_removed _ _ _ _ (ap (λ book. book.contents) c.self-inside.view_is ∙ c.self.view_is) c.remove.ensures.entries
+
+pub returns-clause-mapped : goal.returns-clause-mapped
+returns-clause-mapped c =
+    map_follows_removal _ _ _ _ (ap (λ book. book.contents) c.self-inside.view_is ∙ c.self.view_is) c.remove.ensures.updates.0

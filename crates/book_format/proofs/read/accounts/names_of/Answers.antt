@@ -6,14 +6,14 @@ use Rattle.book_format.proofs.read.accounts.names_of.Goals as goal
 pub returns-then-not-are_texts : goal.returns-then-not-are_texts
 returns-then-not-are_texts c = inr (untyped_names_are_refused (items_view c.args.list.now) (sym c.if-not-are_texts.ensures))
 
-pub returns-then-list-gt-MOST_NAMES : goal.returns-then-list-gt-MOST_NAMES
-returns-then-list-gt-MOST_NAMES c =
+pub returns-then-list-gt-MAX_NAMES : goal.returns-then-list-gt-MAX_NAMES
+returns-then-list-gt-MAX_NAMES c =
     let count = item_count-view c.args.list.now in
     inr (many_names_are_refused (items_view c.args.list.now) (sym c.if-not-are_texts.ensures)
-    (omega (arith, count, c.if-list-gt-MOST_NAMES.true)))
+    (omega (arith, count, c.if-list-gt-MAX_NAMES.true)))
 
 pub returns : goal.returns
 returns c =
     let count = item_count-view c.args.list.now in
     rw (few_names_are_read (items_view c.args.list.now) (sym c.if-not-are_texts.ensures)
-    (omega (arith, count, c.if-list-gt-MOST_NAMES.false))) c.names_in.ensures
+    (omega (arith, count, c.if-list-gt-MAX_NAMES.false))) c.names_in.ensures

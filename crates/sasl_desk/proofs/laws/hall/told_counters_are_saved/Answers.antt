@@ -1,4 +1,5 @@
 use Rattle.sasl_desk.proofs.lemmas.halls.Stores.{told_counters_are_saved_ended, told_counters_are_saved_within}
+use Rattle.sasl_desk.proofs.lemmas.halls.Stores.{told_counters_are_saved_next}
 use Rattle.sasl_desk.proofs.laws.hall.told_counters_are_saved.Goals as goal
 
 pub returns-clause-ended : goal.returns-clause-ended
@@ -8,3 +9,7 @@ returns-clause-ended g c = λ start calls hall s.
 pub returns-clause-within : goal.returns-clause-within
 returns-clause-within g c = λ start calls hall s.
     told_counters_are_saved_within s c.begins_with_itself.ensures c.spent_stays_spent.ensures
+
+pub returns-clause-next : goal.returns-clause-next
+returns-clause-next g c = λ start calls hall s.
+    told_counters_are_saved_next s c.begins_with_itself.ensures c.spent_stays_spent.ensures

@@ -1,13 +1,15 @@
-use Rattle.std.proofs.Common.{◌≡◌, ℕ, List, [], length, length-append, sym, ◌∙◌, ap, subst, arith, rules}
+use Rattle.std.proofs.Common.{◌≡◌, ◌-◌, ℕ, List, [], ◌++◌, length, take, drop, length-append, sym, ◌∙◌, ap, subst, arith, rules}
 use Rattle.std.specs.Option.{option_copied}
 use Rattle.std.specs.declared.result.Result.TheVariants.{Err}
 use Rattle.std.proofs.lemmas.Result.{err_from_is_err_and}
-use Rattle.scram_text.specs.Messages.{client_first_text, IsClientFirst}
+use Rattle.scram_text.specs.Messages.{ClientFirstParts, client_first_text, IsClientFirst}
+use Rattle.scram_text.specs.Shown.{ShowsClientFirst}
 use Rattle.scram_text.specs.Written.{client_first_of}
+use Rattle.scram_text.specs.declared.client_first.ClientFirst.{ClientFirst}
 use Rattle.scram_text.specs.declared.client_first.Flag.TheVariants.{NoBinding}
 use Rattle.scram_text.specs.declared.fault.WriteFault.{WriteFault}
-use Rattle.scram_ends.proofs.lemmas.client_messages.ClientFirst.{length-client_first_text, client_first_fault_is_memory, written_first_is_honest, bare_is_short}
-use Rattle.scram_ends.proofs.lemmas.client_messages.Headers.{header_fits_channel}
+use Rattle.scram_ends.proofs.lemmas.client_messages.ClientFirst.{length-client_first_text, client_first_fault_is_memory, written_first_is_honest}
+use Rattle.scram_ends.proofs.lemmas.client_messages.Headers.{honest_header_is_short, honest_bare_is_short}
 use Rattle.scram_ends.proofs.lemmas.Written.{slice_after_front_is_text}
 use Rattle.scram_ends.proofs.client.Client.start.Goals as goal
 
@@ -43,23 +45,35 @@ returns-clause-most_bytes g c =
           c.law_of_names.ensures.nonce,
     )
 
+-- what is read back from the end of a vector to which a message was appended shows the parts of that message
+written_is_read_back : (message : ClientFirst) (first : ClientFirstParts) (whole front : List ℕ) (start : ℕ)
+    → whole ≡ front ++ client_first_text first → start ≡ length front → IsClientFirst (client_first_text first) first
+    → ((p : ClientFirstParts) → IsClientFirst (take (length whole - start) (drop start whole)) p → ShowsClientFirst message p)
+    → ShowsClientFirst message first
+written_is_read_back message first whole front start appended at is every =
+    every first (subst (λ (text : List ℕ). IsClientFirst text first)
+    (sym (slice_after_front_is_text whole front (client_first_text first) start appended at)) is)
+
 pub copy_of-requires : goal.copy_of-requires
 copy_of-requires g c =
-    let found = c.in-Ok.ensures.found in
-    (omega arith, bare_is_short _ c.in-Ok.message.bare.now found.0 found.1 found.2.bare)
+    let authzid = option_copied c.args.authzid in
+    let first = client_first_of NoBinding authzid c.args.name.now c.args.nonce.now [] in
+    let is_message = c.in_ok-write_client_first.ensures.is_message in
+    let start : c.len-start.result ≡ length c.args.out.now.items = search rules in
+    let shows = written_is_read_back c.in-Ok.message first c.deref.result.now c.args.out.now.items c.len-start.result
+    (c.deref.ensures.value ∙ c.in_ok-write_client_first.ensures.appended.0) start is_message c.in-Ok.ensures.every in
+    let honest = written_first_is_honest authzid c.args.name.now c.args.nonce.now (client_first_text first)
+    c.law_of_names.ensures.authzid c.law_of_names.ensures.name is_message in
+    (omega arith, honest_bare_is_short honest c.in-Ok.message.bare.now shows.bare)
 
 pub copy_of-requires-2 : goal.copy_of-requires-2
 copy_of-requires-2 g c =
     let authzid = option_copied c.args.authzid in
     let first = client_first_of NoBinding authzid c.args.name.now c.args.nonce.now [] in
+    let is_message = c.in_ok-write_client_first.ensures.is_message in
     let start : c.len-start.result ≡ length c.args.out.now.items = search rules in
-    let written = slice_after_front_is_text c.deref.result.now c.args.out.now.items (client_first_text first) c.len-start.result
-    (c.deref.ensures.value ∙ c.in_ok-write_client_first.ensures.appended.0) start in
-    let shows = c.in-Ok.ensures.every first
-    (subst (λ (client_first : List ℕ). IsClientFirst client_first first) (sym written) c.in_ok-write_client_first.ensures.is_message) in (
-      omega arith,
-      header_fits_channel
-          (written_first_is_honest authzid c.args.name.now c.args.nonce.now
-          (client_first_text first) c.law_of_names.ensures.authzid c.law_of_names.ensures.name
-          c.in_ok-write_client_first.ensures.is_message) c.in-Ok.message.header.now shows.header,
-    )
+    let shows = written_is_read_back c.in-Ok.message first c.deref.result.now c.args.out.now.items c.len-start.result
+    (c.deref.ensures.value ∙ c.in_ok-write_client_first.ensures.appended.0) start is_message c.in-Ok.ensures.every in
+    let honest = written_first_is_honest authzid c.args.name.now c.args.nonce.now (client_first_text first)
+    c.law_of_names.ensures.authzid c.law_of_names.ensures.name is_message in
+    (omega arith, honest_header_is_short honest c.in-Ok.message.header.now shows.header)

@@ -1,7 +1,7 @@
 use Rattle.std.proofs.Common.{◌≡◌, ℕ, List, [], sym, ◌∙◌, ap, subst, refl, arith}
 use Rattle.std.specs.declared.result.Result.TheVariants.{Err}
 use Rattle.std.proofs.lemmas.Result.{err_from_is_err_and}
-use Rattle.scram_text.specs.Limits.{longest_nonce, longest_tag}
+use Rattle.scram_text.specs.Limits.{max_nonce_len, max_tag_len}
 use Rattle.scram_text.specs.Class.{IsNonce}
 use Rattle.scram_text.specs.Messages.{ClientFinalParts, client_final_text}
 use Rattle.scram_text.specs.Written.{client_final_of}
@@ -14,8 +14,8 @@ use Rattle.scram_ends.proofs.lemmas.client_messages.Expectations.{client_expects
 use Rattle.scram_ends.proofs.client.ClientOne.answer.Goals as goal
 
 -- what is the same as a nonce is a nonce
-sent_nonce_is_nonce : (nonce part : List ℕ) → nonce ≡ part → IsNonce longest_nonce part → IsNonce longest_nonce nonce
-sent_nonce_is_nonce nonce part same is = subst (λ (n : List ℕ). IsNonce longest_nonce n) (sym same) is
+sent_nonce_is_nonce : (nonce part : List ℕ) → nonce ≡ part → IsNonce max_nonce_len part → IsNonce max_nonce_len nonce
+sent_nonce_is_nonce nonce part same is = subst (λ (n : List ℕ). IsNonce max_nonce_len n) (sym same) is
 
 pub returns-in_err-without_proof-clause-no_memory : goal.returns-in_err-without_proof-clause-no_memory
 returns-in_err-without_proof-clause-no_memory g c =
@@ -35,7 +35,7 @@ returns-in_err-write_with_proof-clause-no_memory g c =
     let final : ClientFinalParts = client_final_of header c.args.challenge.now.nonce.now [] proof in
     let range = kept_header_is_in_range c.args.self.now l header started c.as_slice-header.ensures.value in
     let size = digest_length_is_in_range c.args.self.now.mechanism in
-    let field = bytes_are_field longest_tag proof c.prove-proved.ensures.bytes (omega (arith, c.prove-proved.ensures.len, size.0))
+    let field = bytes_are_field max_tag_len proof c.prove-proved.ensures.bytes (omega (arith, c.prove-proved.ensures.len, size.0))
     (omega (arith, c.prove-proved.ensures.len, size.1)) in
     let composed = c.in_ok-without_proof.ensures.ok proof in
     let full = client_final_fault_is_memory c.write_with_proof.result _ c.in_ok-without_proof.without_proof header

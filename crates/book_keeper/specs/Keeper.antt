@@ -1,0 +1,68 @@
+-- What a keeper of a book does with a change: it is saved before it is reported, and undone if it can't be saved.
+use Rattle.std.specs.Prelude.{ℕ, ◌≡◌, ◌≤◌, ◌⊎◌, Bool, true, false, List}
+use Rattle.std.specs.declared.option.Option.{Option}
+use Rattle.std.specs.declared.option.Option.TheVariants.{Some}
+use Rattle.otp_core.specs.Attempt.{CodeTexts}
+use Rattle.otp_core.specs.Ranges.{max_counter, IsMoment}
+use Rattle.otp_core.specs.declared.token.reply.Reply.{Reply}
+use Rattle.otp_core.specs.declared.token.reply.Reply.TheVariants.{Pass}
+use Rattle.book_format.specs.Book.{BookFields}
+use Rattle.book_format.specs.Trees.{IsBookText}
+use Rattle.account_book.specs.SavedBooks.{needs_save, SavesBook}
+use Rattle.account_book.specs.Store.{StoreFacts, IsFailedSave}
+use Rattle.account_book.specs.Tokens.{IsBookAttempt}
+use Rattle.book_keeper.specs.declared.keeper.CodeJudged.{CodeJudged}
+use Rattle.book_keeper.specs.declared.keeper.CodeJudged.TheVariants.{Replied, NotSaved}
+use Rattle.book_keeper.specs.declared.keeper.SaveFault.{SaveFault}
+use Rattle.book_keeper.specs.declared.keeper.SaveFault.TheVariants as fault
+
+-- the store fails in a save of the text of this book, or had failed before
+pub record FailsToSave (old_store : StoreFacts) (book : BookFields) (new_store : StoreFacts) : Type 0 where
+  pub text : List ℕ
+  pub is_text : IsBookText text book
+  pub lost : ((old_store.failed ≡ true) × (new_store ≡ old_store)) ⊎ IsFailedSave old_store text new_store
+
+-- why a book is not saved: its save failed; or memory ran out, and the store was not asked
+abbrev pub IsUnsaved : (old_store : StoreFacts) → BookFields → SaveFault → (new_store : StoreFacts) → Type 0
+IsUnsaved old_store book fault.NotSaved new_store = FailsToSave old_store book new_store
+IsUnsaved old_store book fault.NoMemory new_store = new_store ≡ old_store
+
+-- why a change of a book is not saved: some book with this change is not saved
+abbrev pub IsChangeUnsaved : (Changes : BookFields → BookFields → Type 0) → (old_book : BookFields) → (old_store : StoreFacts)
+    → SaveFault → (new_store : StoreFacts) → Type 0
+IsChangeUnsaved Changes old_book old_store why new_store =
+    (next : BookFields) × Changes old_book next × IsUnsaved old_store next why new_store
+
+-- a book that has changed is saved; if nothing has, nothing is asked of the store
+abbrev pub IsKept : (IsStored : List ℕ → Type 0) → (has_changed : Bool) → (old_book : BookFields) → (old_store : StoreFacts)
+    → (new_book : BookFields) → (new_store : StoreFacts) → Type 0
+IsKept IsStored true old_book old_store new_book new_store = SavesBook IsStored old_store new_book new_store
+IsKept IsStored false old_book old_store new_book new_store = (new_book ≡ old_book) × (new_store ≡ old_store)
+
+-- a code, or two in a row, was judged: the reply is the one that is due, and the book is the old one in which the attempt has changed
+-- the account's token, and nothing else
+pub record IsCodeJudged (old : BookFields) (name : List ℕ) (moment : ℕ) (sent : CodeTexts) (reply : Option Reply) (new : BookFields)
+    : Type 0 where
+  pub is_moment : IsMoment moment
+  pub answered : IsBookAttempt old name moment sent reply new
+
+-- some reply that is due to this attempt needs a save
+abbrev pub IsToBeSaved : BookFields → (name : List ℕ) → (moment : ℕ) → CodeTexts → Type 0
+IsToBeSaved old name moment sent =
+    (reply : Option Reply) × (next : BookFields) × (needs_save reply ≡ true) × IsCodeJudged old name moment sent reply next
+
+-- the outcome of a code: a reply that is due and kept; or the store failed to save the book with the reply that was due
+abbrev pub IsJudged : (IsStored : List ℕ → Type 0) → (old_book : BookFields) → (old_store : StoreFacts) → (name : List ℕ)
+    → (moment : ℕ) → CodeTexts → CodeJudged → (new_book : BookFields) → (new_store : StoreFacts) → Type 0
+IsJudged IsStored old_book old_store name moment sent (Replied reply) new_book new_store =
+    IsCodeJudged old_book name moment sent reply new_book
+    × IsKept IsStored (needs_save reply) old_book old_store new_book new_store
+IsJudged IsStored old_book old_store name moment sent NotSaved new_book new_store =
+    (new_book ≡ old_book)
+    × ((reply : Option Reply) × (next : BookFields) × (needs_save reply ≡ true)
+    × IsCodeJudged old_book name moment sent reply next
+    × FailsToSave old_store next new_store)
+
+-- if the outcome of a code is a pass, its counter is in its range
+abbrev pub IsPassInRange : CodeJudged → Type 0
+IsPassInRange judged = (counter : ℕ) → judged ≡ Replied (Some (Pass counter)) → counter ≤ max_counter

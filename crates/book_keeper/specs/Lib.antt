@@ -1,0 +1,2 @@
+-- What a keeper of a book does.
+pub mod Keeper

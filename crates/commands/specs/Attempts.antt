@@ -1,0 +1,54 @@
+-- What a run of `verify` does to its book: each line that it answers is an attempt, and so a change of the book.
+use Rattle.std.specs.Prelude.{ℕ, ◌≡◌, ◌⊎◌, true, false, List, [], ◌∷◌, ◌++◌, map, reverse, IfSome}
+use Rattle.std.specs.List.{AllZip, flat_map}
+use Rattle.std.specs.Str.{byte}
+use Rattle.std.specs.Io.KnownBytes.{Appends}
+use Rattle.std.specs.declared.option.Option.{Option}
+use Rattle.std.specs.declared.option.Option.TheVariants.{Some}
+use Rattle.otp_core.specs.Attempt.{CodeTexts}
+use Rattle.otp_core.specs.declared.token.reply.Reply.{Reply}
+use Rattle.book_format.specs.Book.{BookFields}
+use Rattle.account_book.specs.Store.{StoreFacts}
+use Rattle.log_grammar.specs.Lines.{reply_text}
+use Rattle.log_grammar.specs.LoggedAttempt.{LoggedAttempt, logged_attempt_of}
+use Rattle.sasl_desk.specs.Restarts.{Change, judged, AreChanges}
+use Rattle.command_line.specs.declared.fault.Fault.{Fault}
+use Rattle.command_line.specs.declared.fault.Fault.TheVariants.{CannotWriteOutput}
+use Rattle.command_io.specs.Input.{AreLinesOf}
+use Rattle.commands.specs.SentCodes.{SaysCodes}
+
+-- a line makes this attempt: by the account of this name, at this moment, with what the line says. It gets a reply, so the account has a
+-- token.
+abbrev pub MakesAttempt : (name : List ℕ) → (moment : ℕ) → (line : List ℕ) → LoggedAttempt → Type 0
+MakesAttempt name moment line attempt =
+    (sent : CodeTexts) × (reply : Reply) × SaysCodes line sent × (attempt ≡ logged_attempt_of name moment sent (Some reply))
+
+-- the lines that are printed for the replies to attempts, in order
+abbrev pub printed_replies : List LoggedAttempt → List ℕ
+printed_replies attempts = flat_map (λ attempt. reply_text attempt.moment attempt.reply ++ byte "\n" ∷ []) attempts
+
+-- what is printed when a fault ends a run: the replies to these attempts, or to all but the last of them. If the output can't be written,
+-- it is not known what it holds.
+abbrev pub PrintsUntil : Fault → List LoggedAttempt → (old new : Option (List ℕ)) → Type 0
+PrintsUntil fault attempts old new =
+    Appends old new (printed_replies attempts)
+    ⊎ ((earlier : List LoggedAttempt) × (last : LoggedAttempt) × (attempts ≡ earlier ++ last ∷ [])
+    × ((fault ≡ CannotWriteOutput) ⊎ Appends old new (printed_replies earlier)))
+
+-- the changes of a book that attempts are, the latest first
+abbrev pub judged_changes : List LoggedAttempt → List Change
+judged_changes attempts = map judged (reverse attempts)
+
+-- after a run the store may hold this text: the one that it says it holds; or, if it failed in the run, the one that the failed save was
+-- given
+abbrev pub MayHoldAfter : (old new : StoreFacts) → (text : List ℕ) → Type 0
+MayHoldAfter old new text = (text ≡ new.saved) ⊎ ((old.failed ≡ false) × (new.failed ≡ true) × (text ≡ new.asked))
+
+-- the lines of an input, if its bytes are known, except these last ones: each made one of these attempts, in order, and the attempts, as
+-- changes, made the old book the new one
+pub record MakesChanges {S : Type 0} (facts : S → StoreFacts) (IsStored : List ℕ → Type 0) (name : List ℕ) (moment : ℕ)
+    (input : Option (List ℕ)) (last : List (List ℕ)) (attempts : List LoggedAttempt) (old new : BookFields) : Type 0 where
+  pub lines : List (List ℕ)
+  pub are : IfSome input (λ bytes. AreLinesOf bytes (lines ++ last))
+  pub made : AllZip (MakesAttempt name moment) lines attempts
+  pub changes : AreChanges facts IsStored old (judged_changes attempts) new

@@ -1,5 +1,0 @@
-use Rattle.log_grammar.proofs.lemmas.login_laws.ValidLogins.{each_ok_ends_a_login}
-use Rattle.log_grammar.proofs.logins.each_ok_ends_a_login.Goals as goal
-
-pub returns : goal.returns
-returns c = each_ok_ends_a_login c.has_one_client_first.ensures c.spells_one_name.ensures c.accepts_exactly_valid.ensures

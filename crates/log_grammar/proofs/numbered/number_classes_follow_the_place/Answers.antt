@@ -1,5 +1,0 @@
-use Rattle.log_grammar.proofs.lemmas.many_sessions.DueClasses.{number_classes_follow_the_place}
-use Rattle.log_grammar.proofs.numbered.number_classes_follow_the_place.Goals as goal
-
-pub returns : goal.returns
-returns c = number_classes_follow_the_place

@@ -1,5 +1,0 @@
-use Rattle.log_grammar.proofs.lemmas.reply_laws.NumberedPassed.{no_numbered_counter_is_used_twice}
-use Rattle.log_grammar.proofs.numbered_replies.no_numbered_counter_is_used_twice.Goals as goal
-
-pub returns : goal.returns
-returns c = no_numbered_counter_is_used_twice c.candidates_are_new.ensures

@@ -1,5 +1,0 @@
-use Rattle.log_grammar.proofs.lemmas.reply_laws.NumberedPassed.{numbered_counters_rise}
-use Rattle.log_grammar.proofs.numbered_replies.numbered_counters_rise.Goals as goal
-
-pub returns : goal.returns
-returns c = numbered_counters_rise c.has_one_client_first.ensures c.spells_one_name.ensures c.candidates_are_new.ensures

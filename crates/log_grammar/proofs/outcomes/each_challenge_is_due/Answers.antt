@@ -1,5 +1,0 @@
-use Rattle.log_grammar.proofs.lemmas.outcome_laws.ServerLines.{each_challenge_is_due}
-use Rattle.log_grammar.proofs.outcomes.each_challenge_is_due.Goals as goal
-
-pub returns : goal.returns
-returns c = each_challenge_is_due

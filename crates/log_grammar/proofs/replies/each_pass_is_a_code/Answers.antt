@@ -1,5 +1,0 @@
-use Rattle.log_grammar.proofs.lemmas.reply_laws.Passed.{each_pass_is_a_code}
-use Rattle.log_grammar.proofs.replies.each_pass_is_a_code.Goals as goal
-
-pub returns : goal.returns
-returns c = each_pass_is_a_code c.each_reply_is_due.ensures

@@ -1,5 +1,0 @@
-use Rattle.log_grammar.proofs.lemmas.reply_laws.Passed.{next_two_hotp_codes_pass}
-use Rattle.log_grammar.proofs.replies.next_two_hotp_codes_pass.Goals as goal
-
-pub returns : goal.returns
-returns c = next_two_hotp_codes_pass c.logins_are_clean.ensures.answered

@@ -1,0 +1,5 @@
+use Rattle.log_grammar.proofs.lemmas.login_laws.CodesOfLogin.{each_reply_due_follows_its_login}
+use Rattle.log_grammar.proofs.version_one.by_sessions.each_reply_due_follows_its_login.Goals as goal
+
+pub returns : goal.returns
+returns c = each_reply_due_follows_its_login

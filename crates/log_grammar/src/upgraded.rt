@@ -1,0 +1,4 @@
+//! Laws of logs of version 1 and of the same logs with numbers, which are logs of version 2.
+pub mod examples;
+pub mod logins;
+pub mod logs;

@@ -1,0 +1,187 @@
+//! Small logs, judged by the definitions: which are clean, and where a log is at fault and why. Each is a theorem, on lines that
+//! need no hash.
+ghost use Rattle.std.specs.Prelude.{ℕ, ◌≡◌, ◌<◌, ◌≤◌, ◌+◌, List, [], ◌∷◌, ◌++◌, length, codes, flat_map, Some};
+ghost use Rattle.otp_core.specs.Ranges.{IsDigitCount, IsMoment};
+ghost use Rattle.otp_core.specs.declared.token.reply.Reply.TheVariants.{Pass, Fail};
+ghost use Rattle.otp_core.specs.declared.token.kinds.TokenFields.TheVariants.{Hotp, Totp};
+ghost use Rattle.otp_core.specs.declared.token.kinds.HotpFields.{HotpFields};
+ghost use Rattle.otp_core.specs.declared.token.kinds.TotpFields.{TotpFields};
+ghost use Rattle.log_grammar.specs.Words.{IsCodeWord, IsCounter};
+ghost use Rattle.log_grammar.specs.Lines.{LogLine, header, said, heard, gone, ended, mechs, cont, accepts, replies, auth_with, resp, code};
+ghost use Rattle.log_grammar.specs.Lines.{sync};
+ghost use Rattle.log_grammar.specs.Bytes.{LacksLf, ended_by_lf};
+ghost use Rattle.log_grammar.specs.Counts.{counts_of};
+ghost use Rattle.log_grammar.specs.LoggedAttempt.{LoggedAttempt};
+ghost use Rattle.log_grammar.specs.Places.{Place, halted};
+ghost use Rattle.log_grammar.specs.Demands.{Accounts, demands};
+ghost use Rattle.log_grammar.specs.Sessions.{Session, session_lines};
+ghost use Rattle.log_grammar.specs.Begins.{Begins};
+ghost use Rattle.log_grammar.specs.Versions.{IsClean, IsWhy};
+ghost use Rattle.log_grammar.specs.Why.{LineClass, IsClassDue, is_cut, no_line, out_of_order, other_mechs, other_challenge, other_outcome};
+ghost use Rattle.log_grammar.specs.Why.{other_reply, refused_with};
+ghost use Rattle.log_grammar.specs.Upgrades.{original_bytes};
+ghost use Rattle.log_grammar.specs.laws.Logins.{Exchange, IsLoginTo, login_session};
+ghost use Rattle.log_grammar.specs.laws.Replies.{pass_line, next_two};
+ghost use Rattle.log_grammar.specs.laws.Examples.{header_one_text, offer_text, first_alone, one_session, bare_no, AreWhole};
+
+use crate::laws::classes_follow_the_place;
+use crate::version_one::logins::other_answers_to_logins_are_at_fault;
+use crate::version_one::replies::next_two_hotp_codes_pass;
+use scram_text::laws::{has_one_client_first, spells_one_name};
+
+/// These logs are clean: only the first line; sessions that the client ends with `ABORT`, with a line that was not due, or by going
+/// away; one with a mechanism that is not offered; one whose first message is refused; one that ends after the empty challenge; and
+/// two sessions, one after the other.
+pub fn clean_logs()
+    ensures first { (accounts : Accounts) → IsClean accounts first_alone }
+    ensures aborted { (accounts : Accounts) → IsClean accounts (one_session (codes "C ABORT" ∷ bare_no)) }
+    ensures bad { (accounts : Accounts) → IsClean accounts (one_session (codes "C BAD" ∷ bare_no)) }
+    ensures gone { (accounts : Accounts) → IsClean accounts (one_session (codes "C GONE" ∷ codes "E" ∷ [])) }
+    ensures not_offered { (accounts : Accounts) → IsClean accounts (one_session (codes "C AUTH PLAIN" ∷ bare_no)) }
+    ensures refused { (accounts : Accounts) → IsClean accounts (one_session (codes "C AUTH SCRAM-SHA-1 :" ∷ bare_no)) }
+    ensures invited { (accounts : Accounts) → IsClean accounts
+        (one_session (codes "C AUTH SCRAM-SHA-1" ∷ codes "S CONT :" ∷ codes "C GONE" ∷ codes "E" ∷ [])) }
+    ensures two_sessions { (accounts : Accounts) → IsClean accounts
+        (one_session (codes "C GONE" ∷ codes "E" ∷ offer_text ∷ codes "C ABORT" ∷ bare_no)) }
+{}
+
+/// A log is cut if it is empty, or if a session of the clean logs above stops before its last line.
+pub fn cut_logs()
+    ensures empty { (accounts : Accounts) → IsWhy accounts [] 1 is_cut }
+    ensures offer { (accounts : Accounts) → IsWhy accounts (one_session []) 3 is_cut }
+    ensures aborted { (accounts : Accounts) → IsWhy accounts (one_session (codes "C ABORT" ∷ [])) 4 is_cut }
+    ensures aborted_no { (accounts : Accounts) → IsWhy accounts (one_session (codes "C ABORT" ∷ codes "S NO :" ∷ [])) 5 is_cut }
+    ensures gone { (accounts : Accounts) → IsWhy accounts (one_session (codes "C GONE" ∷ [])) 4 is_cut }
+    ensures auth { (accounts : Accounts) → IsWhy accounts (one_session (codes "C AUTH SCRAM-SHA-1" ∷ [])) 4 is_cut }
+    ensures invited { (accounts : Accounts) → IsWhy accounts
+        (one_session (codes "C AUTH SCRAM-SHA-1" ∷ codes "S CONT :" ∷ [])) 5 is_cut }
+    ensures bad { (accounts : Accounts) → IsWhy accounts
+        (one_session (codes "C BAD" ∷ [])) 4 is_cut }
+    ensures bad_no { (accounts : Accounts) → IsWhy accounts
+        (one_session (codes "C BAD" ∷ codes "S NO :" ∷ [])) 5 is_cut }
+    ensures not_offered { (accounts : Accounts) → IsWhy accounts
+        (one_session (codes "C AUTH PLAIN" ∷ [])) 4 is_cut }
+    ensures not_offered_no { (accounts : Accounts) → IsWhy accounts
+        (one_session (codes "C AUTH PLAIN" ∷ codes "S NO :" ∷ [])) 5 is_cut }
+    ensures refused { (accounts : Accounts) → IsWhy accounts
+        (one_session (codes "C AUTH SCRAM-SHA-1 :" ∷ [])) 4 is_cut }
+    ensures refused_no { (accounts : Accounts) → IsWhy accounts
+        (one_session (codes "C AUTH SCRAM-SHA-1 :" ∷ codes "S NO :" ∷ [])) 5 is_cut }
+    ensures invited_gone { (accounts : Accounts) → IsWhy accounts
+        (one_session (codes "C AUTH SCRAM-SHA-1" ∷ codes "S CONT :" ∷ codes "C GONE" ∷ [])) 6 is_cut }
+{
+    has_one_client_first();
+    spells_one_name();
+}
+
+/// These lines are at fault: another first line; a line whose class is not due, such as a session that begins where `E` is due, or
+/// the first line again; other names of mechanisms; a challenge where none is due, and another line where one is; and an `S OK`, or
+/// an `S NO` with a message, where a bare `S NO` is due.
+pub fn faulty_logs()
+    ensures first { (accounts : Accounts) → IsWhy accounts (ended_by_lf (codes "E" ∷ [])) 1 no_line }
+    ensures order { (accounts : Accounts) → IsWhy accounts (ended_by_lf (header_one_text ∷ codes "C ABORT" ∷ [])) 2 out_of_order }
+    ensures end { (accounts : Accounts) → IsWhy accounts (one_session (codes "C GONE" ∷ offer_text ∷ [])) 4 out_of_order }
+    ensures halt { (accounts : Accounts) → IsWhy accounts (one_session (codes "S HALT" ∷ [])) 3 out_of_order }
+    ensures mechs { (accounts : Accounts) → IsWhy accounts
+        (ended_by_lf (header_one_text ∷ codes "S MECHS SCRAM-SHA-1" ∷ [])) 2 other_mechs }
+    ensures outcome { (accounts : Accounts) → IsWhy accounts
+        (one_session (codes "C AUTH PLAIN" ∷ codes "S CONT :" ∷ [])) 4 (other_outcome (refused_with [])) }
+    ensures challenge { (accounts : Accounts) → IsWhy accounts
+        (one_session (codes "C AUTH SCRAM-SHA-1" ∷ codes "S NO :" ∷ [])) 4 other_challenge }
+    ensures first_again { (accounts : Accounts) → IsWhy accounts (ended_by_lf (header_one_text ∷ header_one_text ∷ [])) 2 out_of_order }
+    ensures accepted { (accounts : Accounts) → IsWhy accounts
+        (one_session (codes "C ABORT" ∷ codes "S OK :" ∷ [])) 4 (other_outcome (refused_with [])) }
+    ensures message { (accounts : Accounts) → IsWhy accounts
+        (one_session (codes "C BAD" ∷ codes "S NO :e=other-error" ∷ [])) 4 (other_outcome (refused_with [])) }
+    ensures not_first { (accounts : Accounts) → IsWhy accounts
+        (one_session (codes "C AUTH SCRAM-SHA-1 :" ∷ codes "S CONT :" ∷ [])) 4 (other_outcome (refused_with [])) }
+{
+    has_one_client_first();
+    spells_one_name();
+}
+
+/// A log that ends with a halt is clean, and any line that follows a halt is at fault: nothing is due after it.
+pub fn halt_is_last()
+    ensures clean { (accounts : Accounts) (texts : List (List ℕ)) (log : List LogLine) (told : List LoggedAttempt)
+        → AreWhole texts log → Begins (demands accounts) log halted told → IsClean accounts (ended_by_lf texts) }
+    ensures none { (accounts : Accounts) (log : List LogLine) (told : List LoggedAttempt) (class : LineClass)
+        → Begins (demands accounts) log halted told → IsClassDue log class → ⊥ }
+    ensures more { (accounts : Accounts) (texts : List (List ℕ)) (log : List LogLine) (told : List LoggedAttempt)
+        (text : List ℕ) (line : LogLine) → AreWhole (texts ++ text ∷ []) (log ++ line ∷ [])
+        → Begins (demands accounts) log halted told
+        → IsWhy accounts (ended_by_lf (texts ++ text ∷ [])) (length texts + 1) out_of_order }
+{
+    has_one_client_first();
+    spells_one_name();
+    classes_follow_the_place();
+}
+
+/// Bytes without an LF are a log that is cut if there are at most 6202, as many as a line may have; else they are no line.
+pub fn lines_end_with_lf()
+    ensures short { (accounts : Accounts) (rest : List ℕ) → LacksLf rest → length rest ≤ 6202 → IsWhy accounts rest 1 is_cut }
+    ensures long { (accounts : Accounts) (rest : List ℕ) → LacksLf rest → 6203 ≤ length rest → IsWhy accounts rest 1 no_line }
+{}
+
+/// After whole lines that a log of version 1 may begin with, bytes without an LF are a log that is cut if there are at most 6202,
+/// else they are no line; nor is a whole line with more bytes. This also holds for a part of a line after a halt.
+pub fn lines_have_6202_bytes_at_most()
+    ensures part { (accounts : Accounts) (texts : List (List ℕ)) (log : List LogLine) (place : Place) (told : List LoggedAttempt)
+        (rest : List ℕ)
+        → AreWhole texts log → Begins (demands accounts) log place told → LacksLf rest → 1 ≤ length rest → length rest ≤ 6202
+        → IsWhy accounts (ended_by_lf texts ++ rest) (length texts + 1) is_cut }
+    ensures long_part { (accounts : Accounts) (texts : List (List ℕ)) (log : List LogLine) (place : Place) (told : List LoggedAttempt)
+        (rest : List ℕ)
+        → AreWhole texts log → Begins (demands accounts) log place told → LacksLf rest → 6203 ≤ length rest
+        → IsWhy accounts (ended_by_lf texts ++ rest) (length texts + 1) no_line }
+    ensures long_line { (accounts : Accounts) (texts : List (List ℕ)) (log : List LogLine) (place : Place) (told : List LoggedAttempt)
+        (text : List ℕ)
+        → AreWhole texts log → Begins (demands accounts) log place told → LacksLf text → 6203 ≤ length text
+        → IsWhy accounts (ended_by_lf (texts ++ text ∷ [])) (length texts + 1) no_line }
+    ensures second { (accounts : Accounts) (text : List ℕ) → LacksLf text → 6203 ≤ length text
+        → IsWhy accounts (ended_by_lf (header_one_text ∷ text ∷ [])) 2 no_line }
+    ensures second_part { (accounts : Accounts) (rest : List ℕ) → LacksLf rest → 6203 ≤ length rest
+        → IsWhy accounts (first_alone ++ rest) 2 no_line }
+    ensures second_cut { (accounts : Accounts) (rest : List ℕ) → LacksLf rest → 1 ≤ length rest → length rest ≤ 6202
+        → IsWhy accounts (first_alone ++ rest) 2 is_cut }
+{}
+
+/// Each session is counted once, at its first line. In a log of one login, its acceptance is counted, and the code that passed, but
+/// not the one that failed. Two codes in a row that passed are counted once.
+pub fn counted_logs()
+    ensures sessions { (sessions : List Session)
+        → (counts_of (header ∷ flat_map session_lines sessions)).sessions ≡ length sessions }
+    ensures each { (names first challenge last message text : List ℕ) (moment counter : ℕ)
+        → counts_of (header ∷ said (mechs names) ∷ heard (auth_with names first) ∷ said (cont challenge)
+        ∷ heard (resp last) ∷ said (accepts message) ∷ heard (code text) ∷ said (replies moment (Some (Pass counter)))
+        ∷ heard (code text) ∷ said (replies moment (Some Fail)) ∷ gone ∷ ended ∷ [])
+        ≡ record { sessions = 1; accepted = 1; passed = 1 } }
+    ensures two_codes { (names first challenge last message one other : List ℕ) (moment counter : ℕ)
+        → counts_of (header ∷ said (mechs names) ∷ heard (auth_with names first) ∷ said (cont challenge)
+        ∷ heard (resp last) ∷ said (accepts message) ∷ heard (sync one other) ∷ said (replies moment (Some (Pass counter)))
+        ∷ gone ∷ ended ∷ [])
+        ≡ record { sessions = 1; accepted = 1; passed = 1 } }
+{}
+
+/// After a valid login, the next two codes in a row of a HOTP token pass with the counter of the second. With that reply the log is
+/// clean; with the counter of the first it is at fault there, and the reason names the pass that is due. Two codes in a row never
+/// pass with a TOTP token: a pass of two is at fault, and FAIL is due.
+pub fn logs_of_two_codes()
+    ensures passes { (accounts : Accounts) (mechanism name : List ℕ) (exchange : Exchange) (moment : ℕ) (t : HotpFields)
+        → IsLoginTo accounts mechanism name exchange → IsMoment moment → accounts.token name ≡ Some (Hotp t)
+        → t.failures < t.limit → IsDigitCount t.digits → IsCounter (t.next + 1) → IsClean accounts
+        (original_bytes (login_session mechanism exchange ++ next_two t ∷ pass_line moment (t.next + 1) ∷ gone ∷ ended ∷ [])) }
+    ensures first_counter { (accounts : Accounts) (mechanism name : List ℕ) (exchange : Exchange) (moment : ℕ) (t : HotpFields)
+        → IsLoginTo accounts mechanism name exchange → IsMoment moment → accounts.token name ≡ Some (Hotp t)
+        → t.failures < t.limit → IsDigitCount t.digits → IsCounter (t.next + 1) → IsWhy accounts
+        (original_bytes (login_session mechanism exchange ++ next_two t ∷ pass_line moment t.next ∷ [])) 8
+        (other_reply moment (Some (Pass (t.next + 1)))) }
+    ensures of_totp { (accounts : Accounts) (mechanism name : List ℕ) (exchange : Exchange) (first second : List ℕ) (moment counter : ℕ)
+        (t : TotpFields)
+        → IsLoginTo accounts mechanism name exchange → IsMoment moment → accounts.token name ≡ Some (Totp t)
+        → t.failures < t.limit → IsCodeWord first → IsCodeWord second → IsCounter counter → IsWhy accounts
+        (original_bytes (login_session mechanism exchange ++ heard (sync first second) ∷ pass_line moment counter ∷ [])) 8
+        (other_reply moment (Some Fail)) }
+{
+    next_two_hotp_codes_pass();
+    other_answers_to_logins_are_at_fault();
+}

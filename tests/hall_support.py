@@ -1,0 +1,48 @@
+"""What the scripts on `hall` share: a folder with a book, halls over it, and RFC 5802's login in a hall."""
+import suite
+from checks import equal
+from clients import dealt, opened, said
+from expected import AUDITS, AUTH, CONT, OK, RESP
+from processes import Running
+from suite import PROGRAM
+
+OWN = "3rfcNHYJY1ZVvWVs7j"
+# RFC 5802's user with RFC 4226's token
+HOTP_BOOK = (AUDITS / "hotp.toml").read_text()
+
+
+class Hall(suite.BookFolder):
+    """A folder with a book, and halls over it."""
+
+    def __init__(self, folder, text=HOTP_BOOK):
+        super().__init__(folder, text)
+        self.words = [PROGRAM, "hall", "--book", self.book]
+
+    def prints(self, text, status, log, fault=""):
+        """Runs a hall, and compares its status, log and fault."""
+        super().prints(self.words, text, status, log, fault)
+
+    def refuses(self, text, status, fault):
+        """As `prints`, for a hall that prints nothing; it has to write no file either."""
+        seen = self.seen()
+        self.prints(text, status, "", fault)
+        equal(self.seen(), seen, f"the book and its folder after {text[:200]!r}")
+
+    def hears(self, *visit):
+        """Gives a hall these turns of one client, without another, and compares the log. Returns the log."""
+        events, log = dealt([0] * len(visit), [visit])
+        self.prints(events, 0, log)
+        return log
+
+    def start(self, **more):
+        """Starts a hall, which waits for input."""
+        return Running(self.words, **more)
+
+
+def clean(sessions, accepted=0, codes=0):
+    return f"clean sessions={sessions} accepted={accepted} codes={codes}"
+
+
+def login():
+    """The three turns of RFC 5802's login."""
+    return [opened(OWN), said(AUTH[2:], CONT), said(RESP[2:], OK)]
