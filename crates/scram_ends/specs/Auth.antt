@@ -18,22 +18,23 @@ auth_message first server_first final = auth_to_challenge first server_first ++ 
 
 -- ClientSignature = HMAC(StoredKey, AuthMessage)
 abbrev pub client_signature : Mechanism → Keys → (auth : List ℕ) → List ℕ
-client_signature m keys auth = hmac_by m keys.stored auth
+client_signature mechanism keys auth = hmac_by mechanism keys.stored auth
 
 -- ServerSignature = HMAC(ServerKey, AuthMessage)
 abbrev pub server_signature : Mechanism → Keys → (auth : List ℕ) → List ℕ
-server_signature m keys auth = hmac_by m keys.server auth
+server_signature mechanism keys auth = hmac_by mechanism keys.server auth
 
 -- ClientProof is as long as a digest of H, and H(ClientProof XOR ClientSignature) = StoredKey
-pub record IsProof (m : Mechanism) (keys : Keys) (auth proof : List ℕ) : Type 0 where
-  pub len : length proof ≡ length_by m
-  pub opens : stored_key_by m (xor_bytes proof (client_signature m keys auth)) ≡ keys.stored
+pub record IsProof (mechanism : Mechanism) (keys : Keys) (auth proof : List ℕ) : Type 0 where
+  pub len : length proof ≡ length_by mechanism
+  pub opens : stored_key_by mechanism (xor_bytes proof (client_signature mechanism keys auth)) ≡ keys.stored
 
 -- ClientProof = ClientKey XOR ClientSignature, for the keys of a password
 abbrev pub proof_of : Mechanism → (password salt : List ℕ) → (count : ℕ) → (auth : List ℕ) → List ℕ
-proof_of m password salt count auth =
-    xor_bytes (client_key_by m (hi_by m password salt count)) (client_signature m (password_keys m password salt count) auth)
+proof_of mechanism password salt count auth =
+    xor_bytes (client_key_by mechanism (hi_by mechanism password salt count))
+    (client_signature mechanism (password_keys mechanism password salt count) auth)
 
 -- the ServerSignature that a client expects, with the ServerKey of its password
 abbrev pub expected_signature : Mechanism → (password salt : List ℕ) → (count : ℕ) → (auth : List ℕ) → List ℕ
-expected_signature m password salt count auth = server_signature m (password_keys m password salt count) auth
+expected_signature mechanism password salt count auth = server_signature mechanism (password_keys mechanism password salt count) auth

@@ -32,22 +32,22 @@ abbrev pub AreUsual : Limits → Type 0
 AreUsual limits = (limits.least ≡ usual_least) × (limits.most ≡ usual_most)
 
 -- the client stands for this login: it has sent the login's first message, and waits for the challenge
-pub record StandsForStarted (w : ClientOne) (l : Started) : Type 0 where
+pub record StandsForStarted (client : ClientOne) (login : Started) : Type 0 where
   pub first : ClientFirstParts
-  pub is_first : IsHonestFirst l.name l.authzid l.nonce l.client_first first
-  pub mechanism : w.mechanism ≡ l.mechanism
-  pub limits : w.limits ≡ l.limits
-  pub bare : w.bare.items ≡ client_first_bare first
-  pub header : w.header.items ≡ gs2_header first
-  pub nonce : w.nonce.items ≡ l.nonce
+  pub is_first : IsHonestFirst login.name login.authzid login.nonce login.client_first first
+  pub mechanism : client.mechanism ≡ login.mechanism
+  pub limits : client.limits ≡ login.limits
+  pub bare : client.bare.items ≡ client_first_bare first
+  pub header : client.header.items ≡ gs2_header first
+  pub nonce : client.nonce.items ≡ login.nonce
 
 -- the client stands for this login: it has sent the login's client-final message, as an honest client builds it, and expects this
 -- signature from the server
-pub record StandsForAnswered (w : ClientTwo) (l : Answered) : Type 0 where
-  pub honest : IsHonest l
+pub record StandsForAnswered (client : ClientTwo) (login : Answered) : Type 0 where
+  pub honest : IsHonest login
   pub signature : List ℕ
-  pub signed : signature ≡ honest_signature l honest
-  pub expected : w.expected.items ≡ signature
+  pub signed : signature ≡ honest_signature login honest
+  pub expected : client.expected.items ≡ signature
 
 -- the faults of a server-first message that a client is to answer, in the order in which they are judged. Text is not among them:
 -- it is the fault of a text that is not a server-first message.
@@ -72,10 +72,11 @@ pub record IsAnswerable (limits : Limits) (client_nonce server_first : List ℕ)
 -- why a client with these limits and this nonce of its own does not answer a challenge: Text, if the text is not a server-first
 -- message, with its first fault; else the first row that its parts do not meet
 abbrev pub IsChallengeFault : Limits → (client_nonce server_first : List ℕ) → ClientFault → Type 0
-IsChallengeFault limits client_nonce server_first (Text fault) = ((p : ServerFirstParts) → IsServerFirst server_first p → ⊥)
+IsChallengeFault limits client_nonce server_first (Text fault) =
+    ((challenge : ServerFirstParts) → IsServerFirst server_first challenge → ⊥)
     × IsServerFirstFault server_first fault
-IsChallengeFault limits client_nonce server_first fault = (p : ServerFirstParts) × IsServerFirst server_first p
-    × IsFirstUnmet (λ row. AsksOfChallenge row limits client_nonce p) challenge_faults_in_order fault
+IsChallengeFault limits client_nonce server_first fault = (challenge : ServerFirstParts) × IsServerFirst server_first challenge
+    × IsFirstUnmet (λ row. AsksOfChallenge row limits client_nonce challenge) challenge_faults_in_order fault
 
 -- the client has not ended the login: it has answered the challenge, or is handed back because its answer was not written
 abbrev pub IsUnspent : Result ClientTwo OneRefused → Type 0
@@ -111,7 +112,7 @@ AsksOfLast other signature last = Unit {0}
 -- why a client that expects this signature does not accept the server as authentic: Text, if the text is not a server-final message,
 -- with its first fault; else the first row that its parts do not meet
 abbrev pub IsLastFault : (signature server_final : List ℕ) → ClientFault → Type 0
-IsLastFault signature server_final (Text fault) = ((p : ServerFinalParts) → IsServerFinal server_final p → ⊥)
+IsLastFault signature server_final (Text fault) = ((last : ServerFinalParts) → IsServerFinal server_final last → ⊥)
     × IsServerFinalFault server_final fault
-IsLastFault signature server_final fault = (p : ServerFinalParts) × IsServerFinal server_final p
-    × IsFirstUnmet (λ row. AsksOfLast row signature p) last_faults_in_order fault
+IsLastFault signature server_final fault = (last : ServerFinalParts) × IsServerFinal server_final last
+    × IsFirstUnmet (λ row. AsksOfLast row signature last) last_faults_in_order fault

@@ -14,10 +14,10 @@ use Rattle.scram_ends.specs.declared.recorded.RecordedFault.TheVariants.{First, 
 
 -- the server's challenge to a client-first message: the client's nonce followed by the server's own part, the account's salt and count, and
 -- no extensions
-pub record IsChallengeTo (e : Entry) (client_first server_nonce server_first : List ℕ) : Type 0 where
+pub record IsChallengeTo (entry : Entry) (client_first server_nonce server_first : List ℕ) : Type 0 where
   pub first : ClientFirstParts
   pub is_first : IsClientFirst client_first first
-  pub is_challenge : IsServerFirst server_first (server_first_of (first.nonce ++ server_nonce) e.salt e.count [])
+  pub is_challenge : IsServerFirst server_first (server_first_of (first.nonce ++ server_nonce) entry.salt entry.count [])
 
 -- the faults of a client-first message, in the order in which they are judged. Text is not among them: it is the fault of a text
 -- that is not a client-first message.
@@ -36,15 +36,16 @@ AsksOfFirst OutsideProfile first =
 -- why a server does not take up a login: Text, if the text is not a client-first message, with its first fault; else the first row
 -- that its parts do not meet
 abbrev pub IsRefusedWith : (client_first : List ℕ) → FirstFault → Type 0
-IsRefusedWith client_first (Text fault) = ((p : ClientFirstParts) → IsClientFirst client_first p → ⊥)
+IsRefusedWith client_first (Text fault) = ((first : ClientFirstParts) → IsClientFirst client_first first → ⊥)
     × IsClientFirstFault client_first fault
-IsRefusedWith client_first fault = (p : ClientFirstParts) × IsClientFirst client_first p
-    × IsFirstUnmet (λ row. AsksOfFirst row p) first_faults_in_order fault
+IsRefusedWith client_first fault = (first : ClientFirstParts) × IsClientFirst client_first first
+    × IsFirstUnmet (λ row. AsksOfFirst row first) first_faults_in_order fault
 
 -- why two recorded texts open no login of this account: First, if a server does not take up the first text; NotThisChallenge, if it
 -- does and the second text is not a challenge to it
 abbrev pub IsRecordedFault : Entry → (client_first server_first : List ℕ) → RecordedFault → Type 0
-IsRecordedFault e client_first server_first (First fault) = IsRefusedWith client_first fault
-IsRecordedFault e client_first server_first NotThisChallenge =
-    ((p : ClientFirstParts) × (name : List ℕ) × (authzid : Option (List ℕ)) × IsClientFirst client_first p × IsTakenUp p name authzid)
-    × ((o : Opening) → IsOpening e client_first server_first o → ⊥)
+IsRecordedFault entry client_first server_first (First fault) = IsRefusedWith client_first fault
+IsRecordedFault entry client_first server_first NotThisChallenge =
+    ((first : ClientFirstParts) × (name : List ℕ) × (authzid : Option (List ℕ)) × IsClientFirst client_first first
+    × IsTakenUp first name authzid)
+    × ((opening : Opening) → IsOpening entry client_first server_first opening → ⊥)

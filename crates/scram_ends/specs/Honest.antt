@@ -16,27 +16,28 @@ pub record IsHonestFirst (name : List ℕ) (authzid : Option (List ℕ)) (nonce 
   pub plain_authzid : IfSome authzid IsPlainName
 
 -- client-final of this login is as an honest client builds it
-pub record IsHonestFinal (l : Answered) (first : ClientFirstParts) (challenge : ServerFirstParts) (final : ClientFinalParts) : Type 0 where
-  pub is_final : IsClientFinal l.client_final final
+pub record IsHonestFinal (login : Answered) (first : ClientFirstParts) (challenge : ServerFirstParts) (final : ClientFinalParts) : Type 0 where
+  pub is_final : IsClientFinal login.client_final final
   -- its channel binding is the gs2-header of client-first
   pub channel : final.channel ≡ gs2_header first
   -- its nonce is the challenge's, and it has no extensions
   pub sent_nonce : final.nonce ≡ challenge.nonce
   pub no_extensions : final.extensions ≡ []
   -- its proof is made from the password with the challenge's salt and count
-  pub proof : final.proof ≡ proof_of l.mechanism l.password challenge.salt challenge.count (auth_message first l.server_first final)
+  pub proof : final.proof
+      ≡ proof_of login.mechanism login.password challenge.salt challenge.count (auth_message first login.server_first final)
 
 -- the client of this login is honest: both its messages are as an honest client builds them, with the challenge between them
-pub record IsHonest (l : Answered) : Type 0 where
+pub record IsHonest (login : Answered) : Type 0 where
   pub first : ClientFirstParts
   pub challenge : ServerFirstParts
   pub final : ClientFinalParts
-  pub is_first : IsHonestFirst l.name l.authzid l.nonce l.client_first first
-  pub is_challenge : IsServerFirst l.server_first challenge
-  pub is_final : IsHonestFinal l first challenge final
+  pub is_first : IsHonestFirst login.name login.authzid login.nonce login.client_first first
+  pub is_challenge : IsServerFirst login.server_first challenge
+  pub is_final : IsHonestFinal login first challenge final
 
 -- the ServerSignature that an honest client expects, with the ServerKey of its password
-abbrev pub honest_signature : (l : Answered) → IsHonest l → List ℕ
-honest_signature l honest =
-    expected_signature l.mechanism l.password honest.challenge.salt honest.challenge.count
-    (auth_message honest.first l.server_first honest.final)
+abbrev pub honest_signature : (login : Answered) → IsHonest login → List ℕ
+honest_signature login honest =
+    expected_signature login.mechanism login.password honest.challenge.salt honest.challenge.count
+    (auth_message honest.first login.server_first honest.final)

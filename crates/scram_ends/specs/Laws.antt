@@ -14,13 +14,13 @@ use Rattle.scram_ends.specs.Honest.{IsHonest, honest_signature}
 
 -- at most one verdict is due to a text
 abbrev pub AtMostOneVerdictIsDue : Type 0
-AtMostOneVerdictIsDue = (l : Challenged) (client_final : List ℕ) (d other : Due)
-    → IsDue l client_final d → IsDue l client_final other → d ≡ other
+AtMostOneVerdictIsDue = (login : Challenged) (client_final : List ℕ) (due other : Due)
+    → IsDue login client_final due → IsDue login client_final other → due ≡ other
 
 -- after an opening, some verdict is due to every text
 abbrev pub SomeVerdictIsDue : Type 0
-SomeVerdictIsDue = (l : Challenged) (client_final : List ℕ) (o : Opening) → IsOpening l.entry l.client_first l.server_first o
-    → (d : Due) × IsDue l client_final d
+SomeVerdictIsDue = (login : Challenged) (client_final : List ℕ) (opening : Opening)
+    → IsOpening login.entry login.client_first login.server_first opening → (due : Due) × IsDue login client_final due
 
 -- a client-first message that is refused is not taken up, whatever its parts
 abbrev pub RefusedIsNotTakenUp : Type 0
@@ -30,18 +30,19 @@ RefusedIsNotTakenUp = (client_first : List ℕ) (fault : FirstFault) (first : Cl
 -- a login is valid if and only if acceptance is due to its client-final message and its server-final message has the signature due
 -- as its verifier
 abbrev pub AcceptsExactlyValid : Type 0
-AcceptsExactlyValid = (l : Challenged) (client_final server_final : List ℕ)
-    → ((signature : List ℕ) × IsDue l client_final (accept signature) × IsAuthentic server_final signature)
-    ↔ IsValidLogin l client_final server_final
+AcceptsExactlyValid = (login : Challenged) (client_final server_final : List ℕ)
+    → ((signature : List ℕ) × IsDue login client_final (accept signature) × IsAuthentic server_final signature)
+    ↔ IsValidLogin login client_final server_final
 
 -- an honest client logs in if the account's keys are those of the password, the server challenges it and the name to act as is
 -- allowed: acceptance is due with the signature that the client expects, the message due contains that signature, and the login is
 -- valid
 abbrev pub HonestLogsIn : Type 0
-HonestLogsIn = (e : Entry) (server_nonce : List ℕ) (l : Answered) → e.keys ≡ Some (password_keys l.mechanism l.password e.salt e.count)
-    → IsAllowed e l.name l.authzid → 1 ≤ length server_nonce → IsChallengeTo e l.client_first server_nonce l.server_first
-    → (honest : IsHonest l)
-    → let login = challenged_login e l.mechanism l.client_first l.server_first in
-    let signature = honest_signature l honest in
-    IsDue login l.client_final (accept signature) × IsAuthentic (due_text (accept signature)) signature
-    × IsValidLogin login l.client_final (due_text (accept signature))
+HonestLogsIn = (entry : Entry) (server_nonce : List ℕ) (answered : Answered)
+    → entry.keys ≡ Some (password_keys answered.mechanism answered.password entry.salt entry.count)
+    → IsAllowed entry answered.name answered.authzid → 1 ≤ length server_nonce
+    → IsChallengeTo entry answered.client_first server_nonce answered.server_first → (honest : IsHonest answered)
+    → let login = challenged_login entry answered.mechanism answered.client_first answered.server_first in
+    let signature = honest_signature answered honest in
+    IsDue login answered.client_final (accept signature) × IsAuthentic (due_text (accept signature)) signature
+    × IsValidLogin login answered.client_final (due_text (accept signature))

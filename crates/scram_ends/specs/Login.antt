@@ -16,12 +16,12 @@ pub record IsAuthentic (text signature : List ℕ) : Type 0 where
   pub is_verifier : last.outcome ≡ verifier signature
 
 -- the login is valid, with these last two messages
-pub record IsValidLogin (l : Challenged) (client_final server_final : List ℕ) : Type 0 where
+pub record IsValidLogin (login : Challenged) (client_final server_final : List ℕ) : Type 0 where
   pub opening : Opening
   pub final : ClientFinalParts
   pub keys : Keys
   -- its first two messages open a login of the account
-  pub is_opening : IsOpening l.entry l.client_first l.server_first opening
+  pub is_opening : IsOpening login.entry login.client_first login.server_first opening
   -- the third is a client-final message without a mandatory extension
   pub is_final : IsClientFinal client_final final
   pub not_mandatory : client_final_mandatory final ≡ false
@@ -29,9 +29,9 @@ pub record IsValidLogin (l : Challenged) (client_final server_final : List ℕ) 
   pub nonce : final.nonce ≡ opening.challenge.nonce
   pub channel : final.channel ≡ gs2_header opening.first
   -- its proof is one for the account's keys
-  pub has_keys : l.entry.keys ≡ Some keys
-  pub proof : IsProof l.mechanism keys (auth_message opening.first l.server_first final) final.proof
+  pub has_keys : login.entry.keys ≡ Some keys
+  pub proof : IsProof login.mechanism keys (auth_message opening.first login.server_first final) final.proof
   -- the account may act as the name that client-first asks for, if any
-  pub allowed : IsAllowed l.entry opening.name opening.authzid
+  pub allowed : IsAllowed login.entry opening.name opening.authzid
   -- the fourth message is a server-final message with the ServerSignature as its verifier
-  pub authentic : IsAuthentic server_final (server_signature l.mechanism keys (auth_message opening.first l.server_first final))
+  pub authentic : IsAuthentic server_final (server_signature login.mechanism keys (auth_message opening.first login.server_first final))

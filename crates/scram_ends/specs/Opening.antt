@@ -44,21 +44,21 @@ pub record Opening : Type 0 where
   pub challenge : ServerFirstParts
 
 -- the texts open a login of this account
-pub record IsOpening (e : Entry) (client_first server_first : List ℕ) (o : Opening) : Type 0 where
+pub record IsOpening (entry : Entry) (client_first server_first : List ℕ) (opening : Opening) : Type 0 where
   -- the first is a client-first message that a server takes up
-  pub is_first : IsClientFirst client_first o.first
-  pub taken_up : IsTakenUp o.first o.name o.authzid
+  pub is_first : IsClientFirst client_first opening.first
+  pub taken_up : IsTakenUp opening.first opening.name opening.authzid
   -- the second is a server-first message without a mandatory extension
-  pub is_challenge : IsServerFirst server_first o.challenge
-  pub not_mandatory : server_first_mandatory o.challenge ≡ false
+  pub is_challenge : IsServerFirst server_first opening.challenge
+  pub not_mandatory : server_first_mandatory opening.challenge ≡ false
   -- its nonce is the client's, followed by at least one byte from the server
-  pub longer : ExtendsNonce o.first.nonce o.challenge.nonce
+  pub longer : ExtendsNonce opening.first.nonce opening.challenge.nonce
   -- its salt and its iteration count are the account's
-  pub salt : o.challenge.salt ≡ e.salt
-  pub count : o.challenge.count ≡ e.count
+  pub salt : opening.challenge.salt ≡ entry.salt
+  pub count : opening.challenge.count ≡ entry.count
 
 -- the account of this name may act as the authzid (RFC 5802, section 5.1, `a`): there is none, or it is the name itself or one in the
 -- account's act_as
 abbrev pub IsAllowed : Entry → (name : List ℕ) → (authzid : Option (List ℕ)) → Type 0
-IsAllowed e name None = Unit {0}
-IsAllowed e name (Some authzid) = (authzid ≡ name) ⊎ Contains e.act_as authzid
+IsAllowed entry name None = Unit {0}
+IsAllowed entry name (Some authzid) = (authzid ≡ name) ⊎ Contains entry.act_as authzid

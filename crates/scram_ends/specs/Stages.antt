@@ -68,13 +68,13 @@ challenged_login entry mechanism client_first server_first =
 
 -- the login that was started, with this password and the two later messages
 abbrev pub answered_login : Started → (password server_first client_final : List ℕ) → Answered
-answered_login l password server_first client_final = record {
-  mechanism = l.mechanism;
+answered_login started password server_first client_final = record {
+  mechanism = started.mechanism;
   password = password;
-  name = l.name;
-  authzid = l.authzid;
-  nonce = l.nonce;
-  client_first = l.client_first;
+  name = started.name;
+  authzid = started.authzid;
+  nonce = started.nonce;
+  client_first = started.client_first;
   server_first = server_first;
   client_final = client_final;
 }

@@ -15,24 +15,24 @@ use Rattle.scram_ends.specs.declared.server.ServerWait.{ServerWait}
 
 -- the value signs with these keys and this mechanism: it keeps StoredKey, and its two running MACs, one with StoredKey and one with
 -- ServerKey, have read the text `front`
-pub record IsSigning (s : Signing) (m : Mechanism) (keys : Keys) (front : List ℕ) : Type 0 where
-  pub mechanism : s.mechanism ≡ m
-  pub stored : s.stored.items ≡ keys.stored
-  pub client : IsScramMac m s.client keys.stored front
-  pub server : IsScramMac m s.server keys.server front
+pub record IsSigning (signing : Signing) (used : Mechanism) (keys : Keys) (front : List ℕ) : Type 0 where
+  pub mechanism : signing.mechanism ≡ used
+  pub stored : signing.stored.items ≡ keys.stored
+  pub client : IsScramMac used signing.client keys.stored front
+  pub server : IsScramMac used signing.server keys.server front
 
 -- if there are keys, there is a value that signs with them and whose MACs have read `front`; if there are none, there is no value
 abbrev pub IsSigningFor : Option Signing → Mechanism → Option Keys → List ℕ → Type 0
-IsSigningFor None m None front = Unit {0}
-IsSigningFor (Some s) m (Some keys) front = IsSigning s m keys front
-IsSigningFor None m (Some keys) front = ⊥
-IsSigningFor (Some s) m None front = ⊥
+IsSigningFor None mechanism None front = Unit {0}
+IsSigningFor (Some signing) mechanism (Some keys) front = IsSigning signing mechanism keys front
+IsSigningFor None mechanism (Some keys) front = ⊥
+IsSigningFor (Some signing) mechanism None front = ⊥
 
 -- the server stands for this login: it has sent the login's challenge, and waits for client-final
-pub record StandsForChallenged (w : ServerWait) (l : Challenged) : Type 0 where
+pub record StandsForChallenged (wait : ServerWait) (login : Challenged) : Type 0 where
   pub opening : Opening
-  pub is_opening : IsOpening l.entry l.client_first l.server_first opening
-  pub nonce : w.nonce.items ≡ opening.challenge.nonce
-  pub header : w.header.items ≡ gs2_header opening.first
-  pub allowed : IsTrue w.allowed ↔ IsAllowed l.entry opening.name opening.authzid
-  pub signing : IsSigningFor w.signing l.mechanism l.entry.keys (auth_to_challenge opening.first l.server_first)
+  pub is_opening : IsOpening login.entry login.client_first login.server_first opening
+  pub nonce : wait.nonce.items ≡ opening.challenge.nonce
+  pub header : wait.header.items ≡ gs2_header opening.first
+  pub allowed : IsTrue wait.allowed ↔ IsAllowed login.entry opening.name opening.authzid
+  pub signing : IsSigningFor wait.signing login.mechanism login.entry.keys (auth_to_challenge opening.first login.server_first)

@@ -12,9 +12,9 @@ pub record ShowsTakenFirst (taken : TakenFirst) (first : ClientFirstParts) : Typ
   pub taken_up : IsTakenUp first taken.name taken.authzid
 
 -- what a server takes, and the nonce that it sends, are those of this opening
-pub record ShowsOpening (taken : TakenFirst) (sent : List ℕ) (o : Opening) : Type 0 where
-  pub header : taken.header.now ≡ gs2_header o.first
-  pub bare : taken.bare.now ≡ client_first_bare o.first
-  pub name : taken.name ≡ o.name
-  pub authzid : taken.authzid ≡ o.authzid
-  pub nonce : sent ≡ o.challenge.nonce
+pub record ShowsOpening (taken : TakenFirst) (sent : List ℕ) (opening : Opening) : Type 0 where
+  pub header : taken.header.now ≡ gs2_header opening.first
+  pub bare : taken.bare.now ≡ client_first_bare opening.first
+  pub name : taken.name ≡ opening.name
+  pub authzid : taken.authzid ≡ opening.authzid
+  pub nonce : sent ≡ opening.challenge.nonce

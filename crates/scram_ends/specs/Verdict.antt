@@ -27,13 +27,14 @@ refusals_in_order = ExtensionsNotSupported ∷ OtherNonce ∷ Channel ∷ Invali
 -- gs2-header of client-first as channel binding; a proof for keys that the account has; a name to act as that is allowed.
 -- InvalidEncoding is not a row, and asks nothing.
 abbrev pub AsksOfFinal : Refusal → Challenged → Opening → ClientFinalParts → Type 0
-AsksOfFinal InvalidEncoding l o final = Unit {0}
-AsksOfFinal ExtensionsNotSupported l o final = client_final_mandatory final ≡ false
-AsksOfFinal OtherNonce l o final = final.nonce ≡ o.challenge.nonce
-AsksOfFinal Channel l o final = final.channel ≡ gs2_header o.first
-AsksOfFinal InvalidProof l o final =
-    (keys : Keys) × (l.entry.keys ≡ Some keys) × IsProof l.mechanism keys (auth_message o.first l.server_first final) final.proof
-AsksOfFinal NotAuthorised l o final = IsAllowed l.entry o.name o.authzid
+AsksOfFinal InvalidEncoding login opening final = Unit {0}
+AsksOfFinal ExtensionsNotSupported login opening final = client_final_mandatory final ≡ false
+AsksOfFinal OtherNonce login opening final = final.nonce ≡ opening.challenge.nonce
+AsksOfFinal Channel login opening final = final.channel ≡ gs2_header opening.first
+AsksOfFinal InvalidProof login opening final =
+    (keys : Keys) × (login.entry.keys ≡ Some keys)
+    × IsProof login.mechanism keys (auth_message opening.first login.server_first final) final.proof
+AsksOfFinal NotAuthorised login opening final = IsAllowed login.entry opening.name opening.authzid
 
 -- what a server may answer to client-final: acceptance with its signature, or a refusal
 pub data Due : Type 0 where
@@ -43,25 +44,25 @@ pub data Due : Type 0 where
 -- the verdict on the parts, given the opening: the refusal of the first row that they do not meet; or, if they meet every row,
 -- acceptance with the ServerSignature for the account's keys
 abbrev pub IsVerdictOn : Challenged → Opening → ClientFinalParts → Due → Type 0
-IsVerdictOn l o final (refuse r) = IsFirstUnmet (λ row. AsksOfFinal row l o final) refusals_in_order r
-IsVerdictOn l o final (accept signature) =
-    AllByRecursion (λ row. AsksOfFinal row l o final) refusals_in_order
-    × ((keys : Keys) × (l.entry.keys ≡ Some keys)
-    × (signature ≡ server_signature l.mechanism keys (auth_message o.first l.server_first final)))
+IsVerdictOn login opening final (refuse refusal) = IsFirstUnmet (λ row. AsksOfFinal row login opening final) refusals_in_order refusal
+IsVerdictOn login opening final (accept signature) =
+    AllByRecursion (λ row. AsksOfFinal row login opening final) refusals_in_order
+    × ((keys : Keys) × (login.entry.keys ≡ Some keys)
+    × (signature ≡ server_signature login.mechanism keys (auth_message opening.first login.server_first final)))
 
 -- the messages are an opening and a client-final message, and this is the verdict on their parts
-pub record IsDueToParts (l : Challenged) (client_final : List ℕ) (d : Due) : Type 0 where
+pub record IsDueToParts (login : Challenged) (client_final : List ℕ) (due : Due) : Type 0 where
   pub opening : Opening
   pub final : ClientFinalParts
-  pub is_opening : IsOpening l.entry l.client_first l.server_first opening
+  pub is_opening : IsOpening login.entry login.client_first login.server_first opening
   pub is_final : IsClientFinal client_final final
-  pub is_verdict : IsVerdictOn l opening final d
+  pub is_verdict : IsVerdictOn login opening final due
 
 -- what is due to a text received as client-final: InvalidEncoding if it is not a client-final message, else the verdict on its parts
 abbrev pub IsDue : Challenged → (client_final : List ℕ) → Due → Type 0
-IsDue l client_final d =
-    (((final : ClientFinalParts) → IsClientFinal client_final final → ⊥) × (d ≡ refuse InvalidEncoding))
-    ⊎ IsDueToParts l client_final d
+IsDue login client_final due =
+    (((final : ClientFinalParts) → IsClientFinal client_final final → ⊥) × (due ≡ refuse InvalidEncoding))
+    ⊎ IsDueToParts login client_final due
 
 -- the server-error-value of a refusal (RFC 5802, section 7)
 abbrev pub error_value : Refusal → List ℕ
@@ -75,27 +76,27 @@ error_value NotAuthorised = codes "other-error"
 -- the outcome that server-final contains
 abbrev pub outcome_due : Due → VerifierOrError
 outcome_due (accept signature) = verifier signature
-outcome_due (refuse r) = server_error (error_value r)
+outcome_due (refuse refusal) = server_error (error_value refusal)
 
 -- the parts of server-final, with no extensions
 abbrev pub final_due : Due → ServerFinalParts
-final_due d = record { outcome = outcome_due d; extensions = [] }
+final_due due = record { outcome = outcome_due due; extensions = [] }
 
 -- the server's last message
 abbrev pub due_text : Due → List ℕ
-due_text d = server_final_text (final_due d)
+due_text due = server_final_text (final_due due)
 
 -- the verdict that the server's caller gets: what is due, without the signature
 abbrev pub verdict_of : Due → Verdict
 verdict_of (accept signature) = verdict.Accepted
-verdict_of (refuse r) = verdict.Refused r
+verdict_of (refuse refusal) = verdict.Refused refusal
 
 -- if it is an acceptance, its signature is not empty
 abbrev pub CanBeReported : Due → Type 0
 CanBeReported (accept signature) = 1 ≤ length signature
-CanBeReported (refuse r) = Unit {0}
+CanBeReported (refuse refusal) = Unit {0}
 
 -- what is due according to this judgement
 abbrev pub due_of : Judged → Due
 due_of (judged.Accepted signature) = accept signature.items
-due_of (judged.Refused r) = refuse r
+due_of (judged.Refused refusal) = refuse refusal

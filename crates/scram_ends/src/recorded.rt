@@ -80,13 +80,14 @@ impl ServerWait {
 
 // Whether a challenge that was read answers this client's nonce, with the salt and the count of this account.
 fn is_challenge_to(view: &KeysView<'_>, nonce: &[u8], challenge: &ServerFirst<'_>) -> bool
-    ensures opens { OnTrue result ((client_first server_first : List ℕ) (o : Opening)
-        → IsClientFirst client_first o.first → IsTakenUp o.first o.name o.authzid → IsServerFirst server_first o.challenge
-        → nonce.now ≡ o.first.nonce → ShowsServerFirst challenge.now o.challenge
-        → IsOpening (entry_of view.now) client_first server_first o) }
-    ensures not { OnFalse result ((client_first server_first : List ℕ) (o : Opening)
-        → nonce.now ≡ o.first.nonce → ShowsServerFirst challenge.now o.challenge
-        → IsOpening (entry_of view.now) client_first server_first o → ⊥) }
+    ensures opens { OnTrue result ((client_first server_first : List ℕ) (opening : Opening)
+        → IsClientFirst client_first opening.first → IsTakenUp opening.first opening.name opening.authzid
+        → IsServerFirst server_first opening.challenge
+        → nonce.now ≡ opening.first.nonce → ShowsServerFirst challenge.now opening.challenge
+        → IsOpening (entry_of view.now) client_first server_first opening) }
+    ensures not { OnFalse result ((client_first server_first : List ℕ) (opening : Opening)
+        → nonce.now ≡ opening.first.nonce → ShowsServerFirst challenge.now opening.challenge
+        → IsOpening (entry_of view.now) client_first server_first opening → ⊥) }
 {
     if challenge.mandatory {
         return false;

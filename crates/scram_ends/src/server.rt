@@ -99,13 +99,13 @@ pub fn server_first<A: Allocator>(
         × StandsForChallenged wait (challenged_login (entry_of view.now) mechanism client_first.now server_first)) }
     ensures unchanged { IsUnchangedOnErr result out.old out.new }
     ensures room { KeepsRoom out.old out.new }
-    ensures first { IfErr result (λ r. (f : FirstFault) → r ≡ FirstRefused.First f
-        → IsRefusedWith client_first.now f) }
+    ensures first { IfErr result (λ refused. (fault : FirstFault) → refused ≡ FirstRefused.First fault
+        → IsRefusedWith client_first.now fault) }
     // A fault of writing comes only after a client-first message that is taken up, and it is always 99 NoMemory.
-    ensures taken { IfErr result (λ r. (f : WriteFault) → r ≡ FirstRefused.Write f
-        → (f ≡ WriteFault.NoMemory) × ((first : ClientFirstParts) × (name : List ℕ)
+    ensures taken { IfErr result (λ refused. (fault : WriteFault) → refused ≡ FirstRefused.Write fault
+        → (fault ≡ WriteFault.NoMemory) × ((first : ClientFirstParts) × (name : List ℕ)
         × (authzid : Option (List ℕ)) × IsClientFirst client_first.now first × IsTakenUp first name authzid)) }
-    ensures no_memory { IfErr result (λ r. r ≡ FirstRefused.Write WriteFault.NoMemory
+    ensures no_memory { IfErr result (λ refused. refused ≡ FirstRefused.Write WriteFault.NoMemory
         → (server_first : List ℕ) × IsChallengeTo (entry_of view.now) client_first.now server_nonce.now server_first
         × LacksRoom out.old server_first) }
 {
@@ -132,8 +132,8 @@ pub(crate) fn wait_for(
 ) -> ServerWait
     requires nonce { length nonce.now ≤ max_nonce_len }
     requires header { length taken.now.header.now ≤ MAX_HEADER_LEN }
-    ensures { (client_first : List ℕ) (o : Opening)
-        → IsOpening (entry_of view.now) client_first challenge.now o → ShowsOpening taken.now nonce.now o
+    ensures { (client_first : List ℕ) (opening : Opening)
+        → IsOpening (entry_of view.now) client_first challenge.now opening → ShowsOpening taken.now nonce.now opening
         → StandsForChallenged result (challenged_login (entry_of view.now) mechanism client_first challenge.now) }
 {
     ServerWait {
@@ -192,19 +192,19 @@ impl ServerWait {
     ///
     /// This call does not allocate.
     pub fn judge(self, client_final: &[u8]) -> Judged
-        ensures due { (l : Challenged) → StandsForChallenged self l → IsDue l client_final.now (due_of result) }
+        ensures due { (login : Challenged) → StandsForChallenged self login → IsDue login client_final.now (due_of result) }
         // The login is accepted if and only if it is valid with the message due as its last: this follows from `due` and the
         // law `accepts_exactly_valid`.
-        ensures valid { (l : Challenged) → StandsForChallenged self l
+        ensures valid { (login : Challenged) → StandsForChallenged self login
             → ((verdict_of (due_of result) ≡ Verdict.Accepted)
-            ↔ IsValidLogin l client_final.now (due_text (due_of result))) }
+            ↔ IsValidLogin login client_final.now (due_text (due_of result))) }
     {
         self.verdict_on(client_final)
     }
 
     // As `judge`, without taking the value.
     fn verdict_on(&self, client_final: &[u8]) -> Judged
-        ensures due { (l : Challenged) → StandsForChallenged self.now l → IsDue l client_final.now (due_of result) }
+        ensures due { (login : Challenged) → StandsForChallenged self.now login → IsDue login client_final.now (due_of result) }
         ensures report { CanBeReported (due_of result) }
     {
         match read_client_final(client_final) {
@@ -216,8 +216,8 @@ impl ServerWait {
     // The verdict on the parts of a client-final message.
     #[tactic(auto, using(scram_text::proofs::lemmas::FirstUnmet::found_is_first))]
     fn judge_final(&self, last: &ClientFinal<'_>) -> Judged
-        ensures verdict { (l : Challenged) (s : StandsForChallenged self.now l) (p : ClientFinalParts)
-            → ShowsClientFinal last.now p → IsVerdictOn l s.opening p (due_of result) }
+        ensures verdict { (login : Challenged) (stands : StandsForChallenged self.now login) (final : ClientFinalParts)
+            → ShowsClientFinal last.now final → IsVerdictOn login stands.opening final (due_of result) }
         ensures report { CanBeReported (due_of result) }
     {
         if last.mandatory {
@@ -252,21 +252,22 @@ impl ServerWait {
         out: &mut Vec<u8, A>,
     ) -> Result<Verdict, (ServerWait, WriteFault)>
         // The message due, a server-final message, is appended, and the verdict is the one that it contains.
-        ensures ok { IfOk result (λ v. (l : Challenged) → StandsForChallenged self l
-            → (d : Due) × IsDue l client_final.now d × (v ≡ verdict_of d)
-            × (out.new.items ≡ out.old.items ++ due_text d) × IsServerFinal (due_text d) (final_due d)) }
+        ensures ok { IfOk result (λ verdict. (login : Challenged) → StandsForChallenged self login
+            → (due : Due) × IsDue login client_final.now due × (verdict ≡ verdict_of due)
+            × (out.new.items ≡ out.old.items ++ due_text due) × IsServerFinal (due_text due) (final_due due)) }
         // A login is accepted if and only if it is valid: this follows from `ok` and the law
         // `accepts_exactly_valid`.
-        ensures valid { IfOk result (λ v. (l : Challenged) → StandsForChallenged self l
+        ensures valid { IfOk result (λ verdict. (login : Challenged) → StandsForChallenged self login
             → (server_final : List ℕ) × (out.new.items ≡ out.old.items ++ server_final)
-            × ((v ≡ Verdict.Accepted) ↔ IsValidLogin l client_final.now server_final)) }
+            × ((verdict ≡ Verdict.Accepted) ↔ IsValidLogin login client_final.now server_final)) }
         ensures unchanged { IsUnchangedOnErr result out.old out.new }
         ensures room { KeepsRoom out.old out.new }
         // The only fault is 99 NoMemory, and the value is handed back unchanged.
-        ensures back { IfErr result (λ r. (r.0 ≡ self) × (r.1 ≡ WriteFault.NoMemory)) }
+        ensures back { IfErr result (λ refused. (refused.0 ≡ self) × (refused.1 ≡ WriteFault.NoMemory)) }
         // It comes only if the message due is within the limit, and there was no room for it.
-        ensures no_memory { IfErr result (λ r. (l : Challenged) → StandsForChallenged self l
-            → (d : Due) × IsDue l client_final.now d × (length (due_text d) ≤ max_message_len) × LacksRoom out.old (due_text d)) }
+        ensures no_memory { IfErr result (λ refused. (login : Challenged) → StandsForChallenged self login
+            → (due : Due) × IsDue login client_final.now due
+            × (length (due_text due) ≤ max_message_len) × LacksRoom out.old (due_text due)) }
     {
         let judged = self.verdict_on(client_final);
         match write_judgement(&judged, out) {

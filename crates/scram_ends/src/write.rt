@@ -23,13 +23,13 @@ pub(crate) fn write_challenge<A: Allocator>(
     requires nonce { IsNonce max_nonce_len nonce.now }
     requires count { 1 ≤ count }
     ensures appended { IsAppended result out.old out.new (server_first_text (server_first_of nonce.now salt.now count [])) }
-    ensures is_message { let p = server_first_of nonce.now salt.now count [] in
-        OnOk result (IsServerFirst (server_first_text p) p) }
+    ensures is_message { let challenge = server_first_of nonce.now salt.now count [] in
+        OnOk result (IsServerFirst (server_first_text challenge) challenge) }
     ensures unwritable { IsErrOf result WriteFault.Unwritable → ⊥ }
     ensures over_limit { IsErrOf result WriteFault.OverLimit → ⊥ }
-    ensures no_memory { let p = server_first_of nonce.now salt.now count [] in
-        IsErrOf result WriteFault.NoMemory → IsServerFirst (server_first_text p) p
-        × LacksRoom out.old (server_first_text p) }
+    ensures no_memory { let challenge = server_first_of nonce.now salt.now count [] in
+        IsErrOf result WriteFault.NoMemory → IsServerFirst (server_first_text challenge) challenge
+        × LacksRoom out.old (server_first_text challenge) }
 {
     // For the proof: a salt's elements are bytes, so it fits its field, and the writer has no other fault.
     law_of_bytes(salt.bytes());
@@ -43,8 +43,8 @@ pub(crate) fn write_judgement<A: Allocator>(
 ) -> Result<(), WriteFault>
     requires { CanBeReported (due_of judged.now) }
     ensures appended { IsAppended result out.old out.new (due_text (due_of judged.now)) }
-    ensures is_message { let d = due_of judged.now in
-        OnOk result (IsServerFinal (due_text d) (final_due d)) }
+    ensures is_message { let due = due_of judged.now in
+        OnOk result (IsServerFinal (due_text due) (final_due due)) }
     ensures unwritable { IsErrOf result WriteFault.Unwritable → ⊥ }
     ensures over_limit { IsErrOf result WriteFault.OverLimit → ⊥ }
     ensures no_memory { let text = due_text (due_of judged.now) in IsErrOf result WriteFault.NoMemory
@@ -61,8 +61,8 @@ fn write_signature<A: Allocator>(signature: &[u8], out: &mut Vec<u8, A>) -> Resu
     requires some { 1 ≤ length signature.now }
     requires most { length signature.now ≤ max_tag_len }
     ensures appended { IsAppended result out.old out.new (due_text (accept signature.now)) }
-    ensures is_message { let d = accept signature.now in
-        OnOk result (IsServerFinal (due_text d) (final_due d)) }
+    ensures is_message { let due = accept signature.now in
+        OnOk result (IsServerFinal (due_text due) (final_due due)) }
     ensures unwritable { IsErrOf result WriteFault.Unwritable → ⊥ }
     ensures over_limit { IsErrOf result WriteFault.OverLimit → ⊥ }
     ensures no_memory { let text = due_text (accept signature.now) in IsErrOf result WriteFault.NoMemory
@@ -74,8 +74,8 @@ fn write_signature<A: Allocator>(signature: &[u8], out: &mut Vec<u8, A>) -> Resu
 // Appends the server-final message with the error value of this refusal.
 fn write_refusal<A: Allocator>(refusal: Refusal, out: &mut Vec<u8, A>) -> Result<(), WriteFault>
     ensures appended { IsAppended result out.old out.new (due_text (refuse refusal)) }
-    ensures is_message { let d = refuse refusal in
-        OnOk result (IsServerFinal (due_text d) (final_due d)) }
+    ensures is_message { let due = refuse refusal in
+        OnOk result (IsServerFinal (due_text due) (final_due due)) }
     ensures unwritable { IsErrOf result WriteFault.Unwritable → ⊥ }
     ensures over_limit { IsErrOf result WriteFault.OverLimit → ⊥ }
     ensures no_memory { let text = due_text (refuse refusal) in IsErrOf result WriteFault.NoMemory
