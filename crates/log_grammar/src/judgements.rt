@@ -8,7 +8,7 @@ ghost use Rattle.log_grammar.specs.Places.{Place};
 ghost use Rattle.log_grammar.specs.Demands.{Accounts, demands, HaveDueReplies};
 ghost use Rattle.log_grammar.specs.laws.Histories.{IsHistory};
 ghost use Rattle.log_grammar.specs.state_machine.Steps.{IsTransition, told_at};
-ghost use Rattle.log_grammar.specs.Begins.{Spells, Begins, AreLines};
+ghost use Rattle.log_grammar.specs.Begins.{IsLogUpTo, Begins, AreLines};
 ghost use Rattle.log_grammar.specs.Versions.{IsLogFront, IsClean, IsFaultLine, IsWhy};
 ghost use Rattle.log_grammar.specs.Why.{Why};
 
@@ -106,7 +106,7 @@ pub fn each_log_has_one_answer()
 /// none of its codes has a reply.
 pub fn logs_have_legal_histories()
     ensures { (accounts : Accounts) (bytes : List ℕ) (lines : List LogLine) (rest : List ℕ) (place : Place) (told : List LoggedAttempt)
-        → AreLines bytes lines rest → Spells (demands accounts) lines place told
+        → AreLines bytes lines rest → IsLogUpTo (demands accounts) lines place told
         → (account : List ℕ) → IsHistory (accounts.token account) account told }
 {
     moments_are_in_range();

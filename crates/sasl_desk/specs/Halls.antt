@@ -12,7 +12,7 @@ use Rattle.log_grammar.specs.Lines.{LogLine, header_two, said, ended, busy, log_
 use Rattle.log_grammar.specs.LoggedAttempt.{LoggedAttempt}
 use Rattle.log_grammar.specs.Places.{Place, between, offered, waits_first, waits_final, waits_code, open_at}
 use Rattle.log_grammar.specs.Demands.{Accounts, demands}
-use Rattle.log_grammar.specs.Numbered.{Numbered, numbered, of_number, given_in, closed_in, SpellsNumbered}
+use Rattle.log_grammar.specs.Numbered.{Numbered, numbered, of_number, given_in, closed_in, IsNumberedLogUpTo}
 use Rattle.log_grammar.specs.Versions.{max_open_sessions}
 use Rattle.log_grammar.specs.NumberedLines.{numbered_text, IsNumberedWritable, max_session_number}
 use Rattle.sasl_desk.specs.Desks.{session_phase, IsStoredAt, HoldsBook, IsBookAfterReplies, spent_by_all}
@@ -130,7 +130,7 @@ module _ {S : Type 0} (facts : S → StoreFacts) (IsStored : List ℕ → Type 0
     pub session_runs : (number : ℕ) → IsSessionRun (accounts_in start) (of_number number calls) (places number)
     pub fresh : (number : ℕ) → given_in (hall_lines calls) < number → of_number number calls ≡ []
     -- the lines are those of a log of version 2, at most `max_open_sessions` of whose sessions are open at once, and they can be written
-    pub spelled : SpellsNumbered max_open_sessions (demands (accounts_in start)) (hall_lines calls) places told
+    pub spelled : IsNumberedLogUpTo max_open_sessions (demands (accounts_in start)) (hall_lines calls) places told
     pub writable : AllByRecursion IsNumberedWritable (hall_lines calls)
     -- the numbers that were given are 1, 2, and so on
     pub given : hall.given ≡ given_in (hall_lines calls)

@@ -6,7 +6,7 @@ use Rattle.log_grammar.specs.Books.{accounts_in}
 use Rattle.log_grammar.specs.Begins.{Begins}
 use Rattle.log_grammar.specs.Demands.{demands}
 use Rattle.log_grammar.specs.Lines.{LogLine, log_bytes}
-use Rattle.log_grammar.specs.Numbered.{Numbered, SpellsNumbered}
+use Rattle.log_grammar.specs.Numbered.{Numbered, IsNumberedLogUpTo}
 use Rattle.log_grammar.specs.Places.{Place}
 use Rattle.log_grammar.specs.LoggedAttempt.{LoggedAttempt}
 use Rattle.log_grammar.specs.Versions.{max_open_sessions}
@@ -31,5 +31,5 @@ pub record IsLogSaved (IsStored : List ℕ → Type 0) (start : BookFields) (log
 pub record AreLinesSaved (IsStored : List ℕ → Type 0) (start : BookFields) (lines : List (Numbered LogLine)) : Type 0 where
   pub places : ℕ → Place
   pub told : List LoggedAttempt
-  pub spelled : SpellsNumbered max_open_sessions (demands (accounts_in start)) lines places told
+  pub spelled : IsNumberedLogUpTo max_open_sessions (demands (accounts_in start)) lines places told
   pub saved : IsToldSaved IsStored start told

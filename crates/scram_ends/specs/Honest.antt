@@ -16,7 +16,8 @@ pub record IsHonestFirst (name : List ℕ) (authzid : Option (List ℕ)) (nonce 
   pub plain_authzid : IfSome authzid IsPlainName
 
 -- client-final of this login is as an honest client builds it
-pub record IsHonestFinal (login : Answered) (first : ClientFirstParts) (challenge : ServerFirstParts) (final : ClientFinalParts) : Type 0 where
+pub record IsHonestFinal (login : Answered) (first : ClientFirstParts) (challenge : ServerFirstParts) (final : ClientFinalParts)
+    : Type 0 where
   pub is_final : IsClientFinal login.client_final final
   -- its channel binding is the gs2-header of client-first
   pub channel : final.channel ≡ gs2_header first

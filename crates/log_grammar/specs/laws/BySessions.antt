@@ -7,7 +7,7 @@ use Rattle.log_grammar.specs.Lines.{LogLine, header, said, ended, halt, mechs, l
 use Rattle.log_grammar.specs.Bytes.{IsSplit}
 use Rattle.log_grammar.specs.LoggedAttempt.{LoggedAttempt}
 use Rattle.log_grammar.specs.Places.{got_code}
-use Rattle.log_grammar.specs.Demands.{Accounts, AllCanBeChallenged, IsFirstOf, demands}
+use Rattle.log_grammar.specs.Demands.{Accounts, AllCanBeChallenged, IsTakenUpFor, demands}
 use Rattle.log_grammar.specs.Sessions.{Session, session_lines, session_told, SessionMeets}
 use Rattle.log_grammar.specs.laws.Histories.{IsHistory}
 use Rattle.log_grammar.specs.Begins.{Begins}
@@ -61,7 +61,7 @@ HasFirst s mechanism first =
 
 -- the client-first message of the session names this account
 abbrev pub IsLoginOf : Session → List ℕ → Type 0
-IsLoginOf s account = (mechanism : List ℕ) × (first : List ℕ) × HasFirst s mechanism first × IsFirstOf mechanism first account
+IsLoginOf s account = (mechanism : List ℕ) × (first : List ℕ) × HasFirst s mechanism first × IsTakenUpFor mechanism first account
 
 -- in a session that meets its demands, the account of each code that is answered is the one that the client-first message names
 abbrev pub EachCodeIsOfItsLogin : Type 0

@@ -5,7 +5,7 @@ use Rattle.log_grammar.specs.Lines.{LogLine, said, heard, gone, ended, mechs, re
 use Rattle.log_grammar.specs.LoggedAttempt.{LoggedAttempt}
 use Rattle.log_grammar.specs.Places.{Place}
 use Rattle.log_grammar.specs.Demands.{Accounts, demands}
-use Rattle.log_grammar.specs.Numbered.{Numbered, numbered, SpellsNumbered, MayEndNumbered}
+use Rattle.log_grammar.specs.Numbered.{Numbered, numbered, IsNumberedLogUpTo, MayEndNumbered}
 
 -- the first line of a session
 abbrev pub offer : ℕ → Numbered LogLine
@@ -23,9 +23,9 @@ two_at_once =
 
 -- if two sessions may be open at once, these are the lines of a log that may end there
 abbrev pub IsWholeForTwo : Accounts → List (Numbered LogLine) → Type 0
-IsWholeForTwo accounts log = (places : ℕ → Place) × SpellsNumbered 2 (demands accounts) log places [] × MayEndNumbered places
+IsWholeForTwo accounts log = (places : ℕ → Place) × IsNumberedLogUpTo 2 (demands accounts) log places [] × MayEndNumbered places
 
 -- if two sessions may be open at once, no log begins with these lines
 abbrev pub BeginsNoneForTwo : Accounts → List (Numbered LogLine) → Type 0
 BeginsNoneForTwo accounts log = (rest : List (Numbered LogLine)) (places : ℕ → Place) (told : List LoggedAttempt)
-    → SpellsNumbered 2 (demands accounts) (log ++ rest) places told → ⊥
+    → IsNumberedLogUpTo 2 (demands accounts) (log ++ rest) places told → ⊥

@@ -9,7 +9,7 @@ use Rattle.log_grammar.specs.LoggedAttempt.{LoggedAttempt}
 use Rattle.log_grammar.specs.Places.{Place, waits_code, got_code}
 use Rattle.log_grammar.specs.Demands.{Accounts, attempts_of, demands}
 use Rattle.log_grammar.specs.laws.Replies.{pass_line, AreRising}
-use Rattle.log_grammar.specs.Numbered.{Numbered, numbered, SpellsNumbered}
+use Rattle.log_grammar.specs.Numbered.{Numbered, numbered, IsNumberedLogUpTo}
 
 -- under this number the lines end with a code of this counter, or with two in a row of which it is the second
 pub record IsNumberedCodeOf (limit : ℕ) (accounts : Accounts) (log : List (Numbered LogLine)) (n moment counter : ℕ)
@@ -20,7 +20,7 @@ pub record IsNumberedCodeOf (limit : ℕ) (accounts : Accounts) (log : List (Num
   pub told : List LoggedAttempt
   pub token : TokenFields
   -- the number waits for the reply to what the client of an account sent
-  pub after : SpellsNumbered limit (demands accounts) log places told
+  pub after : IsNumberedLogUpTo limit (demands accounts) log places told
   pub waits : places n ≡ got_code account sent
   -- the account has a token
   pub has_token : accounts.token account ≡ Some token
@@ -34,7 +34,7 @@ pub record IsNumberedCodeOf (limit : ℕ) (accounts : Accounts) (log : List (Num
 abbrev pub EachNumberedPassIsACode : Type 0
 EachNumberedPassIsACode = (limit : ℕ) (accounts : Accounts) (log : List (Numbered LogLine)) (n moment counter : ℕ) (places : ℕ → Place)
     (told : List LoggedAttempt)
-    → SpellsNumbered limit (demands accounts) (log ++ numbered n (pass_line moment counter) ∷ []) places told
+    → IsNumberedLogUpTo limit (demands accounts) (log ++ numbered n (pass_line moment counter) ∷ []) places told
     → IsNumberedCodeOf limit accounts log n moment counter (places n)
 
 -- of two passes of one account in a log, under any numbers, the later has the greater counter
@@ -42,9 +42,9 @@ abbrev pub NumberedCountersRise : Type 0
 NumberedCountersRise = (limit : ℕ) (accounts : Accounts) (log more : List (Numbered LogLine)) (account : List ℕ)
     (n moment counter m later greater : ℕ)
     (places after : ℕ → Place) (told all : List LoggedAttempt)
-    → SpellsNumbered limit (demands accounts) (log ++ numbered n (pass_line moment counter) ∷ []) places told
+    → IsNumberedLogUpTo limit (demands accounts) (log ++ numbered n (pass_line moment counter) ∷ []) places told
     → places n ≡ waits_code account
-    → SpellsNumbered limit (demands accounts)
+    → IsNumberedLogUpTo limit (demands accounts)
     ((log ++ numbered n (pass_line moment counter) ∷ []) ++ (more ++ numbered m (pass_line later greater) ∷ [])) after all
     → after m ≡ waits_code account → counter < greater
 
@@ -52,4 +52,4 @@ NumberedCountersRise = (limit : ℕ) (accounts : Accounts) (log more : List (Num
 abbrev pub NoNumberedCounterIsUsedTwice : Type 0
 NoNumberedCounterIsUsedTwice = (limit : ℕ) (accounts : Accounts) (log : List (Numbered LogLine)) (places : ℕ → Place)
     (told : List LoggedAttempt) (account : List ℕ)
-    → SpellsNumbered limit (demands accounts) log places told → AreRising (used_in (attempts_of account (reverse told)))
+    → IsNumberedLogUpTo limit (demands accounts) log places told → AreRising (used_in (attempts_of account (reverse told)))

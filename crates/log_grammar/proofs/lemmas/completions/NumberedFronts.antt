@@ -8,7 +8,7 @@ use Rattle.log_grammar.specs.LoggedAttempt.{LoggedAttempt}
 use Rattle.log_grammar.specs.Places.{Place, between, over, is_closed}
 use Rattle.log_grammar.specs.Demands.{Accounts, AllCanBeChallenged, demands, HaveDueReplies}
 use Rattle.log_grammar.specs.state_machine.Steps.{IsTransition, told_at}
-use Rattle.log_grammar.specs.Numbered.{Numbered, numbered, visit_place, visit_lines, given_in, MayFollow, SpellsNumbered}
+use Rattle.log_grammar.specs.Numbered.{Numbered, numbered, visit_place, visit_lines, given_in, MayFollow, IsNumberedLogUpTo}
 use Rattle.log_grammar.specs.NumberedLines.{IsSessionNumber, IsNumberedLine}
 use Rattle.log_grammar.specs.state_machine.NumberedSteps.{put}
 use Rattle.log_grammar.specs.LogKinds.{BeginsCleanOf}
@@ -43,7 +43,7 @@ read_line_has_text (t ∷ texts) (y ∷ before) x rest are = read_line_has_text 
 -- the open numbers in lines that were read are in their range
 open_numbers_are_in_range : (limit : ℕ) (accounts : Accounts) (texts : List (List ℕ)) (log : List (Numbered LogLine)) (places : ℕ → Place)
     (told : List LoggedAttempt)
-    → AllZip IsNumberedLine texts log → SpellsNumbered limit (demands accounts) log places told → OpenInRange places
+    → AllZip IsNumberedLine texts log → IsNumberedLogUpTo limit (demands accounts) log places told → OpenInRange places
 open_numbers_are_in_range limit accounts texts log places told are s n is = elim (number_is_given_or_not (s.visit n)) [
   | inl none ↦ let wrong = sym (ap is_closed (s.after n ∙ ap visit_place none)) ∙ is in absurd (cc wrong)
   | inr given ↦
@@ -70,14 +70,15 @@ empty_front_begins_clean limit accounts bytes cut =
 module _ (laws : CompletionLaws) (limit : ℕ) (accounts : Accounts) (fit : AllCanBeChallenged accounts) where
   -- a log after whose last line any line may follow can be completed by closing the open numbers
   free_log_is_completable : (log : List (Numbered LogLine)) (places : ℕ → Place) (told : List LoggedAttempt)
-      → SpellsNumbered limit (demands accounts) log places told → Free log → OpenInRange places → IsNumberedCompletable limit accounts log
+      → IsNumberedLogUpTo limit (demands accounts) log places told → Free log → OpenInRange places
+      → IsNumberedCompletable limit accounts log
   free_log_is_completable log places told s free ranged =
       closing_all_completes_log laws limit accounts fit (given_in log + 1) log places told s free ranged
       (λ n most. ungiven_number_is_between limit (demands accounts) log places told s n (omega (arith, most)))
 
   -- a log whose last line is BUSY can be completed, beginning with the `E` of that number
   busy_log_is_completable : (front : List (Numbered LogLine)) (last : Numbered LogLine) (places : ℕ → Place) (told : List LoggedAttempt)
-      → SpellsNumbered limit (demands accounts) (front ++ last ∷ []) places told → OpenInRange places → last.value ≡ said busy
+      → IsNumberedLogUpTo limit (demands accounts) (front ++ last ∷ []) places told → OpenInRange places → last.value ≡ said busy
       → places last.number ≡ over → IsNumberedCompletable limit accounts (front ++ last ∷ [])
   busy_log_is_completable front last places told s ranged is at =
       let log = front ++ last ∷ [] in
@@ -99,7 +100,7 @@ module _ (laws : CompletionLaws) (limit : ℕ) (accounts : Accounts) (fit : AllC
 
   -- a log with a last line can be completed, whatever that line is
   nonempty_log_is_completable : (front : List (Numbered LogLine)) (last : Numbered LogLine) (places : ℕ → Place) (told : List LoggedAttempt)
-      → SpellsNumbered limit (demands accounts) (front ++ last ∷ []) places told → OpenInRange places
+      → IsNumberedLogUpTo limit (demands accounts) (front ++ last ∷ []) places told → OpenInRange places
       → IsNumberedCompletable limit accounts (front ++ last ∷ [])
   nonempty_log_is_completable front last places told s ranged =
       let n = last.number in
@@ -118,14 +119,14 @@ module _ (laws : CompletionLaws) (limit : ℕ) (accounts : Accounts) (fit : AllC
 
   -- a log of version 2 can be completed if each open number is in its range
   numbered_log_is_completable : (log : List (Numbered LogLine)) (places : ℕ → Place) (told : List LoggedAttempt)
-      → SpellsNumbered limit (demands accounts) log places told → OpenInRange places → IsNumberedCompletable limit accounts log
+      → IsNumberedLogUpTo limit (demands accounts) log places told → OpenInRange places → IsNumberedCompletable limit accounts log
   numbered_log_is_completable [] places told s ranged =
       free_log_is_completable [] places told s (λ before x e. absurd (empty_has_no_element before x [] e)) ranged
   numbered_log_is_completable (x ∷ log) places told s ranged =
       let last = nonempty_has_last x log in
       subst (IsNumberedCompletable limit accounts) (sym last.2)
       (nonempty_log_is_completable last.0 last.1 places told
-      (subst (λ (l : List (Numbered LogLine)). SpellsNumbered limit (demands accounts) l places told) last.2 s) ranged)
+      (subst (λ (l : List (Numbered LogLine)). IsNumberedLogUpTo limit (demands accounts) l places told) last.2 s) ranged)
 
   -- each front of version 2 begins a clean log
   pub version_two_fronts_begin_clean : FrontsBeginCleanOf (version_two limit accounts)

@@ -12,7 +12,7 @@ use Rattle.log_grammar.specs.LoggedAttempt.{LoggedAttempt}
 use Rattle.log_grammar.specs.Places.{Place, before_all, between, halted, is_closed}
 use Rattle.log_grammar.specs.Demands.{Accounts, AllCanBeChallenged, Demands, demands, HaveDueReplies}
 use Rattle.log_grammar.specs.state_machine.Steps.{IsTransition, told_at}
-use Rattle.log_grammar.specs.Numbered.{Numbered, numbered, MayFollow, SpellsNumbered, MayEndNumbered}
+use Rattle.log_grammar.specs.Numbered.{Numbered, numbered, MayFollow, IsNumberedLogUpTo, MayEndNumbered}
 use Rattle.log_grammar.specs.NumberedLines.{IsSessionNumber, IsNoFirstLine, numbered_text, IsNumberedLine}
 use Rattle.log_grammar.specs.state_machine.NumberedSteps.{IsVisitTransition, put}
 use Rattle.log_grammar.proofs.lemmas.completions.Closings.{Closes, place_has_exit}
@@ -41,7 +41,7 @@ pub record IsNumberedCompletable (limit : ℕ) (accounts : Accounts) (log : List
   -- the replies recorded in all lines
   pub told : List LoggedAttempt
   -- the log and these lines are a log of version 2, which may be cut short
-  pub spells : SpellsNumbered limit (demands accounts) (log ++ more) places told
+  pub spells : IsNumberedLogUpTo limit (demands accounts) (log ++ more) places told
   -- it may end there
   pub ends : MayEndNumbered places
 
@@ -76,9 +76,9 @@ no_line_leads_before_all d place line next goes never at = elim (visit_transitio
 
 -- no number of a log stands at the place before all lines
 no_number_is_before_all : (limit : ℕ) (d : Demands) (log : List (Numbered LogLine)) (p : ℕ → Place) (told : List LoggedAttempt)
-    → SpellsNumbered limit d log p told → (n : ℕ) → p n ≡ before_all → ⊥
+    → IsNumberedLogUpTo limit d log p told → (n : ℕ) → p n ≡ before_all → ⊥
 no_number_is_before_all limit d = holds_by_last
-    (λ log. (p : ℕ → Place) (told : List LoggedAttempt) → SpellsNumbered limit d log p told → (n : ℕ) → p n ≡ before_all → ⊥)
+    (λ log. (p : ℕ → Place) (told : List LoggedAttempt) → IsNumberedLogUpTo limit d log p told → (n : ℕ) → p n ≡ before_all → ⊥)
     (λ p told s n at. let wrong = sym ((empty_log_tells_nothing limit d p told s).0 n) ∙ at in cc wrong)
     (λ log x earlier p told s.
     let n = x.number in
@@ -95,7 +95,7 @@ OpenInRange places = (n : ℕ) → is_closed (places n) ≡ false → IsSessionN
 module _ (limit : ℕ) (accounts : Accounts) where
   -- a log is complete if the places of its numbers let it end
   pub ended_numbered_log_is_completable : (log : List (Numbered LogLine)) (places : ℕ → Place) (told : List LoggedAttempt)
-      → SpellsNumbered limit (demands accounts) log places told → MayEndNumbered places → IsNumberedCompletable limit accounts log
+      → IsNumberedLogUpTo limit (demands accounts) log places told → MayEndNumbered places → IsNumberedCompletable limit accounts log
   ended_numbered_log_is_completable log places told s ends = record {
     texts = [];
     more = [];
@@ -103,7 +103,7 @@ module _ (limit : ℕ) (accounts : Accounts) where
     lack = tt;
     places = places;
     told = told;
-    spells = subst (λ (l : List (Numbered LogLine)). SpellsNumbered limit (demands accounts) l places told) (sym (append-nil log)) s;
+    spells = subst (λ (l : List (Numbered LogLine)). IsNumberedLogUpTo limit (demands accounts) l places told) (sym (append-nil log)) s;
     ends = ends;
   }
 
@@ -121,7 +121,7 @@ module _ (limit : ℕ) (accounts : Accounts) where
         lack = (numbered_line_lacks_lf (numbered_text x) x is, c.lack);
         places = c.places;
         told = c.told;
-        spells = subst (λ (l : List (Numbered LogLine)). SpellsNumbered limit (demands accounts) l c.places c.told)
+        spells = subst (λ (l : List (Numbered LogLine)). IsNumberedLogUpTo limit (demands accounts) l c.places c.told)
             (append_assoc log (x ∷ []) c.more) c.spells;
         ends = c.ends;
       }
@@ -129,9 +129,9 @@ module _ (limit : ℕ) (accounts : Accounts) where
   -- a log can be completed if some lines close one number and the log after them can be completed
   closing_number_completes_log : (n : ℕ) → IsSessionNumber n
       → (lines : List LogLine) (log : List (Numbered LogLine)) (places : ℕ → Place) (told : List LoggedAttempt)
-      → SpellsNumbered limit (demands accounts) log places told → Free log → Closes accounts (places n) lines
+      → IsNumberedLogUpTo limit (demands accounts) log places told → Free log → Closes accounts (places n) lines
       → ((longer : List (Numbered LogLine)) (after : ℕ → Place) (all : List LoggedAttempt)
-      → SpellsNumbered limit (demands accounts) longer after all → Free longer
+      → IsNumberedLogUpTo limit (demands accounts) longer after all → Free longer
       → after n ≡ between → ((m : ℕ) → (n ≡ m → ⊥) → after m ≡ places m) → IsNumberedCompletable limit accounts longer)
       → IsNumberedCompletable limit accounts log
   closing_number_completes_log n number [] log places told s free closed on =
@@ -153,7 +153,8 @@ module _ (limit : ℕ) (accounts : Accounts) where
 
   -- a log can be completed by a halt if the place of some number allows it
   halt_completes_log : (log : List (Numbered LogLine)) (places : ℕ → Place) (told : List LoggedAttempt) (n : ℕ) → IsSessionNumber n
-      → SpellsNumbered limit (demands accounts) log places told → Free log → IsTransition (demands accounts) (places n) (said halt) halted
+      → IsNumberedLogUpTo limit (demands accounts) log places told → Free log
+      → IsTransition (demands accounts) (places n) (said halt) halted
       → told_at (places n) (said halt) ≡ [] → IsNumberedCompletable limit accounts log
   halt_completes_log log places told n number s free goes quiet =
       let s' = numbered_log_goes_on limit (demands accounts) log places told n (said halt) halted s (record {
@@ -169,7 +170,7 @@ module _ (limit : ℕ) (accounts : Accounts) where
 module _ (laws : CompletionLaws) (limit : ℕ) (accounts : Accounts) (fit : AllCanBeChallenged accounts) where
   -- if all numbers from k on are closed, the log is completed by closing those below k
   pub closing_all_completes_log : (k : ℕ) (log : List (Numbered LogLine)) (places : ℕ → Place) (told : List LoggedAttempt)
-      → SpellsNumbered limit (demands accounts) log places told → Free log → OpenInRange places → ((n : ℕ) → k ≤ n → places n ≡ between)
+      → IsNumberedLogUpTo limit (demands accounts) log places told → Free log → OpenInRange places → ((n : ℕ) → k ≤ n → places n ≡ between)
       → IsNumberedCompletable limit accounts log
   closing_all_completes_log zero log places told s free ranged closed =
       ended_numbered_log_is_completable limit accounts log places told s (inl (λ n. closed n (omega arith)))

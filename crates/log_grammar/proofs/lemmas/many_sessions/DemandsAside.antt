@@ -8,7 +8,7 @@ use Rattle.log_grammar.specs.Lines.{LogLine, said, busy}
 use Rattle.log_grammar.specs.LoggedAttempt.{LoggedAttempt}
 use Rattle.log_grammar.specs.Places.{Place}
 use Rattle.log_grammar.specs.Demands.{Demands, no_demands}
-use Rattle.log_grammar.specs.Numbered.{Numbered, numbered, of_number, Visit, let_in, turned_away, visit_part, SpellsNumbered}
+use Rattle.log_grammar.specs.Numbered.{Numbered, numbered, of_number, Visit, let_in, turned_away, visit_part, IsNumberedLogUpTo}
 use Rattle.log_grammar.proofs.lemmas.state_machine.DemandsAside.{accountless_session, accountless_place, accountless_reply, IsAccountlessOf}
 use Rattle.log_grammar.proofs.lemmas.state_machine.DemandsAside.{next_line_is_same_aside, closing_is_same_aside, session_is_same_aside}
 use Rattle.log_grammar.proofs.lemmas.state_machine.DemandsAside.{any_replies_are_due}
@@ -47,8 +47,8 @@ numbers_of-accountless (t ∷ numbered_told) = ap (λ (l : List ℕ). t.number �
 
 -- lines of a log of version 2 that meet the demands are also lines of a log without demands, at the same places but with no account named
 pub numbered_log_begins_aside : (limit : ℕ) (d : Demands) (log : List (Numbered LogLine)) (places : ℕ → Place) (told : List LoggedAttempt)
-    → SpellsNumbered limit d log places told
-    → (tells : List LoggedAttempt) × SpellsNumbered limit no_demands log (λ n. accountless_place (places n)) tells
+    → IsNumberedLogUpTo limit d log places told
+    → (tells : List LoggedAttempt) × IsNumberedLogUpTo limit no_demands log (λ n. accountless_place (places n)) tells
 numbered_log_begins_aside limit d log places told s = (
   values_of (accountless_numbered_told s.numbered_told),
   record {

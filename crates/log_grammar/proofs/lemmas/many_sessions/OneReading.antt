@@ -5,7 +5,7 @@ use Rattle.log_grammar.specs.LoggedAttempt.{LoggedAttempt}
 use Rattle.log_grammar.specs.Places.{Place, between}
 use Rattle.log_grammar.specs.Demands.{Demands, HaveDueReplies}
 use Rattle.log_grammar.specs.state_machine.Steps.{IsTransition, told_at}
-use Rattle.log_grammar.specs.Numbered.{Numbered, SpellsNumbered}
+use Rattle.log_grammar.specs.Numbered.{Numbered, IsNumberedLogUpTo}
 use Rattle.log_grammar.specs.state_machine.NumberedSteps.{IsVisitTransition, IsNumberedTransition}
 use Rattle.log_grammar.proofs.lemmas.many_sessions.HaltAndBusy.{busy_stands_in_no_session}
 use Rattle.log_grammar.proofs.lemmas.many_sessions.WithoutLast.{numbered_log_has_last_transition}
@@ -28,7 +28,7 @@ one_next_visit_place d one at line p q (inr b) (inr c) = b.2 ∙ sym c.2
 
 -- if there is no line, no session is open and no reply is recorded
 pub empty_log_tells_nothing : (limit : ℕ) (d : Demands) (places : ℕ → Place) (told : List LoggedAttempt)
-    → SpellsNumbered limit d [] places told → ((n : ℕ) → places n ≡ between) × (told ≡ [])
+    → IsNumberedLogUpTo limit d [] places told → ((n : ℕ) → places n ≡ between) × (told ≡ [])
 empty_log_tells_nothing limit d places told s = (
   λ n. s.after n ∙ empty_visit_is_between (s.visit n) (sym (s.sessions.lines n)),
   s.tells ∙ ap values_of
@@ -38,9 +38,10 @@ empty_log_tells_nothing limit d places told s = (
 -- the places and the recorded replies follow from the lines
 pub numbered_lines_have_one_reading : (limit : ℕ) (d : Demands) → OneAccount d
     → (log : List (Numbered LogLine)) (p q : ℕ → Place) (told other : List LoggedAttempt)
-    → SpellsNumbered limit d log p told → SpellsNumbered limit d log q other → ((n : ℕ) → p n ≡ q n) × (told ≡ other)
+    → IsNumberedLogUpTo limit d log p told → IsNumberedLogUpTo limit d log q other → ((n : ℕ) → p n ≡ q n) × (told ≡ other)
 numbered_lines_have_one_reading limit d one = holds_by_last
-    (λ log. (p q : ℕ → Place) (told other : List LoggedAttempt) → SpellsNumbered limit d log p told → SpellsNumbered limit d log q other
+    (λ log. (p q : ℕ → Place) (told other : List LoggedAttempt) → IsNumberedLogUpTo limit d log p told
+    → IsNumberedLogUpTo limit d log q other
     → ((n : ℕ) → p n ≡ q n) × (told ≡ other))
     (λ p q told other s r.
     let a = empty_log_tells_nothing limit d p told s in
@@ -63,24 +64,24 @@ pub record Front (limit : ℕ) (d : Demands) (log : List (Numbered LogLine)) (to
   pub places : ℕ → Place
   pub earlier : List LoggedAttempt
   pub rest : List LoggedAttempt
-  pub spells : SpellsNumbered limit d log places earlier
+  pub spells : IsNumberedLogUpTo limit d log places earlier
   pub tells : told ≡ earlier ++ rest
 
 -- the first lines of a log of version 2 are such a log, and their replies come first
 pub front_told_comes_first : (limit : ℕ) (d : Demands) (log more : List (Numbered LogLine)) (p : ℕ → Place) (told : List LoggedAttempt)
-    → SpellsNumbered limit d (log ++ more) p told → Front limit d log told
+    → IsNumberedLogUpTo limit d (log ++ more) p told → Front limit d log told
 front_told_comes_first limit d log = holds_by_last
-    (λ more. (p : ℕ → Place) (told : List LoggedAttempt) → SpellsNumbered limit d (log ++ more) p told → Front limit d log told)
+    (λ more. (p : ℕ → Place) (told : List LoggedAttempt) → IsNumberedLogUpTo limit d (log ++ more) p told → Front limit d log told)
     (λ p told s. record {
       places = p;
       earlier = told;
       rest = [];
-      spells = subst (λ (l : List (Numbered LogLine)). SpellsNumbered limit d l p told) (append-nil log) s;
+      spells = subst (λ (l : List (Numbered LogLine)). IsNumberedLogUpTo limit d l p told) (append-nil log) s;
       tells = sym (append-nil told);
     })
     (λ more x before p told s.
     let b = numbered_log_has_last_transition limit d (log ++ more) x.number x.value p told
-    (subst (λ (l : List (Numbered LogLine)). SpellsNumbered limit d l p told) (sym (append_assoc log more (x ∷ []))) s) in
+    (subst (λ (l : List (Numbered LogLine)). IsNumberedLogUpTo limit d l p told) (sym (append_assoc log more (x ∷ []))) s) in
     let f = before b.before b.told b.spells in
     let this = told_at (b.before x.number) x.value in
     record {
@@ -99,9 +100,9 @@ visit_challenge_meets_demand d at line next is (inr b) = subst (ChallengeMeetsDe
 
 -- in a log that meets the demands, the challenge at a number's place meets its demand
 pub number_challenge_meets_demand : (limit : ℕ) (d : Demands) (log : List (Numbered LogLine)) (p : ℕ → Place) (told : List LoggedAttempt)
-    → SpellsNumbered limit d log p told → (n : ℕ) → ChallengeMeetsDemand d (p n)
+    → IsNumberedLogUpTo limit d log p told → (n : ℕ) → ChallengeMeetsDemand d (p n)
 number_challenge_meets_demand limit d = holds_by_last
-    (λ log. (p : ℕ → Place) (told : List LoggedAttempt) → SpellsNumbered limit d log p told → (n : ℕ) → ChallengeMeetsDemand d (p n))
+    (λ log. (p : ℕ → Place) (told : List LoggedAttempt) → IsNumberedLogUpTo limit d log p told → (n : ℕ) → ChallengeMeetsDemand d (p n))
     (λ p told s n. subst (ChallengeMeetsDemand d) (sym ((empty_log_tells_nothing limit d p told s).0 n)) tt)
     (λ log x earlier p told s.
     let n = x.number in

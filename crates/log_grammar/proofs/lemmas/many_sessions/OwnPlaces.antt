@@ -6,7 +6,7 @@ use Rattle.log_grammar.specs.Lines.{LogLine}
 use Rattle.log_grammar.specs.LoggedAttempt.{LoggedAttempt}
 use Rattle.log_grammar.specs.Places.{Place}
 use Rattle.log_grammar.specs.Demands.{Demands}
-use Rattle.log_grammar.specs.Numbered.{Numbered, Visit, of_number, visit_lines, visit_place, VisitMeets, SpellsNumbered}
+use Rattle.log_grammar.specs.Numbered.{Numbered, Visit, of_number, visit_lines, visit_place, VisitMeets, IsNumberedLogUpTo}
 use Rattle.log_grammar.specs.state_machine.NumberedSteps.{IsVisitTransition}
 use Rattle.log_grammar.proofs.lemmas.many_sessions.OneReading.{one_next_visit_place}
 use Rattle.log_grammar.proofs.lemmas.state_machine.OneReading.{OneAccount}
@@ -40,7 +40,8 @@ visits_share_place d one = holds_by_last
 -- if a challenge is for only one account, two numbers with the same lines, in one log or in two, are at the same place
 pub numbers_share_place : (limit : ℕ) (d : Demands) → OneAccount d
     → (log other : List (Numbered LogLine)) (p q : ℕ → Place) (told also : List LoggedAttempt)
-    → SpellsNumbered limit d log p told → SpellsNumbered limit d other q also → (n m : ℕ) → of_number n log ≡ of_number m other → p n ≡ q m
+    → IsNumberedLogUpTo limit d log p told → IsNumberedLogUpTo limit d other q also → (n m : ℕ) → of_number n log ≡ of_number m other
+    → p n ≡ q m
 numbers_share_place limit d one log other p q told also s r n m same =
     s.after n ∙ visits_share_place d one (of_number n log) (s.visit n) (r.visit m) (s.sessions.good n) (r.sessions.good m)
     (s.sessions.lines n) (same ∙ r.sessions.lines m) ∙ sym (r.after m)

@@ -14,7 +14,7 @@ use Rattle.log_grammar.specs.Why.{IsReasonForLine}
 use Rattle.log_grammar.specs.state_machine.DueClasses.{IsDueAt}
 use Rattle.log_grammar.specs.LogKinds.{IsWhyOf, BeginsCleanOf}
 use Rattle.log_grammar.specs.VersionTwo.{MayBeginVersionTwo, IsReasonAfterFirst, version_two}
-use Rattle.log_grammar.specs.Numbered.{Numbered, numbered, SpellsNumbered}
+use Rattle.log_grammar.specs.Numbered.{Numbered, numbered, IsNumberedLogUpTo}
 use Rattle.log_grammar.specs.state_machine.NumberedDueClasses.{ClassMayBeNumbered, ClassMayFollow, IsNumberDueAt}
 use Rattle.log_grammar.specs.NumberedLines.{IsNoFirstLine, numbered_text, IsNumberedLine, IsNumberedWritable}
 use Rattle.log_grammar.specs.laws.NumberedLogLaws.{NumberedFrontsBeginClean}
@@ -51,7 +51,7 @@ record IsNumberedFault (limit : ℕ) (accounts : Accounts) (before : List (List 
   -- the replies recorded in them
   told : List LoggedAttempt
   -- the lines are a log of version 2, which may be cut short, with these places and replies
-  spells : SpellsNumbered limit (demands accounts) log places told
+  spells : IsNumberedLogUpTo limit (demands accounts) log places told
   -- a line of the class of the one at fault is due under its number
   due : IsNumberDueAt limit log (places x.number) x.number (class_of x.value)
   -- the line itself is wrong there, for this reason

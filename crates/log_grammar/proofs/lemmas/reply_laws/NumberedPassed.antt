@@ -9,7 +9,7 @@ use Rattle.log_grammar.specs.Places.{Place, waits_code, got_code}
 use Rattle.log_grammar.specs.Demands.{Demands, attempts_of, demands, HaveDueReplies}
 use Rattle.log_grammar.specs.state_machine.Steps.{told_at}
 use Rattle.log_grammar.specs.laws.Replies.{pass_line, AreRising}
-use Rattle.log_grammar.specs.Numbered.{Numbered, numbered, SpellsNumbered}
+use Rattle.log_grammar.specs.Numbered.{Numbered, numbered, IsNumberedLogUpTo}
 use Rattle.log_grammar.specs.state_machine.NumberedSteps.{IsVisitTransition}
 use Rattle.log_grammar.specs.laws.NumberedReplies.{EachNumberedPassIsACode, NumberedCountersRise, NoNumberedCounterIsUsedTwice}
 use Rattle.log_grammar.proofs.lemmas.state_machine.PlaceBefore.{challenge_has_one_account}
@@ -59,7 +59,7 @@ numbered_counters_rise one_first names new limit accounts log more account n mom
     let (mine, sent, was, next) = pass_follows_code (demands accounts) (one.before n) (places n) moment counter one.goes.goes in
     let split = sym (append_assoc first more (numbered m (pass_line at greater) ∷ [])) in
     let two = each_numbered_pass_is_a_code limit accounts (first ++ more) m at greater after all
-    (subst (λ (l : List (Numbered LogLine)). SpellsNumbered limit (demands accounts) l after all) split longer) in
+    (subst (λ (l : List (Numbered LogLine)). IsNumberedLogUpTo limit (demands accounts) l after all) split longer) in
     let f = front_told_comes_first limit (demands accounts) first more two.places two.told two.after in
     let same = (numbered_lines_have_one_reading limit (demands accounts) (challenge_has_one_account one_first names accounts)
     first f.places places f.earlier told f.spells s).1 in

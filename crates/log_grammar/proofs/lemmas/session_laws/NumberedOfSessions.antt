@@ -13,7 +13,7 @@ use Rattle.log_grammar.specs.Places.{between, halted}
 use Rattle.log_grammar.specs.Demands.{Accounts, demands}
 use Rattle.log_grammar.specs.Sessions.{closing}
 use Rattle.log_grammar.specs.laws.Histories.{IsHistory}
-use Rattle.log_grammar.specs.Numbered.{Numbered, of_number, Visit, let_in, turned_away, visit_lines, visit_told, visit_place, SpellsNumbered}
+use Rattle.log_grammar.specs.Numbered.{Numbered, of_number, Visit, let_in, turned_away, visit_lines, visit_told, visit_place, IsNumberedLogUpTo}
 use Rattle.log_grammar.specs.Numbered.{MayEndNumbered}
 use Rattle.log_grammar.specs.NumberedLines.{numbered_text, IsNumberedLine, IsNumberedWritable}
 use Rattle.log_grammar.specs.LogKinds.{IsCleanOf}
@@ -153,7 +153,7 @@ numbered_log_of_sessions_is_clean limit accounts bytes log l =
     let told = map (λ (t : Numbered LoggedAttempt). t.value) l.numbered_told in
     let places = λ (n : ℕ). visit_place (l.visit n) in
     let moments = numbered_log_tells_in_time log l.visit l.numbered_told l.written l.sessions.lines l.sessions.told_of_each in
-    let spells : SpellsNumbered limit (demands accounts) log places told = record {
+    let spells : IsNumberedLogUpTo limit (demands accounts) log places told = record {
       visit = l.visit;
       numbered_told = l.numbered_told;
       sessions = l.sessions;

@@ -6,7 +6,7 @@ use Rattle.log_grammar.specs.LoggedAttempt.{LoggedAttempt}
 use Rattle.log_grammar.specs.Places.{Place, between, offered, leaving, over}
 use Rattle.log_grammar.specs.Demands.{Accounts, Demands, demands, HaveDueReplies}
 use Rattle.log_grammar.specs.state_machine.Steps.{told_at}
-use Rattle.log_grammar.specs.Numbered.{Numbered, numbered, MayBeNumbered, MayFollow, SpellsNumbered}
+use Rattle.log_grammar.specs.Numbered.{Numbered, numbered, MayBeNumbered, MayFollow, IsNumberedLogUpTo}
 use Rattle.log_grammar.specs.state_machine.NumberedSteps.{IsVisitTransition, put, IsNumberedTransition}
 use Rattle.log_grammar.specs.laws.NumberedExamples.{offer, turns_away, two_at_once, IsWholeForTwo, BeginsNoneForTwo}
 use Rattle.log_grammar.proofs.lemmas.many_sessions.LogSteps.{numbered_log_goes_on, empty_log_is_spelled}
@@ -18,9 +18,9 @@ use Rattle.log_grammar.proofs.lemmas.many_sessions.Standings.{line_follows_last}
 quiet_line_goes_on : (limit : ℕ) (d : Demands) (log : List (Numbered LogLine)) (y : Numbered LogLine) (places : ℕ → Place) (n : ℕ)
     (line : LogLine)
     (to : Place)
-    → SpellsNumbered limit d (log ++ y ∷ []) places [] → MayBeNumbered limit (log ++ y ∷ []) n line → MayFollow y.number y.value n line
+    → IsNumberedLogUpTo limit d (log ++ y ∷ []) places [] → MayBeNumbered limit (log ++ y ∷ []) n line → MayFollow y.number y.value n line
     → IsVisitTransition d (places n) line to → told_at (places n) line ≡ []
-    → SpellsNumbered limit d ((log ++ y ∷ []) ++ numbered n line ∷ []) (put n to places) []
+    → IsNumberedLogUpTo limit d ((log ++ y ∷ []) ++ numbered n line ∷ []) (put n to places) []
 quiet_line_goes_on limit d log y places n line to s room may goes quiet =
     let g : IsNumberedTransition limit d (log ++ y ∷ []) places [] n line to =
     record {
@@ -29,12 +29,12 @@ quiet_line_goes_on limit d log y places n line to s room may goes quiet =
       goes = goes;
       due = subst (λ (t : List LoggedAttempt). HaveDueReplies d [] t) (sym quiet) tt;
     } in
-    subst (λ (t : List LoggedAttempt). SpellsNumbered limit d ((log ++ y ∷ []) ++ numbered n line ∷ []) (put n to places) t) quiet
+    subst (λ (t : List LoggedAttempt). IsNumberedLogUpTo limit d ((log ++ y ∷ []) ++ numbered n line ∷ []) (put n to places) t) quiet
     (numbered_log_goes_on limit d (log ++ y ∷ []) places [] n line to s g)
 
 -- a log begins with a line that may stand between sessions
 first_line_begins_log : (d : Demands) (n : ℕ) (line : LogLine) (to : Place) → MayBeNumbered 2 [] n line
-    → IsVisitTransition d between line to → SpellsNumbered 2 d (numbered n line ∷ []) (put n to (λ m. between)) []
+    → IsVisitTransition d between line to → IsNumberedLogUpTo 2 d (numbered n line ∷ []) (put n to (λ m. between)) []
 first_line_begins_log d n line to room goes =
     numbered_log_goes_on 2 d [] (λ m. between) [] n line to (empty_log_is_spelled 2 d)
     (record { room = room; next = λ before x e. absurd (empty_has_no_element before x [] e); goes = goes; due = tt })

@@ -10,7 +10,7 @@ use Rattle.log_grammar.specs.LoggedAttempt.{LoggedAttempt}
 use Rattle.log_grammar.specs.Places.{Place}
 use Rattle.log_grammar.specs.Demands.{Demands}
 use Rattle.log_grammar.specs.Sessions.{Session, session_lines, session}
-use Rattle.log_grammar.specs.Begins.{Spells}
+use Rattle.log_grammar.specs.Begins.{IsLogUpTo}
 use Rattle.log_grammar.specs.Counts.{counts_of}
 use Rattle.log_grammar.specs.Numbered.{Numbered, numbered, is_end}
 use Rattle.log_grammar.specs.NumberedLines.{max_session_number, IsSessionNumber, IsNoFirstLine, numbered_text, IsNumberedLine}
@@ -60,7 +60,7 @@ sessions_may_have_numbers (s ∷ sessions) =
 
 -- each line of a log of version 1 after its first may have a number: none is a first line again
 pub log_may_have_numbers : (d : Demands) (lines : List LogLine) (place : Place) (told : List LoggedAttempt)
-    → Spells d (header ∷ lines) place told → AllMayHaveNumber lines
+    → IsLogUpTo d (header ∷ lines) place told → AllMayHaveNumber lines
 log_may_have_numbers d lines place told s =
     subst AllMayHaveNumber (sym (same_head_and_tail header header lines (flat_map session_lines s.sessions) s.lines).1)
     (sessions_may_have_numbers s.sessions)

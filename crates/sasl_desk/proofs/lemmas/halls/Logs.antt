@@ -12,7 +12,7 @@ use Rattle.log_grammar.specs.Versions.{max_open_sessions, IsLogFront, IsClean}
 use Rattle.log_grammar.specs.Lines.{LogLine, header_two, said, halt, log_line_text}
 use Rattle.log_grammar.specs.Places.{Place}
 use Rattle.log_grammar.specs.Demands.{Accounts, demands}
-use Rattle.log_grammar.specs.Numbered.{Numbered, numbered, of_number, SpellsNumbered, MayEndNumbered}
+use Rattle.log_grammar.specs.Numbered.{Numbered, numbered, of_number, IsNumberedLogUpTo, MayEndNumbered}
 use Rattle.log_grammar.specs.NumberedLines.{numbered_text, IsNumberedLine, IsNumberedWritable}
 use Rattle.log_grammar.proofs.lemmas.many_sessions.WithoutLast.{numbered_log_has_last_transition}
 use Rattle.log_grammar.proofs.lemmas.lines.NumberedReadBack.{numbered_line_lacks_lf}
@@ -107,5 +107,5 @@ module _ {S : Type 0} {facts : S → StoreFacts} {IsStored : List ℕ → Type 0
   log_is_clean_halted lines n last =
       let d = demands (accounts_in start) in
       let b = numbered_log_has_last_transition max_open_sessions d lines n (said halt) s.places s.told
-      (subst (λ (l : List (Numbered LogLine)). SpellsNumbered max_open_sessions d l s.places s.told) last s.spelled) in
+      (subst (λ (l : List (Numbered LogLine)). IsNumberedLogUpTo max_open_sessions d l s.places s.told) last s.spelled) in
       ended_hall_log_is_clean (inr (n, visit_halt_leads_to_halted d (b.before n) (said halt) (s.places n) refl b.goes.goes))

@@ -9,7 +9,7 @@ use Rattle.log_grammar.specs.Lines.{LogLine}
 use Rattle.log_grammar.specs.LoggedAttempt.{LoggedAttempt}
 use Rattle.log_grammar.specs.Places.{Place, open_at}
 use Rattle.log_grammar.specs.Demands.{demands}
-use Rattle.log_grammar.specs.Numbered.{Numbered, numbered, of_number, closed_in, SpellsNumbered}
+use Rattle.log_grammar.specs.Numbered.{Numbered, numbered, of_number, closed_in, IsNumberedLogUpTo}
 use Rattle.log_grammar.specs.NumberedLines.{IsSessionNumber, IsNumberedWritable}
 use Rattle.log_grammar.specs.Versions.{max_open_sessions}
 use Rattle.log_grammar.specs.state_machine.NumberedSteps.{put}
@@ -66,7 +66,7 @@ module _ {S : Type 0} {facts : S → StoreFacts} {IsStored : List ℕ → Type 0
     -- the lines are the turn that the session takes on the event
     pub taken : IsTurnTaken (accounts_in start) (server_nonce_of (of_number n calls)) event moment (s.places n) lines next
     -- the hall's log with these lines is one of version 2, which may be cut short, with the number at that place and the others as before
-    pub spelled : SpellsNumbered max_open_sessions (demands (accounts_in start)) (hall_lines calls ++ map (numbered n) lines)
+    pub spelled : IsNumberedLogUpTo max_open_sessions (demands (accounts_in start)) (hall_lines calls ++ map (numbered n) lines)
         (put n next s.places) told
     -- no line is the first of a log or of a session
     pub turns : AllByRecursion IsTurnLine lines

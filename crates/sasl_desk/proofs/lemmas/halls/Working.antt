@@ -9,7 +9,7 @@ use Rattle.log_grammar.specs.Books.{accounts_in}
 use Rattle.log_grammar.specs.Lines.{LogLine, said, busy, halt}
 use Rattle.log_grammar.specs.Places.{Place, before_all, between, over, halted, is_closed, open_at}
 use Rattle.log_grammar.specs.Demands.{Accounts, Demands, demands}
-use Rattle.log_grammar.specs.Numbered.{Numbered, of_number, MayFollow, SpellsNumbered, FollowsLast}
+use Rattle.log_grammar.specs.Numbered.{Numbered, of_number, MayFollow, IsNumberedLogUpTo, FollowsLast}
 use Rattle.log_grammar.specs.state_machine.NumberedSteps.{IsVisitTransition}
 use Rattle.log_grammar.specs.Versions.{max_open_sessions}
 use Rattle.log_grammar.proofs.lemmas.many_sessions.WithoutLast.{numbered_log_has_last_transition}
@@ -105,7 +105,7 @@ module _ {S : Type 0} {facts : S → StoreFacts} {IsStored : List ℕ → Type 0
   any_line_follows_log n line before x same =
       let d = demands (accounts_in start) in
       let b = numbered_log_has_last_transition max_open_sessions d before x.number x.value s.places s.told
-      (subst (λ (l : List (Numbered LogLine)). SpellsNumbered max_open_sessions d l s.places s.told) same s.spelled) in
+      (subst (λ (l : List (Numbered LogLine)). IsNumberedLogUpTo max_open_sessions d l s.places s.told) same s.spelled) in
       any_line_may_follow d (b.before x.number) (s.places x.number) x.number n x.value line b.goes.goes
       (each_place_is_closed_or_client_turn x.number)
 

@@ -7,7 +7,7 @@ use Rattle.scram_ends.specs.Verdict.{accept, refuse, due_text}
 use Rattle.scram_ends.specs.declared.verdict.Refusal.{Refusal}
 use Rattle.log_grammar.specs.Lines.{LogLine, header, header_two, said, heard, bad, gone, ended, mechs, cont, accepts, refuses}
 use Rattle.log_grammar.specs.Places.{Place, between, offered, asks_bare, waits_first, got_first, waits_final, got_final, waits_code, leaving, over}
-use Rattle.log_grammar.specs.Demands.{Accounts, Demands, NamesMechanism, IsFirstOf, IsChallenged, IsVerdictDue, demands}
+use Rattle.log_grammar.specs.Demands.{Accounts, Demands, NamesMechanism, IsTakenUpFor, IsChallenged, IsVerdictDue, demands}
 use Rattle.log_grammar.specs.state_machine.Steps.{IsTransition}
 use Rattle.sasl_desk.specs.Runs.{IsAtRest, IsAnswerLine}
 use Rattle.sasl_desk.specs.DueLines.{is_client_turn}
@@ -78,7 +78,7 @@ HasShapeAt accounts (asks_bare mechanism) lines next =
     (((m : Mechanism) → NamesMechanism mechanism m → ⊥) × IsRefusal [] lines next)
     ⊎ (((m : Mechanism) × NamesMechanism mechanism m) × ((lines ≡ said (cont []) ∷ []) × (next ≡ waits_first mechanism)))
 HasShapeAt accounts (got_first mechanism first) lines next =
-    (((name : List ℕ) → IsFirstOf mechanism first name → ⊥) × IsRefusal [] lines next)
+    (((name : List ℕ) → IsTakenUpFor mechanism first name → ⊥) × IsRefusal [] lines next)
     ⊎ ((account : List ℕ) × (text : List ℕ) × IsChallenged accounts mechanism account first text
     × ((lines ≡ said (cont text) ∷ []) × (next ≡ waits_final mechanism account first text)))
 HasShapeAt accounts (got_final mechanism account first challenge last) lines next =

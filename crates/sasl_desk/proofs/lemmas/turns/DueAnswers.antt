@@ -17,7 +17,7 @@ use Rattle.scram_ends.specs.declared.server.ServerWait.{ServerWait}
 use Rattle.scram_ends.specs.declared.first.FirstFault.{FirstFault}
 use Rattle.scram_ends.specs.declared.verdict.Verdict.{Verdict}
 use Rattle.log_grammar.specs.Places.{Place, between, asks_bare, waits_first, got_first, waits_final, got_final, waits_code, leaving, over}
-use Rattle.log_grammar.specs.Demands.{Accounts, NamesMechanism, IsFirstOf}
+use Rattle.log_grammar.specs.Demands.{Accounts, NamesMechanism, IsTakenUpFor}
 use Rattle.sasl_log.proofs.lemmas.steps.Logins.{stands_for_equal_login, login_is_challenged}
 use Rattle.sasl_desk.specs.ChallengedLogin.{waiting_login_of}
 use Rattle.sasl_desk.specs.Sessions.{answer_of, verdict_answer, IsBareNoDue, IsAnswer}
@@ -60,20 +60,20 @@ end_is_due_after_departure accounts server_nonce = record {
 
 -- a mechanism that is not offered opens no login
 pub unoffered_opens_no_login : (mechanism first : List ℕ) → ((m : Mechanism) → NamesMechanism mechanism m → ⊥) → (name : List ℕ)
-    → IsFirstOf mechanism first name → ⊥
+    → IsTakenUpFor mechanism first name → ⊥
 unoffered_opens_no_login mechanism first unknown name is = unknown is.m is.offered
 
 -- a message that is refused opens no login
 pub refused_first_opens_no_login : RefusedIsNotTakenUp → (mechanism first : List ℕ) (fault : FirstFault) → IsRefusedWith first fault
     → (name : List ℕ)
-    → IsFirstOf mechanism first name → ⊥
+    → IsTakenUpFor mechanism first name → ⊥
 refused_first_opens_no_login law mechanism first fault refusal name is =
     law first fault is.parts name is.authzid refusal is.is_first is.taken_up
 
 -- a message that is taken up opens a login by a mechanism that is offered
 pub taken_first_opens_login : (mechanism first name : List ℕ) (m : Mechanism) (p : ClientFirstParts) (authzid : Option (List ℕ))
     → NamesMechanism mechanism m
-    → IsClientFirst first p → IsTakenUp p name authzid → IsFirstOf mechanism first name
+    → IsClientFirst first p → IsTakenUp p name authzid → IsTakenUpFor mechanism first name
 taken_first_opens_login mechanism first name m p authzid named is taken =
     record { m = m; offered = named; parts = p; authzid = authzid; is_first = is; taken_up = taken }
 
@@ -93,7 +93,7 @@ module _ (once : HasOneClientFirst) (names : SpellsOneName) (accounts : Accounts
     (m : Mechanism)
     (mechanism name client_first server_first : List ℕ) where
   -- the challenge that a server writes is due, and the server stands for its login
-  account_challenge_is_due : NamesMechanism mechanism m → IsFirstOf mechanism client_first name
+  account_challenge_is_due : NamesMechanism mechanism m → IsTakenUpFor mechanism client_first name
       → IsChallengeTo (accounts.entry m name) client_first server_nonce server_first
       → StandsForChallenged wait (challenged_login (accounts.entry m name) m client_first server_first)
       → IsAnswer accounts server_nonce (got_first mechanism client_first)
@@ -112,7 +112,7 @@ module _ (once : HasOneClientFirst) (names : SpellsOneName) (accounts : Accounts
 
   -- a challenge of a server that stands for the account's login is due, and the session then waits for the client-final message
   pub challenge_is_due : (message : List ℕ) (entry : Entry) → entry ≡ accounts.entry m name → message ≡ server_first
-      → NamesMechanism mechanism m → IsFirstOf mechanism client_first name → IsChallengeTo entry client_first server_nonce server_first
+      → NamesMechanism mechanism m → IsTakenUpFor mechanism client_first name → IsChallengeTo entry client_first server_nonce server_first
       → StandsForChallenged wait (challenged_login entry m client_first server_first)
       → IsAnswer accounts server_nonce (got_first mechanism client_first)
       (answer_of Continues (Some (WaitFinal (waiting_login_of wait m name)))) message

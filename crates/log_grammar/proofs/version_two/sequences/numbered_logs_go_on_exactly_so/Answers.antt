@@ -4,7 +4,7 @@ use Rattle.log_grammar.specs.LoggedAttempt.{LoggedAttempt}
 use Rattle.log_grammar.specs.Places.{Place}
 use Rattle.log_grammar.specs.Demands.{Accounts, Demands, demands}
 use Rattle.log_grammar.specs.state_machine.Steps.{told_at}
-use Rattle.log_grammar.specs.Numbered.{Numbered, numbered, SpellsNumbered}
+use Rattle.log_grammar.specs.Numbered.{Numbered, numbered, IsNumberedLogUpTo}
 use Rattle.log_grammar.specs.state_machine.NumberedSteps.{put, IsNumberedTransition}
 use Rattle.log_grammar.specs.laws.NumberedLaws.{GoesOnByANumberedLine, HasLastNumberedTransition}
 use Rattle.log_grammar.proofs.lemmas.many_sessions.OneReading.{own_place_decides_transition}
@@ -35,15 +35,15 @@ last_line_stands limit d log places told n line next all s same also = (
 -- a log continues with a line that may stand at its number
 standing_line_goes_on : GoesOnByANumberedLine → (limit : ℕ) (accounts : Accounts) (log : List (Numbered LogLine)) (places : ℕ → Place)
     (told : List LoggedAttempt) (n : ℕ) (line : LogLine)
-    (next : ℕ → Place) (all : List LoggedAttempt) → SpellsNumbered limit (demands accounts) log places told
+    (next : ℕ → Place) (all : List LoggedAttempt) → IsNumberedLogUpTo limit (demands accounts) log places told
     → StandsAndTells limit (demands accounts) log places told n line next all
-    → SpellsNumbered limit (demands accounts) (log ++ numbered n line ∷ []) next all
+    → IsNumberedLogUpTo limit (demands accounts) (log ++ numbered n line ∷ []) next all
 standing_line_goes_on on limit accounts log places told n line next all s stands =
     let more = log ++ numbered n line ∷ [] in
     let longer = on limit accounts log places told n line (next n) s stands.0 in
     let same = one_and_others_cover_each (λ (m : ℕ). put n (next n) places m ≡ next m) n (put_sets_own n (next n) places)
     (λ m other. put_keeps_others n (next n) places m other ∙ sym (stands.1 m (λ e. other (sym e)))) in
-    subst (λ (t : List LoggedAttempt). SpellsNumbered limit (demands accounts) more next t) (sym stands.2)
+    subst (λ (t : List LoggedAttempt). IsNumberedLogUpTo limit (demands accounts) more next t) (sym stands.2)
     (equal_places_spell_log limit (demands accounts) more (put n (next n) places) next (told ++ told_at (places n) line) same longer)
 
 pub returns : goal.returns
