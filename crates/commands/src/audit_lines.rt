@@ -2,7 +2,7 @@
 ghost use Rattle.std.specs.Prelude.{◌≡◌, ◌≢◌, ◌++◌, Err, IfErr, IfOk, OnOk};
 ghost use Rattle.log_grammar.specs.Lines.{line_text};
 ghost use Rattle.log_grammar.specs.Payload.{escaped};
-ghost use Rattle.commands.specs.Audit.{acceptance_line, audit_status, fault_status, outcome_line, printed_audit, printed_clean};
+ghost use Rattle.commands.specs.Audit.{acceptance_line, fault_status, log_status, outcome_line, printed_audit, printed_clean};
 ghost use Rattle.commands.specs.Audit.{printed_fault, printed_why, refusal_line};
 
 use base64::engine::general_purpose::STANDARD;
@@ -13,7 +13,7 @@ use std::alloc::Global;
 
 /// The exit status for an answer of an audit.
 pub(crate) fn audit_status(answer: &Result<Clean, AuditFault>) -> u8
-    ensures { result ≡ audit_status answer.now }
+    ensures { result ≡ log_status answer.now }
 {
     match answer {
         Ok(_) => DONE,
