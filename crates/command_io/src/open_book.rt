@@ -1,5 +1,5 @@
 //! Opens the file of a book: holds it, so that no other run uses it, and reads it.
-ghost use Rattle.std.specs.Prelude.{◌≡◌, ◌⊎◌, IfErr, IfOk, IfSome, string_bytes};
+ghost use Rattle.std.specs.Prelude.{◌≡◌, ◌⊎◌, false, IfErr, IfOk, IfSome, string_bytes};
 ghost use Rattle.book_format.specs.FirstFault.{IsFirstFault};
 ghost use Rattle.book_format.specs.Trees.{IsBookText};
 ghost use Rattle.book_format.specs.declared.fault.BookFault.{BookFault};
@@ -65,6 +65,7 @@ where
     E: Write,
     ensures read { IfOk result (λ held. IsReadBook R.File.remaining (⟦<FileStore<'r, R> as BookStore>⟧.facts held.keeper.store).saved
         held.keeper.book) }
+    ensures working { IfOk result (λ held. (⟦<FileStore<'r, R> as BookStore>⟧.facts held.keeper.store).failed ≡ false) }
     ensures path { IfOk result (λ held. held.path.now ≡ path.now) }
     ensures err { IfErr result (CannotOpenBook R.File.remaining path.now) }
 {
@@ -92,6 +93,7 @@ where
     R::File: BookFileExt,
     ensures text { IfOk result (λ held. IsBookText (⟦<FileStore<'r, R> as BookStore>⟧.facts held.keeper.store).saved held.keeper.book) }
     ensures saved { IfOk result (λ held. (⟦<FileStore<'r, R> as BookStore>⟧.facts held.keeper.store).saved ≡ string_bytes text) }
+    ensures working { IfOk result (λ held. (⟦<FileStore<'r, R> as BookStore>⟧.facts held.keeper.store).failed ≡ false) }
     ensures path { IfOk result (λ held. held.path.now ≡ path.now) }
     ensures err { IfErr result (λ fault. (fault ≡ Fault.NoMemory)
         ⊎ ((found : BookFault) × (fault ≡ fault_of_book found) × IsFirstFault (string_bytes text) found)) }
