@@ -1,5 +1,5 @@
 -- What becomes of a held book and of its store.
-use Rattle.std.specs.Prelude.{ℕ, ◌≡◌, ◌⊎◌, true, false, List, string_bytes, Option, is_some, None, Some, MatchOption}
+use Rattle.std.specs.Prelude.{ℕ, ◌≡◌, ◌⊎◌, true, List, string_bytes, Option, is_some, None, Some, MatchOption}
 use Rattle.otp_core.specs.Attempt.{CodeTexts}
 use Rattle.otp_core.specs.declared.token.reply.Reply.{Reply}
 use Rattle.book_format.specs.Account.{AccountFields}
@@ -11,9 +11,9 @@ use Rattle.account_book.specs.Accounts.{IsAdded}
 use Rattle.account_book.specs.Enrolled.{enrolled}
 use Rattle.account_book.specs.SavedBooks.{needs_save, SavesBook}
 use Rattle.account_book.specs.Store.{StoreFacts}
-use Rattle.account_book.specs.Tokens.{IsBookAttempt, IsUnlocked, token_at}
+use Rattle.account_book.specs.Tokens.{IsUnlocked, token_at}
 use Rattle.book_file.specs.Text.{IsRead}
-use Rattle.book_keeper.specs.Keeper.{FailsToSave}
+use Rattle.book_keeper.specs.Keeper.{FailsToSave, IsCodeJudged, IsKept}
 use Rattle.command_line.specs.Fault.{fault_of_book}
 use Rattle.command_line.specs.declared.fault.Fault.{Fault}
 use Rattle.command_line.specs.declared.fault.Fault.TheVariants.{NoSuchAccount, NoToken, CannotRead, CannotWrite, NoMemory}
@@ -30,13 +30,9 @@ pub record HeldFacts : Type 0 where
 abbrev pub held_shown : {S : Type 0} → (S → StoreFacts) → HeldBook S → HeldFacts
 held_shown facts held = record { book = held.keeper.book; store = facts held.keeper.store }
 
--- the book is not saved: the store is as it was, or it fails to save the book
-abbrev pub IsBookUnsaved : (old : StoreFacts) → BookFields → (new : StoreFacts) → Type 0
-IsBookUnsaved old book new = (new ≡ old) ⊎ FailsToSave old book new
-
--- a change of the book is not saved: the book is as it was, and the store is too, or it fails to save the book with the change
-abbrev pub IsChangeUnsaved : (old : HeldFacts) → (Changes : BookFields → BookFields → Type 0) → (new : HeldFacts) → Type 0
-IsChangeUnsaved old Changes new =
+-- a held book is not changed: the book is as it was, and the store is too, or it fails to save the book with the change
+abbrev pub FailsToChange : (old : HeldFacts) → (Changes : BookFields → BookFields → Type 0) → (new : HeldFacts) → Type 0
+FailsToChange old Changes new =
     (new.book ≡ old.book)
     × ((new.store ≡ old.store) ⊎ ((next : BookFields) × Changes old.book next × FailsToSave old.store next new.store))
 
@@ -69,17 +65,20 @@ abbrev pub IsEnrolled : NewAccount → Salts → (old new : BookFields) → Type
 IsEnrolled account salts old new =
     IsAdded old account.name (enrolled account.password salts.sha1 salts.sha256 account.count) new
 
--- the reply is due, and the book after it is saved if the reply needs that; else the store is as it was
+-- the reply is due, and the book after it is saved if the reply needs that; else the book and the store are as they were
 pub record IsReplySaved (IsStored : List ℕ → Type 0) (old : HeldFacts) (name : List ℕ) (moment : ℕ) (sent : CodeTexts) (reply : Reply)
     (new : HeldFacts) : Type 0 where
-  pub due : IsBookAttempt old.book name moment sent (Some reply) new.book
-  pub saved : needs_save (Some reply) ≡ true → SavesBook IsStored old.store new.book new.store
-  pub unasked : needs_save (Some reply) ≡ false → new.store ≡ old.store
+  pub due : IsCodeJudged old.book name moment sent (Some reply) new.book
+  pub kept : IsKept IsStored (needs_save (Some reply)) old.book old.store new.book new.store
+
+-- a reply that needs a save is due to an attempt, which makes the old book the new one
+abbrev pub IsSavingReplyDue : (name : List ℕ) → (moment : ℕ) → CodeTexts → (old new : BookFields) → Type 0
+IsSavingReplyDue name moment sent old new =
+    (reply : Option Reply) × (needs_save reply ≡ true) × IsCodeJudged old name moment sent reply new
 
 -- a reply is not saved: the book is as it was, and the store is too, or it fails to save the book with a reply that was due
 abbrev pub IsReplyUnsaved : (old : HeldFacts) → (name : List ℕ) → (moment : ℕ) → CodeTexts → (new : HeldFacts) → Type 0
-IsReplyUnsaved old name moment sent new =
-    IsChangeUnsaved old (λ before next. (reply : Reply) × IsBookAttempt before name moment sent (Some reply) next) new
+IsReplyUnsaved old name moment sent new = FailsToChange old (IsSavingReplyDue name moment sent) new
 
 -- the token of this name is unlocked, and the book is saved
 pub record IsUnlockSaved (IsStored : List ℕ → Type 0) (name : List ℕ) (old new : HeldFacts) : Type 0 where

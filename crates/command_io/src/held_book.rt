@@ -6,7 +6,7 @@ ghost use Rattle.account_book.specs.Tokens.{token_at};
 ghost use Rattle.book_keeper.specs.Keeper.{FailsToSave};
 ghost use Rattle.otp_core.specs.SentCodes.{texts_of};
 ghost use Rattle.command_line.specs.Fault.{IsTokenFault, IsFileUnwrittenOrNoMemory};
-ghost use Rattle.command_io.specs.HeldBook.{held_shown, IsBookUnsaved, IsChangeUnsaved, IsUnlockSaved};
+ghost use Rattle.command_io.specs.HeldBook.{held_shown, FailsToChange, IsUnlockSaved};
 ghost use Rattle.command_io.specs.HeldBook.{IsEnrolled, IsReplySaved, IsReplyUnsaved, IsTokenUnlocked, LacksToken};
 
 use crate::new_account::{NewAccount, Salts};
@@ -57,7 +57,7 @@ impl<'a, S: BookStore> HeldBook<'a, S> {
             (IsFileUnwrittenOrNoMemory self.old.path.now fault) (λ account. fault ≡ Fault.NameTaken)) }
         ensures path { self.new.path.now ≡ self.old.path.now }
         ensures unasked { IfErr result (λ fault. fault ≡ Fault.NoMemory → self.new.keeper.store ≡ self.old.keeper.store) }
-        ensures unsaved { OnErr result (IsChangeUnsaved (held_shown S.facts self.old) (IsEnrolled account.now salts.now)
+        ensures unsaved { OnErr result (FailsToChange (held_shown S.facts self.old) (IsEnrolled account.now salts.now)
             (held_shown S.facts self.new)) }
         ensures saved { OnOk result (SavesBook S.IsStored (S.facts self.old.keeper.store) self.new.keeper.book
             (S.facts self.new.keeper.store)) }
@@ -124,7 +124,7 @@ impl<'a, S: BookStore> HeldBook<'a, S> {
         ensures path { self.new.path.now ≡ self.old.path.now }
         ensures err { IfErr result (IsTokenFault self.old.path.now (account_at self.old.keeper.book name.now)) }
         ensures unasked { IfErr result (λ fault. fault ≡ Fault.NoMemory → self.new.keeper.store ≡ self.old.keeper.store) }
-        ensures unsaved { OnErr result (IsChangeUnsaved (held_shown S.facts self.old) (IsTokenUnlocked name.now)
+        ensures unsaved { OnErr result (FailsToChange (held_shown S.facts self.old) (IsTokenUnlocked name.now)
             (held_shown S.facts self.new)) }
     {
         self.check_token(name)?;
@@ -145,8 +145,6 @@ impl<'a, S: BookStore> HeldBook<'a, S> {
             → FailsToSave (S.facts self.old.keeper.store) self.old.keeper.book (S.facts self.new.keeper.store)) }
         ensures unasked { IfErr result (λ fault. fault ≡ Fault.NoMemory → self.new.keeper.store ≡ self.old.keeper.store) }
         ensures saved { OnOk result (SavesBook S.IsStored (S.facts self.old.keeper.store) self.old.keeper.book
-            (S.facts self.new.keeper.store)) }
-        ensures unsaved { OnErr result (IsBookUnsaved (S.facts self.old.keeper.store) self.old.keeper.book
             (S.facts self.new.keeper.store)) }
     {
         let file = String::from_str(alloc, self.path)?;

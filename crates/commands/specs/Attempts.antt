@@ -1,5 +1,5 @@
 -- What a run of `verify` does to its book: each line that it answers is an attempt, and so a change of the book.
-use Rattle.std.specs.Prelude.{ℕ, ◌≡◌, ◌⊎◌, true, false, List, [], ◌∷◌, ◌++◌, map, reverse, IfSome}
+use Rattle.std.specs.Prelude.{ℕ, ◌≡◌, ◌⊎◌, false, List, [], ◌∷◌, ◌++◌, map, reverse, IfSome}
 use Rattle.std.specs.List.{AllZip, flat_map}
 use Rattle.std.specs.Str.{byte}
 use Rattle.std.specs.Io.KnownBytes.{Appends}
@@ -8,12 +8,14 @@ use Rattle.std.specs.declared.option.Option.TheVariants.{Some}
 use Rattle.otp_core.specs.Attempt.{CodeTexts}
 use Rattle.otp_core.specs.declared.token.reply.Reply.{Reply}
 use Rattle.book_format.specs.Book.{BookFields}
+use Rattle.book_format.specs.Trees.{IsBookText}
 use Rattle.account_book.specs.Store.{StoreFacts}
 use Rattle.log_grammar.specs.Lines.{reply_text}
 use Rattle.log_grammar.specs.LoggedAttempt.{LoggedAttempt, logged_attempt_of}
 use Rattle.sasl_desk.specs.Restarts.{Change, judged, AreChanges}
 use Rattle.command_line.specs.declared.fault.Fault.{Fault}
 use Rattle.command_line.specs.declared.fault.Fault.TheVariants.{CannotWriteOutput}
+use Rattle.command_io.specs.HeldBook.{HeldFacts}
 use Rattle.command_io.specs.Input.{AreLinesOf}
 use Rattle.commands.specs.SentCodes.{SaysCodes}
 
@@ -39,10 +41,10 @@ PrintsUntil fault attempts old new =
 abbrev pub judged_changes : List LoggedAttempt → List Change
 judged_changes attempts = map judged (reverse attempts)
 
--- after a run the store may hold this text: the one that it says it holds; or, if it failed in the run, the one that the failed save was
--- given
-abbrev pub MayHoldAfter : (old new : StoreFacts) → (text : List ℕ) → Type 0
-MayHoldAfter old new text = (text ≡ new.saved) ⊎ ((old.failed ≡ false) × (new.failed ≡ true) × (text ≡ new.asked))
+-- the store of a held book has not failed, and holds a text of the book
+pub record HoldsItsBook (held : HeldFacts) : Type 0 where
+  pub working : held.store.failed ≡ false
+  pub saved : IsBookText held.store.saved held.book
 
 -- the lines of an input, if its bytes are known, except these last ones: each made one of these attempts, in order, and the attempts, as
 -- changes, made the old book the new one

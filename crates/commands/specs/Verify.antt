@@ -111,13 +111,15 @@ CannotBeginToVerify bytes_of words fault =
     ⊎ ((text : List ℕ) × (book : BookFields) × IsReadBook bytes_of text book
     × LacksToken (account_at book (given_value words option.Name)) fault))
 
--- a run of `verify` begins, with the name and at the moment that the words give: its book was read from a file, and this is printed
+-- a run of `verify` begins, with the name and at the moment that the words give: its book was read from a file, the store has not
+-- failed, and this is printed
 pub record BeginsToVerify {File : Type 0} (bytes_of : File → Option (List ℕ)) (words : ArgMatches) (printed : Option (List ℕ)) (moment : ℕ)
     (run : VerifyRun) : Type 0 where
   pub name_range : IsPlainName (given_value words option.Name)
   pub is_moment : given_value words option.Moment ≡ decimal moment
   pub moment_range : IsMoment moment
   pub is_book : IsReadBook bytes_of run.held.store.saved run.held.book
+  pub working : run.held.store.failed ≡ false
   pub is_printed : run.printed ≡ printed
 
 -- a run, given the bytes of files and those written to them

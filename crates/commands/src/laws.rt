@@ -2,13 +2,12 @@
 ghost use Rattle.std.specs.Prelude.{Bool, ℕ, List, [], ◌∷◌, ◌++◌, reverse};
 ghost use Rattle.std.specs.Io.KnownBytes.{Appends};
 ghost use Rattle.std.specs.declared.option.Option.{Option};
-ghost use Rattle.otp_core.specs.Ranges.{IsMoment};
 ghost use Rattle.book_format.specs.Book.{BookFields};
 ghost use Rattle.book_format.specs.Trees.{IsBookText};
 ghost use Rattle.account_book.specs.Enrolled.{enrolled};
 ghost use Rattle.book_file.specs.Saved.{IsSavedText};
 ghost use Rattle.log_grammar.specs.LoggedAttempt.{LoggedAttempt};
-ghost use Rattle.sasl_desk.specs.Desks.{spent_by_all};
+ghost use Rattle.sasl_desk.specs.Desks.{spent_by_all, MayHold};
 ghost use Rattle.sasl_desk.specs.Restarts.{Change, added, unlocked, AreChanges};
 ghost use Rattle.sasl_desk.specs.Saved.{IsToldSaved};
 ghost use Rattle.sasl_desk.specs.Spent.{AreSpent};
@@ -19,7 +18,7 @@ ghost use Rattle.command_io.specs.Input.{LinesInTurn};
 ghost use Rattle.command_words.specs.Values.{given_value};
 ghost use Rattle.account_commands.specs.Enrol.{EnrolsAsked};
 ghost use Rattle.account_commands.specs.Unlock.{UnlocksAsked};
-ghost use Rattle.commands.specs.Attempts.{judged_changes, printed_replies, PrintsUntil, MayHoldAfter, MakesChanges};
+ghost use Rattle.commands.specs.Attempts.{judged_changes, printed_replies, HoldsItsBook, MakesChanges, PrintsUntil};
 ghost use Rattle.commands.specs.Verify.{VerifyRun, AnswersLine, AnswersFirstLines, VerifiesAllLines, VerifiesFirstLines};
 
 use account_book::BookStore;
@@ -34,45 +33,47 @@ pub fn changes_follow_changes<S: BookStore>()
 {}
 
 /// What a run of `verify` did to its book, after any number of its lines, is a list of changes, one for each line that it answered: the
-/// attempt with what the line says, judged by the token. The replies to these attempts are what it printed (`all`). The store then holds
-/// no text but those of that book, if it held one of the book as the run began (`saved`). So both also hold of a run that is stopped
-/// between two lines. If a fault ended the run, the changes lead to the book of whichever text the store may hold: those of the lines
-/// before the one at fault, and perhaps that of this line (`first`).
+/// attempt with what the line says, judged by the token. The replies to these attempts are what it printed (`all`). Each text that the
+/// store may hold then is of the book that the changes lead to (`saved`). So both also hold of a run that is stopped between two lines.
+///
+/// If a fault ended the run, they lead to the book of whichever text the store may hold: those of the lines before the one at fault, and
+/// perhaps that of this line (`first`).
+///
+/// All this holds if the store had not failed as the run began, and held a text of the run's book.
 ///
 /// So `no_counter_passes_twice` of `sasl_desk` holds of a run of `verify`, and by `changes_follow_changes` of any number of them, one
 /// after another and between runs of desks and halls, if each begins with the book that the one before left.
 pub fn answered_lines_are_changes<S: BookStore>()
     ensures all { (name : List ℕ) (moment : ℕ) (input : Option (List ℕ)) (last : List (List ℕ)) (old : VerifyRun) (all_passed : Bool)
-        (new : VerifyRun) → IsMoment moment → LinesInTurn (AnswersLine S.IsStored name moment) input last old all_passed new
+        (new : VerifyRun) → LinesInTurn (AnswersLine S.IsStored name moment) input last old all_passed new
         → (attempts : List LoggedAttempt)
         × MakesChanges S.facts S.IsStored name moment input last attempts old.held.book new.held.book
         × Appends old.printed new.printed (printed_replies attempts) }
     ensures saved { (name : List ℕ) (moment : ℕ) (input : Option (List ℕ)) (last : List (List ℕ)) (old : VerifyRun) (all_passed : Bool)
         (new : VerifyRun) (text : List ℕ) → LinesInTurn (AnswersLine S.IsStored name moment) input last old all_passed new
-        → IsBookText old.held.store.saved old.held.book → MayHoldAfter old.held.store new.held.store text
-        → IsBookText text new.held.book }
+        → HoldsItsBook old.held → MayHold new.held.store text → IsBookText text new.held.book }
     ensures first { (path name : List ℕ) (moment : ℕ) (input : Option (List ℕ)) (old : VerifyRun) (fault : Fault) (new : VerifyRun)
-        (text : List ℕ) → IsMoment moment → AnswersFirstLines S.IsStored path name moment input old fault new
-        → IsBookText old.held.store.saved old.held.book → MayHoldAfter old.held.store new.held.store text
+        (text : List ℕ) → AnswersFirstLines S.IsStored path name moment input old fault new
+        → HoldsItsBook old.held → MayHold new.held.store text
         → (left : BookFields) × (last : List (List ℕ)) × (attempts : List LoggedAttempt) × IsBookText text left
         × MakesChanges S.facts S.IsStored name moment input last attempts old.held.book left
         × PrintsUntil fault attempts old.printed new.printed }
 {}
 
 /// What the replies that `verify` printed used is spent in the book of whichever text the store may hold after the run, and so is what
-/// was spent before the run; all these counters are different. This holds of a run that answered all lines, and of one that a fault
-/// ended. If the output can't be written, it is not known what is printed.
+/// was spent before the run; all these counters are different. This holds of a run that answered all lines (`all`), and of one that a
+/// fault ended (`first`). If the output can't be written, it is not known what is printed.
 pub fn verified_counters_are_spent<R: Files, S: BookStore>()
     ensures all { (words : ArgMatches) (input old : Option (List ℕ)) (all_passed : Bool) (new : Option (List ℕ))
         (run : VerifiesAllLines R.File.remaining R.File.contents words input old all_passed new)
-        (text : List ℕ) (spent : List (List ℕ × ℕ)) → MayHoldAfter run.first.held.store run.last.held.store text
+        (text : List ℕ) (spent : List (List ℕ × ℕ)) → MayHold run.last.held.store text
         → AreSpent spent run.first.held.book
         → (left : BookFields) × (attempts : List LoggedAttempt) × IsBookText text left
         × MakesChanges S.facts S.IsStored (given_value words option.Name) run.moment input [] attempts run.first.held.book left
         × Appends old new (printed_replies attempts) × AreSpent (spent_by_all (reverse attempts) ++ spent) left }
     ensures first { (words : ArgMatches) (input old : Option (List ℕ)) (fault : Fault) (new : Option (List ℕ))
         (run : VerifiesFirstLines R.File.remaining R.File.contents words input old fault new)
-        (text : List ℕ) (spent : List (List ℕ × ℕ)) → MayHoldAfter run.first.held.store run.last.held.store text
+        (text : List ℕ) (spent : List (List ℕ × ℕ)) → MayHold run.last.held.store text
         → AreSpent spent run.first.held.book
         → (left : BookFields) × (last : List (List ℕ)) × (attempts : List LoggedAttempt) × IsBookText text left
         × MakesChanges S.facts S.IsStored (given_value words option.Name) run.moment input last attempts run.first.held.book left

@@ -2,14 +2,12 @@ use Rattle.commands.proofs.lemmas.Attempts.{answered_lines_are_changes_all, answ
 use Rattle.commands.proofs.laws.answered_lines_are_changes.Goals as goal
 
 pub returns-clause-all : goal.returns-clause-all
-returns-clause-all g c = λ name moment input last old all_passed new is_moment.
-    answered_lines_are_changes_all g.S.BookStore.facts g.S.BookStore.IsStored g.S.BookStore.IsStored name moment is_moment input last
-    old all_passed new
+returns-clause-all g c = answered_lines_are_changes_all g.S.BookStore.facts g.S.BookStore.IsStored g.S.BookStore.IsStored
 
 pub returns-clause-saved : goal.returns-clause-saved
 returns-clause-saved g c = answered_lines_are_changes_saved g.S.BookStore.facts g.S.BookStore.IsStored g.S.BookStore.IsStored
 
 pub returns-clause-first : goal.returns-clause-first
-returns-clause-first g c = λ path name moment input old fault new text is_moment.
-    answered_lines_are_changes_first g.S.BookStore.facts g.S.BookStore.IsStored g.S.BookStore.IsStored name moment is_moment path input
-    old fault new text
+returns-clause-first g c = λ path name moment input old fault new text.
+    answered_lines_are_changes_first g.S.BookStore.facts g.S.BookStore.IsStored g.S.BookStore.IsStored name moment path input old fault
+    new text

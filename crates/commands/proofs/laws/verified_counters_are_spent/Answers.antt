@@ -2,19 +2,19 @@ use Rattle.std.proofs.Common.{List, [], ℕ, Option, subst}
 use Rattle.std.specs.Io.KnownBytes.{Appends}
 use Rattle.commands.specs.Attempts.{printed_replies, PrintsUntil}
 use Rattle.commands.proofs.lemmas.Attempts.{answered_lines_are_changes_all, answered_lines_are_changes_saved, answered_lines_are_changes_first}
-use Rattle.commands.proofs.lemmas.Attempts.{attempts_spend_counters}
+use Rattle.commands.proofs.lemmas.Attempts.{attempts_spend_counters, run_holds_its_book}
 use Rattle.commands.proofs.laws.verified_counters_are_spent.Goals as goal
 
 pub returns-clause-all : goal.returns-clause-all
-returns-clause-all g c = λ words input old all_passed new run text spent holds before.
+returns-clause-all g c = λ words input old all_passed new run text spent may before.
     let facts = g.S.BookStore.facts in
     let IsStored = g.S.BookStore.IsStored in
-    let (attempts, changes, printed) = answered_lines_are_changes_all facts IsStored _ _ run.moment run.begins.moment_range input []
-    run.first all_passed run.last run.answers in (
+    let (attempts, changes, printed) = answered_lines_are_changes_all facts IsStored _ _ run.moment input [] run.first all_passed run.last
+    run.answers in (
       run.last.held.book,
       attempts,
       answered_lines_are_changes_saved facts IsStored _ _ run.moment input [] run.first all_passed run.last text run.answers
-          run.begins.is_book.is_text holds,
+          (run_holds_its_book _ words old run.moment run.first run.begins) may,
       changes,
       subst (λ (o : Option (List ℕ)). Appends o new (printed_replies attempts)) run.begins.is_printed
           (subst (λ (o : Option (List ℕ)). Appends run.first.printed o (printed_replies attempts)) run.printed printed),
@@ -23,11 +23,11 @@ returns-clause-all g c = λ words input old all_passed new run text spent holds 
     )
 
 pub returns-clause-first : goal.returns-clause-first
-returns-clause-first g c = λ words input old fault new run text spent holds before.
+returns-clause-first g c = λ words input old fault new run text spent may before.
     let facts = g.S.BookStore.facts in
     let IsStored = g.S.BookStore.IsStored in
-    let (left, last, attempts, is_text, changes, printed) = answered_lines_are_changes_first facts IsStored _ _ run.moment
-    run.begins.moment_range _ input run.first fault run.last text run.answers run.begins.is_book.is_text holds in (
+    let (left, last, attempts, is_text, changes, printed) = answered_lines_are_changes_first facts IsStored _ _ run.moment _ input
+    run.first fault run.last text run.answers (run_holds_its_book _ words old run.moment run.first run.begins) may in (
       left,
       last,
       attempts,

@@ -14,6 +14,7 @@ returns-clause-ok g c =
         is_moment = sym c.given-2.ensures ∙ c.in_ok-moment.ensures.ok.0;
         moment_range = c.in_ok-moment.ensures.ok.1;
         is_book = c.in_ok-held.ensures.read;
+        working = c.in_ok-held.ensures.working;
         is_printed = refl;
       };
       answers = rw (c.in_ok-name.ensures.ok.0, c.given.ensures) at answers;
@@ -33,6 +34,7 @@ returns-clause-err g c =
         is_moment = sym c.given-2.ensures ∙ c.in_ok-moment.ensures.ok.0;
         moment_range = c.in_ok-moment.ensures.ok.1;
         is_book = c.in_ok-held.ensures.read;
+        working = c.in_ok-held.ensures.working;
         is_printed = refl;
       };
       answers = rw (c.in_ok-name.ensures.ok.0, c.given.ensures, c.in_ok-held.ensures.path, c.given-3.ensures) at answers;
