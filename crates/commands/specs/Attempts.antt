@@ -1,5 +1,5 @@
 -- What a run of `verify` does to its book: each line that it answers is an attempt, and so a change of the book.
-use Rattle.std.specs.Prelude.{ℕ, ◌≡◌, ◌⊎◌, false, List, [], ◌∷◌, ◌++◌, map, reverse, IfSome}
+use Rattle.std.specs.Prelude.{ℕ, ◌≡◌, ◌⊎◌, Bool, false, List, [], ◌∷◌, ◌++◌, map, reverse, IfSome}
 use Rattle.std.specs.List.{AllZip, flat_map}
 use Rattle.std.specs.Str.{byte}
 use Rattle.std.specs.Io.KnownBytes.{Appends}
@@ -12,12 +12,14 @@ use Rattle.book_format.specs.Trees.{IsBookText}
 use Rattle.account_book.specs.Store.{StoreFacts}
 use Rattle.log_grammar.specs.Lines.{reply_text}
 use Rattle.log_grammar.specs.LoggedAttempt.{LoggedAttempt, logged_attempt_of}
+use Rattle.sasl_desk.specs.Keeper.{IsAttemptJudged}
 use Rattle.sasl_desk.specs.Restarts.{Change, judged, AreChanges}
 use Rattle.command_line.specs.declared.fault.Fault.{Fault}
 use Rattle.command_line.specs.declared.fault.Fault.TheVariants.{CannotWriteOutput}
 use Rattle.command_io.specs.HeldBook.{HeldFacts}
-use Rattle.command_io.specs.Input.{AreLinesOf}
+use Rattle.command_io.specs.Input.{AreLinesOf, LinesInTurn}
 use Rattle.commands.specs.SentCodes.{SaysCodes}
+use Rattle.commands.specs.Verify.{VerifyRun, AnswersLine}
 
 -- a line makes this attempt: by the account of this name, at this moment, with what the line says. It gets a reply, so the account has a
 -- token.
@@ -54,3 +56,17 @@ pub record MakesChanges {S : Type 0} (facts : S → StoreFacts) (IsStored : List
   pub are : IfSome input (λ bytes. AreLinesOf bytes (lines ++ last))
   pub made : AllZip (MakesAttempt name moment) lines attempts
   pub changes : AreChanges facts IsStored old (judged_changes attempts) new
+
+-- a run of `verify` within a save: it has answered the lines of its input before this one, and the store is given a text of the book with
+-- the attempt that this line makes
+pub record SavesNextLine (IsStored : List ℕ → Type 0) (name : List ℕ) (moment : ℕ) (input : Option (List ℕ)) (old middle : VerifyRun)
+    (asked : List ℕ) : Type 0 where
+  pub line : List ℕ
+  pub last : List (List ℕ)
+  pub all_passed : Bool
+  pub answers : LinesInTurn (AnswersLine IsStored name moment) input (line ∷ last) old all_passed middle
+  pub attempt : LoggedAttempt
+  pub made : MakesAttempt name moment line attempt
+  pub next : BookFields
+  pub judged : IsAttemptJudged middle.held.book attempt next
+  pub is_text : IsBookText asked next

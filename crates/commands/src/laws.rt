@@ -1,5 +1,5 @@
 //! Laws of what the commands do to a book, as the laws of `sasl_desk` take it. Each is the contract of a function that does nothing.
-ghost use Rattle.std.specs.Prelude.{Bool, ℕ, List, [], ◌∷◌, ◌++◌, reverse};
+ghost use Rattle.std.specs.Prelude.{◌⊎◌, Bool, ℕ, List, [], ◌∷◌, ◌++◌, reverse};
 ghost use Rattle.std.specs.Io.KnownBytes.{Appends};
 ghost use Rattle.std.specs.declared.option.Option.{Option};
 ghost use Rattle.book_format.specs.Book.{BookFields};
@@ -7,7 +7,7 @@ ghost use Rattle.book_format.specs.Trees.{IsBookText};
 ghost use Rattle.account_book.specs.Enrolled.{enrolled};
 ghost use Rattle.book_file.specs.Saved.{IsSavedText};
 ghost use Rattle.log_grammar.specs.LoggedAttempt.{LoggedAttempt};
-ghost use Rattle.sasl_desk.specs.Desks.{spent_by_all, MayHold};
+ghost use Rattle.sasl_desk.specs.Desks.{spent_by_all, MayHold, MayHoldWithinSave};
 ghost use Rattle.sasl_desk.specs.Restarts.{Change, added, unlocked, AreChanges};
 ghost use Rattle.sasl_desk.specs.Saved.{IsToldSaved};
 ghost use Rattle.sasl_desk.specs.Spent.{AreSpent};
@@ -18,8 +18,8 @@ ghost use Rattle.command_io.specs.Input.{LinesInTurn};
 ghost use Rattle.command_words.specs.Values.{given_value};
 ghost use Rattle.account_commands.specs.Enrol.{EnrolsAsked};
 ghost use Rattle.account_commands.specs.Unlock.{UnlocksAsked};
-ghost use Rattle.commands.specs.Attempts.{judged_changes, printed_replies, HoldsItsBook, MakesChanges, PrintsUntil};
-ghost use Rattle.commands.specs.Verify.{VerifyRun, AnswersLine, AnswersFirstLines, VerifiesAllLines, VerifiesFirstLines};
+ghost use Rattle.commands.specs.Attempts.{judged_changes, printed_replies, HoldsItsBook, MakesChanges, PrintsUntil, SavesNextLine};
+ghost use Rattle.commands.specs.Verify.{VerifyRun, AnswersLine, AnswersFirstLines, BeginsToVerify, VerifiesAllLines, VerifiesFirstLines};
 
 use account_book::BookStore;
 use sasl_desk::laws::no_counter_passes_twice;
@@ -36,8 +36,9 @@ pub fn changes_follow_changes<S: BookStore>()
 /// attempt with what the line says, judged by the token. The replies to these attempts are what it printed (`all`). Each text that the
 /// store may hold then is of the book that the changes lead to (`saved`). So both also hold of a run that is stopped between two lines.
 ///
-/// If a fault ended the run, they lead to the book of whichever text the store may hold: those of the lines before the one at fault, and
-/// perhaps that of this line (`first`).
+/// While the run saves the attempt of its next line, and until it prints the reply, the text that the store may hold is of this book, or
+/// of the book that the changes lead to with this attempt as the last of them (`within`). If a fault ended the run, they lead to the book
+/// of whichever text the store may hold: those of the lines before the one at fault, and perhaps that of this line (`first`).
 ///
 /// All this holds if the store had not failed as the run began, and held a text of the run's book.
 ///
@@ -52,6 +53,14 @@ pub fn answered_lines_are_changes<S: BookStore>()
     ensures saved { (name : List ℕ) (moment : ℕ) (input : Option (List ℕ)) (last : List (List ℕ)) (old : VerifyRun) (all_passed : Bool)
         (new : VerifyRun) (text : List ℕ) → LinesInTurn (AnswersLine S.IsStored name moment) input last old all_passed new
         → HoldsItsBook old.held → MayHold new.held.store text → IsBookText text new.held.book }
+    ensures within { (name : List ℕ) (moment : ℕ) (input : Option (List ℕ)) (old middle : VerifyRun) (asked text : List ℕ)
+        (saves : SavesNextLine S.IsStored name moment input old middle asked)
+        → HoldsItsBook old.held → MayHoldWithinSave middle.held.store asked text
+        → (attempts : List LoggedAttempt) × Appends old.printed middle.printed (printed_replies attempts)
+        × ((IsBookText text middle.held.book
+        × MakesChanges S.facts S.IsStored name moment input (saves.line ∷ saves.last) attempts old.held.book middle.held.book)
+        ⊎ (IsBookText text saves.next
+        × MakesChanges S.facts S.IsStored name moment input saves.last (attempts ++ saves.attempt ∷ []) old.held.book saves.next)) }
     ensures first { (path name : List ℕ) (moment : ℕ) (input : Option (List ℕ)) (old : VerifyRun) (fault : Fault) (new : VerifyRun)
         (text : List ℕ) → AnswersFirstLines S.IsStored path name moment input old fault new
         → HoldsItsBook old.held → MayHold new.held.store text
@@ -62,7 +71,8 @@ pub fn answered_lines_are_changes<S: BookStore>()
 
 /// What the replies that `verify` printed used is spent in the book of whichever text the store may hold after the run, and so is what
 /// was spent before the run; all these counters are different. This holds of a run that answered all lines (`all`), and of one that a
-/// fault ended (`first`). If the output can't be written, it is not known what is printed.
+/// fault ended (`first`). If the output can't be written, it is not known what is printed. It also holds of a run wherever it is stopped:
+/// between two lines (`between`), or while it saves the attempt of its next line and until it prints the reply (`within`).
 pub fn verified_counters_are_spent<R: Files, S: BookStore>()
     ensures all { (words : ArgMatches) (input old : Option (List ℕ)) (all_passed : Bool) (new : Option (List ℕ))
         (run : VerifiesAllLines R.File.remaining R.File.contents words input old all_passed new)
@@ -78,6 +88,19 @@ pub fn verified_counters_are_spent<R: Files, S: BookStore>()
         → (left : BookFields) × (last : List (List ℕ)) × (attempts : List LoggedAttempt) × IsBookText text left
         × MakesChanges S.facts S.IsStored (given_value words option.Name) run.moment input last attempts run.first.held.book left
         × PrintsUntil fault attempts old new × AreSpent (spent_by_all (reverse attempts) ++ spent) left }
+    ensures between { (words : ArgMatches) (input old : Option (List ℕ)) (moment : ℕ) (first : VerifyRun) (last : List (List ℕ))
+        (all_passed : Bool) (middle : VerifyRun) (text : List ℕ) (spent : List (List ℕ × ℕ))
+        → BeginsToVerify R.File.remaining words old moment first
+        → LinesInTurn (AnswersLine (IsSavedText R.File.contents) (given_value words option.Name) moment) input last first all_passed middle
+        → MayHold middle.held.store text → AreSpent spent first.held.book
+        → (attempts : List LoggedAttempt) × IsBookText text middle.held.book × Appends old middle.printed (printed_replies attempts)
+        × AreSpent (spent_by_all (reverse attempts) ++ spent) middle.held.book }
+    ensures within { (words : ArgMatches) (input old : Option (List ℕ)) (moment : ℕ) (first middle : VerifyRun) (asked text : List ℕ)
+        (spent : List (List ℕ × ℕ)) → BeginsToVerify R.File.remaining words old moment first
+        → SavesNextLine (IsSavedText R.File.contents) (given_value words option.Name) moment input first middle asked
+        → MayHoldWithinSave middle.held.store asked text → AreSpent spent first.held.book
+        → (left : BookFields) × (attempts : List LoggedAttempt) × IsBookText text left
+        × Appends old middle.printed (printed_replies attempts) × AreSpent (spent_by_all (reverse attempts) ++ spent) left }
 {
     no_counter_passes_twice::<S>();
 }

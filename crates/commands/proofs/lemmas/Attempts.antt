@@ -16,7 +16,7 @@ use Rattle.account_book.specs.SavedBooks.{SavesBook}
 use Rattle.account_book.specs.Store.{StoreFacts, IsFailedSave}
 use Rattle.book_keeper.specs.Keeper.{IsCodeJudged}
 use Rattle.log_grammar.specs.LoggedAttempt.{LoggedAttempt, logged_attempt_of}
-use Rattle.sasl_desk.specs.Desks.{spent_by_all, IsBookAfterReplies, MayHold}
+use Rattle.sasl_desk.specs.Desks.{spent_by_all, IsBookAfterReplies, MayHold, MayHoldWithinSave}
 use Rattle.sasl_desk.specs.Keeper.{IsAttemptJudged}
 use Rattle.sasl_desk.specs.Restarts.{Change, judged, AreChanges, spent_by_changes}
 use Rattle.sasl_desk.specs.Spent.{AreSpent, spent_by}
@@ -25,7 +25,7 @@ use Rattle.command_line.specs.declared.fault.Fault.{Fault}
 use Rattle.command_line.specs.declared.fault.Fault.TheVariants.{CannotWriteOutput}
 use Rattle.command_io.specs.HeldBook.{HeldFacts, IsReplySaved, IsReplyUnsaved}
 use Rattle.command_io.specs.Input.{AreLinesOf, EachInTurn, LinesInTurn}
-use Rattle.commands.specs.Attempts.{MakesAttempt, printed_replies, PrintsUntil, judged_changes, HoldsItsBook, MakesChanges}
+use Rattle.commands.specs.Attempts.{MakesAttempt, printed_replies, PrintsUntil, judged_changes, HoldsItsBook, MakesChanges, SavesNextLine}
 use Rattle.commands.specs.SentCodes.{SaysCodes}
 use Rattle.commands.specs.Verify.{VerifyRun, AnswersLine, AnswersFirstLines, BeginsToVerify, FailsAtLine, IsUnprinted}
 
@@ -82,6 +82,21 @@ held_text_is_of_book held text holds (inr (failed, same)) = absurd (false≢true
 pub run_holds_its_book : {File : Type 0} (bytes_of : File → Option (List ℕ)) (words : ArgMatches) (printed : Option (List ℕ)) (moment : ℕ)
     (run : VerifyRun) → BeginsToVerify bytes_of words printed moment run → HoldsItsBook run.held
 run_holds_its_book bytes_of words printed moment run begins = record { working = begins.working; saved = begins.is_book.is_text }
+
+-- if counters are spent, so are those that are left when the first are taken away
+later_counters_are_spent : (first rest : List (List ℕ × ℕ)) (book : BookFields) → AreSpent (first ++ rest) book → AreSpent rest book
+later_counters_are_spent [] rest book spent = spent
+later_counters_are_spent (counter ∷ first) rest book spent =
+    later_counters_are_spent first rest book (record { different = spent.different.1; spent = spent.spent.1 })
+
+-- what attempts and one more used contains what the attempts used
+pub earlier_counters_are_spent : (attempts : List LoggedAttempt) (attempt : LoggedAttempt) (spent : List (List ℕ × ℕ)) (book : BookFields)
+    → AreSpent (spent_by_all (reverse (attempts ++ attempt ∷ [])) ++ spent) book → AreSpent (spent_by_all (reverse attempts) ++ spent) book
+earlier_counters_are_spent attempts attempt spent book all =
+    later_counters_are_spent (spent_by attempt) (spent_by_all (reverse attempts) ++ spent) book
+    (subst (λ (l : List (List ℕ × ℕ)). AreSpent l book) (append_assoc (spent_by attempt) (spent_by_all (reverse attempts)) spent)
+    (subst (λ (latest_first : List LoggedAttempt). AreSpent (spent_by_all latest_first ++ spent) book)
+    (reverse-append attempts (attempt ∷ [])) all))
 
 -- changes
 module _ {S : Type 0} (facts : S → StoreFacts) (IsStored : List ℕ → Type 0) where
@@ -184,6 +199,34 @@ module _ {S : Type 0} (facts : S → StoreFacts) (IsStored : List ℕ → Type 0
       changes = subst (λ (cs : List Change). AreChanges facts IsStored old cs next) (sym (judged_changes-last attempts attempt))
           (middle, changes.changes, one);
     }
+
+    -- the law, of a run within a save
+    pub answered_lines_are_changes_within : (input : Option (List ℕ)) (old middle : VerifyRun) (asked text : List ℕ)
+        (saves : SavesNextLine IsKept name moment input old middle asked) → HoldsItsBook old.held
+        → MayHoldWithinSave middle.held.store asked text
+        → (attempts : List LoggedAttempt) × Appends old.printed middle.printed (printed_replies attempts)
+        × ((IsBookText text middle.held.book
+        × MakesChanges facts IsStored name moment input (saves.line ∷ saves.last) attempts old.held.book middle.held.book)
+        ⊎ (IsBookText text saves.next
+        × MakesChanges facts IsStored name moment input saves.last (attempts ++ saves.attempt ∷ []) old.held.book saves.next))
+    answered_lines_are_changes_within input old middle asked text saves holds may =
+        let (attempts, changes, printed) =
+        answered_lines_are_changes_all input (saves.line ∷ saves.last) old saves.all_passed middle saves.answers in (
+          attempts,
+          printed,
+          elim may [
+            | inl before ↦
+                let is_text =
+                answered_lines_are_changes_saved input (saves.line ∷ saves.last) old saves.all_passed middle text saves.answers holds
+                before in
+                inl (is_text, changes)
+            | inr same ↦
+                let changes_too =
+                next_line_makes_change input saves.line saves.last attempts saves.attempt old.held.book middle.held.book saves.next changes
+                saves.made saves.judged in
+                inr (subst (λ (t : List ℕ). IsBookText t saves.next) (sym same) saves.is_text, changes_too)
+          ],
+        )
 
     -- a run that a fault ended
     module _ (path : List ℕ) (input : Option (List ℕ)) (old : VerifyRun) (fault : Fault) (new : VerifyRun) (text : List ℕ) where

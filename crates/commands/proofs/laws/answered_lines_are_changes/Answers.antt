@@ -1,4 +1,5 @@
 use Rattle.commands.proofs.lemmas.Attempts.{answered_lines_are_changes_all, answered_lines_are_changes_saved, answered_lines_are_changes_first}
+use Rattle.commands.proofs.lemmas.Attempts.{answered_lines_are_changes_within}
 use Rattle.commands.proofs.laws.answered_lines_are_changes.Goals as goal
 
 pub returns-clause-all : goal.returns-clause-all
@@ -6,6 +7,9 @@ returns-clause-all g c = answered_lines_are_changes_all g.S.BookStore.facts g.S.
 
 pub returns-clause-saved : goal.returns-clause-saved
 returns-clause-saved g c = answered_lines_are_changes_saved g.S.BookStore.facts g.S.BookStore.IsStored g.S.BookStore.IsStored
+
+pub returns-clause-within : goal.returns-clause-within
+returns-clause-within g c = answered_lines_are_changes_within g.S.BookStore.facts g.S.BookStore.IsStored g.S.BookStore.IsStored
 
 pub returns-clause-first : goal.returns-clause-first
 returns-clause-first g c = λ path name moment input old fault new text.

@@ -1,8 +1,8 @@
-use Rattle.std.proofs.Common.{List, [], ℕ, Option, subst}
+use Rattle.std.proofs.Common.{inl, inr, List, [], ◌∷◌, ◌++◌, ℕ, Option, subst}
 use Rattle.std.specs.Io.KnownBytes.{Appends}
 use Rattle.commands.specs.Attempts.{printed_replies, PrintsUntil}
 use Rattle.commands.proofs.lemmas.Attempts.{answered_lines_are_changes_all, answered_lines_are_changes_saved, answered_lines_are_changes_first}
-use Rattle.commands.proofs.lemmas.Attempts.{attempts_spend_counters, run_holds_its_book}
+use Rattle.commands.proofs.lemmas.Attempts.{answered_lines_are_changes_within, attempts_spend_counters, earlier_counters_are_spent, run_holds_its_book}
 use Rattle.commands.proofs.laws.verified_counters_are_spent.Goals as goal
 
 pub returns-clause-all : goal.returns-clause-all
@@ -38,3 +38,45 @@ returns-clause-first g c = λ words input old fault new run text spent may befor
       attempts_spend_counters facts IsStored c.no_counter_passes_twice.ensures attempts run.first.held.book left spent changes.changes
           before,
     )
+
+pub returns-clause-between : goal.returns-clause-between
+returns-clause-between g c = λ words input old moment first last all_passed middle text spent begins answers may before.
+    let facts = g.S.BookStore.facts in
+    let IsStored = g.S.BookStore.IsStored in
+    let (attempts, changes, printed) = answered_lines_are_changes_all facts IsStored _ _ moment input last first all_passed middle
+    answers in (
+      attempts,
+      answered_lines_are_changes_saved facts IsStored _ _ moment input last first all_passed middle text answers
+          (run_holds_its_book _ words old moment first begins) may,
+      subst (λ (o : Option (List ℕ)). Appends o middle.printed (printed_replies attempts)) begins.is_printed printed,
+      attempts_spend_counters facts IsStored c.no_counter_passes_twice.ensures attempts first.held.book middle.held.book spent
+          changes.changes before,
+    )
+
+pub returns-clause-within : goal.returns-clause-within
+returns-clause-within g c = λ words input old moment first middle asked text spent begins saves may before.
+    let facts = g.S.BookStore.facts in
+    let IsStored = g.S.BookStore.IsStored in
+    let (attempts, printed, left) = answered_lines_are_changes_within facts IsStored _ _ moment input first middle asked text saves
+    (run_holds_its_book _ words old moment first begins) may in
+    let shown : Appends old middle.printed (printed_replies attempts) =
+    subst (λ (o : Option (List ℕ)). Appends o middle.printed (printed_replies attempts)) begins.is_printed printed in
+    elim left [
+      | inl (is_text, changes) ↦ (
+        middle.held.book,
+        attempts,
+        is_text,
+        shown,
+        attempts_spend_counters facts IsStored c.no_counter_passes_twice.ensures attempts first.held.book middle.held.book spent
+            changes.changes before,
+      )
+      | inr (is_text, changes) ↦ (
+        saves.next,
+        attempts,
+        is_text,
+        shown,
+        earlier_counters_are_spent attempts saves.attempt spent saves.next
+            (attempts_spend_counters facts IsStored c.no_counter_passes_twice.ensures (attempts ++ saves.attempt ∷ []) first.held.book
+            saves.next spent changes.changes before),
+      )
+    ]
