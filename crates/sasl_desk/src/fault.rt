@@ -100,3 +100,15 @@ impl ServeFault {
         }
     }
 }
+
+/// Why what a call wrote did not go out to both, first the log and then the client.
+#[derive(Clone, Copy, Debug, PartialEq, Eq, Error)]
+pub enum OutputFault {
+    /// The log could not be written, and nothing was sent to the client. The desk or hall should be halted.
+    #[error("cannot write the log")]
+    Log,
+
+    /// What is due to the client could not be written to it. It is in the log.
+    #[error("cannot write to the client")]
+    Client,
+}

@@ -45,7 +45,7 @@ pub use account_book::{Book, BookStore};
 pub use book_keeper::{CodeJudged, Keeper, SaveFault};
 pub use clock::Clock;
 pub use desk::Desk;
-pub use fault::{DeskFault, ServeFault};
+pub use fault::{DeskFault, OutputFault, ServeFault};
 pub use hall::Hall;
 pub use otp_core::{Moment, Reply, SentCodes};
 pub use serving::{log_then_send, serve, serve_turn};

@@ -1,5 +1,5 @@
 //! Faults: their numbers and texts.
-use sasl_desk::{DeskFault, ServeFault};
+use sasl_desk::{DeskFault, OutputFault, ServeFault};
 use std::test::Fail;
 
 /// The number of each fault of a desk, as in docs/FAULTS.md, and its text.
@@ -53,6 +53,18 @@ fn numbers_and_texts_of_serving(rt: HostRuntime) -> Result<(), Fail> {
             text,
             "fault {number}"
         );
+    }
+    Ok(())
+}
+
+/// The text of each fault of `log_then_send`.
+#[test]
+fn texts_of_output(rt: HostRuntime) -> Result<(), Fail> {
+    for (fault, text) in [
+        (OutputFault::Log, "cannot write the log"),
+        (OutputFault::Client, "cannot write to the client"),
+    ] {
+        assert_eq!(rt; format!(in rt.alloc(); "{fault}")?.as_str(), text);
     }
     Ok(())
 }
