@@ -21,7 +21,7 @@ impl State {
     ghost use Rattle.sasl_desk.specs.Desks.{phase_of, state_after};
 
     /// The state after a turn that left its session like this. `server_nonce` is the server's part of its nonce.
-    pub(crate) fn after(after: AfterTurn, server_nonce: NoncePart) -> State
+    pub(crate) fn from_turn(after: AfterTurn, server_nonce: NoncePart) -> State
         ensures { result ≡ state_after after server_nonce }
     {
         match after {
@@ -37,7 +37,7 @@ impl State {
     {
         match self {
             State::Closed => Phase::Closed,
-            State::Open(session, _) => Phase::of(session),
+            State::Open(session, _) => Phase::from_session(session),
             State::Halted => Phase::Halted,
         }
     }

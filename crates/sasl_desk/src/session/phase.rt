@@ -28,7 +28,7 @@ impl Phase {
     ghost use Rattle.sasl_desk.specs.Desks.{session_phase};
 
     /// The phase of an open session.
-    pub(crate) fn of(session: &Session) -> Phase
+    pub(crate) fn from_session(session: &Session) -> Phase
         ensures { result ≡ session_phase session.now }
     {
         match session {
