@@ -63,27 +63,10 @@ impl ChallengedLogin {
         ensures lines { IfOk result (λ answer. CanBeWritten (lines_of_answer answer message.new.items)) }
         ensures err { IfErr result (λ back. (back ≡ self) × (message.new.items ≡ [])) }
     {
-        match client_final.bytes(alloc) {
-            Ok(text) => self.finish(text.as_slice(), message),
-            Err(_) => Err(self),
-        }
-    }
-
-    // The answer to the bytes of the client-final message.
-    fn finish<A: Allocator>(
-        self,
-        client_final: &[u8],
-        message: &mut Vec<u8, A>,
-    ) -> Result<Answer, ChallengedLogin>
-        requires { message.old.items ≡ [] }
-        ensures due { (accounts : Accounts) (server_nonce client_first server_first : List ℕ)
-            → StandsForChallenged self.server (login_of accounts self client_first server_first)
-            → IfOk result (λ answer. IsAnswer accounts server_nonce
-            (got_final (name_of self.mechanism) self.name client_first server_first client_final.now) answer message.new.items) }
-        ensures lines { IfOk result (λ answer. CanBeWritten (lines_of_answer answer message.new.items)) }
-        ensures err { IfErr result (λ back. (back ≡ self) × (message.new.items ≡ [])) }
-    {
-        match self.server.finish(client_final, message) {
+        let Ok(text) = client_final.bytes(alloc) else {
+            return Err(self);
+        };
+        match self.server.finish(text.as_slice(), message) {
             Ok(verdict) => Ok(verdict_answer(verdict, self.name)),
             Err((server, _)) => Err(ChallengedLogin {
                 server,

@@ -52,7 +52,7 @@ pub(crate) fn answer_to_auth_with_message<A: Allocator>(
     }
 }
 
-/// The answer to a client-first message by this mechanism, which is offered. As for `answer_to_auth_with_message`.
+/// The answer to a client-first message by this mechanism, which is offered, as for `answer_to_auth_with_message`.
 pub(crate) fn answer_to_client_first<A: Allocator>(
     alloc: Global,
     mechanism: Mechanism,
@@ -68,28 +68,11 @@ pub(crate) fn answer_to_client_first<A: Allocator>(
     ensures lines { IfOk result (λ answer. CanBeWritten (lines_of_answer answer message.new.items)) }
     ensures err { OnErr result (message.new.items ≡ []) }
 {
-    let text = client_first.bytes(alloc)?;
-    answer_to_text(mechanism, text.as_slice(), book, server_nonce, message)
-}
-
-// Reads the name in the message, and challenges its login; a bare `S NO` if the message is refused.
-fn answer_to_text<A: Allocator>(
-    mechanism: Mechanism,
-    client_first: &[u8],
-    book: &Book,
-    server_nonce: &NoncePart,
-    message: &mut Vec<u8, A>,
-) -> Result<Answer, NoMemory>
-    requires { message.old.items ≡ [] }
-    ensures due { (accounts : Accounts) (mechanism_name : List ℕ) → KeepsEntries accounts book.now
-        → NamesMechanism mechanism_name mechanism
-        → IfOk result (λ answer. IsAnswer accounts server_nonce.now (got_first mechanism_name client_first.now) answer message.new.items) }
-    ensures lines { IfOk result (λ answer. CanBeWritten (lines_of_answer answer message.new.items)) }
-    ensures err { OnErr result (message.new.items ≡ []) }
-{
     refused_is_not_taken_up();
-    match first_name(client_first) {
-        Ok(name) => challenge(mechanism, name, client_first, book, server_nonce, message),
+    let bytes = client_first.bytes(alloc)?;
+    let text = bytes.as_slice();
+    match first_name(text) {
+        Ok(name) => challenge(mechanism, name, text, book, server_nonce, message),
         Err(_) => Ok(bare_no()),
     }
 }
