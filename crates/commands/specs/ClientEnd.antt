@@ -1,6 +1,7 @@
 -- What the client of the command `login` says, and when it is logged in (RFC 5802, sections 3 and 5).
-use Rattle.std.specs.Prelude.{ℕ, ◌≡◌, List, [], ◌∷◌, ◌++◌}
+use Rattle.std.specs.Prelude.{ℕ, ◌≡◌, List, [], ◌∷◌, ◌++◌, IfSome}
 use Rattle.std.specs.Str.{byte}
+use Rattle.std.specs.Io.KnownBytes.{Appends}
 use Rattle.std.specs.declared.option.Option.{Option}
 use Rattle.std.specs.declared.option.Option.TheVariants.{None, Some}
 use Rattle.mac_core.specs.Mechanism.{name_of, IsOffered}
@@ -97,12 +98,17 @@ abbrev pub HasToLeave : ClientEnd → (received : List ℕ) → Type 0
 HasToLeave client received = HasItsLogin client.stage
     → ((said : List ℕ) (new : Stage) → MaySay client client.stage received said new → ⊥) × (ShowsKeys client.stage received → ⊥)
 
--- the login is one of this user, with this nonce and this password
+-- the login is one of this user, by the mechanism that the user asks for, if any, with this nonce and this password
 pub record IsOfUser (user : User) (nonce password : List ℕ) (login : Answered) : Type 0 where
+  pub is_mechanism : IfSome user.mechanism (λ asked. login.mechanism ≡ asked)
   pub is_name : login.name ≡ user.name
   pub is_authzid : login.authzid ≡ user.authzid
   pub is_nonce : login.nonce ≡ nonce
   pub is_password : login.password ≡ password
+
+-- all that a client says until it is logged in: the name of the login's mechanism with its first message, and then its last message
+abbrev pub login_said : Answered → List ℕ
+login_said login = said_line (auth_with (name_of login.mechanism) login.client_first) ++ said_line (resp login.client_final)
 
 -- the server has shown that it has the account's keys (RFC 5802, section 3)
 pub record IsLoggedIn (user : User) (nonce password : List ℕ) (old new : Talked) : Type 0 where
@@ -110,6 +116,8 @@ pub record IsLoggedIn (user : User) (nonce password : List ℕ) (old new : Talke
   pub login : Answered
   pub is_of_user : IsOfUser user nonce password login
   pub honest : IsHonest login
+  -- the client says these messages, and nothing else
+  pub said : Appends old.said new.said (login_said login)
   -- the last line that the client receives is in the log, and accepts the login
   pub before : List ℕ
   pub line : List ℕ
