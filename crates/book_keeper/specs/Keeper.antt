@@ -34,14 +34,14 @@ IsChangeUnsaved Changes old_book old_store why new_store =
     (next : BookFields) × Changes old_book next × IsUnsaved old_store next why new_store
 
 -- a book that has changed is saved; if nothing has, nothing is asked of the store
-abbrev pub IsKept : (IsStored : List ℕ → Type 0) → (has_changed : Bool) → (old_book : BookFields) → (old_store : StoreFacts)
+abbrev pub IsSavedIfChanged : (IsStored : List ℕ → Type 0) → (has_changed : Bool) → (old_book : BookFields) → (old_store : StoreFacts)
     → (new_book : BookFields) → (new_store : StoreFacts) → Type 0
-IsKept IsStored true old_book old_store new_book new_store = SavesBook IsStored old_store new_book new_store
-IsKept IsStored false old_book old_store new_book new_store = (new_book ≡ old_book) × (new_store ≡ old_store)
+IsSavedIfChanged IsStored true old_book old_store new_book new_store = SavesBook IsStored old_store new_book new_store
+IsSavedIfChanged IsStored false old_book old_store new_book new_store = (new_book ≡ old_book) × (new_store ≡ old_store)
 
 -- a code, or two in a row, was judged: the reply is the one that is due, and the book is the old one in which the attempt has changed
 -- the account's token, and nothing else
-pub record IsCodeJudged (old : BookFields) (name : List ℕ) (moment : ℕ) (sent : CodeTexts) (reply : Option Reply) (new : BookFields)
+pub record IsAttemptAtMoment (old : BookFields) (name : List ℕ) (moment : ℕ) (sent : CodeTexts) (reply : Option Reply) (new : BookFields)
     : Type 0 where
   pub is_moment : IsMoment moment
   pub answered : IsBookAttempt old name moment sent reply new
@@ -49,18 +49,18 @@ pub record IsCodeJudged (old : BookFields) (name : List ℕ) (moment : ℕ) (sen
 -- some reply that is due to this attempt needs a save
 abbrev pub IsToBeSaved : BookFields → (name : List ℕ) → (moment : ℕ) → CodeTexts → Type 0
 IsToBeSaved old name moment sent =
-    (reply : Option Reply) × (next : BookFields) × (needs_save reply ≡ true) × IsCodeJudged old name moment sent reply next
+    (reply : Option Reply) × (next : BookFields) × (needs_save reply ≡ true) × IsAttemptAtMoment old name moment sent reply next
 
 -- the outcome of a code: a reply that is due and kept; or the store failed to save the book with the reply that was due
-abbrev pub IsJudged : (IsStored : List ℕ → Type 0) → (old_book : BookFields) → (old_store : StoreFacts) → (name : List ℕ)
+abbrev pub IsCodeOutcome : (IsStored : List ℕ → Type 0) → (old_book : BookFields) → (old_store : StoreFacts) → (name : List ℕ)
     → (moment : ℕ) → CodeTexts → CodeJudged → (new_book : BookFields) → (new_store : StoreFacts) → Type 0
-IsJudged IsStored old_book old_store name moment sent (Replied reply) new_book new_store =
-    IsCodeJudged old_book name moment sent reply new_book
-    × IsKept IsStored (needs_save reply) old_book old_store new_book new_store
-IsJudged IsStored old_book old_store name moment sent NotSaved new_book new_store =
+IsCodeOutcome IsStored old_book old_store name moment sent (Replied reply) new_book new_store =
+    IsAttemptAtMoment old_book name moment sent reply new_book
+    × IsSavedIfChanged IsStored (needs_save reply) old_book old_store new_book new_store
+IsCodeOutcome IsStored old_book old_store name moment sent NotSaved new_book new_store =
     (new_book ≡ old_book)
     × ((reply : Option Reply) × (next : BookFields) × (needs_save reply ≡ true)
-    × IsCodeJudged old_book name moment sent reply next
+    × IsAttemptAtMoment old_book name moment sent reply next
     × FailsToSave old_store next new_store)
 
 -- if the outcome of a code is a pass, its counter is in its range

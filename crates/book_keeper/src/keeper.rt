@@ -6,7 +6,7 @@ ghost use Rattle.account_book.specs.SavedBooks.{SavesBook};
 ghost use Rattle.account_book.specs.Tokens.{token_at, with_token, IsUnlocked};
 ghost use Rattle.otp_core.specs.Ranges.{IsMoment};
 ghost use Rattle.otp_core.specs.SentCodes.{texts_of};
-ghost use Rattle.book_keeper.specs.Keeper.{IsChangeUnsaved, IsJudged, IsKept, IsPassInRange, IsToBeSaved, IsUnsaved};
+ghost use Rattle.book_keeper.specs.Keeper.{IsChangeUnsaved, IsCodeOutcome, IsSavedIfChanged, IsPassInRange, IsToBeSaved, IsUnsaved};
 
 use account_book::{Book, BookStore, EnrolFault};
 use otp_core::{Moment, Reply, SentCodes, Token};
@@ -113,7 +113,7 @@ impl<S: BookStore> Keeper<S> {
         ensures found { IfOk result (λ free. free ≡ not (is_some (account_at self.old.book name.now))) }
         ensures added { IfOk result (λ free. free ≡ true
             → IsAdded self.old.book name.now (enrolled password.now sha1_salt.now sha256_salt.now count) self.new.book) }
-        ensures ok { IfOk result (λ free. IsKept S.IsStored free self.old.book (S.facts self.old.store) self.new.book
+        ensures ok { IfOk result (λ free. IsSavedIfChanged S.IsStored free self.old.book (S.facts self.old.store) self.new.book
             (S.facts self.new.store)) }
         ensures undone { OnErr result (self.new.book ≡ self.old.book) }
         ensures err { IfErr result (λ fault. IsChangeUnsaved
@@ -145,7 +145,7 @@ impl<S: BookStore> Keeper<S> {
     pub fn unlock(&mut self, alloc: Global, name: &PlainName) -> Result<bool, SaveFault>
         ensures found { IfOk result (λ found. found ≡ is_some (token_at self.old.book name.now)) }
         ensures unlocked { OnOk result (IsUnlocked self.old.book name.now self.new.book) }
-        ensures ok { IfOk result (λ found. IsKept S.IsStored found self.old.book (S.facts self.old.store) self.new.book
+        ensures ok { IfOk result (λ found. IsSavedIfChanged S.IsStored found self.old.book (S.facts self.old.store) self.new.book
             (S.facts self.new.store)) }
         ensures undone { OnErr result (self.new.book ≡ self.old.book) }
         ensures err { IfErr result (λ fault. IsChangeUnsaved (λ old. IsUnlocked old name.now) self.old.book (S.facts self.old.store) fault
@@ -173,8 +173,8 @@ impl<S: BookStore> Keeper<S> {
         moment: Moment,
         sent: SentCodes<'_>,
     ) -> Result<CodeJudged, AllocError>
-        ensures ok { IfOk result (λ judged. IsJudged S.IsStored self.old.book (S.facts self.old.store) name.now moment (texts_of sent.entry)
-            judged self.new.book (S.facts self.new.store)) }
+        ensures ok { IfOk result (λ judged. IsCodeOutcome S.IsStored self.old.book (S.facts self.old.store) name.now moment
+            (texts_of sent.entry) judged self.new.book (S.facts self.new.store)) }
         ensures counter { IfOk result IsPassInRange }
         ensures err { OnErr result ((self.new.book ≡ self.old.book) × (self.new.store ≡ self.old.store)) }
         // If nothing is to be saved, memory does not run out.

@@ -13,7 +13,7 @@ use Rattle.account_book.specs.SavedBooks.{needs_save, SavesBook}
 use Rattle.account_book.specs.Store.{StoreFacts}
 use Rattle.account_book.specs.Tokens.{IsUnlocked, token_at}
 use Rattle.book_file.specs.Text.{IsRead}
-use Rattle.book_keeper.specs.Keeper.{FailsToSave, IsCodeJudged, IsKept}
+use Rattle.book_keeper.specs.Keeper.{FailsToSave, IsAttemptAtMoment, IsSavedIfChanged}
 use Rattle.command_line.specs.Fault.{fault_of_book}
 use Rattle.command_line.specs.declared.fault.Fault.{Fault}
 use Rattle.command_line.specs.declared.fault.Fault.TheVariants.{NoSuchAccount, NoToken, CannotRead, CannotWrite, NoMemory}
@@ -68,13 +68,13 @@ IsEnrolled account salts old new =
 -- the reply is due, and the book after it is saved if the reply needs that; else the book and the store are as they were
 pub record IsReplySaved (IsStored : List ℕ → Type 0) (old : HeldFacts) (name : List ℕ) (moment : ℕ) (sent : CodeTexts) (reply : Reply)
     (new : HeldFacts) : Type 0 where
-  pub due : IsCodeJudged old.book name moment sent (Some reply) new.book
-  pub kept : IsKept IsStored (needs_save (Some reply)) old.book old.store new.book new.store
+  pub due : IsAttemptAtMoment old.book name moment sent (Some reply) new.book
+  pub kept : IsSavedIfChanged IsStored (needs_save (Some reply)) old.book old.store new.book new.store
 
 -- a reply that needs a save is due to an attempt, which makes the old book the new one
 abbrev pub IsSavingReplyDue : (name : List ℕ) → (moment : ℕ) → CodeTexts → (old new : BookFields) → Type 0
 IsSavingReplyDue name moment sent old new =
-    (reply : Option Reply) × (needs_save reply ≡ true) × IsCodeJudged old name moment sent reply new
+    (reply : Option Reply) × (needs_save reply ≡ true) × IsAttemptAtMoment old name moment sent reply new
 
 -- a reply is not saved: the book is as it was, and the store is too, or it fails to save the book with a reply that was due
 abbrev pub IsReplyUnsaved : (old : HeldFacts) → (name : List ℕ) → (moment : ℕ) → CodeTexts → (new : HeldFacts) → Type 0

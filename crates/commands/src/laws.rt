@@ -116,5 +116,6 @@ pub fn other_commands_make_changes<R: Files, S: BookStore>()
         → AreChanges S.facts S.IsStored run.is_added.first (added run.account.name (enrolled run.account.password
         run.is_added.salts.sha1 run.is_added.salts.sha256 run.account.count) ∷ []) run.is_added.last }
     ensures told { (start : BookFields) (told : List LoggedAttempt)
-        (saved : IsToldSaved (IsSavedText R.File.contents) start told) → AreChanges S.facts S.IsStored start (judged_changes told) saved.last }
+        (saved : IsToldSaved (IsSavedText R.File.contents) start told)
+        → AreChanges S.facts S.IsStored start (judged_changes told) saved.last }
 {}

@@ -14,8 +14,8 @@ pub record ChallengedLoginFields : Type 0 where
   pub name : List ℕ
 
 -- a login of these parts
-abbrev pub waiting_login_of : ServerWait → Mechanism → List ℕ → ChallengedLoginFields
-waiting_login_of server mechanism name = record { server = server; mechanism = mechanism; name = name }
+abbrev pub challenged_login_of : ServerWait → Mechanism → List ℕ → ChallengedLoginFields
+challenged_login_of server mechanism name = record { server = server; mechanism = mechanism; name = name }
 
 -- the login to the account, with these two messages
 abbrev pub login_of : Accounts → ChallengedLoginFields → (client_first server_first : List ℕ) → Challenged

@@ -12,7 +12,7 @@ use Rattle.log_grammar.specs.Demands.{Accounts, demands}
 use Rattle.log_grammar.specs.Begins.{Begins}
 use Rattle.sasl_desk.specs.Keeper.{IsAttemptJudged}
 use Rattle.sasl_desk.specs.Runs.{Request, Call, call_of, run_lines, server_nonce_of, wire_bytes, IsRun}
-use Rattle.sasl_desk.specs.SavedCalls.{IsAttemptOf, CountsSaves, AsksToSaveAttempt, IsQuiet, FailsInSave}
+use Rattle.sasl_desk.specs.SavedCalls.{IsAttemptOf, CountsSaves, AsksToSaveAttempt, IsQuiet, LeavesFailedStore}
 use Rattle.sasl_desk.specs.Sessions.{IsSessionAt, CanBeWritten}
 use Rattle.sasl_desk.specs.Spent.{AreSpent, spent_by}
 use Rattle.sasl_desk.specs.declared.session.Session.{Session}
@@ -153,4 +153,4 @@ module _ {S : Type 0} (facts : S → StoreFacts) (IsStored : List ℕ → Type 0
         → AsksToSaveAttempt facts request standing.place lines old.keeper new.keeper
     pub quiet : IsQuiet facts lines old.keeper new.keeper
     -- a call halts the desk only by a save in which the store failed
-    pub halts : desk_phase new ≡ phase.Halted → FailsInSave facts old.keeper new.keeper
+    pub halts : desk_phase new ≡ phase.Halted → LeavesFailedStore facts old.keeper new.keeper

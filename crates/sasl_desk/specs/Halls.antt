@@ -18,7 +18,7 @@ use Rattle.log_grammar.specs.NumberedLines.{numbered_text, IsNumberedWritable, m
 use Rattle.sasl_desk.specs.Desks.{session_phase, IsStoredAt, HoldsBook, IsBookAfterReplies, spent_by_all}
 use Rattle.sasl_desk.specs.OpenSessions.{is_of}
 use Rattle.sasl_desk.specs.Runs.{Request, greets, Call, call_of, server_nonce_of, wire_bytes, IsRun}
-use Rattle.sasl_desk.specs.SavedCalls.{CountsSaves, AsksToSaveAttempt, IsQuiet, FailsInSave}
+use Rattle.sasl_desk.specs.SavedCalls.{CountsSaves, AsksToSaveAttempt, IsQuiet, LeavesFailedStore}
 use Rattle.sasl_desk.specs.Sessions.{IsSessionAt}
 use Rattle.sasl_desk.specs.Spent.{AreSpent}
 use Rattle.book_keeper.specs.declared.keeper.Keeper.{Keeper}
@@ -137,7 +137,7 @@ module _ {S : Type 0} (facts : S → StoreFacts) (IsStored : List ℕ → Type 0
     pub last_number : hall.given ≤ max_session_number
     -- a session that is open is kept once, and no other number is kept
     pub open_sessions : (number : ℕ) → count_by (is_of number) hall.open_sessions ≡ open_at (places number)
-    pub open_are : length hall.open_sessions + closed_in (hall_lines calls) ≡ given_in (hall_lines calls)
+    pub counted : length hall.open_sessions + closed_in (hall_lines calls) ≡ given_in (hall_lines calls)
     -- each open session waits for what is due at its place, or the hall has halted
     pub standing : hall.is_halted ≡ false → AllByRecursion (IsOpenSessionAt (accounts_in start) calls places) hall.open_sessions
     -- the book has each attempt in it, and the store holds its text, except after a save in which the store failed
@@ -164,4 +164,4 @@ module _ {S : Type 0} (facts : S → StoreFacts) (IsStored : List ℕ → Type 0
         → AsksToSaveAttempt facts request (standing.places number) lines old.keeper new.keeper
     pub quiet : IsQuiet facts lines old.keeper new.keeper
     -- a call halts the hall only by a save in which the store failed
-    pub halts : new.is_halted ≡ true → FailsInSave facts old.keeper new.keeper
+    pub halts : new.is_halted ≡ true → LeavesFailedStore facts old.keeper new.keeper

@@ -2,7 +2,7 @@
 use Rattle.std.specs.Prelude.{◌≡◌}
 use Rattle.book_format.specs.Book.{BookFields}
 use Rattle.account_book.specs.Store.{StoreFacts}
-use Rattle.book_keeper.specs.Keeper.{FailsToSave, IsCodeJudged}
+use Rattle.book_keeper.specs.Keeper.{FailsToSave, IsAttemptAtMoment}
 use Rattle.book_keeper.specs.declared.keeper.CodeJudged.{CodeJudged}
 use Rattle.book_keeper.specs.declared.keeper.CodeJudged.TheVariants.{Replied, NotSaved}
 use Rattle.log_grammar.specs.Lines.{IsReplyInRange}
@@ -13,7 +13,7 @@ use Rattle.sasl_desk.specs.declared.fault.DeskFault.TheVariants.{Halted, Unwrita
 -- an attempt was judged: the reply is the one that is due, and the book is the old one in which the attempt has changed the
 -- account's token, and nothing else
 abbrev pub IsAttemptJudged : (old : BookFields) → LoggedAttempt → (new : BookFields) → Type 0
-IsAttemptJudged old attempt new = IsCodeJudged old attempt.account attempt.moment attempt.sent attempt.reply new
+IsAttemptJudged old attempt new = IsAttemptAtMoment old attempt.account attempt.moment attempt.sent attempt.reply new
 
 -- why a desk or a hall has not begun: memory ran out, and the store was not asked; or its first save failed
 abbrev pub IsNotBegun : (old_store : StoreFacts) → BookFields → DeskFault → (new_store : StoreFacts) → Type 0

@@ -44,5 +44,5 @@ module _ {S : Type 0} (facts : S → StoreFacts) where
   IsQuiet lines old new = filter is_saving lines ≡ [] → (new.book ≡ old.book) × (facts new.store ≡ facts old.store)
 
   -- the store has failed, and the book is as before
-  abbrev pub FailsInSave : (old new : Keeper S) → Type 0
-  FailsInSave old new = ((facts new.store).failed ≡ true) × (new.book ≡ old.book)
+  abbrev pub LeavesFailedStore : (old new : Keeper S) → Type 0
+  LeavesFailedStore old new = ((facts new.store).failed ≡ true) × (new.book ≡ old.book)

@@ -14,21 +14,21 @@ use Rattle.account_book.specs.SavedBooks.{needs_save, SavesBook}
 use Rattle.account_book.specs.Store.{StoreFacts}
 use Rattle.account_book.specs.Tokens.{token_at, with_token}
 use Rattle.account_book.proofs.lemmas.Tokens.{tokens_stay}
-use Rattle.book_keeper.specs.Keeper.{IsCodeJudged, IsKept}
+use Rattle.book_keeper.specs.Keeper.{IsAttemptAtMoment, IsSavedIfChanged}
 
 -- an attempt that an account's token judged is judged in the book: the reply is the token's, and the new book has the token after it
 pub token_attempt_is_judged : (old new : BookFields) (name : List ℕ) (token now : TokenFields) (moment : ℕ) (sent : CodeTexts)
     (reply : Reply)
     → IsMoment moment
     → token_at old name ≡ Some token → IsTokenAttempt token moment sent reply now → IsChanged old name (with_token now) new
-    → IsCodeJudged old name moment sent (Some reply) new
+    → IsAttemptAtMoment old name moment sent (Some reply) new
 token_attempt_is_judged old new name token now moment sent reply is has attempt put =
     record { is_moment = is; answered = rw has (reply, refl, record { next = now; judged = attempt; kept = put }) }
 
 -- an attempt of an account without a token is judged: there is no reply, and the book stays as it was
 pub tokenless_attempt_is_judged : (old : BookFields) (name : List ℕ) (moment : ℕ) (sent : CodeTexts) → IsMoment moment
     → token_at old name ≡ None
-    → IsCodeJudged old name moment sent None old
+    → IsAttemptAtMoment old name moment sent None old
 tokenless_attempt_is_judged old name moment sent is has = record { is_moment = is; answered = rw has (refl, refl) }
 
 -- a reply other than LOCKED needs a save
@@ -42,7 +42,7 @@ pub locked_attempt_is_judged : (IsStored : List ℕ → Type 0) (old : BookField
     (sent : CodeTexts)
     (reply : Reply) → IsMoment moment
     → token_at old name ≡ Some token → IsTokenAttempt token moment sent reply now → reply ≡ Locked → (was : StoreFacts)
-    → IsCodeJudged old name moment sent (Some reply) old × IsKept IsStored (needs_save (Some reply)) old was old was
+    → IsAttemptAtMoment old name moment sent (Some reply) old × IsSavedIfChanged IsStored (needs_save (Some reply)) old was old was
 locked_attempt_is_judged IsStored old name token now moment sent reply is has attempt locked was =
     let same : now ≡ token = attempt.state ∙ ap (after_reply token moment) locked in
     let stays : old ≡ with_changed old name (with_token now) =
@@ -51,5 +51,5 @@ locked_attempt_is_judged IsStored old name token now moment sent reply is has at
 
 -- a reply that is not LOCKED is kept by a store that holds the book's text
 pub reply_but_locked_is_kept : (IsStored : List ℕ → Type 0) (old new : BookFields) (was now : StoreFacts) (reply : Reply) → reply ≢ Locked
-    → SavesBook IsStored was new now → IsKept IsStored (needs_save (Some reply)) old was new now
+    → SavesBook IsStored was new now → IsSavedIfChanged IsStored (needs_save (Some reply)) old was new now
 reply_but_locked_is_kept IsStored old new was now reply apart holds = rw (reply_but_locked_needs_save reply apart) holds

@@ -14,7 +14,7 @@ use Rattle.book_format.specs.Book.{BookFields}
 use Rattle.book_format.specs.Trees.{IsBookText}
 use Rattle.account_book.specs.SavedBooks.{SavesBook}
 use Rattle.account_book.specs.Store.{StoreFacts, IsFailedSave}
-use Rattle.book_keeper.specs.Keeper.{IsCodeJudged}
+use Rattle.book_keeper.specs.Keeper.{IsAttemptAtMoment}
 use Rattle.log_grammar.specs.LoggedAttempt.{LoggedAttempt, logged_attempt_of}
 use Rattle.sasl_desk.specs.Desks.{spent_by_all, IsBookAfterReplies, MayHold, MayHoldWithinSave}
 use Rattle.sasl_desk.specs.Keeper.{IsAttemptJudged}
@@ -256,7 +256,7 @@ module _ {S : Type 0} (facts : S → StoreFacts) (IsStored : List ℕ → Type 0
           (walk : LinesInTurn (AnswersLine IsKept name moment) input (line ∷ last) old all_passed middle) where
         -- the run left the book with the attempt of this line
         leaves_book_after : (sent : CodeTexts) (reply : Reply) (next : BookFields) → SaysCodes line sent
-            → IsCodeJudged middle.held.book name moment sent (Some reply) next
+            → IsAttemptAtMoment middle.held.book name moment sent (Some reply) next
             → (fault ≡ CannotWriteOutput) ⊎ (new.printed ≡ middle.printed) → IsBookText text next → LeavesText
         leaves_book_after sent reply next says due output is_text =
             let (attempts, changes, printed) = answered_lines_are_changes_all input (line ∷ last) old all_passed middle walk in
@@ -293,7 +293,7 @@ module _ {S : Type 0} (facts : S → StoreFacts) (IsStored : List ℕ → Type 0
 
           -- if the save of this line's attempt failed, the run left the book before or after the attempt
           failed_save_leaves_either : (sent : CodeTexts) (reply : Reply) (next : BookFields) (given : List ℕ) → SaysCodes line sent
-              → IsCodeJudged middle.held.book name moment sent (Some reply) next → IsBookText given next
+              → IsAttemptAtMoment middle.held.book name moment sent (Some reply) next → IsBookText given next
               → IsFailedSave middle.held.store given new.held.store → new.printed ≡ middle.printed → MayHold new.held.store text
               → LeavesText
           failed_save_leaves_either sent reply next given says due is_text fails silent (inl same) = elim fails.saved [

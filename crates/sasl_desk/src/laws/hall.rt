@@ -123,7 +123,7 @@ pub fn told_counters_are_saved<S: BookStore>()
 /// Up to its outcome, what a session sends its client follows from what it was asked, the server's part of its nonce and the
 /// entries of the book's accounts. Two sessions, of one hall or of two, that agree in these and were not turned away have the same
 /// lines up to there. So these do not depend on the lines of other sessions, their order, the moments or a token.
-pub fn sessions_are_told_alone<S: BookStore>()
+pub fn logins_depend_on_no_other_session<S: BookStore>()
     ensures { (start other_start : BookFields) (calls others : List (Numbered Call)) (hall other : HallFields S)
         (number other_number : ℕ)
         → IsHallAfter S.facts S.IsStored start calls hall → IsHallAfter S.facts S.IsStored other_start others other

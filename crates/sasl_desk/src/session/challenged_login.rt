@@ -4,7 +4,7 @@ ghost use Rattle.mac_core.specs.Mechanism.{name_of};
 ghost use Rattle.scram_ends.specs.Standing.{StandsForChallenged};
 ghost use Rattle.log_grammar.specs.Places.{got_final};
 ghost use Rattle.log_grammar.specs.Demands.{Accounts};
-ghost use Rattle.sasl_desk.specs.ChallengedLogin.{ChallengedLoginFields, waiting_login_of, login_of, IsChallenging};
+ghost use Rattle.sasl_desk.specs.ChallengedLogin.{ChallengedLoginFields, challenged_login_of, login_of, IsChallenging};
 
 use crate::session::answer::verdict_answer;
 use crate::session::event::Answer;
@@ -27,7 +27,7 @@ pub(crate) struct ChallengedLogin {
 impl Model for ChallengedLogin {
     ghost Value = { ChallengedLoginFields };
 
-    ghost view = { λ login. waiting_login_of login.server login.mechanism login.name };
+    ghost view = { λ login. challenged_login_of login.server login.mechanism login.name };
 
     ghost invariant = { λ login. IsChallenging login.server login.mechanism };
 }
@@ -38,7 +38,7 @@ impl ChallengedLogin {
     /// The login of this account, for which the server waits.
     pub(crate) fn new(server: ServerWait, mechanism: Mechanism, name: PlainName) -> ChallengedLogin
         requires { IsChallenging server mechanism }
-        ensures { result ≡ waiting_login_of server mechanism name }
+        ensures { result ≡ challenged_login_of server mechanism name }
     {
         ChallengedLogin {
             server,

@@ -26,11 +26,11 @@ module _ (t : AnswerUniquenessLaws) {S : Type 0} {facts : S → StoreFacts} {IsS
     {calls others : List (Numbered Call)} {hall other : HallFields S} (n m : ℕ) (s : IsHallAfter facts IsStored start calls hall)
     (r : IsHallAfter facts IsStored begun others other) where
   -- the law: if their entries and their requests are equal, so are their lines up to an acceptance
-  pub sessions_are_told_alone : HaveSameEntries (accounts_in start) (accounts_in begun)
+  pub logins_depend_on_no_other_session : HaveSameEntries (accounts_in start) (accounts_in begun)
       → of_number n (hall_lines calls) ≢ busy_lines → of_number m (hall_lines others) ≢ busy_lines
       → HaveSameRequests (of_number n calls) (of_number m others)
       → up_to_acceptance (of_number n (hall_lines calls)) ≡ up_to_acceptance (of_number m (hall_lines others))
-  sessions_are_told_alone entries let_in let_in_too same =
+  logins_depend_on_no_other_session entries let_in let_in_too same =
       let one = admitted_session_has_run (accounts_in start) (of_number n calls) (s.places n)
       (λ is. let_in (of_number-hall_lines n calls ∙ is))
       (s.session_runs n) in

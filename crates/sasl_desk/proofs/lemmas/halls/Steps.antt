@@ -20,7 +20,7 @@ use Rattle.sasl_desk.specs.Desks.{IsBookAfterReplies, spent_by_all}
 use Rattle.sasl_desk.specs.Events.{ClientEvent}
 use Rattle.sasl_desk.specs.OpenSessions.{open_session_of}
 use Rattle.sasl_desk.specs.Halls.{hall_of, hall_lines, IsHallAfter}
-use Rattle.book_keeper.specs.Keeper.{IsJudged}
+use Rattle.book_keeper.specs.Keeper.{IsCodeOutcome}
 use Rattle.sasl_desk.specs.Keeper.{IsJudgedInRange}
 use Rattle.sasl_desk.specs.Runs.{hears, Call, call_of, server_nonce_of}
 use Rattle.sasl_desk.specs.Sessions.{IsLeftAt, IsCodeDue, turn_lines}
@@ -90,7 +90,7 @@ module _ (itself : BeginsWithItself) {S : Type 0} {facts : S → StoreFacts} {Is
   -- a turn in which the keeper judged a code, or two in a row, or lost the save for it, is a step of the hall
   code_is_hall_step : SpentStaysSpent → (name : List ℕ) (sent : CodeTexts) (new : Keeper S) → IsCodeDue event (s.places n) name sent
       → IsWritable (heard (code_line sent)) → (judged : CodeJudged)
-      → IsJudged IsStored old.book (facts old.store) name moment sent judged new.book (facts new.store) → IsJudgedInRange judged
+      → IsCodeOutcome IsStored old.book (facts old.store) name moment sent judged new.book (facts new.store) → IsJudgedInRange judged
       → IsHallStep s event moment (judged_lines moment sent judged) (after_judged name judged) new
   code_is_hall_step stays name sent new due written (Replied reply) (one, kept) range =
       let accounts = accounts_in start in

@@ -123,11 +123,11 @@ module _ {S : Type 0} {facts : S → StoreFacts} {IsStored : List ℕ → Type 0
               (λ m other. other_counts_stay n server_nonce others m left other ∙ sym
               (other_open_session_is_not_counted m open_session others other)
               ∙ s.open_sessions m ∙ ap open_at (sym (put_keeps_others n step.next s.places m other)));
-          open_are = omega (
+          counted = omega (
             arith,
             turn_adds_what_is_still_open n server_nonce others left,
             is_open_or_ended accounts step.next _ left step.leaves,
-            s.open_are,
+            s.counted,
             none,
             all_begun,
             all_closed,

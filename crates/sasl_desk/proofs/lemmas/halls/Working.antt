@@ -131,7 +131,7 @@ module _ {S : Type 0} {facts : S → StoreFacts} {IsStored : List ℕ → Type 0
     given = s.given;
     last_number = s.last_number;
     open_sessions = λ n. permutation_keeps_count (is_of n) open_sessions others same ∙ s.open_sessions n;
-    open_are = omega (arith, length_permutation open_sessions others same, s.open_are);
+    counted = omega (arith, length_permutation open_sessions others same, s.counted);
     standing = λ working. permutation_keeps_all (IsOpenSessionAt (accounts_in start) calls s.places) open_sessions others same
         (s.standing working);
     is_book = s.is_book;

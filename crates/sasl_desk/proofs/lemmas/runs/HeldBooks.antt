@@ -13,7 +13,7 @@ use Rattle.log_grammar.specs.Demands.{Accounts}
 use Rattle.sasl_desk.specs.Desks.{HoldsBook, IsLostAfter, IsStoredAt}
 use Rattle.sasl_desk.specs.DueLines.{is_client_turn}
 use Rattle.sasl_desk.specs.Events.{ClientEvent}
-use Rattle.book_keeper.specs.Keeper.{IsKept, IsJudged}
+use Rattle.book_keeper.specs.Keeper.{IsSavedIfChanged, IsCodeOutcome}
 use Rattle.sasl_desk.specs.Runs.{hears, Call, call_of, IsRun}
 use Rattle.sasl_desk.specs.TurnResults.{judged_lines}
 use Rattle.book_keeper.specs.declared.keeper.CodeJudged.TheVariants.{NotSaved}
@@ -30,7 +30,7 @@ module _ (IsStored : List ℕ → Type 0) where
 
   -- after a reply the store holds the text of the book, if it held that of the book before it
   pub kept_store_holds_book : (has_changed : Bool) (old new : BookFields) (was now : StoreFacts)
-      → IsKept IsStored has_changed old was new now → HoldsBook IsStored old was → HoldsBook IsStored new now
+      → IsSavedIfChanged IsStored has_changed old was new now → HoldsBook IsStored old was → HoldsBook IsStored new now
   kept_store_holds_book true old new was now kept held = saved_store_holds_book new was now kept
   kept_store_holds_book false old new was now (same, unasked) held =
       subst (λ (b : BookFields). HoldsBook IsStored b now) (sym same)
@@ -65,7 +65,7 @@ module _ (IsStored : List ℕ → Type 0) where
   pub lost_save_fits_halt : (accounts : Accounts) (calls : List Call) (at : Place) (old new : BookFields) (was now : StoreFacts)
       (name : List ℕ) (event : ClientEvent) (moment : ℕ) (sent : CodeTexts)
       → IsRun accounts calls at → at ≡ waits_code name → HoldsBook IsStored old was
-      → IsJudged IsStored old was name moment sent NotSaved new now
+      → IsCodeOutcome IsStored old was name moment sent NotSaved new now
       → IsStoredAt IsStored accounts (call_of (hears event moment) (judged_lines moment sent NotSaved) ∷ calls) halted new now
   lost_save_fits_halt accounts calls at old new was now name event moment sent run here held (same, (reply, next, needs, one, loses)) =
       let lost = store_failed_in_this_save was now loses.text held.working loses.lost in

@@ -19,7 +19,7 @@ use Rattle.log_grammar.proofs.lemmas.lines.LackLf.{reply_is_writable}
 use Rattle.log_grammar.proofs.lemmas.ListEnds.{appended_lists_keep_all}
 use Rattle.log_grammar.proofs.lemmas.lines.Written.{offer_is_writable, header_is_writable, halt_is_writable}
 use Rattle.sasl_desk.specs.Events.{ClientEvent}
-use Rattle.book_keeper.specs.Keeper.{IsJudged}
+use Rattle.book_keeper.specs.Keeper.{IsCodeOutcome}
 use Rattle.sasl_desk.specs.Keeper.{IsJudgedInRange}
 use Rattle.sasl_desk.specs.Sessions.{IsLeftAt, IsCodeDue, turn_lines}
 use Rattle.sasl_desk.specs.Runs.{greets, hears, Call, call_of, run_lines, server_nonce_of}
@@ -131,7 +131,7 @@ module _ {S : Type 0} {facts : S → StoreFacts} {IsStored : List ℕ → Type 0
     -- when the keeper has judged a code, or two in a row, or has lost the save for it, the desk stands for one call more
     code_adds_desk_call : SpentStaysSpent → (name : List ℕ) (sent : CodeTexts) (new : Keeper S) → IsCodeDue event s.place name sent
         → IsWritable (heard (code_line sent)) → (judged : CodeJudged)
-        → IsJudged IsStored old.book (facts old.store) name moment sent judged new.book (facts new.store) → IsJudgedInRange judged
+        → IsCodeOutcome IsStored old.book (facts old.store) name moment sent judged new.book (facts new.store) → IsJudgedInRange judged
         → IsDeskAfter facts IsStored start (call_of (hears event moment) (judged_lines moment sent judged) ∷ calls)
         (desk_of new (state_after (after_judged name judged) server_nonce))
     code_adds_desk_call stays name sent new due written (Replied reply) (one, kept) range =

@@ -19,7 +19,7 @@ use Rattle.scram_ends.specs.declared.verdict.Verdict.{Verdict}
 use Rattle.log_grammar.specs.Places.{Place, between, asks_bare, waits_first, got_first, waits_final, got_final, waits_code, leaving, over}
 use Rattle.log_grammar.specs.Demands.{Accounts, NamesMechanism, IsTakenUpFor}
 use Rattle.sasl_log.proofs.lemmas.steps.Logins.{stands_for_equal_login, login_is_challenged}
-use Rattle.sasl_desk.specs.ChallengedLogin.{waiting_login_of}
+use Rattle.sasl_desk.specs.ChallengedLogin.{challenged_login_of}
 use Rattle.sasl_desk.specs.Sessions.{answer_of, verdict_answer, IsBareNoDue, IsAnswer}
 use Rattle.sasl_desk.specs.declared.session.Session.TheVariants.{WaitFirst, WaitFinal}
 use Rattle.sasl_desk.specs.declared.session.event.Saying.TheVariants.{Nothing, Continues, Refuses}
@@ -97,7 +97,7 @@ module _ (once : HasOneClientFirst) (names : SpellsOneName) (accounts : Accounts
       → IsChallengeTo (accounts.entry m name) client_first server_nonce server_first
       → StandsForChallenged wait (challenged_login (accounts.entry m name) m client_first server_first)
       → IsAnswer accounts server_nonce (got_first mechanism client_first)
-      (answer_of Continues (Some (WaitFinal (waiting_login_of wait m name)))) server_first
+      (answer_of Continues (Some (WaitFinal (challenged_login_of wait m name)))) server_first
   account_challenge_is_due named first shows stands = record {
     next = waits_final mechanism name client_first server_first;
     path = (
@@ -115,12 +115,12 @@ module _ (once : HasOneClientFirst) (names : SpellsOneName) (accounts : Accounts
       → NamesMechanism mechanism m → IsTakenUpFor mechanism client_first name → IsChallengeTo entry client_first server_nonce server_first
       → StandsForChallenged wait (challenged_login entry m client_first server_first)
       → IsAnswer accounts server_nonce (got_first mechanism client_first)
-      (answer_of Continues (Some (WaitFinal (waiting_login_of wait m name)))) message
+      (answer_of Continues (Some (WaitFinal (challenged_login_of wait m name)))) message
   challenge_is_due message entry same written named first shows stands =
       let here = subst (λ (e : Entry). IsChallengeTo e client_first server_nonce server_first) same shows in
       let stood = stands_for_equal_login wait entry (accounts.entry m name) m client_first client_first server_first same refl stands in
       subst (λ (t : List ℕ). IsAnswer accounts server_nonce (got_first mechanism client_first)
-      (answer_of Continues (Some (WaitFinal (waiting_login_of wait m name)))) t)
+      (answer_of Continues (Some (WaitFinal (challenged_login_of wait m name)))) t)
       (sym written) (account_challenge_is_due named first here stood)
 
 -- the verdict on a client-final message

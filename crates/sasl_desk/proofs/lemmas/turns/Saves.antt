@@ -13,10 +13,10 @@ use Rattle.log_grammar.specs.Places.{Place, waits_code}
 use Rattle.log_grammar.specs.Demands.{Accounts}
 use Rattle.sasl_desk.specs.Desks.{HoldsBook}
 use Rattle.sasl_desk.specs.Events.{ClientEvent}
-use Rattle.book_keeper.specs.Keeper.{IsJudged}
+use Rattle.book_keeper.specs.Keeper.{IsCodeOutcome}
 use Rattle.sasl_desk.specs.Keeper.{IsAttemptJudged}
 use Rattle.sasl_desk.specs.Runs.{hears}
-use Rattle.sasl_desk.specs.SavedCalls.{is_saving, IsAttemptOf, CountsSaves, AsksToSaveAttempt, IsQuiet, FailsInSave}
+use Rattle.sasl_desk.specs.SavedCalls.{is_saving, IsAttemptOf, CountsSaves, AsksToSaveAttempt, IsQuiet, LeavesFailedStore}
 use Rattle.sasl_desk.specs.Sessions.{IsSessionAt, recorded_shown, turn_lines}
 use Rattle.sasl_desk.specs.TurnResults.{after_turn_of, judged_lines, after_judged, IsTurnOf}
 use Rattle.book_keeper.specs.declared.keeper.Keeper.{Keeper}
@@ -60,7 +60,7 @@ left_session_halts_nothing None is = cc is
 -- what came of a code, or of two in a row: the book and the store before it was judged, and after
 module _ (IsStored : List ℕ → Type 0) (name : List ℕ) (moment : ℕ) (sent : CodeTexts) (old new : BookFields) (was now : StoreFacts) where
   -- a code makes one save if the answer is PASS, FAIL or HALT, and none for another answer
-  code_counts_saves : (judged : CodeJudged) → HoldsBook IsStored old was → IsJudged IsStored old was name moment sent judged new now
+  code_counts_saves : (judged : CodeJudged) → HoldsBook IsStored old was → IsCodeOutcome IsStored old was name moment sent judged new now
       → now.saves ≡ was.saves + length (filter is_saving (judged_lines moment sent judged))
   code_counts_saves (Replied (Some (Pass c))) held (one, kept) = kept.saved.begun.counted
   code_counts_saves (Replied (Some Fail)) held (one, kept) = kept.saved.begun.counted
@@ -71,7 +71,7 @@ module _ (IsStored : List ℕ → Type 0) (name : List ℕ) (moment : ℕ) (sent
 
   -- a code that needs a save is an attempt, and the store was asked to save the book with it
   code_asks_for_save : (event : ClientEvent) (at : Place) (judged : CodeJudged) → at ≡ waits_code name → HoldsBook IsStored old was
-      → IsJudged IsStored old was name moment sent judged new now → (filter is_saving (judged_lines moment sent judged) ≡ [] → ⊥)
+      → IsCodeOutcome IsStored old was name moment sent judged new now → (filter is_saving (judged_lines moment sent judged) ≡ [] → ⊥)
       → (t : LoggedAttempt) × (next : BookFields) × IsAttemptOf (hears event moment) at (judged_lines moment sent judged) t
       × IsAttemptJudged old t next × IsBookText now.asked next
   code_asks_for_save event at (Replied (Some (Pass c))) here held (one, kept) some = (
@@ -107,7 +107,7 @@ module _ (IsStored : List ℕ → Type 0) (name : List ℕ) (moment : ℕ) (sent
   )
 
   -- if nothing is saved for a code, the book and the store stay as they were
-  code_is_quiet : (judged : CodeJudged) → IsJudged IsStored old was name moment sent judged new now
+  code_is_quiet : (judged : CodeJudged) → IsCodeOutcome IsStored old was name moment sent judged new now
       → filter is_saving (judged_lines moment sent judged) ≡ [] → (new ≡ old) × (now ≡ was)
   code_is_quiet (Replied (Some (Pass c))) judged none = absurd (cc none)
   code_is_quiet (Replied (Some Fail)) judged none = absurd (cc none)
@@ -116,7 +116,7 @@ module _ (IsStored : List ℕ → Type 0) (name : List ℕ) (moment : ℕ) (sent
   code_is_quiet NotSaved judged none = absurd (cc none)
 
   -- if a code halts a desk or a hall, the store has failed, and the book stays as it was
-  halting_code_failed_saving : (judged : CodeJudged) → IsJudged IsStored old was name moment sent judged new now
+  halting_code_failed_saving : (judged : CodeJudged) → IsCodeOutcome IsStored old was name moment sent judged new now
       → halted_after (after_judged name judged) ≡ true → (now.failed ≡ true) × (new ≡ old)
   halting_code_failed_saving (Replied reply) judged is = absurd (cc is)
   halting_code_failed_saving NotSaved (same, (reply, next, needs, one, loses)) is =
@@ -156,7 +156,7 @@ module _ {S : Type 0} {facts : S → StoreFacts} {IsStored : List ℕ → Type 0
 
   -- if a turn halts the desk or the hall, the store has failed, and the book is as before
   pub halting_turn_failed_saving : IsTurnOf facts IsStored old going server_nonce event moment lines left new → halted_after left ≡ true
-      → FailsInSave facts old new
+      → LeavesFailedStore facts old new
   halting_turn_failed_saving (inl t) is = absurd (left_session_halts_nothing t.turn.answer.session (rw t.is_left at is))
   halting_turn_failed_saving (inr (name, sent, asked, t)) is =
       halting_code_failed_saving IsStored name moment sent old.book new.book (facts old.store) (facts new.store) t.judged t.is_judged

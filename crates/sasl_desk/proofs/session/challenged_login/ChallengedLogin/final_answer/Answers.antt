@@ -2,7 +2,7 @@ use Rattle.std.proofs.Common.{ℕ, List, ◌++◌, sym, ◌∙◌, ap, subst}
 use Rattle.scram_ends.specs.Stages.{challenged_login}
 use Rattle.scram_ends.specs.Verdict.{due_text, final_due}
 use Rattle.scram_ends.specs.declared.server.ServerWait.{ServerWait}
-use Rattle.sasl_desk.specs.ChallengedLogin.{waiting_login_of, IsChallenging}
+use Rattle.sasl_desk.specs.ChallengedLogin.{challenged_login_of, IsChallenging}
 use Rattle.sasl_desk.proofs.lemmas.turns.DueAnswers.{verdict_is_due}
 use Rattle.sasl_desk.proofs.lemmas.turns.Writable.{server_final_is_writable}
 use Rattle.sasl_desk.proofs.session.challenged_login.ChallengedLogin.final_answer.Goals as goal
@@ -33,7 +33,7 @@ invariant_of-result g c =
 
 pub returns-clause-err : goal.returns-clause-err
 returns-clause-err g c = (
-  ap (λ (w : ServerWait). waiting_login_of w c.self.inside.mechanism c.self.inside.name) c.in-Err.ensures.back.0 ∙
+  ap (λ (w : ServerWait). challenged_login_of w c.self.inside.mechanism c.self.inside.name) c.in-Err.ensures.back.0 ∙
       c.self.view_is,
   c.in-Err.ensures.unchanged ∙ c.requires,
 )

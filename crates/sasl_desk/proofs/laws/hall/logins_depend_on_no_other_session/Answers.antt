@@ -1,9 +1,9 @@
-use Rattle.sasl_desk.proofs.lemmas.halls.Alone.{sessions_are_told_alone}
-use Rattle.sasl_desk.proofs.laws.hall.sessions_are_told_alone.Goals as goal
+use Rattle.sasl_desk.proofs.lemmas.halls.Alone.{logins_depend_on_no_other_session}
+use Rattle.sasl_desk.proofs.laws.hall.logins_depend_on_no_other_session.Goals as goal
 
 pub returns : goal.returns
 returns g c = λ start begun calls others hall other n m.
-    sessions_are_told_alone
+    logins_depend_on_no_other_session
     (record {
       one_first = c.has_one_client_first.ensures;
       one_last = c.has_one_server_final.ensures;
