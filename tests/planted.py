@@ -71,9 +71,9 @@ class Row(NamedTuple):
     test: str
 
 
-def ran(words: list[str], folder: Path) -> str:
-    """Runs a command without input, and returns all its output."""
-    ways = {"stdin": subprocess.DEVNULL, "stdout": subprocess.PIPE, "stderr": subprocess.STDOUT, "env": {**os.environ, **FEWER}}
+def ran(words: list[str], folder: Path, **more: str) -> str:
+    """Runs a command without input, with these variables in its environment, and returns all its output."""
+    ways = {"stdin": subprocess.DEVNULL, "stdout": subprocess.PIPE, "stderr": subprocess.STDOUT, "env": {**os.environ, **FEWER, **more}}
     return subprocess.run(words, cwd=folder, text=True, errors="replace", timeout=LIMIT, **ways).stdout
 
 
@@ -112,7 +112,8 @@ class Room:
             with tempfile.TemporaryDirectory(prefix="planted-") as folder:
                 # documents.py takes no program.
                 program = [str(self.program(row, Path(folder)))] if row.by != "documents.py" else []
-                said = ran([sys.executable, "-B", row.by, *program, row.test], self.top / "tests")
+                bench = {"BENCH": str(self.loading_calls(BENCH, Path(folder)))} if row.by == "refused_calls.py" else {}
+                said = ran([sys.executable, "-B", row.by, *program, row.test], self.top / "tests", **bench)
             verdict = re.search(f"^{row.by}: (?:(1 passed, 0 failed)|0 passed, 1 failed)$", said, re.M)
         else:
             said = ran(["rt", "try", "--test"], self.top / "crates" / row.by)
@@ -124,17 +125,19 @@ class Room:
         return verdict[1] is not None
 
     def program(self, row: Row, folder: Path) -> Path:
-        """The program for a script: the one that is built if no crate is edited, which loads CALLS if that is edited; and otherwise one
-        that is made of the copy's sources."""
-        if row.of != "tests":
-            return self.made_program(folder / "program")
-        if not (self.top / PROGRAM).exists():
-            raise NotJudged("this needs the built program: run make build")
+        """The program for a script: the one that is built if no crate is edited, and otherwise one that is made of the copy's sources."""
+        return self.loading_calls(PROGRAM, folder) if row.of == "tests" else self.made_program(folder / "program")
+
+    def loading_calls(self, built: str, folder: Path) -> Path:
+        """A built program, which loads CALLS if that is edited."""
+        program = self.top / built
+        if not program.exists():
+            raise NotJudged(f"this needs {built}: run make build and make bench")
         if (self.top / CALLS).read_bytes() == (TOP / CALLS).read_bytes():
-            return self.top / PROGRAM
+            return program
         # The user nobody runs it too.
         folder.chmod(0o755)
-        return shims.stand_in(self.top / PROGRAM, shims.compiled("pass_calls", self.top / CALLS, folder), folder / "program")
+        return shims.stand_in(program, shims.compiled("pass_calls", self.top / CALLS, folder), folder / program.name)
 
     def made_program(self, to: Path) -> Path:
         """Makes the program without proofs: copies it while `rt try` runs it, in a folder that has its output too."""

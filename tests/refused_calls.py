@@ -19,7 +19,8 @@ from expected import AUDITS, MECHS
 from processes import ran
 from suite import BOOK_OF_USER, PROGRAM, each, hotp, token
 
-BENCH = pathlib.Path(__file__).parent.parent / "crates" / "bench" / "out" / "bench"
+# The crate bench, as built, or what BENCH in the environment names, with which planted.py plants a bug in it.
+BENCH = pathlib.Path(os.environ.get("BENCH") or suite.TOP / "crates/bench/out/bench")
 BOOK = (AUDITS / "sha256.toml").read_text() + hotp(look_ahead=3, limit=3)
 NO_ACCOUNTS = BOOK_OF_USER.replace("[accounts.user]", "[accounts]")
 CODE = "C CODE 755224\nS PASS 5 0\n"

@@ -35,7 +35,7 @@ ssize_t send(int fd, const void *bytes, size_t size, int flags)
 """
 
 
-# Becomes the program, which then loads the library after those that it is to load anyway. It asks for no memory, and calls nothing that
+# Becomes the program, which then loads the library before those that it is to load anyway. It asks for no memory, and calls nothing that
 # one of them stands in for.
 BECOMES = r"""
 #include <string.h>
@@ -43,14 +43,14 @@ BECOMES = r"""
 
 int main(int count, char **words, char **environment)
 {
-    char *with[4096], loads[4096] = "LD_PRELOAD=";
+    char *with[4096], loads[4096] = "LD_PRELOAD=" LIBRARY;
     int made = 1;
     for (; *environment && made < 4094; environment++)
         if (!strncmp(*environment, loads, 11))
-            strcat(strncat(loads, *environment + 11, 3000), ":");
+            strncat(strcat(loads, ":"), *environment + 11, 3000);
         else
             with[made++] = *environment;
-    with[0] = strcat(loads, LIBRARY);
+    with[0] = loads;
     with[made] = NULL;
     execve(PROGRAM, words, with);
     return 127;
