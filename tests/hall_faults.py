@@ -4,10 +4,11 @@
 Usage: hall_faults.py PROGRAM [TEST ..]
 
 Input lines that are not events, or that name a session which is not open: the log so far stands, and the saved book agrees with it. A book
-that can't be saved while sessions are open, which halts the hall; files that are not books, and books that another run holds; and an
-output that fails.
+that can't be saved while sessions are open, which halts the hall; files that are not books, and books that another run holds; and an input or
+an output that fails.
 """
 import resource
+import socket
 import time
 
 import clients
@@ -15,8 +16,8 @@ import suite
 from checks import equal, holds
 from clients import Account, book, dealt, gone, logged_in, opened, said
 from hall_support import HOTP_BOOK, Hall, clean, login
-from processes import whole
-from suite import MOST_BYTES, each, verify_words
+from processes import ran, whole
+from suite import MOST_BYTES, each, fault_text, verify_words
 
 # Input lines that state no event when sessions 2 and 3 are open, session 1 has ended and no other has begun.
 NO_EVENTS = [
@@ -133,6 +134,20 @@ def outputs_that_fail(folder):
     here.token_has(next=0)
 
 
+def inputs_that_fail(folder):
+    """If the input can't be read on, each event before that has been heard."""
+    here = Hall(folder)
+    text, log = let_in()
+    ours, input_of_hall = socket.socketpair()
+    # Once all is read, reading fails: our end is closed with a byte that was not read from it.
+    input_of_hall.send(b"x")
+    ours.sendall(text.encode())
+    ours.close()
+    with input_of_hall:
+        equal(ran(here.words, stdin=input_of_hall), (3, log, fault_text("cannot read input")), "a hall whose input fails")
+    here.token_has(next=1)
+
+
 def long_inputs(folder):
     """More than 16777216 bytes of input are a fault. The log up to there has been printed."""
     here = Hall(folder)
@@ -151,6 +166,7 @@ TESTS = [
     books_that_are_none,
     held_books,
     outputs_that_fail,
+    inputs_that_fail,
     long_inputs,
 ]
 
