@@ -1,19 +1,21 @@
 #!/usr/bin/env python3
-"""Gives the built program random input: words of `code` and `keys`; and books, logs and events of a hall, a few edits from good ones.
+"""Gives the built program random input: words of `code` and `keys`; lines of `verify`, for tokens with random keys; and books, logs and
+events of a hall, a few edits from good ones.
 
 Usage: fuzz.py PROGRAM [TEST ..]
 
 Every run has to end within 2 seconds of processor time, not by a signal, with status 0, 1 or 2 and a documented fault. If a
-command accepts its input, Python checks what follows: the code (RFC 4226, RFC 6238) and the keys (RFC 5802); the text of the book, with
-tomllib, and that a second save leaves it as it is; that a log's lines before the one at fault begin a clean log, and that an upgraded
-log has the same answer; and that the log of a hall's events is clean. An input with any other result, or that the program accepts and
-Python does not, is kept as a file fuzz-KIND-SEED-NUMBER in the folder in which the script was started, and ends its test. Some inputs
-of each kind have to be accepted, so that not only refusals are tested.
+command accepts its input, Python checks what follows: the code (RFC 4226, RFC 6238) and the keys (RFC 5802); the replies to lines and the
+token that they leave, by token_model.py; the text of the book, with tomllib, and that a second save leaves it as it is; that a log's lines
+before the one at fault begin a clean log, and that an upgraded log has the same answer; and that the log of a hall's events is clean. An
+input with any other result, or that the program accepts and Python does not, is kept as a file fuzz-KIND-SEED-NUMBER in the folder in which
+the script was started, and ends its test. Some inputs of each kind have to be accepted, so that not only refusals are tested.
 
 COUNT in the environment, by default 300, is how many inputs of each kind are tried. Each is made from SEED, by default 1, and its own
 number.
 """
 import collections
+import json
 import os
 import pathlib
 import random
@@ -29,7 +31,8 @@ import suite
 from checks import equal, fail, holds
 from expected import AUDITS, AUTH, BOOK_FAULTS, MECHS, RESP, code, keys_of, numbered
 from processes import LIMIT, processor_time
-from suite import PROGRAM
+from suite import BOOK_OF_USER, MEMORY, PROGRAM
+from token_model import MOST_COUNTER, code_of, firsts_of_pairs, judged, step_at, window
 
 COUNT = int(os.environ.get("COUNT") or 300)
 
@@ -72,7 +75,9 @@ def run(words, data=b""):
     if is_of_log:
         holds(other == b"", "it says more than what is wrong with the log", words, done)
         return done.returncode, told
-    is_documented = done.returncode in FAULTS and re.fullmatch(FAULTS[done.returncode], done.stderr)
+    # `verify` ends with status 1 and no fault if a code did not pass.
+    is_refusal = words[0] == "verify" and (done.returncode, done.stderr) == (1, b"")
+    is_documented = is_refusal or done.returncode in FAULTS and re.fullmatch(FAULTS[done.returncode], done.stderr)
     holds(is_documented, "the status and the faults are not documented", words, done)
     return done.returncode, done.stdout
 
@@ -257,6 +262,90 @@ def words_of_keys(_, chosen):
     yield "the keys of a password"
 
 
+# The most seconds since 1970 of a moment.
+MOST_MOMENT = 253402300799
+
+
+def a_token(chosen):
+    """The keys of a token of either kind, each in its range, and a moment near which its codes are sent."""
+    limit = chosen.choice([1, 2, 3, 3, 100, 100])
+    token = {"secret": chosen.randbytes(chosen.choice([10, 20, 20, 32, 64])).hex(), "digits": chosen.choice([6, 7, 8])}
+    token |= {"limit": limit, "failures": chosen.choice([0, 0, 0, chosen.randint(0, limit)])}
+    if chosen.random() < 0.5:
+        token |= {"kind": "hotp", "next": chosen.choice([0, 7, 2**32 - 3, MOST_COUNTER - chosen.randint(-1, 12)])}
+        token |= {"look_ahead": chosen.choice([0, 1, 3, 100]), **chosen.choice([{}, {"sync_ahead": chosen.choice([0, 1, 8])}])}
+        return token, chosen.choice([0, 5, MOST_MOMENT])
+    widest, t0, step = chosen.randint(0, 4), chosen.choice([0, 0, 59]), chosen.choice([1, 30, 30, 3600])
+    moment = chosen.choice([t0 + step * chosen.randint(0, 8), 1111111109, MOST_MOMENT - chosen.randint(0, 60)])
+    token |= {"kind": "totp", "hash": chosen.choice(["sha1", "sha256", "sha512"]), "t0": t0, "step": step, "max_drift": widest}
+    token |= {"back": chosen.randint(0, 3), "ahead": chosen.randint(0, 3), "drift": chosen.randint(-widest, widest)}
+    near = max(0, step_at(token, moment) + chosen.randint(-6, 2))
+    return {**token, **chosen.choice([{}, {"last": near}])}, moment
+
+
+def a_line(chosen, token, moment):
+    """A line without its LF: a code, or two in a row, of a counter that can pass or is near one that can; or a text that is no code."""
+    singles, pairs = window(token, moment), firsts_of_pairs(token)
+    edges = [singles.start, singles.stop, pairs.start, pairs.stop, *chosen.choices(singles or [0], k=3)]
+    at = min(max(0, chosen.choice(edges) + chosen.choice([-1, 0, 0, 0, 1])), MOST_COUNTER)
+    first, second = code_of(token, at), code_of(token, at + 1)
+    pair = b"SYNC %s %s" % (first, second)
+    no_code = [b"", b" ", first + b"\r", b" " + first, first[1:], first + b"0", b"SYNC " + first, b"SYNC %s  %s" % (first, second), pair + b" "]
+    no_code += [b"SYNC %s %s" % (second, first), b"0" * 17, b"x" * 300, b"\xff\0", b"CODE " + first]
+    return chosen.choice([first, first, first, first, pair, pair, chosen.choice(no_code)])
+
+
+def some_runs(chosen, token, moment):
+    """Runs of `verify` that follow each other: the moment and the lines of each, the replies that are due with the counters that they use
+    up, and the token after it. Before some of them the token is unlocked, which None stands for."""
+    token = dict(token)
+    for _ in range(chosen.randint(1, 3)):
+        if chosen.random() < 0.2:
+            token["failures"] = 0
+            yield None, [], [], dict(token)
+        at = min(max(0, moment + token.get("step", 1) * chosen.choice([0, 0, 1, 2, 5, -1, -9])), MOST_MOMENT)
+        lines, replies = [], []
+        for _ in range(chosen.randint(0, 8)):
+            lines.append(a_line(chosen, token, at))
+            replies.append(judged(token, at, lines[-1]))
+        yield at, lines, replies, dict(token)
+
+
+def lines_of_verify(folder, chosen):
+    """Runs of `verify` over one book: the replies, the status and the book that is left are those that are due, and no counter passes
+    twice. The account whose token has the same keys stays as it was."""
+    token, moment = a_token(chosen)
+    runs = [*some_runs(chosen, token, moment)]
+    yield repr((token, runs)).encode()
+    table = "".join(f"{key} = {json.dumps(value)}\n" for key, value in token.items())
+    book = folder / "book"
+    book.write_text(f"{BOOK_OF_USER}\n[accounts.user.token]\n{table}\n[accounts.other.token]\n{table}")
+    wanted, passed = tomllib.loads(book.read_text()), []
+    for at, lines, replies, after in runs:
+        before = book.read_bytes()
+        options = ["--book", book, "--name", "user"]
+        words = ["unlock", *options] if at is None else ["verify", *options, "--moment", str(at)]
+        status, printed = run(words, b"".join(line + b"\n" for line in lines))
+        due = "unlocked user\n" if at is None else "".join(f"{reply}\n" for reply, _ in replies)
+        equal((status, printed.decode()), (0 if all(used for _, used in replies) else 1, due), "the status and the replies", lines)
+        # What passed is read from the output, and whether it was one code or two from the lines.
+        for line, reply in zip(lines, printed.decode().splitlines()):
+            if reply.startswith("PASS "):
+                counter = int(reply.split()[2])
+                passed += [counter - 1, counter] if line.startswith(b"SYNC ") else [counter]
+        wanted["accounts"]["user"]["token"] = after
+        equal(plain(tomllib.loads(book.read_text())), plain(wanted), "what the book states after", lines)
+        is_saved = at is None or any(not reply.startswith("LOCKED ") for reply, _ in replies)
+        holds(is_saved or book.read_bytes() == before, "the book is written without a reply that changes it", lines)
+    equal(len(passed), len(set(passed)), "how many of the counters that pass differ", passed)
+    kinds = {(token["kind"], reply.split()[0], len(used)) for _, _, replies, _ in runs for reply, used in replies}
+    for kind, result in [(("hotp", "PASS", 1), "a counter"), (("hotp", "PASS", 2), "a pair"), (("totp", "PASS", 1), "a step")]:
+        if kind in kinds:
+            yield f"{result} that passes"
+    if any(reply == "LOCKED" for _, reply, _ in kinds):
+        yield "a locked token"
+
+
 def some_events(chosen):
     """Input lines of `hall`: sessions begin, log in as in RFC 5802's example, send codes and go away, in any order, with edits."""
     mechs, auth, resp = [line[2:].encode() for line in (MECHS, AUTH, RESP)]
@@ -310,7 +399,7 @@ def a_hall(folder, chosen):
 def results_of(kind, number):
     """The results of an input of this kind. An input with an unexpected result, or that Python can't judge, is kept."""
     chosen = random.Random(f"{kind.__name__} {SEED} {number}")
-    with tempfile.TemporaryDirectory() as folder:
+    with tempfile.TemporaryDirectory(dir=MEMORY) as folder:
         steps = kind(pathlib.Path(folder), chosen)
         text = next(steps)
         try:
@@ -351,9 +440,14 @@ def keys(_):
     tried(words_of_keys, the_keys_of_a_password=10)
 
 
+def lines(_):
+    """Lines of `verify`."""
+    tried(lines_of_verify, a_counter_that_passes=6, a_pair_that_passes=12, a_step_that_passes=8, a_locked_token=5)
+
+
 def halls(_):
     """Events of halls."""
     tried(a_hall, a_login_in_a_hall=2, a_code_in_a_hall=4)
 
 
-suite.run_all([books, recorded_logs, codes, keys, halls])
+suite.run_all([books, recorded_logs, codes, keys, lines, halls])

@@ -19,12 +19,10 @@ from checks import equal
 from clients import Account, book, dealt, gone, logged_in, of_session, opened, said, turned_away
 from expected import AUDITS, AUTH, MECHS, RESP, orders_of_turns
 from hall_support import HOTP_BOOK, OWN, Hall, clean, login
-from suite import each, read_book
+from suite import MEMORY, each, read_book
 
 # How many random orders of all turns are tried.
 SHUFFLES = int(os.environ.get("RUNS") or 1000)
-# A folder whose files are in memory, on a system that has one.
-MEMORY = "/dev/shm"
 
 
 def two_sessions(folder):
@@ -185,8 +183,8 @@ def shuffled(_):
     """64 logins to 64 accounts, each with a code, in random orders: each line of a session belongs to its own login, and the log
     is clean."""
     accounts = [Account(f"user {number}", list(clients.HASHES)[number % 2]) for number in range(64)]
-    # a book is saved 64 times in each order, and saving a file in memory takes no time
-    with tempfile.TemporaryDirectory(dir=MEMORY if os.path.isdir(MEMORY) else None) as folder:
+    # A book is saved 64 times in each order.
+    with tempfile.TemporaryDirectory(dir=MEMORY) as folder:
         here, text = Hall(folder, book(accounts)), book(accounts)
         for _ in range(SHUFFLES):
             order, visits = shuffle_of(accounts)

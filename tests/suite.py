@@ -33,6 +33,9 @@ SEED = int(os.environ.get("SEED") or secrets.randbelow(1 << 32))
 # The most seconds that a test may take. After that it fails.
 LIMIT_OF_TEST = 900
 
+# A folder whose files are in memory, where saves take no time, or None on a system that has none.
+MEMORY = "/dev/shm" if os.path.isdir("/dev/shm") else None
+
 # Whether root runs the script.
 ROOT = os.geteuid() == 0
 
