@@ -338,7 +338,7 @@ def all_at_once(folder):
             elif command.name in ("verify", "login", "hall"):
                 passed += re.findall(r"PASS 5 (\d+)", printed)
                 equal(re.sub(r"PASS 5 \d+", "FAIL 5", printed), re.sub(r"PASS 5 \d+", "FAIL 5", command.printed), what)
-                equal(fault, "", what)
+                equal((status, fault), (0 if command.name == "hall" or "FAIL" not in printed else 1, ""), what)
             else:
                 equal(what[1:], (0, command.printed, ""), what)
         equal(sorted(passed), ["0", "1"], "the counters that pass", answers)
@@ -375,9 +375,11 @@ class Clocks(Machine):
             self.set_clock(clock)
             run_of_login.send(f"{code}\n")
             log += run_of_login.next_lines(2)
-        log += run_of_login.end().output
-        audited(self.folder, before, log)
-        return [line.removeprefix("S ") for line in log.splitlines()[7:-2:2]]
+        status, rest, faults = run_of_login.end()
+        replies = [line.removeprefix("S ") for line in (log + rest).splitlines()[7:-2:2]]
+        equal((status, faults), (0 if all(reply.startswith("PASS") for reply in replies) else 1, ""), "the end of a login", replies)
+        audited(self.folder, before, log + rest)
+        return replies
 
 
 def clocks_that_go_back(folder):
@@ -413,7 +415,7 @@ def moments_that_fall(folder):
     ]):
         with trial:
             command = verify._replace(words=[*verify.words[:-1], str(moment)], text=f"{sent}\n")
-            equal(run(command, here.folder)[1], f"{reply}\n", moment, sent)
+            equal(run(command, here.folder), (0 if reply.startswith("PASS") else 1, f"{reply}\n", ""), moment, sent)
     here.fresh()
     before = here.book.read_text()
     hall = command_of("hall", 0)
