@@ -4,6 +4,7 @@ pub mod Events
 pub mod DueLines
 pub mod ChallengedLogin
 pub mod Sessions
+pub mod SessionTurns
 pub mod Bounds
 pub mod Prefix
 pub mod Keeper

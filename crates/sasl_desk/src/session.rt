@@ -11,8 +11,9 @@ ghost use Rattle.sasl_log.specs.Logins.{KeepsEntries};
 ghost use Rattle.sasl_log.specs.Shown.{client_shown};
 ghost use Rattle.sasl_log.specs.Texts.{IsLineWritable};
 ghost use Rattle.sasl_desk.specs.Events.{event_shown};
-ghost use Rattle.sasl_desk.specs.Sessions.{IsSessionAt, IsLineOf, BearsMessage, heard_lines, CanBeWritten};
-ghost use Rattle.sasl_desk.specs.Sessions.{ComesOfEvent, ComesOfLine, JudgesOnlyWhereCodeIsDue, JudgesOnlyLine, JudgesOnlyWhatWasSent};
+ghost use Rattle.sasl_desk.specs.Sessions.{IsSessionAt, IsLineOf, BearsMessage, CanBeWritten};
+ghost use Rattle.sasl_desk.specs.SessionTurns.{heard_lines};
+ghost use Rattle.sasl_desk.specs.SessionTurns.{ComesOfEvent, ComesOfLine, JudgesOnlyWhereCodeIsDue, JudgesOnlyLine, JudgesOnlyWhatWasSent};
 
 mod answer;
 mod challenged_login;

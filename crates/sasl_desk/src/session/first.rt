@@ -6,7 +6,8 @@ ghost use Rattle.scram_ends.specs.Opening.{IsTakenUp};
 ghost use Rattle.log_grammar.specs.Places.{got_first};
 ghost use Rattle.log_grammar.specs.Demands.{Accounts, NamesMechanism};
 ghost use Rattle.sasl_log.specs.Logins.{KeepsEntries};
-ghost use Rattle.sasl_desk.specs.Sessions.{lines_of_answer, CanBeWritten, IsAnswer};
+ghost use Rattle.sasl_desk.specs.Sessions.{CanBeWritten};
+ghost use Rattle.sasl_desk.specs.SessionTurns.{lines_of_answer, IsAnswer};
 
 use crate::session::Session;
 use crate::session::answer::bare_no;

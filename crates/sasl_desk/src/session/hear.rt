@@ -10,8 +10,9 @@ ghost use Rattle.sasl_log.specs.Shown.{client_shown};
 ghost use Rattle.sasl_log.specs.Texts.{IsLineWritable};
 ghost use Rattle.sasl_desk.specs.Events.{ClientEvent};
 ghost use Rattle.sasl_desk.specs.DueLines.{is_client_turn, is_due};
-ghost use Rattle.sasl_desk.specs.Sessions.{IsWaitingAt, IsRecord, BearsMessage, turn_lines, heard_lines, CanBeWritten};
-ghost use Rattle.sasl_desk.specs.Sessions.{IsTurnOnEvent, IsTurnOnLine, ComesOfLine, JudgesOnlyWhereCodeIsDue, JudgesOnlyLine};
+ghost use Rattle.sasl_desk.specs.Sessions.{IsWaitingAt, IsRecord, BearsMessage, CanBeWritten};
+ghost use Rattle.sasl_desk.specs.SessionTurns.{turn_lines, heard_lines};
+ghost use Rattle.sasl_desk.specs.SessionTurns.{IsTurnOnEvent, IsTurnOnLine, ComesOfLine, JudgesOnlyWhereCodeIsDue, JudgesOnlyLine};
 
 use crate::session::Session;
 use crate::session::answer::{answer_to_auth, bare_no, silence};

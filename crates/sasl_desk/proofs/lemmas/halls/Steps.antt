@@ -23,7 +23,7 @@ use Rattle.sasl_desk.specs.Halls.{hall_of, hall_lines, IsHallAfter}
 use Rattle.book_keeper.specs.Keeper.{IsCodeOutcome}
 use Rattle.sasl_desk.specs.Keeper.{IsJudgedInRange}
 use Rattle.sasl_desk.specs.Runs.{hears, Call, call_of, server_nonce_of}
-use Rattle.sasl_desk.specs.Sessions.{IsLeftAt, IsCodeDue, turn_lines}
+use Rattle.sasl_desk.specs.SessionTurns.{IsLeftAt, IsCodeDue, turn_lines}
 use Rattle.sasl_desk.specs.Spent.{AreSpent, SpentStaysSpent}
 use Rattle.sasl_desk.specs.TurnResults.{after_turn_of, judged_lines, after_judged, SessionAnswers, IsTurnOf}
 use Rattle.sasl_desk.specs.declared.hall.open_session.OpenSession.{OpenSession}

@@ -21,7 +21,7 @@ use Rattle.log_grammar.proofs.lemmas.lines.Written.{offer_is_writable, header_is
 use Rattle.sasl_desk.specs.Events.{ClientEvent}
 use Rattle.book_keeper.specs.Keeper.{IsCodeOutcome}
 use Rattle.sasl_desk.specs.Keeper.{IsJudgedInRange}
-use Rattle.sasl_desk.specs.Sessions.{IsLeftAt, IsCodeDue, turn_lines}
+use Rattle.sasl_desk.specs.SessionTurns.{IsLeftAt, IsCodeDue, turn_lines}
 use Rattle.sasl_desk.specs.Runs.{greets, hears, Call, call_of, run_lines, server_nonce_of}
 use Rattle.sasl_desk.specs.Spent.{AreSpent, SpentStaysSpent}
 use Rattle.sasl_desk.specs.TurnResults.{after_turn_of, judged_lines, after_judged, SessionAnswers, IsTurnOf}

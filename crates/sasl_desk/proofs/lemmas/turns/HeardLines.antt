@@ -9,8 +9,10 @@ use Rattle.log_grammar.specs.Demands.{Accounts}
 use Rattle.sasl_desk.specs.Events.{ClientEvent, sends, goes_away}
 use Rattle.otp_core.specs.SentCodes.{texts_of}
 use Rattle.sasl_desk.specs.DueLines.{is_due}
-use Rattle.sasl_desk.specs.Sessions.{IsLineOf, IsRecord, IsRecordOfLine, ComesOfEvent, ComesOfLine, TakesMemory, JudgesOnlyLine}
-use Rattle.sasl_desk.specs.Sessions.{JudgesOnlyWhatWasSent, SentWhatTakesMemory, LongTextsAreBad}
+use Rattle.sasl_desk.specs.Sessions.{IsLineOf, IsRecord, TakesMemory}
+use Rattle.sasl_desk.specs.SessionTurns.{IsRecordOfLine, ComesOfEvent, ComesOfLine, JudgesOnlyLine}
+use Rattle.sasl_desk.specs.Sessions.{SentWhatTakesMemory, LongTextsAreBad}
+use Rattle.sasl_desk.specs.SessionTurns.{JudgesOnlyWhatWasSent}
 use Rattle.sasl_desk.specs.declared.session.event.HearResult.{HearResult}
 use Rattle.sasl_desk.specs.declared.session.event.HearResult.TheVariants.{Answered, ToJudge}
 use Rattle.sasl_desk.proofs.lemmas.turns.DueRecords.{due_line_may_be_heard, heard_line_is_due}

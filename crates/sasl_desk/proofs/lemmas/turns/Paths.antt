@@ -14,7 +14,8 @@ use Rattle.log_grammar.specs.Begins.{Begins}
 use Rattle.log_grammar.proofs.lemmas.state_machine.Shortening.{code_may_stand}
 use Rattle.sasl_desk.specs.Events.{ClientEvent, sends, goes_away}
 use Rattle.sasl_desk.specs.DueLines.{is_client_turn, place_after_record}
-use Rattle.sasl_desk.specs.Sessions.{IsSessionAt, IsRecord, IsPath, IsTurnOnEvent, recorded_shown, turn_lines, IsLeftAt}
+use Rattle.sasl_desk.specs.Sessions.{IsSessionAt, IsRecord, IsPath}
+use Rattle.sasl_desk.specs.SessionTurns.{IsTurnOnEvent, recorded_shown, turn_lines, IsLeftAt}
 use Rattle.sasl_desk.specs.declared.session.Session.{Session}
 use Rattle.sasl_desk.specs.declared.session.Session.TheVariants.{WaitAuth, WaitFirst, WaitFinal, WaitCode}
 use Rattle.sasl_desk.specs.declared.session.event.Turn.{Turn}

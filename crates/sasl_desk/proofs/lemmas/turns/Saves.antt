@@ -17,7 +17,8 @@ use Rattle.book_keeper.specs.Keeper.{IsCodeOutcome}
 use Rattle.sasl_desk.specs.Keeper.{IsAttemptJudged}
 use Rattle.sasl_desk.specs.Runs.{hears}
 use Rattle.sasl_desk.specs.SavedCalls.{is_saving, IsAttemptOf, CountsSaves, AsksToSaveAttempt, IsQuiet, LeavesFailedStore}
-use Rattle.sasl_desk.specs.Sessions.{IsSessionAt, recorded_shown, turn_lines}
+use Rattle.sasl_desk.specs.Sessions.{IsSessionAt}
+use Rattle.sasl_desk.specs.SessionTurns.{recorded_shown, turn_lines}
 use Rattle.sasl_desk.specs.TurnResults.{after_turn_of, judged_lines, after_judged, IsTurnOf}
 use Rattle.book_keeper.specs.declared.keeper.Keeper.{Keeper}
 use Rattle.book_keeper.specs.declared.keeper.CodeJudged.{CodeJudged}
