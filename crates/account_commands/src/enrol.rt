@@ -62,7 +62,7 @@ where
     let (book, text) = read_or_new(rt.alloc(), read, &mut random)?;
     let salts = two_salts(&mut random)?;
     add_and_save(rt, path, book, text, &account, &salts, faults)?;
-    print_done("enrolled", account.name.text(), output)
+    print_done::<R, O>("enrolled", account.name.text(), output)
 }
 
 // Checks the options that describe the account, and reads the password.

@@ -34,5 +34,5 @@ where
     let name = value::name(given(matches, OptionName::Name))?;
     let mut held = open_book::open(rt, given(matches, OptionName::Book), faults)?;
     held.unlock(rt.alloc(), &name)?;
-    print_done("unlocked", name.text(), output)
+    print_done::<R, O>("unlocked", name.text(), output)
 }

@@ -2,8 +2,12 @@
 ghost use Rattle.std.specs.Prelude.{◌≡◌, ◌++◌, ◌∷◌, [], OnOk, IfErr};
 ghost use Rattle.std.specs.Str.{byte};
 ghost use Rattle.std.specs.Io.KnownBytes.{Appends};
+ghost use Rattle.book_format.specs.Book.{BookFields};
+ghost use Rattle.account_book.specs.SavedBooks.{HasStoredText};
+ghost use Rattle.book_file.specs.Saved.{IsSavedText};
 
 use command_line::Fault;
+use std::fs::Files;
 use std::io::Write;
 
 /// Prints `text`. The only fault is CannotWriteOutput.
@@ -31,8 +35,10 @@ pub fn print_line<O: Write>(line: &str, output: &mut O) -> Result<(), Fault>
     writeln!(output, "{line}").map_err(|_| Fault::CannotWriteOutput)
 }
 
-/// Prints what was done, such as `enrolled`, a space, the name of the account, and an LF. The only fault is CannotWriteOutput.
-pub fn print_done<O: Write>(done: &str, name: &str, output: &mut O) -> Result<(), Fault>
+/// Prints what was done to a book, such as `enrolled`, a space, the name of the account, and an LF. It may be called only after the text
+/// of a book was written to a file: what is done is saved before it is printed. The only fault is CannotWriteOutput.
+pub fn print_done<R: Files, O: Write>(done: &str, name: &str, output: &mut O) -> Result<(), Fault>
+    requires { (book : BookFields) × HasStoredText (IsSavedText R.File.contents) book }
     ensures printed { OnOk result (Appends (O.contents output.old) (O.contents output.new)
         (done.now ++ (byte " " ∷ name.now ++ byte "\n" ∷ []))) }
     ensures err { IfErr result (λ fault. fault ≡ Fault.CannotWriteOutput) }

@@ -28,3 +28,6 @@ returns-in_err-add_and_save-clause-why g c =
     let e = err_from_is_err_and c.from_residual-in_err-add_and_save.result c.from_residual-in_err-add_and_save.ensures.1 in
     rw (e.1, e.2) (unsaved_account_ends_enrol _ _ _ _ _ _ _ _ _ c.given-path.ensures c.in_ok-account.ensures.name.0
     c.in_ok-book.ensures.book c.in_err-add_and_save.ensures.err)
+
+pub print_done-requires : goal.print_done-requires
+print_done-requires g c = (c.in_ok-add_and_save.ensures.saved.last, c.in_ok-add_and_save.ensures.saved.is_saved)

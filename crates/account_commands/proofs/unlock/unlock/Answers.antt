@@ -16,3 +16,8 @@ returns-clause-ok g c =
       printed = rw (c.text.ensures.value, c.in_ok-name.ensures.ok.0, c.given.ensures) at printed;
     })
     c.print_done.ensures.printed
+
+pub print_done-requires : goal.print_done-requires
+print_done-requires g c =
+    let saved = c.in_ok-unlock.ensures.done.saved in
+    (c.unlock.new.self.keeper.book, (saved.text, saved.is_text, saved.stored))
