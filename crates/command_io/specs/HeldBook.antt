@@ -36,6 +36,11 @@ FailsToChange old Changes new =
     (new.book ≡ old.book)
     × ((new.store ≡ old.store) ⊎ ((next : BookFields) × Changes old.book next × FailsToSave old.store next new.store))
 
+-- if the fault is that the book's file can't be written, the store fails to save some book with this change
+abbrev pub IfUnwritten : Fault → (old : HeldFacts) → (Changes : BookFields → BookFields → Type 0) → (new : HeldFacts) → Type 0
+IfUnwritten (CannotWrite file) old Changes new = (next : BookFields) × Changes old.book next × FailsToSave old.store next new.store
+IfUnwritten fault old Changes new = Unit {0}
+
 -- a text was read from a file and is not a book: the fault is that of its first fault
 abbrev pub IsFaultOfText : {File : Type 0} → (bytes_of : File → Option (List ℕ)) → Fault → Type 0
 IsFaultOfText bytes_of fault =
