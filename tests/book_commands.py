@@ -271,6 +271,18 @@ def random_bytes(folder):
     equal(after["decoy_key"], before["decoy_key"], after)
 
 
+def fresh_random_bytes(folder):
+    """Two new books, made without --random, share no decoy key and no salt."""
+    options, text, printed = GOOD["enrol"]
+    books = []
+    for name in ["one", "other"]:
+        book = os.path.join(folder, name)
+        says(name, run("enrol", {"book": book, **options}, text), 0, printed)
+        books.append(read_book(book))
+    salts = {book["accounts"]["new"][table]["salt"] for book in books for table in ["sha1", "sha256"]}
+    equal((len({book["decoy_key"] for book in books}), len(salts)), (2, 4), "how many decoy keys and salts differ", books)
+
+
 def unsaved(folder):
     """Nothing is saved for the reply LOCKED, for a command that is refused, or for an empty input."""
     book = put(os.path.join(folder, "book"), LOCKED)
@@ -480,6 +492,7 @@ TESTS = [
     unwritable,
     each_line,
     random_bytes,
+    fresh_random_bytes,
     unsaved,
     unlocked,
     names,

@@ -307,6 +307,7 @@ def pipes(folder):
         for number in range(300):
             answer, refused = ran(verify_words(here.book)), (3, "", fault_text(f"cannot read {here.book}"))
             holds(answer in [(0, "", ""), refused], f"run {number} has another answer than {refused}, or than none", answer)
+        holds(turning.is_alive(), "the file and the pipe no longer take turns")
     finally:
         is_over.set()
         turning.join()

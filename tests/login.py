@@ -259,8 +259,15 @@ def random_nonces(folder):
         with trial:
             log = here.log_of(here.words(*given, *more), "pencil", 0)
             holds(f"S CONT :r={nonce},s=" in log, "the challenge does not have the nonces", nonce, log)
-    fresh = {here.log_of(here.words("--mechanism", "SCRAM-SHA-1"), "pencil", 0) for _ in range(3)}
-    equal(len(fresh), 3, "how many of the logs of three runs differ", fresh)
+    logs = [here.log_of(here.words("--mechanism", "SCRAM-SHA-1"), "pencil", 0) for _ in range(3)]
+    parts = {part for log in logs for part in parts_of_nonces(log)}
+    equal(len(parts), 6, "how many parts of the nonces of three runs differ", logs)
+
+
+def parts_of_nonces(log):
+    """The client's part of the nonce in a log of one login by SCRAM-SHA-1, and the server's."""
+    client = re.search(r"\nC AUTH SCRAM-SHA-1 :n,\S*,r=(\S+)\n", log)[1]
+    return client, re.search(r"\nS CONT :r=([^,]+),", log)[1].removeprefix(client)
 
 
 def moments(folder):
