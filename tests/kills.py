@@ -42,13 +42,16 @@ def ended(here, started, wait):
 
 def kill_at_any_moment(here, started, count, statuses, is_log=True):
     """Makes `count` runs, or RUNS of the environment, one after another, over the book in a folder, and kills each but the first WHOLE at
-    a random moment. `started` is given the next counter of `user` and an open file; it starts a run that is sent codes around that counter
-    and prints to that file. A run that is not killed ends with one of these statuses, and lets a code pass. No run reports a fault, and its
-    output, if that is a log, is the beginning of a clean one. The book can be read after each run, the counters that were reported as
-    passed are spent in it, and none passes twice."""
+    a random moment. If no code has passed in a killed run by then, it makes more, at most four times as many in all. `started` is given
+    the next counter of `user` and an open file; it starts a run that is sent codes around that counter and prints to that file. A run that
+    is not killed ends with one of these statuses, and lets a code pass. No run reports a fault, and its output, if that is a log, is the
+    beginning of a clean one. The book can be read after each run, the counters that were reported as passed are spent in it, and none
+    passes twice."""
     passed, killed, passed_in_killed, duration = set(), 0, 0, math.inf
     count = int(os.environ.get("RUNS") or count)
-    for number in range(count):
+    for number in range(4 * count):
+        if number >= count and passed_in_killed:
+            break
         is_whole, what = number < WHOLE, f"run {number}"
         holds(here.book.exists(), what, "there is no book after the run before it")
         here.before = here.book.read_text()
