@@ -8,7 +8,7 @@ ghost use Rattle.account_book.specs.Enrolled.{enrolled};
 ghost use Rattle.book_file.specs.Saved.{IsSavedText};
 ghost use Rattle.log_grammar.specs.LoggedAttempt.{LoggedAttempt};
 ghost use Rattle.sasl_desk.specs.Desks.{spent_by_all, MayHold, MayHoldWithinSave};
-ghost use Rattle.sasl_desk.specs.Restarts.{Change, added, unlocked, AreChanges};
+ghost use Rattle.sasl_desk.specs.Changes.{Change, added, unlocked, AreChanges};
 ghost use Rattle.sasl_desk.specs.Saved.{IsToldSaved};
 ghost use Rattle.sasl_desk.specs.Spent.{AreSpent};
 ghost use Rattle.clap.specs.declared.parser.matches.ArgMatches.{ArgMatches};

@@ -19,15 +19,15 @@ CandidatesAreNew = (start : TokenFields) (history : List Attempt) (moment c : �
     → (IsCandidate start history moment c ⊎ IsPairCandidate start history c) → IsAbove (used_in history) c
 
 -- a token has not used this counter: it is HOTP's next or one after it; or a step after TOTP's last, or any step if there is no last
-abbrev pub IsNotUsed : TokenFields → ℕ → Type 0
-IsNotUsed (Hotp t) c = t.next ≤ c
-IsNotUsed (Totp t) c = ForSome t.last (λ l. l < c)
+abbrev pub IsAheadOf : TokenFields → ℕ → Type 0
+IsAheadOf (Hotp t) c = t.next ≤ c
+IsAheadOf (Totp t) c = ForSome t.last (λ l. l < c)
 
--- a counter that a start has used cannot pass after any legal history, by itself or as the first of a pair. IsNotUsed does not
+-- a counter that a start has used cannot pass after any legal history, by itself or as the first of a pair. IsAheadOf does not
 -- depend on failures, so the law also holds for the start after an unlock.
 abbrev pub UsedStaysUsed : Type 0
 UsedStaysUsed = (start : TokenFields) (history : List Attempt) (moment c : ℕ)
-    → IsLegal start history → (IsCandidate start history moment c ⊎ IsPairCandidate start history c) → IsNotUsed start c
+    → IsLegal start history → (IsCandidate start history moment c ⊎ IsPairCandidate start history c) → IsAheadOf start c
 
 -- if one history leads from a start to a token, and a second from that token to an end, both together lead from the start to the end
 abbrev pub HistoriesJoin : Type 0

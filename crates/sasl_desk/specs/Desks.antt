@@ -37,7 +37,7 @@ session_phase (WaitCode name) = phase.WaitCode
 -- the phase of a state
 abbrev pub phase_of : State → Phase
 phase_of Closed = phase.Closed
-phase_of (Open going server_nonce) = session_phase going
+phase_of (Open session server_nonce) = session_phase session
 phase_of Halted = phase.Halted
 
 -- the phase of a desk
@@ -47,7 +47,7 @@ desk_phase desk = phase_of desk.state
 -- the state of a desk whose log is at this place. A desk that has halted may be at any place.
 abbrev pub IsStateAt : Accounts → (server_nonce : List ℕ) → Place → State → Type 0
 IsStateAt accounts server_nonce place Closed = place ≡ between
-IsStateAt accounts server_nonce place (Open going kept) = IsSessionAt accounts place going × (kept ≡ server_nonce)
+IsStateAt accounts server_nonce place (Open session own) = IsSessionAt accounts place session × (own ≡ server_nonce)
 IsStateAt accounts server_nonce place Halted = Unit {0}
 
 -- the store may hold this text: the one that it says it holds; or, if it has failed, the one that the failed save was given
@@ -116,9 +116,9 @@ pub record IsSameDesk {S : Type 0} (old new : Desk S) : Type 0 where
 
 -- the state of a desk whose session was left in this way
 abbrev pub state_after : AfterTurn → (server_nonce : List ℕ) → State
-state_after (Going going) server_nonce = Open going server_nonce
+state_after (Going session) server_nonce = Open session server_nonce
 state_after Over server_nonce = Closed
-state_after (after.Halted going) server_nonce = Halted
+state_after (after.Halted session) server_nonce = Halted
 
 -- what a desk stands for, and what its calls do: `facts` are those of its store, and `IsStored` is true of each text that is stored
 module _ {S : Type 0} (facts : S → StoreFacts) (IsStored : List ℕ → Type 0) where

@@ -18,7 +18,7 @@ pub mod Halls
 pub mod Records
 pub mod Alone
 pub mod Saved
-pub mod Restarts
+pub mod Changes
 pub mod Faults
 pub mod Inputs
 pub mod Outputs

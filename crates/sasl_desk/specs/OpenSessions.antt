@@ -9,4 +9,4 @@ is_of number open_session = open_session.number == number
 
 -- an open session of these parts
 abbrev pub open_session_of : (number : ℕ) → Session → (server_nonce : List ℕ) → OpenSession
-open_session_of number going server_nonce = record { number = number; session = going; server_nonce = server_nonce }
+open_session_of number session server_nonce = record { number = number; session = session; server_nonce = server_nonce }

@@ -9,7 +9,7 @@ ghost use Rattle.log_grammar.specs.LoggedAttempt.{LoggedAttempt};
 ghost use Rattle.sasl_desk.specs.Desks.{MayHold, MayHoldWithinSave, IsDeskAfter, IsBookAfterReplies, desk_phase, spent_by_all};
 ghost use Rattle.sasl_desk.specs.Keeper.{IsAttemptJudged};
 ghost use Rattle.sasl_desk.specs.Records.{HasItsRecords};
-ghost use Rattle.sasl_desk.specs.Restarts.{IsDeskRunLeaving, Change, AreChanges, spent_by_changes};
+ghost use Rattle.sasl_desk.specs.Changes.{IsDeskRunLeaving, Change, AreChanges, spent_by_changes};
 ghost use Rattle.sasl_desk.specs.Runs.{Call, run_lines, wire_bytes};
 ghost use Rattle.sasl_desk.specs.Saved.{IsLogSaved};
 ghost use Rattle.sasl_desk.specs.Sessions.{LongTextsAreBad};

@@ -18,7 +18,7 @@ use Rattle.book_keeper.specs.Keeper.{IsAttemptAtMoment}
 use Rattle.log_grammar.specs.LoggedAttempt.{LoggedAttempt, logged_attempt_of}
 use Rattle.sasl_desk.specs.Desks.{spent_by_all, IsBookAfterReplies, MayHold, MayHoldWithinSave}
 use Rattle.sasl_desk.specs.Keeper.{IsAttemptJudged}
-use Rattle.sasl_desk.specs.Restarts.{Change, judged, AreChanges, spent_by_changes}
+use Rattle.sasl_desk.specs.Changes.{Change, judged, AreChanges, spent_by_changes}
 use Rattle.sasl_desk.specs.Spent.{AreSpent, spent_by}
 use Rattle.clap.specs.declared.parser.matches.ArgMatches.{ArgMatches}
 use Rattle.command_line.specs.declared.fault.Fault.{Fault}

@@ -12,7 +12,7 @@ pub mod SameRequests
 pub mod Spent
 pub mod Unlocks
 pub mod Logs
-pub mod Restarts
+pub mod Changes
 pub mod Stores
 pub mod Answered
 pub mod Served

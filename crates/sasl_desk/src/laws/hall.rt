@@ -12,7 +12,7 @@ ghost use Rattle.sasl_desk.specs.Desks.{MayHold, MayHoldWithinSave, spent_by_all
 ghost use Rattle.sasl_desk.specs.Halls.{HallFields, busy_lines, hall_lines, hall_bytes, numbered_bytes, phase_in, IsPhaseIn, IsHallAfter};
 ghost use Rattle.sasl_desk.specs.Keeper.{IsAttemptJudged};
 ghost use Rattle.sasl_desk.specs.Records.{HasSessionRecords};
-ghost use Rattle.sasl_desk.specs.Restarts.{IsHallRunLeaving};
+ghost use Rattle.sasl_desk.specs.Changes.{IsHallRunLeaving};
 ghost use Rattle.sasl_desk.specs.Runs.{Call, wire_bytes};
 ghost use Rattle.sasl_desk.specs.Saved.{AreLinesSaved};
 ghost use Rattle.sasl_desk.specs.Serves.{call_lines};

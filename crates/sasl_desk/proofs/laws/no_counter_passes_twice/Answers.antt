@@ -1,4 +1,4 @@
-use Rattle.sasl_desk.proofs.lemmas.runs.Restarts.{no_counter_passes_twice}
+use Rattle.sasl_desk.proofs.lemmas.runs.Changes.{no_counter_passes_twice}
 use Rattle.sasl_desk.proofs.laws.no_counter_passes_twice.Goals as goal
 
 pub returns : goal.returns

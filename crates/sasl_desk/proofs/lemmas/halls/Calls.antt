@@ -51,13 +51,13 @@ prefixed_bytes_are_numbered n lines = ap ended_by_lf (prefixed_texts_are_numbere
 
 -- the phase that a turn leaves its session in
 abbrev pub phase_left : AfterTurn → Phase
-phase_left (Going going) = session_phase going
+phase_left (Going session) = session_phase session
 phase_left Over = phase.Closed
-phase_left (Halted going) = phase.Halted
+phase_left (Halted session) = phase.Halted
 
 -- an open session's phase is that of the place at which it stands
-pub session_phase_fits_place : (accounts : Accounts) (at : Place) (going : Session) → IsSessionAt accounts at going
-    → IsPhaseOf at (session_phase going)
+pub session_phase_fits_place : (accounts : Accounts) (at : Place) (session : Session) → IsSessionAt accounts at session
+    → IsPhaseOf at (session_phase session)
 session_phase_fits_place accounts at WaitAuth is = is
 session_phase_fits_place accounts at (WaitFirst mechanism) is = (_, is)
 session_phase_fits_place accounts at (WaitFinal waiting) (first, challenge, is, stands) = (_, _, first, challenge, is)
@@ -66,23 +66,23 @@ session_phase_fits_place accounts at (WaitCode name) is = (name, is)
 -- the phase that a turn leaves is that of the place at which it leaves its session
 left_phase_fits_place : (accounts : Accounts) (at : Place) (ends : ℕ) (left : AfterTurn) → LeavesSession accounts at ends left
     → IsPhaseOf at (phase_left left)
-left_phase_fits_place accounts at ends (Going going) is = session_phase_fits_place accounts at going is.0
+left_phase_fits_place accounts at ends (Going session) is = session_phase_fits_place accounts at session is.0
 left_phase_fits_place accounts at ends Over is = is.0
-left_phase_fits_place accounts at ends (Halted going) is = tt
+left_phase_fits_place accounts at ends (Halted session) is = tt
 
 -- the phase that a turn leaves is Halted if and only if the turn has halted the hall
 halted_phase_iff_halted : (left : AfterTurn) → (phase_left left ≡ phase.Halted) ↔ (halted_after left ≡ true)
-halted_phase_iff_halted (Going going) = (λ is. absurd (open_session_is_not_halted going is), λ is. absurd (cc is))
+halted_phase_iff_halted (Going session) = (λ is. absurd (open_session_is_not_halted session is), λ is. absurd (cc is))
 halted_phase_iff_halted Over = (λ is. absurd (cc is), λ is. absurd (cc is))
-halted_phase_iff_halted (Halted going) = (λ is. refl, λ is. refl)
+halted_phase_iff_halted (Halted session) = (λ is. refl, λ is. refl)
 
 -- a hall in which the open session of this number takes a turn
 module _ (itself : BeginsWithItself) (stays : SpentStaysSpent) {S : Type 0} {facts : S → StoreFacts} {IsStored : List ℕ → Type 0}
-    {old new : Keeper S} {n : ℕ} {going : Session} {server_nonce : List ℕ} (others : List OpenSession) (given : ℕ) {event : ClientEvent}
+    {old new : Keeper S} {n : ℕ} {session : Session} {server_nonce : List ℕ} (others : List OpenSession) (given : ℕ) {event : ClientEvent}
     {moment : ℕ} {left : AfterTurn} {wire wire' log log' : List ℕ} where
   -- a hall has answered a call when the session's turn was taken and its lines were written
-  pub turn_answers_hall_call : IsTurnWritten facts IsStored old going server_nonce event moment (Some n) wire wire' log log' left new
-      → AnswersIn facts IsStored (hall_of old (open_session_of n going server_nonce ∷ others) given false) n (hears event moment)
+  pub turn_answers_hall_call : IsTurnWritten facts IsStored old session server_nonce event moment (Some n) wire wire' log log' left new
+      → AnswersIn facts IsStored (hall_of old (open_session_of n session server_nonce ∷ others) given false) n (hears event moment)
       (phase_left left) wire wire' log log'
       (hall_of new (open_sessions_after n server_nonce left others) given (halted_after left))
   turn_answers_hall_call (lines, t, written) = record {

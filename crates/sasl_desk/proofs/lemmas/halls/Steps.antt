@@ -44,29 +44,29 @@ use Rattle.sasl_desk.proofs.lemmas.halls.Turns.{IsHallStep}
 use Rattle.sasl_desk.proofs.lemmas.halls.Working.{any_line_follows_log, working_hall_holds_book, client_turn_is_open, open_session_has_run}
 
 -- a turn that leaves its session at a place, or ends it, leaves it so in a hall
-left_session_leaves_place : (accounts : Accounts) (next : Place) (ends : ℕ) (going : Option Session) → IsLeftAt accounts next going
-    → ends ≡ ends_of going
-    → LeavesSession accounts next ends (after_turn_of going)
-left_session_leaves_place accounts next ends (Some going) is same = (is, same)
+left_session_leaves_place : (accounts : Accounts) (next : Place) (ends : ℕ) (session : Option Session) → IsLeftAt accounts next session
+    → ends ≡ ends_of session
+    → LeavesSession accounts next ends (after_turn_of session)
+left_session_leaves_place accounts next ends (Some session) is same = (is, same)
 left_session_leaves_place accounts next ends None is same = (is, same)
 
 -- a hall in which the open session of this number takes a turn, on this event and at this moment
 module _ (itself : BeginsWithItself) {S : Type 0} {facts : S → StoreFacts} {IsStored : List ℕ → Type 0} {start : BookFields}
-    {calls : List (Numbered Call)} {old : Keeper S} {n : ℕ} {going : Session} {server_nonce : List ℕ} {others : List OpenSession}
+    {calls : List (Numbered Call)} {old : Keeper S} {n : ℕ} {session : Session} {server_nonce : List ℕ} {others : List OpenSession}
     {given : ℕ}
-    (s : IsHallAfter facts IsStored start calls (hall_of old (open_session_of n going server_nonce ∷ others) given false))
+    (s : IsHallAfter facts IsStored start calls (hall_of old (open_session_of n session server_nonce ∷ others) given false))
     (event : ClientEvent)
     (moment : ℕ) where
   -- a turn that the session itself answers is a step of the hall
   answer_is_hall_step : (lines : List LogLine) (left : AfterTurn) (new : Keeper S)
-      → SessionAnswers old going server_nonce event lines left new → IsHallStep s event moment lines left new
+      → SessionAnswers old session server_nonce event lines left new → IsHallStep s event moment lines left new
   answer_is_hall_step lines left new t =
       let accounts = accounts_in start in
       let (is, same) = (s.standing refl).0 in
       let turn = t.hears accounts (s.places n) (book_after_told itself start s.told old.book s.is_book).entries is in
       let next = turn.is_answer.next in
       let lines = turn_lines t.turn t.message in
-      let taken = session_turn_is_taken accounts (server_nonce_of (of_number n calls)) event moment (s.places n) server_nonce going t.turn
+      let taken = session_turn_is_taken accounts (server_nonce_of (of_number n calls)) event moment (s.places n) server_nonce session t.turn
       t.message same is turn in
       rw (t.lines_are, t.is_left, t.same) (record {
         next = next;
@@ -114,7 +114,7 @@ module _ (itself : BeginsWithItself) {S : Type 0} {facts : S → StoreFacts} {Is
       let accounts = accounts_in start in
       let lines = judged_lines moment sent NotSaved in
       let taken = halt_turn_is_taken accounts (server_nonce_of (of_number n calls)) event moment (s.places n) name sent due in
-      let is_open = client_turn_is_open (s.places n) (session_has_client_turn accounts (s.places n) going (s.standing refl).0.0) in
+      let is_open = client_turn_is_open (s.places n) (session_has_client_turn accounts (s.places n) session (s.standing refl).0.0) in
       let run = open_session_has_run accounts (of_number n calls) (s.places n) is_open (s.session_runs n) in
       record {
         next = halted;
@@ -134,7 +134,7 @@ module _ (itself : BeginsWithItself) {S : Type 0} {facts : S → StoreFacts} {Is
 
   -- each turn of a session is a step of its hall
   pub turn_is_hall_step : SpentStaysSpent → (lines : List LogLine) (left : AfterTurn) (new : Keeper S)
-      → IsTurnOf facts IsStored old going server_nonce event moment lines left new → IsHallStep s event moment lines left new
+      → IsTurnOf facts IsStored old session server_nonce event moment lines left new → IsHallStep s event moment lines left new
   turn_is_hall_step stays lines left new (inl t) = answer_is_hall_step lines left new t
   turn_is_hall_step stays lines left new (inr (name, sent, asked, t)) =
       let after = book_after_told itself start s.told old.book s.is_book in

@@ -14,7 +14,7 @@ use Rattle.sasl_desk.specs.Desks.{MayHold, MayHoldWithinSave, spent_by_all}
 use Rattle.sasl_desk.specs.Saved.{AreLinesSaved}
 use Rattle.sasl_desk.specs.Halls.{HallFields, hall_lines, IsStoredAfter, IsHallAfter}
 use Rattle.sasl_desk.specs.Keeper.{IsAttemptJudged}
-use Rattle.sasl_desk.specs.Restarts.{MayLeave, IsHallRunLeaving}
+use Rattle.sasl_desk.specs.Changes.{MayLeave, IsHallRunLeaving}
 use Rattle.sasl_desk.specs.Runs.{Call}
 use Rattle.sasl_desk.specs.Spent.{AreSpent, spent_by, SpentStaysSpent}
 use Rattle.sasl_desk.proofs.lemmas.runs.Stores.{IsTextLeft, held_text_may_be_left, store_holds_left_book, book_was_saved}

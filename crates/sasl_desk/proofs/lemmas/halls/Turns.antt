@@ -55,8 +55,8 @@ numbered_turn_is_writable n number (line ∷ lines) turns written = (
 
 -- a hall in which the open session of this number takes a turn
 module _ {S : Type 0} {facts : S → StoreFacts} {IsStored : List ℕ → Type 0} {start : BookFields} {calls : List (Numbered Call)}
-    {old : Keeper S} {n : ℕ} {going : Session} {server_nonce : List ℕ} {others : List OpenSession} {given : ℕ}
-    (s : IsHallAfter facts IsStored start calls (hall_of old (open_session_of n going server_nonce ∷ others) given false)) where
+    {old : Keeper S} {n : ℕ} {session : Session} {server_nonce : List ℕ} {others : List OpenSession} {given : ℕ}
+    (s : IsHallAfter facts IsStored start calls (hall_of old (open_session_of n session server_nonce ∷ others) given false)) where
   -- what a hall's turn gives: the lines, the place to which they lead, and the keeper with which the hall goes on
   pub record IsHallStep (event : ClientEvent) (moment : ℕ) (lines : List LogLine) (left : AfterTurn) (new : Keeper S) : Type 0 where
     -- the place to which the turn leads
@@ -91,11 +91,11 @@ module _ {S : Type 0} {facts : S → StoreFacts} {IsStored : List ℕ → Type 0
   step_adds_hall_call event moment lines left new step =
       let accounts = accounts_in start in
       let call = call_of (hears event moment) lines in
-      let open_session = open_session_of n going server_nonce in
+      let open_session = open_session_of n session server_nonce in
       let places = put n step.next s.places in
       let here = put_sets_own n step.next s.places in
       let is = s.standing refl in
-      let is_open = client_turn_is_open (s.places n) (session_has_client_turn accounts (s.places n) going is.0.0) in
+      let is_open = client_turn_is_open (s.places n) (session_has_client_turn accounts (s.places n) session is.0.0) in
       let range = open_number_is_in_range max_open_sessions (demands accounts) (hall_lines calls) s.places s.told s.spelled n is_open in
       let number : IsSessionNumber n = (range.0, omega (arith, range.1, s.given, s.last_number)) in
       let counted = own_open_session_counts n open_session others refl in

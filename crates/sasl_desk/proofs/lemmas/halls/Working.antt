@@ -76,9 +76,9 @@ any_line_may_follow d at next n m line more goes rests = tt
 unhalted_hall_holds_book : (IsStored : List ℕ → Type 0) (accounts : Accounts) (calls : List (Numbered Call)) (places : ℕ → Place)
     (book : BookFields) (store : StoreFacts) → ((n : ℕ) → places n ≡ halted → ⊥)
     → IsStoredAfter IsStored accounts calls places book store → HoldsBook IsStored book store
-unhalted_hall_holds_book IsStored accounts [] places book store going held = held
-unhalted_hall_holds_book IsStored accounts (c ∷ calls) places book store going stored =
-    unhalted_store_holds_book IsStored accounts (of_number c.number (c ∷ calls)) book store (places c.number) (going c.number) stored
+unhalted_hall_holds_book IsStored accounts [] places book store session held = held
+unhalted_hall_holds_book IsStored accounts (c ∷ calls) places book store session stored =
+    unhalted_store_holds_book IsStored accounts (of_number c.number (c ∷ calls)) book store (places c.number) (session c.number) stored
 
 -- a hall that has answered these calls and has not halted
 module _ {S : Type 0} {facts : S → StoreFacts} {IsStored : List ℕ → Type 0} {start : BookFields} {calls : List (Numbered Call)}

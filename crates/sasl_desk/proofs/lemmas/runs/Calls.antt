@@ -25,7 +25,7 @@ use Rattle.sasl_desk.proofs.lemmas.turns.Saves.{halted_after, turn_counts_saves,
 use Rattle.sasl_desk.proofs.lemmas.runs.IsDeskAfter.{open_desk_holds_book, greeting_adds_desk_call, turn_adds_desk_call}
 
 -- the phase of an open session is not Halted
-pub open_session_is_not_halted : (going : Session) → session_phase going ≡ phase.Halted → ⊥
+pub open_session_is_not_halted : (session : Session) → session_phase session ≡ phase.Halted → ⊥
 open_session_is_not_halted WaitAuth is = cc is
 open_session_is_not_halted (WaitFirst mechanism) is = cc is
 open_session_is_not_halted (WaitFinal waiting) is = cc is
@@ -34,18 +34,18 @@ open_session_is_not_halted (WaitCode name) is = cc is
 -- a desk whose phase after a turn is Halted was halted by that turn
 halted_phase_shows_halting_turn : (left : AfterTurn) (server_nonce : List ℕ) → phase_of (state_after left server_nonce) ≡ phase.Halted
     → halted_after left ≡ true
-halted_phase_shows_halting_turn (Going going) server_nonce is = absurd (open_session_is_not_halted going is)
+halted_phase_shows_halting_turn (Going session) server_nonce is = absurd (open_session_is_not_halted session is)
 halted_phase_shows_halting_turn Over server_nonce is = absurd (cc is)
-halted_phase_shows_halting_turn (Halted going) server_nonce is = refl
+halted_phase_shows_halting_turn (Halted session) server_nonce is = refl
 
 -- a desk with an open session, and what a turn makes of it
 module _ (itself : BeginsWithItself) (stays : SpentStaysSpent) (law : GoesOnByALine) {S : Type 0} {facts : S → StoreFacts}
-    {IsStored : List ℕ → Type 0} {old : Keeper S} {going : Session} {server_nonce : List ℕ} {event : ClientEvent} {moment : ℕ}
+    {IsStored : List ℕ → Type 0} {old : Keeper S} {session : Session} {server_nonce : List ℕ} {event : ClientEvent} {moment : ℕ}
     {left : AfterTurn} {wire wire' log log' : List ℕ} {new : Desk S} where
   -- when the turn was taken and its lines were written, the desk has answered the call
-  pub turn_answers_desk_call : IsTurnWritten facts IsStored old going server_nonce event moment None wire wire' log log' left new.keeper
+  pub turn_answers_desk_call : IsTurnWritten facts IsStored old session server_nonce event moment None wire wire' log log' left new.keeper
       → new.state ≡ state_after left server_nonce
-      → Answers facts IsStored (desk_of old (Open going server_nonce)) (hears event moment) wire wire' log log' new
+      → Answers facts IsStored (desk_of old (Open session server_nonce)) (hears event moment) wire wire' log log' new
   turn_answers_desk_call (lines, t, written) is_state = record {
     lines = lines;
     logged = written.logged;

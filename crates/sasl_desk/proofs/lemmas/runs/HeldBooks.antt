@@ -46,8 +46,8 @@ module _ (IsStored : List ℕ → Type 0) where
     -- at a place other than the halt, the store holds the book
     pub unhalted_store_holds_book : (at : Place) → (at ≡ halted → ⊥) → IsStoredAt IsStored accounts calls at book store
         → HoldsBook IsStored book store
-    unhalted_store_holds_book halted going stored = absurd (going refl)
-    unhalted_store_holds_book at going stored = stored
+    unhalted_store_holds_book halted session stored = absurd (session refl)
+    unhalted_store_holds_book at session stored = stored
 
     -- at a client's turn, the store holds the book
     pub client_turn_store_holds_book : (at : Place) → is_client_turn at ≡ true → IsStoredAt IsStored accounts calls at book store
@@ -58,8 +58,8 @@ module _ (IsStored : List ℕ → Type 0) where
     -- at a place other than the halt, a store that holds the book is as it has to be
     pub held_book_fits_place : (at : Place) → (at ≡ halted → ⊥) → HoldsBook IsStored book store
         → IsStoredAt IsStored accounts calls at book store
-    held_book_fits_place halted going held = absurd (going refl)
-    held_book_fits_place at going held = held
+    held_book_fits_place halted session held = absurd (session refl)
+    held_book_fits_place at session held = held
 
   -- after the save for a code failed, the store is as it has to be at the halt
   pub lost_save_fits_halt : (accounts : Accounts) (calls : List Call) (at : Place) (old new : BookFields) (was now : StoreFacts)

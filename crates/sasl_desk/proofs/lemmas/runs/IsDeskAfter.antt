@@ -43,10 +43,10 @@ use Rattle.sasl_desk.proofs.lemmas.runs.HeldBooks.{lost_save_fits_halt}
 use Rattle.sasl_desk.proofs.lemmas.runs.BooksAfterReplies.{book_after_told, reply_adds_to_book, replies_spend_counters}
 
 -- after a turn that leaves its session at a place, its desk is in the state that is due there
-left_desk_fits_place : (accounts : Accounts) (server_nonce kept : List ℕ) (at : Place) (going : Option Session) → kept ≡ server_nonce
-    → IsLeftAt accounts at going
-    → IsStateAt accounts server_nonce at (state_after (after_turn_of going) kept)
-left_desk_fits_place accounts server_nonce kept at (Some going) same is = (is, same)
+left_desk_fits_place : (accounts : Accounts) (server_nonce kept : List ℕ) (at : Place) (session : Option Session) → kept ≡ server_nonce
+    → IsLeftAt accounts at session
+    → IsStateAt accounts server_nonce at (state_after (after_turn_of session) kept)
+left_desk_fits_place accounts server_nonce kept at (Some session) same is = (is, same)
 left_desk_fits_place accounts server_nonce kept at None same is = is
 
 -- a desk that begins stands for a book that is its keeper's, and for no call
@@ -92,18 +92,18 @@ module _ (law : GoesOnByALine) {S : Type 0} {facts : S → StoreFacts} {IsStored
 
 -- a desk with an open session
 module _ {S : Type 0} {facts : S → StoreFacts} {IsStored : List ℕ → Type 0} {start : BookFields} {calls : List Call} {old : Keeper S}
-    {going : Session} {server_nonce : List ℕ} (s : IsDeskAfter facts IsStored start calls (desk_of old (Open going server_nonce))) where
+    {session : Session} {server_nonce : List ℕ} (s : IsDeskAfter facts IsStored start calls (desk_of old (Open session server_nonce))) where
   -- the store of a desk with an open session holds the book
   pub open_desk_holds_book : HoldsBook IsStored old.book (facts old.store)
   open_desk_holds_book =
       client_turn_store_holds_book IsStored (accounts_in start) calls old.book (facts old.store) s.place
-      (session_has_client_turn (accounts_in start) s.place going s.is_state.0) s.is_stored
+      (session_has_client_turn (accounts_in start) s.place session s.is_state.0) s.is_stored
 
   -- an event on which its session takes a turn
   module _ (itself : BeginsWithItself) (law : GoesOnByALine) (event : ClientEvent) (moment : ℕ) where
     -- when the session has answered, the desk stands for one call more
     answer_adds_desk_call : (lines : List LogLine) (left : AfterTurn) (new : Keeper S)
-        → SessionAnswers old going server_nonce event lines left new
+        → SessionAnswers old session server_nonce event lines left new
         → IsDeskAfter facts IsStored start (call_of (hears event moment) lines ∷ calls) (desk_of new (state_after left server_nonce))
     answer_adds_desk_call lines left new t =
         let accounts = accounts_in start in
@@ -111,7 +111,7 @@ module _ {S : Type 0} {facts : S → StoreFacts} {IsStored : List ℕ → Type 0
         let turn = t.hears accounts s.place (book_after_told itself start s.told old.book s.is_book).entries is in
         let next = turn.is_answer.next in
         let lines = turn_lines t.turn t.message in
-        let taken = session_turn_is_taken accounts (server_nonce_of calls) event moment s.place server_nonce going t.turn t.message same is
+        let taken = session_turn_is_taken accounts (server_nonce_of calls) event moment s.place server_nonce session t.turn t.message same is
         turn in
         rw (t.same, t.is_left, t.lines_are) (record {
           place = next;
@@ -173,7 +173,7 @@ module _ {S : Type 0} {facts : S → StoreFacts} {IsStored : List ℕ → Type 0
 
     -- after each turn of its session the desk stands for one call more
     pub turn_adds_desk_call : SpentStaysSpent → (lines : List LogLine) (left : AfterTurn) (new : Keeper S)
-        → IsTurnOf facts IsStored old going server_nonce event moment lines left new
+        → IsTurnOf facts IsStored old session server_nonce event moment lines left new
         → IsDeskAfter facts IsStored start (call_of (hears event moment) lines ∷ calls) (desk_of new (state_after left server_nonce))
     turn_adds_desk_call stays lines left new (inl t) = answer_adds_desk_call lines left new t
     turn_adds_desk_call stays lines left new (inr (name, sent, asked, t)) =

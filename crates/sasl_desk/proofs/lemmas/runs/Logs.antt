@@ -37,7 +37,7 @@ bytes_are_lines lines written = (
 )
 
 -- the phase of an open session is not Closed
-open_session_is_not_closed : (going : Session) → session_phase going ≡ phase.Closed → ⊥
+open_session_is_not_closed : (session : Session) → session_phase session ≡ phase.Closed → ⊥
 open_session_is_not_closed WaitAuth is = cc is
 open_session_is_not_closed (WaitFirst mechanism) is = cc is
 open_session_is_not_closed (WaitFinal waiting) is = cc is
@@ -49,7 +49,7 @@ closed_desk_may_end : (start : BookFields) (server_nonce : List ℕ) (place : Pl
     → phase_of state ≡ phase.Closed
     → MayEnd place
 closed_desk_may_end start server_nonce place Closed at is = rw at tt
-closed_desk_may_end start server_nonce place (Open going kept) at is = absurd (open_session_is_not_closed going is)
+closed_desk_may_end start server_nonce place (Open session own) at is = absurd (open_session_is_not_closed session is)
 closed_desk_may_end start server_nonce place Halted at is = absurd (cc is)
 
 -- a desk that has answered these calls

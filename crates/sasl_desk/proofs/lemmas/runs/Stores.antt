@@ -16,10 +16,10 @@ use Rattle.sasl_desk.specs.Runs.{Call, run_lines}
 use Rattle.sasl_desk.specs.Saved.{IsLogSaved}
 use Rattle.sasl_desk.specs.Spent.{AreSpent, spent_by, SpentStaysSpent}
 use Rattle.sasl_desk.specs.Desks.{MayHold, MayHoldWithinSave, HoldsBook, IsLostAfter, IsStoredAt, spent_by_all, IsDeskAfter}
-use Rattle.sasl_desk.specs.Restarts.{MayLeave, IsDeskRunLeaving}
+use Rattle.sasl_desk.specs.Changes.{MayLeave, IsDeskRunLeaving}
 use Rattle.sasl_desk.specs.declared.desk.Desk.{Desk}
 use Rattle.sasl_desk.proofs.lemmas.runs.BooksAfterReplies.{attempt_spends_counters}
-use Rattle.sasl_desk.proofs.lemmas.runs.Restarts.{left_book_keeps_spent_counters}
+use Rattle.sasl_desk.proofs.lemmas.runs.Changes.{left_book_keeps_spent_counters}
 
 -- the text is that of a book that a run may leave: of this book, which the run kept, or of that with one more attempt
 abbrev pub IsTextLeft : (book : BookFields) → (text : List ℕ) → Type 0

@@ -26,7 +26,7 @@ use Rattle.std.specs.declared.option.Option.TheVariants.{None, Some}
 use Rattle.sasl_desk.specs.Runs.{IsAtRest}
 
 -- the place where a session stands is its client's turn
-pub session_has_client_turn : (accounts : Accounts) (at : Place) (going : Session) → IsSessionAt accounts at going
+pub session_has_client_turn : (accounts : Accounts) (at : Place) (session : Session) → IsSessionAt accounts at session
     → is_client_turn at ≡ true
 session_has_client_turn accounts at WaitAuth is = rw is refl
 session_has_client_turn accounts at (WaitFirst mechanism) is = rw is refl
@@ -44,15 +44,15 @@ client_turn_rests (waits_code account) turn = (over, refl)
 client_turn_rests at turn = absurd (cc turn)
 
 -- where a session is left, whether it goes on or is over, nothing is left to be said
-pub left_session_rests : (accounts : Accounts) (at : Place) (going : Option Session) → IsLeftAt accounts at going → IsAtRest at
+pub left_session_rests : (accounts : Accounts) (at : Place) (session : Option Session) → IsLeftAt accounts at session → IsAtRest at
 left_session_rests accounts at None is = rw is tt
-left_session_rests accounts at (Some going) is = client_turn_rests at (session_has_client_turn accounts at going is)
+left_session_rests accounts at (Some session) is = client_turn_rests at (session_has_client_turn accounts at session is)
 
 -- a session is not left at a halt
-pub left_place_is_not_halted : (accounts : Accounts) (at : Place) (going : Option Session) → IsLeftAt accounts at going → at ≡ halted → ⊥
+pub left_place_is_not_halted : (accounts : Accounts) (at : Place) (session : Option Session) → IsLeftAt accounts at session → at ≡ halted → ⊥
 left_place_is_not_halted accounts at None is same = cc (is, same)
-left_place_is_not_halted accounts at (Some going) is same =
-    false≢true (subst (λ (p : Place). is_client_turn p ≡ true) same (session_has_client_turn accounts at going is))
+left_place_is_not_halted accounts at (Some session) is same =
+    false≢true (subst (λ (p : Place). is_client_turn p ≡ true) same (session_has_client_turn accounts at session is))
 
 -- what is recorded of an event may stand at a client's turn
 pub record_may_stand : (d : Demands) (at : Place) (event : ClientEvent) (recorded : LogLine) → is_client_turn at ≡ true
@@ -64,14 +64,14 @@ record_may_stand d at goes_away gone turn is = gone_may_stand d at turn
 record_may_stand d at event recorded turn is = absurd is
 
 -- the lines of a turn are a path from the session's place to the one after the turn
-pub turn_is_path : (accounts : Accounts) (server_nonce : List ℕ) (event : ClientEvent) (at : Place) (going : Session) (turn : Turn)
+pub turn_is_path : (accounts : Accounts) (server_nonce : List ℕ) (event : ClientEvent) (at : Place) (session : Session) (turn : Turn)
     (message : List ℕ)
-    → IsSessionAt accounts at going
+    → IsSessionAt accounts at session
     → (t : IsTurnOnEvent accounts server_nonce event at turn message)
     → IsPath (demands accounts) at (turn_lines turn message) t.is_answer.next
-turn_is_path accounts server_nonce event at going turn message is t = (
+turn_is_path accounts server_nonce event at session turn message is t = (
   place_after_record at (recorded_shown turn.recorded),
-  record_may_stand (demands accounts) at event (recorded_shown turn.recorded) (session_has_client_turn accounts at going is) t.is_record,
+  record_may_stand (demands accounts) at event (recorded_shown turn.recorded) (session_has_client_turn accounts at session is) t.is_record,
   t.is_answer.path,
 )
 

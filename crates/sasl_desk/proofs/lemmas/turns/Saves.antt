@@ -49,13 +49,13 @@ session_turn_saves_nothing turn message = filter_keeps_none_if_none_passes is_sa
 
 -- whether a turn that leaves its session so has halted its desk or its hall
 abbrev pub halted_after : AfterTurn → Bool
-halted_after (Going going) = false
+halted_after (Going session) = false
 halted_after Over = false
-halted_after (Halted going) = true
+halted_after (Halted session) = true
 
 -- a session that goes on or has ended halts neither a desk nor a hall
-left_session_halts_nothing : (going : Option Session) → halted_after (after_turn_of going) ≡ true → ⊥
-left_session_halts_nothing (Some going) is = cc is
+left_session_halts_nothing : (session : Option Session) → halted_after (after_turn_of session) ≡ true → ⊥
+left_session_halts_nothing (Some session) is = cc is
 left_session_halts_nothing None is = cc is
 
 -- what came of a code, or of two in a row: the book and the store before it was judged, and after
@@ -124,10 +124,10 @@ module _ (IsStored : List ℕ → Type 0) (name : List ℕ) (moment : ℕ) (sent
       (lost_store_has_failed was now loses.text loses.lost, same)
 
 -- what a turn of a session did to its keeper
-module _ {S : Type 0} {facts : S → StoreFacts} {IsStored : List ℕ → Type 0} {old new : Keeper S} {going : Session} {server_nonce : List ℕ}
+module _ {S : Type 0} {facts : S → StoreFacts} {IsStored : List ℕ → Type 0} {old new : Keeper S} {session : Session} {server_nonce : List ℕ}
     {event : ClientEvent} {moment : ℕ} {lines : List LogLine} {left : AfterTurn} where
   -- a turn makes as many saves as its lines stand for
-  pub turn_counts_saves : IsTurnOf facts IsStored old going server_nonce event moment lines left new
+  pub turn_counts_saves : IsTurnOf facts IsStored old session server_nonce event moment lines left new
       → HoldsBook IsStored old.book (facts old.store) → CountsSaves facts lines old new
   turn_counts_saves (inl t) held =
       let none = ap (λ (l : List LogLine). length (filter is_saving l)) t.lines_are ∙ ap (λ (l : List LogLine). length l)
@@ -139,8 +139,8 @@ module _ {S : Type 0} {facts : S → StoreFacts} {IsStored : List ℕ → Type 0
       (code_counts_saves IsStored name moment sent old.book new.book (facts old.store) (facts new.store) t.judged held t.is_judged)
 
   -- a turn with a line that stands for a save is an attempt, and the store was asked to save the book with it
-  pub turn_asks_for_save : (accounts : Accounts) (at : Place) → IsSessionAt accounts at going
-      → IsTurnOf facts IsStored old going server_nonce event moment lines left new
+  pub turn_asks_for_save : (accounts : Accounts) (at : Place) → IsSessionAt accounts at session
+      → IsTurnOf facts IsStored old session server_nonce event moment lines left new
       → HoldsBook IsStored old.book (facts old.store) → AsksToSaveAttempt facts (hears event moment) at lines old new
   turn_asks_for_save accounts at is (inl t) held some =
       absurd (some (ap (filter is_saving) t.lines_are ∙ session_turn_saves_nothing t.turn t.message))
@@ -149,14 +149,14 @@ module _ {S : Type 0} {facts : S → StoreFacts} {IsStored : List ℕ → Type 0
       (subst (λ (g : Session). IsSessionAt accounts at g) asked.waits is) held t.is_judged (rw t.lines_are at some))
 
   -- a turn without a line that stands for a save changes neither the book nor the store
-  pub turn_is_quiet : IsTurnOf facts IsStored old going server_nonce event moment lines left new → IsQuiet facts lines old new
+  pub turn_is_quiet : IsTurnOf facts IsStored old session server_nonce event moment lines left new → IsQuiet facts lines old new
   turn_is_quiet (inl t) none = (ap (λ (k : Keeper S). k.book) t.same, ap (λ (k : Keeper S). facts k.store) t.same)
   turn_is_quiet (inr (name, sent, asked, t)) none =
       code_is_quiet IsStored name moment sent old.book new.book (facts old.store) (facts new.store) t.judged t.is_judged
       (rw t.lines_are at none)
 
   -- if a turn halts the desk or the hall, the store has failed, and the book is as before
-  pub halting_turn_failed_saving : IsTurnOf facts IsStored old going server_nonce event moment lines left new → halted_after left ≡ true
+  pub halting_turn_failed_saving : IsTurnOf facts IsStored old session server_nonce event moment lines left new → halted_after left ≡ true
       → LeavesFailedStore facts old new
   halting_turn_failed_saving (inl t) is = absurd (left_session_halts_nothing t.turn.answer.session (rw t.is_left at is))
   halting_turn_failed_saving (inr (name, sent, asked, t)) is =

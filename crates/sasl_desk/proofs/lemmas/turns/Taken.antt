@@ -21,16 +21,16 @@ use Rattle.sasl_desk.proofs.lemmas.turns.Paths.{turn_is_path, left_session_rests
 -- a turn on this event, at this moment, of a session that stands at this place
 module _ (accounts : Accounts) (server_nonce : List ℕ) (event : ClientEvent) (moment : ℕ) (at : Place) where
   -- a turn that the session itself answers is taken as a run says it
-  pub session_turn_is_taken : (kept : List ℕ) (going : Session) (turn : Turn) (message : List ℕ) → kept ≡ server_nonce
-      → IsSessionAt accounts at going → (t : IsTurnOnEvent accounts kept event at turn message)
+  pub session_turn_is_taken : (kept : List ℕ) (session : Session) (turn : Turn) (message : List ℕ) → kept ≡ server_nonce
+      → IsSessionAt accounts at session → (t : IsTurnOnEvent accounts kept event at turn message)
       → IsTurnTaken accounts server_nonce event moment at (turn_lines turn message) t.is_answer.next
-  session_turn_is_taken kept going turn message same is t = record {
+  session_turn_is_taken kept session turn message same is t = record {
     recorded = recorded_shown turn.recorded;
     answered = lines_of_answer turn.answer message;
     lines_are = refl;
     is_record = t.is_record;
     answers = answer_lines_have IsAnswerLine (λ text. tt) (λ text. tt) (λ text. tt) tt turn.answer.says turn.answer.session message;
-    path = turn_is_path accounts kept event at going turn message is t;
+    path = turn_is_path accounts kept event at session turn message is t;
     rests = left_session_rests accounts t.is_answer.next turn.answer.session t.is_answer.left;
     challenge = subst (λ (o : List ℕ). IsChallengeWith accounts o t.is_answer.next) same t.is_answer.challenge;
     plain = t.is_answer.plain;

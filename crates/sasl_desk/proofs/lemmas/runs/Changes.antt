@@ -8,8 +8,8 @@ use Rattle.log_grammar.specs.LoggedAttempt.{LoggedAttempt}
 use Rattle.log_grammar.proofs.lemmas.ListEnds.{back_keeps_all}
 use Rattle.sasl_desk.specs.Spent.{AreDifferent, IsCounterSpent, AreSpent, spent_by, SpentStaysSpent}
 use Rattle.sasl_desk.specs.Desks.{spent_by_all}
-use Rattle.sasl_desk.specs.Restarts.{RunOf, MayLeave, IsRunOf, Change, desk_ran, hall_ran, judged, unlocked, added}
-use Rattle.sasl_desk.specs.Restarts.{IsChange, AreChanges, spent_by_change, spent_by_changes}
+use Rattle.sasl_desk.specs.Changes.{RunOf, MayLeave, IsRunOf, Change, desk_ran, hall_ran, judged, unlocked, added}
+use Rattle.sasl_desk.specs.Changes.{IsChange, AreChanges, spent_by_change, spent_by_changes}
 use Rattle.sasl_desk.proofs.lemmas.runs.BooksAfterReplies.{attempt_spends_counters}
 use Rattle.sasl_desk.proofs.lemmas.runs.Unlocks.{unlock_keeps_spent_counters, addition_keeps_spent_counters}
 
