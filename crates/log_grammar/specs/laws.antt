@@ -16,6 +16,7 @@ pub mod NumberedLogLaws
 pub mod NumberedBySessions
 pub mod NumberedReasons
 pub mod NumberedReplies
+pub mod NumberedLogins
 pub mod NumberedExamples
 pub mod UpgradedLogs
 pub mod UpgradedExamples

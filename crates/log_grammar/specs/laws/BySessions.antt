@@ -14,7 +14,7 @@ use Rattle.log_grammar.specs.Begins.{Begins}
 use Rattle.log_grammar.specs.VersionOne.{version_one}
 use Rattle.log_grammar.specs.LogKinds.{IsCleanOf}
 use Rattle.log_grammar.specs.Versions.{IsFirstOutsideCleanLogs, IsFaultLine}
-use Rattle.log_grammar.specs.laws.Outcomes.{IsSentBy}
+use Rattle.log_grammar.specs.laws.Logins.{IsSentBy}
 
 -- the session is closed: `E` is its last line
 abbrev pub IsClosed : Session → Type 0

@@ -7,13 +7,13 @@ use Rattle.scram_ends.specs.declared.verdict.Refusal.{Refusal}
 use Rattle.otp_core.specs.Attempt.{CodeTexts}
 use Rattle.otp_core.specs.declared.token.reply.Reply.{Reply}
 use Rattle.log_grammar.specs.Words.{offered_names}
-use Rattle.log_grammar.specs.Lines.{LogLine, said, heard, mechs, cont, refuses, replies, halt, auth, auth_with, resp, code_line, EndsWith}
+use Rattle.log_grammar.specs.Lines.{LogLine, said, heard, mechs, cont, refuses, replies, halt, auth, code_line, EndsWith}
 use Rattle.log_grammar.specs.LoggedAttempt.{LoggedAttempt, logged_attempt_of}
 use Rattle.log_grammar.specs.Places.{Place, between, offered, asks_bare, waits_first, got_first, waits_final, got_final, waits_code, got_code}
 use Rattle.log_grammar.specs.Places.{leaving, over, halted}
 use Rattle.log_grammar.specs.Demands.{Accounts, NamesMechanism, IsChallenged, IsVerdictDue, HasDueReply, demands, IsUnoffered, IsNotTakenUp}
 use Rattle.log_grammar.specs.Begins.{Begins}
-use Rattle.log_grammar.specs.laws.Logins.{IsLoginTo, exchange_of}
+use Rattle.log_grammar.specs.laws.Logins.{IsNoLogin, IsSentBy, EndWithThreeMessages}
 
 -- if a log may begin with some lines, it may begin with the first of them, and the replies in those come first: so each law about a
 -- log's last line holds for every line of it
@@ -23,12 +23,6 @@ FirstLinesBeginLogs = (accounts : Accounts) (lines more : List LogLine) (place :
     → (at : Place) × (before : List LoggedAttempt) × (rest : List LoggedAttempt) × Begins (demands accounts) lines at before
     × (told ≡ before ++ rest)
 
--- the lines with which a client sends its first message: in `C AUTH`, or after an empty challenge
-abbrev pub IsSentBy : (mechanism client_first : List ℕ) → List LogLine → Type 0
-IsSentBy mechanism client_first lines =
-    (lines ≡ heard (auth_with mechanism client_first) ∷ [])
-    ⊎ (lines ≡ heard (auth mechanism) ∷ said (cont []) ∷ heard (resp client_first) ∷ [])
-
 -- the messages in a place are those of the last lines, which are of one session
 abbrev pub HasItsMessages : Place → List LogLine → Type 0
 HasItsMessages (asks_bare mechanism) log = EndsWith log (heard (auth mechanism) ∷ [])
@@ -37,8 +31,7 @@ HasItsMessages (got_first mechanism client_first) log = (lines : List LogLine) �
 HasItsMessages (waits_final mechanism account client_first server_first) log =
     (lines : List LogLine) × IsSentBy mechanism client_first lines × EndsWith log (lines ++ said (cont server_first) ∷ [])
 HasItsMessages (got_final mechanism account client_first server_first client_final) log =
-    (lines : List LogLine) × IsSentBy mechanism client_first lines
-    × EndsWith log (lines ++ said (cont server_first) ∷ heard (resp client_final) ∷ [])
+    EndWithThreeMessages log mechanism client_first server_first client_final
 HasItsMessages (got_code account sent) log = EndsWith log (heard (code_line sent) ∷ [])
 HasItsMessages place log = Unit {0}
 
@@ -67,25 +60,23 @@ abbrev pub EachChallengeIsDue : Type 0
 EachChallengeIsDue = (accounts : Accounts) (log : List LogLine) (text : List ℕ) (next : Place) (told : List LoggedAttempt)
     → Begins (demands accounts) (log ++ said (cont text) ∷ []) next told ↔ IsChallengeDue accounts log text next told
 
--- the refusal that is due: a bare one, of a mechanism that is not offered, of a client-first message that a server does not take
--- up, or to a client that ends its session; or the verdict on three messages that no fourth completes to a valid login
-abbrev pub IsRefusalDue : Accounts → List LogLine → List ℕ → List LoggedAttempt → Type 0
-IsRefusalDue accounts log text told =
-    ((mechanism : List ℕ) × Begins (demands accounts) log (asks_bare mechanism) told
-    × IsUnoffered mechanism × (text ≡ []))
-    ⊎ (((mechanism : List ℕ) × (first : List ℕ) × Begins (demands accounts) log (got_first mechanism first) told
-    × IsNotTakenUp mechanism first × (text ≡ []))
-    ⊎ (((mechanism : List ℕ) × (name : List ℕ) × (client_first : List ℕ) × (server_first : List ℕ) × (client_final : List ℕ)
-    × Begins (demands accounts) log (got_final mechanism name client_first server_first client_final) told
-    × ((why : Refusal) × IsVerdictDue accounts mechanism name client_first server_first client_final (refuse why)
+-- the refusal that is due at a place: a bare one, of a mechanism that is not offered, of a client-first message that a server does not
+-- take up, or to a client that ends its session; or the verdict on three messages that no fourth makes a valid login
+abbrev pub IsRefusalDueAt : Accounts → Place → (text : List ℕ) → Type 0
+IsRefusalDueAt accounts (asks_bare mechanism) text = IsUnoffered mechanism × (text ≡ [])
+IsRefusalDueAt accounts (got_first mechanism client_first) text = IsNotTakenUp mechanism client_first × (text ≡ [])
+IsRefusalDueAt accounts (got_final mechanism name client_first server_first client_final) text =
+    ((why : Refusal) × IsVerdictDue accounts mechanism name client_first server_first client_final (refuse why)
     × (text ≡ due_text (refuse why)))
-    × ((server_final : List ℕ) → IsLoginTo accounts mechanism name (exchange_of client_first server_first client_final server_final) → ⊥))
-    ⊎ (Begins (demands accounts) log leaving told × (text ≡ []))))
+    × IsNoLogin accounts mechanism client_first server_first client_final
+IsRefusalDueAt accounts leaving text = text ≡ []
+IsRefusalDueAt accounts place text = ⊥
 
 -- `S NO` may stand in a log if and only if it is the refusal that is due
 abbrev pub EachRefusalIsDue : Type 0
 EachRefusalIsDue = (accounts : Accounts) (log : List LogLine) (text : List ℕ) (next : Place) (told : List LoggedAttempt)
-    → Begins (demands accounts) (log ++ said (refuses text) ∷ []) next told ↔ (IsRefusalDue accounts log text told × (next ≡ over))
+    → Begins (demands accounts) (log ++ said (refuses text) ∷ []) next told
+    ↔ ((place : Place) × Begins (demands accounts) log place told × IsRefusalDueAt accounts place text × (next ≡ over))
 
 -- the reply that is due to a code, or to two in a row, after the earlier replies to its account
 pub record IsReplied (accounts : Accounts) (log : List LogLine) (moment : ℕ) (reply : Option Reply) (next : Place)

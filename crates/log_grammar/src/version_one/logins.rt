@@ -14,8 +14,8 @@ use scram_ends::honest_login;
 use scram_ends::laws::{accepts_exactly_valid, at_most_one_verdict_is_due};
 use scram_text::laws::{has_one_client_first, spells_one_name};
 
-/// An `S OK` may stand in a log if and only if its message and the messages of its session before it are a valid login (RFC 5802,
-/// sections 3 and 5) to the account that the first of them names, with the session's mechanism.
+/// An `S OK` may stand in a log if and only if the lines before it end with the first three messages of a login, and its message
+/// makes that login valid (RFC 5802, sections 3 and 5), to the account that the first of them names, with the session's mechanism.
 pub fn each_ok_ends_a_login()
     ensures { EachOkEndsALogin }
 {

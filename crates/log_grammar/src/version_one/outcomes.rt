@@ -3,6 +3,7 @@ ghost use Rattle.log_grammar.specs.laws.Outcomes.{FirstLinesBeginLogs, PlacesHav
 ghost use Rattle.log_grammar.specs.laws.Outcomes.{EachRefusalIsDue, EachReplyIsDue, EachHaltEndsACode};
 
 use scram_ends::laws::{accepts_exactly_valid, at_most_one_verdict_is_due};
+use scram_text::laws::{has_one_client_first, spells_one_name};
 
 /// The first lines of what a log may begin with are also what a log may begin with, and their replies are the first ones. So what
 /// is said here about a log's last line holds for each of its lines.
@@ -27,12 +28,14 @@ pub fn each_challenge_is_due()
 {}
 
 /// `S NO` may stand if and only if it is the refusal that is due. After a client-final message it says why the login is refused,
-/// and the messages are not a valid login.
+/// and no fourth message makes the login valid.
 pub fn each_refusal_is_due()
     ensures { EachRefusalIsDue }
 {
     accepts_exactly_valid();
     at_most_one_verdict_is_due();
+    has_one_client_first();
+    spells_one_name();
 }
 
 /// PASS, FAIL, LOCKED and NOCODE may stand if and only if they are the reply that is due to the code before them, or to the two in

@@ -15,7 +15,7 @@ use Rattle.log_grammar.proofs.lemmas.ListEnds.{holds_by_last}
 use Rattle.log_grammar.proofs.lemmas.many_sessions.Visits.{ShorterVisit, visit_shortens, empty_visit_is_between}
 
 -- if the lines of a number end with this line, the number has a shorter visit with the lines before it
-visit_has_last_line : (d : Demands) (lines : List LogLine) (line : LogLine) (p : Option Visit) → VisitMeets d p
+pub visit_has_last_line : (d : Demands) (lines : List LogLine) (line : LogLine) (p : Option Visit) → VisitMeets d p
     → lines ++ line ∷ [] ≡ visit_lines p → (a : ShorterVisit d p) × (lines ≡ visit_lines a.tree) × (line ≡ a.line)
 visit_has_last_line d lines line p meets same = elim (visit_shortens d p meets) [
   | inl none ↦ absurd (empty_has_no_last lines line (same ∙ ap visit_lines none))

@@ -2,6 +2,7 @@
 use Rattle.std.proofs.Common.{◌≡◌, inl, inr, ℕ, List, [], ◌∷◌, ◌++◌, reverse, refl, sym, ◌∙◌, ap, subst, append_assoc, append-nil}
 use Rattle.std.specs.declared.option.Option.{Option}
 use Rattle.mac_core.specs.declared.mechanism.Mechanism.{Mechanism}
+use Rattle.scram_text.specs.Laws.{SpellsOneName, HasOneClientFirst}
 use Rattle.scram_ends.specs.Stages.{challenged_login}
 use Rattle.scram_ends.specs.Verdict.{accept, refuse, IsDue}
 use Rattle.scram_ends.specs.Laws.{AtMostOneVerdictIsDue, AcceptsExactlyValid}
@@ -13,13 +14,18 @@ use Rattle.log_grammar.specs.LoggedAttempt.{LoggedAttempt}
 use Rattle.log_grammar.specs.Places.{Place, between, offered, asks_bare, got_first, got_final, got_code, leaving, over, halted}
 use Rattle.log_grammar.specs.Demands.{Accounts, IsVerdictDue, demands, HaveDueReplies}
 use Rattle.log_grammar.specs.state_machine.Steps.{IsTransition, told_at}
+use Rattle.log_grammar.specs.state_machine.NumberedSteps.{IsVisitTransition}
 use Rattle.log_grammar.specs.Begins.{Begins}
-use Rattle.log_grammar.specs.laws.Logins.{IsLoginTo, exchange_of}
-use Rattle.log_grammar.specs.laws.Outcomes.{FirstLinesBeginLogs, EachOfferIsDue, IsChallengeDue, EachChallengeIsDue, IsRefusalDue, EachRefusalIsDue}
-use Rattle.log_grammar.specs.laws.Outcomes.{IsReplied, EachReplyIsDue, EachHaltEndsACode}
+use Rattle.log_grammar.specs.laws.Logins.{exchange_of, IsLoginTo, IsNoLogin}
+use Rattle.log_grammar.specs.laws.Outcomes.{FirstLinesBeginLogs, EachOfferIsDue, IsChallengeDue, EachChallengeIsDue, IsRefusalDueAt}
+use Rattle.log_grammar.specs.laws.Outcomes.{EachRefusalIsDue, IsReplied, EachReplyIsDue, EachHaltEndsACode}
 use Rattle.log_grammar.proofs.lemmas.state_machine.LogSteps.{log_goes_on, log_has_last_transition}
 use Rattle.log_grammar.proofs.lemmas.ListEnds.{holds_by_last}
 use Rattle.log_grammar.proofs.lemmas.kinds.OneWhy.{one_mechanism}
+use Rattle.log_grammar.proofs.lemmas.login_laws.ValidLogins.{login_is_to_challenged_account}
+use Rattle.log_grammar.proofs.lemmas.outcome_laws.LeadingLines.{LeadByLast, logs_lead}
+use Rattle.log_grammar.proofs.lemmas.outcome_laws.QuietLines.{quiet_line_keeps_told, log_goes_on_quietly}
+use Rattle.log_grammar.proofs.lemmas.outcome_laws.PlaceMessages.{lines_have_their_messages, three_messages_lead}
 
 -- replies that come first still do when more are added at the end
 told_first_stays_first : (told before rest tells : List LoggedAttempt) → before ≡ told ++ rest → before ++ tells ≡ told ++ (rest ++ tells)
@@ -46,27 +52,12 @@ first_lines_begin_logs accounts log = holds_by_last
     (at, before, rest ++ tells, front, s.tells ∙ told_first_stays_first before s.told rest tells same))
 
 module _ (accounts : Accounts) (log : List LogLine) where
-  -- if no reply was added, the replies recorded in a log's lines are the same
-  quiet_line_keeps_told : (at : Place) (all told : List LoggedAttempt) → all ≡ told ++ [] → Begins (demands accounts) log at told
-      → Begins (demands accounts) log at all
-  quiet_line_keeps_told at all told same begins =
-      subst (λ (t : List LoggedAttempt). Begins (demands accounts) log at t) (sym (same ∙ append-nil told)) begins
-
-  -- a log continues with a line that records no reply, and its replies stay the same
-  log_goes_on_quietly : (at : Place) (told : List LoggedAttempt) (line : LogLine) (next : Place) → told_at at line ≡ []
-      → Begins (demands accounts) log at told → IsTransition (demands accounts) at line next
-      → Begins (demands accounts) (log ++ line ∷ []) next told
-  log_goes_on_quietly at told line next none begins goes =
-      let due = subst (λ (t : List LoggedAttempt). HaveDueReplies (demands accounts) (reverse told) t) (sym none) tt in
-      let same = subst (λ (t : List LoggedAttempt). told ++ t ≡ told) (sym none) (append-nil told) in
-      subst (λ (t : List LoggedAttempt). Begins (demands accounts) (log ++ line ∷ []) next t) same
-      (log_goes_on (demands accounts) log at told line next begins goes due)
-
   -- `S MECHS` may stand only between sessions, with the names that are demanded, and leads to the place after an offer
   offer_is_due : (names : List ℕ) (next at : Place) (all told : List LoggedAttempt) → all ≡ told ++ told_at at (said (mechs names))
       → Begins (demands accounts) log at told → IsTransition (demands accounts) at (said (mechs names)) next
       → Begins (demands accounts) log between all × (demands accounts).mechs names × (next ≡ offered)
-  offer_is_due names next between all told same b goes = (quiet_line_keeps_told between all told same b, goes.0, goes.1)
+  offer_is_due names next between all told same b goes =
+      (quiet_line_keeps_told accounts log between (said (mechs names)) all told refl same b, goes.0, goes.1)
   offer_is_due names next at all told same b goes = absurd goes
 
   -- `S CONT` may stand only with a challenge that is due
@@ -74,30 +65,18 @@ module _ (accounts : Accounts) (log : List LogLine) where
       → Begins (demands accounts) log at told → IsTransition (demands accounts) at (said (cont text)) next
       → IsChallengeDue accounts log text next all
   challenge_is_due text next (asks_bare m) all told same b goes =
-      inl (m, quiet_line_keeps_told (asks_bare m) all told same b, goes.0.0, goes.0.1, goes.1)
+      inl (m, quiet_line_keeps_told accounts log (asks_bare m) (said (cont text)) all told refl same b, goes.0.0, goes.0.1, goes.1)
   challenge_is_due text next (got_first m first) all told same b goes =
-      inr (m, first, goes.0, quiet_line_keeps_told (got_first m first) all told same b, goes.1, goes.2)
+      inr (m, first, goes.0, quiet_line_keeps_told accounts log (got_first m first) (said (cont text)) all told refl same b, goes.1, goes.2)
   challenge_is_due text next at all told same b goes = absurd goes
 
   -- `S CONT` may stand with a challenge that is due
   due_challenge_may_stand : (text : List ℕ) (next : Place) (told : List LoggedAttempt) → IsChallengeDue accounts log text next told
       → Begins (demands accounts) (log ++ said (cont text) ∷ []) next told
   due_challenge_may_stand text next told (inl (m, begins, is, none, at)) =
-      log_goes_on_quietly (asks_bare m) told (said (cont text)) next refl begins ((is, none), at)
+      log_goes_on_quietly accounts log (asks_bare m) told (said (cont text)) next refl begins ((is, none), at)
   due_challenge_may_stand text next told (inr (m, first, name, begins, is, at)) =
-      log_goes_on_quietly (got_first m first) told (said (cont text)) next refl begins (name, is, at)
-
-  -- `S NO` may stand if it is the refusal that is due
-  due_refusal_may_stand : (text : List ℕ) (next : Place) (told : List LoggedAttempt) → IsRefusalDue accounts log text told → next ≡ over
-      → Begins (demands accounts) (log ++ said (refuses text) ∷ []) next told
-  due_refusal_may_stand text next told (inl (m, begins, none, bare)) at =
-      log_goes_on_quietly (asks_bare m) told (said (refuses text)) next refl begins ((none, bare), at)
-  due_refusal_may_stand text next told (inr (inl (m, first, begins, none, bare))) at =
-      log_goes_on_quietly (got_first m first) told (said (refuses text)) next refl begins ((none, bare), at)
-  due_refusal_may_stand text next told (inr (inr (inl (m, name, client_first, server_first, client_final, begins, is, invalid)))) at =
-      log_goes_on_quietly (got_final m name client_first server_first client_final) told (said (refuses text)) next refl begins (is, at)
-  due_refusal_may_stand text next told (inr (inr (inr (begins, bare)))) at =
-      log_goes_on_quietly leaving told (said (refuses text)) next refl begins (bare, at)
+      log_goes_on_quietly accounts log (got_first m first) told (said (cont text)) next refl begins (name, is, at)
 
   -- a reply to a code may stand only if it is the one due
   reply_is_due : (moment : ℕ) (reply : Option Reply) (next at : Place) (all told : List LoggedAttempt)
@@ -140,43 +119,58 @@ refused_login_is_invalid once valid accounts mechanism name client_first server_
     let wrong = once (challenged_login (accounts.entry m name) m client_first server_first) client_final (refuse why)
     (accept accepted.0) due here in cc wrong
 
--- `S NO` may stand only if it is the refusal that is due
-refusal_is_due : AtMostOneVerdictIsDue → AcceptsExactlyValid
-    → (accounts : Accounts) (log : List LogLine) (text : List ℕ) (next at : Place) (all told : List LoggedAttempt)
-    → all ≡ told ++ told_at at (said (refuses text)) → Begins (demands accounts) log at told
-    → IsTransition (demands accounts) at (said (refuses text)) next → IsRefusalDue accounts log text all × (next ≡ over)
-refusal_is_due once valid accounts log text next (asks_bare m) all told same b goes =
-    (inl (m, quiet_line_keeps_told accounts log (asks_bare m) all told same b, goes.0.0, goes.0.1), goes.1)
-refusal_is_due once valid accounts log text next (got_first m first) all told same b goes =
-    (inr (inl (m, first, quiet_line_keeps_told accounts log (got_first m first) all told same b, goes.0.0, goes.0.1)), goes.1)
-refusal_is_due once valid accounts log text next (got_final m name client_first server_first client_final) all told same b goes =
-    let (why, is, due) = goes.0 in (
-      inr (inr (inl (
-        m,
-        name,
-        client_first,
-        server_first,
-        client_final,
-        quiet_line_keeps_told accounts log
-            (got_final m name client_first server_first client_final) all told same b,
-        (why, is, due),
-        refused_login_is_invalid once valid accounts m name client_first server_first client_final why is,
-      ))),
-      goes.1,
-    )
-refusal_is_due once valid accounts log text next leaving all told same b goes =
-    (inr (inr (inr (quiet_line_keeps_told accounts log leaving all told same b, goes.0))), goes.1)
-refusal_is_due once valid accounts log text next at all told same b goes = absurd goes
+-- a refusal that is due at a place may stand there
+pub due_refusal_may_stand : (accounts : Accounts) (text : List ℕ) (at : Place) → IsRefusalDueAt accounts at text
+    → IsTransition (demands accounts) at (said (refuses text)) over
+due_refusal_may_stand accounts text (asks_bare m) due = ((due.0, due.1), refl)
+due_refusal_may_stand accounts text (got_first m first) due = ((due.0, due.1), refl)
+due_refusal_may_stand accounts text (got_final m name first challenge last) due = (due.0, refl)
+due_refusal_may_stand accounts text leaving due = (due, refl)
+due_refusal_may_stand accounts text at due = absurd due
+
+-- lines that lead to places, in a log of either version
+module _ (one_first : HasOneClientFirst) (names : SpellsOneName) (once : AtMostOneVerdictIsDue) (valid : AcceptsExactlyValid)
+    (accounts : Accounts) {Leads : List LogLine → Place → Type 0} (l : LeadByLast (demands accounts) Leads) where
+  -- three messages whose verdict is a refusal are a login to no account
+  refused_messages_are_no_login : (lines : List LogLine) (m name first challenge last : List ℕ) (why : Refusal)
+      → Leads lines (got_final m name first challenge last) → IsVerdictDue accounts m name first challenge last (refuse why)
+      → IsNoLogin accounts m first challenge last
+  refused_messages_are_no_login lines m name first challenge last why leads is claimed server_final login =
+      let at = got_final m name first challenge last in
+      let three = three_messages_lead l m first challenge last lines at (lines_have_their_messages accounts l lines at leads) leads in
+      let same : three.account ≡ name = cc three.at in
+      let exchange = exchange_of first challenge last server_final in
+      let here = login_is_to_challenged_account one_first names accounts m claimed three.account exchange login three.due ∙ same in
+      refused_login_is_invalid once valid accounts m name first challenge last why is server_final
+      (subst (λ (n : List ℕ). IsLoginTo accounts m n exchange) here login)
+
+  -- `S NO` may stand only if it is the refusal that is due at its place
+  pub refusal_is_due : (lines : List LogLine) (text : List ℕ) (at next : Place) → Leads lines at
+      → IsVisitTransition (demands accounts) at (said (refuses text)) next → IsRefusalDueAt accounts at text × (next ≡ over)
+  refusal_is_due lines text at next leads (inr busy) = absurd (cc busy.1)
+  refusal_is_due lines text (asks_bare m) next leads (inl goes) = ((goes.0.0, goes.0.1), goes.1)
+  refusal_is_due lines text (got_first m first) next leads (inl goes) = ((goes.0.0, goes.0.1), goes.1)
+  refusal_is_due lines text (got_final m name first challenge last) next leads (inl goes) =
+      let (why, is, same) = goes.0 in
+      (((why, is, same), refused_messages_are_no_login lines m name first challenge last why leads is), goes.1)
+  refusal_is_due lines text leaving next leads (inl goes) = (goes.0, goes.1)
+  refusal_is_due lines text at next leads (inl goes) = absurd goes
 
 -- the law: `S NO` may stand if and only if it is the refusal that is due, which no valid login gets. This needs that at most one verdict is
--- due to a text, and that acceptance is due only to valid logins
-pub each_refusal_is_due : AtMostOneVerdictIsDue → AcceptsExactlyValid → EachRefusalIsDue
-each_refusal_is_due once valid accounts log text next told = (
-  λ begins.
-      let s = log_has_last_transition (demands accounts) log (said (refuses text)) next told begins in
-      refusal_is_due once valid accounts log text next s.place told s.told s.tells s.begins s.goes,
-  λ is. due_refusal_may_stand accounts log text next told is.0 is.1,
-)
+-- due to a text, that acceptance is due only to valid logins, and that a client-first message names only one account
+pub each_refusal_is_due : HasOneClientFirst → SpellsOneName → AtMostOneVerdictIsDue → AcceptsExactlyValid → EachRefusalIsDue
+each_refusal_is_due one_first names once valid accounts log text next told =
+    let d = demands accounts in
+    let line = said (refuses text) in (
+      λ begins.
+          let s = log_has_last_transition d log line next told begins in
+          let due = refusal_is_due one_first names once valid accounts (logs_lead d) log text s.place next
+          (record { told = s.told; begins = s.begins }) (inl s.goes) in
+          (s.place, quiet_line_keeps_told accounts log s.place line told s.told refl s.tells s.begins, due.0, due.1),
+      λ is.
+          log_goes_on_quietly accounts log is.0 told line next refl is.1
+          (subst (λ (p : Place). IsTransition d is.0 line p) (sym is.3) (due_refusal_may_stand accounts text is.0 is.2)),
+    )
 
 -- the law: a reply may stand if and only if it is the one due to one or two codes, after the earlier replies to its account
 pub each_reply_is_due : EachReplyIsDue
@@ -200,7 +194,7 @@ halt_ends_code : (accounts : Accounts) (log : List LogLine) (next at : Place) (a
     → all ≡ told ++ told_at at (said halt)
     → Begins (demands accounts) log at told → IsTransition (demands accounts) at (said halt) next → EndsCode accounts log next all
 halt_ends_code accounts log next (got_code account sent) all told same b goes =
-    (account, sent, quiet_line_keeps_told accounts log (got_code account sent) all told same b, goes)
+    (account, sent, quiet_line_keeps_told accounts log (got_code account sent) (said halt) all told refl same b, goes)
 halt_ends_code accounts log next at all told same b goes = absurd goes
 
 -- the law: `S HALT` may stand if and only if it follows one or two codes, instead of their reply
