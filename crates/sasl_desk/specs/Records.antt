@@ -1,6 +1,6 @@
 -- What the log of a run records: one offer of mechanisms for each client that was greeted, and one line for each thing that a
 -- client did.
-use Rattle.std.specs.Prelude.{ℕ, ◌≡◌, ◌⊎◌, Bool, true, false, List, [], ◌∷◌, ◌++◌, length, filter}
+use Rattle.std.specs.Prelude.{◌≡◌, ◌⊎◌, Bool, true, false, List, [], ◌∷◌, ◌++◌, filter, count_by}
 use Rattle.log_grammar.specs.Lines.{LogLine, heard, bad, gone}
 use Rattle.log_grammar.specs.Counts.{is_offer}
 use Rattle.log_grammar.specs.Places.{Place}
@@ -16,33 +16,30 @@ is_record bad = true
 is_record gone = true
 is_record line = false
 
--- the server's parts of nonces, with that of a greeting put in front
-abbrev pub nonces_with : Request → List (List ℕ) → List (List ℕ)
-nonces_with (greets server_nonce) before = server_nonce ∷ before
-nonces_with (hears event moment) before = before
+-- the request greets a client
+abbrev pub is_greeting : Request → Bool
+is_greeting (greets server_nonce) = true
+is_greeting (hears event moment) = false
 
--- the server's parts of the nonces with which clients were greeted, the latest first
-abbrev pub nonces_in : List Call → List (List ℕ)
-nonces_in [] = []
-nonces_in (call ∷ before) = nonces_with call.request (nonces_in before)
-
--- the records after a request: a greeting adds none; what a client did adds its record, at the place where the log stood
-abbrev pub HasRecordOf : Accounts → Request → (before : List Call) → (Earlier : List LogLine → Type 0) → List LogLine → Type 0
-HasRecordOf accounts (greets server_nonce) before Earlier records = Earlier records
-HasRecordOf accounts (hears event moment) before Earlier records =
-    (place : Place) × (earlier : List LogLine) × (kept : LogLine)
-    × IsRun accounts before place × IsRecord event place kept × Earlier earlier × (records ≡ earlier ++ kept ∷ [])
+-- what a request adds to the records, after these calls: a greeting adds none; what a client does adds its record, at the place where
+-- the log stands
+abbrev pub IsRecordedAs : Accounts → (before : List Call) → Request → (added : List LogLine) → Type 0
+IsRecordedAs accounts before (greets server_nonce) added = added ≡ []
+IsRecordedAs accounts before (hears event moment) added =
+    (place : Place) × (kept : LogLine) × IsRun accounts before place × IsRecord event place kept × (added ≡ kept ∷ [])
 
 -- the lines are the records of what clients did in these calls, in the order in which it was done: the latest call, which comes
 -- first, has the last record
 abbrev pub AreRecords : Accounts → List Call → List LogLine → Type 0
 AreRecords accounts [] records = records ≡ []
-AreRecords accounts (call ∷ before) records = HasRecordOf accounts call.request before (AreRecords accounts before) records
+AreRecords accounts (call ∷ before) records =
+    (earlier : List LogLine) × (added : List LogLine) × AreRecords accounts before earlier
+    × IsRecordedAs accounts before call.request added × (records ≡ earlier ++ added)
 
--- the log of these calls has one offer for each nonce, and its records are those of what clients did: nothing that a client did is left
--- out, and nothing is invented
+-- the log of these calls has one offer for each greeting, and its records are those of what clients did: nothing that a client did is
+-- left out, and nothing is invented
 pub record HasItsRecords (accounts : Accounts) (calls : List Call) : Type 0 where
-  pub offers : length (filter is_offer (run_lines calls)) ≡ length (nonces_in calls)
+  pub offers : count_by is_offer (run_lines calls) ≡ count_by (λ call. is_greeting call.request) calls
   pub records : AreRecords accounts calls (filter is_record (run_lines calls))
 
 -- the records of a session of a hall: as at a desk; or it was turned away

@@ -1,8 +1,8 @@
 -- The log of a run records what its clients did, and nothing else.
-use Rattle.std.proofs.Common.{◌≡◌, ℕ, true, false, List, [], ◌∷◌, ◌++◌, length, filter, refl, sym, ◌∙◌, ap, subst, arith, append-nil}
+use Rattle.std.proofs.Common.{◌≡◌, ℕ, true, false, List, [], ◌∷◌, ◌++◌, filter, count_by, cond, refl, ◌∙◌, ap, arith}
 use Rattle.std.specs.List.{AllByRecursion}
-use Rattle.std.proofs.lemmas.List.{length-append}
 use Rattle.std.proofs.lemmas.List.Elements.{filter-append}
+use Rattle.std.proofs.lemmas.List.Sums.{sum_by-append}
 use Rattle.account_book.specs.Store.{StoreFacts}
 use Rattle.book_format.specs.Book.{BookFields}
 use Rattle.log_grammar.specs.Books.{accounts_in}
@@ -14,7 +14,7 @@ use Rattle.sasl_desk.specs.Events.{ClientEvent, sends, goes_away}
 use Rattle.sasl_desk.specs.Sessions.{IsRecord}
 use Rattle.sasl_desk.specs.Runs.{Request, greets, hears, Call, run_lines, server_nonce_of, IsAnswerLine, IsTurnTaken, IsAnsweredBy, IsRun}
 use Rattle.sasl_desk.specs.Desks.{IsDeskAfter}
-use Rattle.sasl_desk.specs.Records.{is_record, nonces_in, nonces_with, HasRecordOf, AreRecords, HasItsRecords}
+use Rattle.sasl_desk.specs.Records.{is_record, is_greeting, IsRecordedAs, AreRecords, HasItsRecords}
 use Rattle.sasl_desk.specs.declared.desk.Desk.{Desk}
 
 -- what answers a client records nothing
@@ -29,7 +29,7 @@ answer_records_nothing (bad ∷ lines) all = absurd all.0
 answer_records_nothing (gone ∷ lines) all = absurd all.0
 
 -- what answers a client offers nothing
-answer_offers_nothing : (lines : List LogLine) → AllByRecursion IsAnswerLine lines → filter is_offer lines ≡ []
+answer_offers_nothing : (lines : List LogLine) → AllByRecursion IsAnswerLine lines → count_by is_offer lines ≡ 0
 answer_offers_nothing [] all = refl
 answer_offers_nothing (said (mechs names) ∷ lines) all = absurd all.0
 answer_offers_nothing (said line ∷ lines) all = answer_offers_nothing lines all.1
@@ -65,65 +65,44 @@ turn_has_one_record accounts server_nonce event moment at lines next t =
     ∙ rw (record_counts_as_record event at t.recorded t.is_record) (ap (λ (l : List LogLine). t.recorded ∷ l)
     (answer_records_nothing t.answered t.answers))
 
--- the lines of a turn have no offer
-turn_has_no_offer : (accounts : Accounts) (server_nonce : List ℕ) (event : ClientEvent) (moment : ℕ) (at : Place) (lines : List LogLine)
-    (next : Place)
-    → IsTurnTaken accounts server_nonce event moment at lines next → filter is_offer lines ≡ []
-turn_has_no_offer accounts server_nonce event moment at lines next t =
-    ap (filter is_offer) t.lines_are ∙ rw (record_is_no_offer event at t.recorded t.is_record) (answer_offers_nothing t.answered t.answers)
+-- the lines of a call have one offer if it is a greeting, and else none
+call_offers_if_it_greets : (accounts : Accounts) (server_nonce : List ℕ) (request : Request) (at : Place) (lines : List LogLine)
+    (next : Place) → IsAnsweredBy accounts server_nonce request at lines next
+    → count_by is_offer lines ≡ count_by is_greeting (request ∷ [])
+call_offers_if_it_greets accounts server_nonce (greets new) at lines next answered = ap (count_by is_offer) answered.says
+call_offers_if_it_greets accounts server_nonce (hears event moment) at lines next turn =
+    ap (count_by is_offer) turn.lines_are
+    ∙ rw (record_is_no_offer event at turn.recorded turn.is_record) (answer_offers_nothing turn.answered turn.answers)
 
--- a log with one more call has one offer more if the call was a greeting, else as many as before
-call_adds_its_offer : (accounts : Accounts) (server_nonce : List ℕ) (request : Request) (at : Place) (lines : List LogLine) (next : Place)
-    (before : List LogLine) (nonces : List (List ℕ))
-    → IsAnsweredBy accounts server_nonce request at lines next → length (filter is_offer before) ≡ length nonces
-    → length (filter is_offer (before ++ lines)) ≡ length (nonces_with request nonces)
-call_adds_its_offer accounts server_nonce (greets new) at lines next before nonces answered same =
-    let added : filter is_offer lines ≡ said (mechs _) ∷ [] = ap (filter is_offer) answered.says in
-    let whole = filter-append is_offer before lines ∙ ap (λ (l : List LogLine). filter is_offer before ++ l) added in
-    let counted = ap length whole ∙ length-append (filter is_offer before) (said (mechs _) ∷ []) in
-    omega (arith, counted, same)
-call_adds_its_offer accounts server_nonce (hears event moment) at lines next before nonces turn same =
-    ap length (filter-append is_offer before lines
-    ∙ ap (λ (l : List LogLine). filter is_offer before ++ l) (turn_has_no_offer accounts server_nonce event moment at lines next turn)
-    ∙ append-nil (filter is_offer before))
-    ∙ same
-
--- a log with one more call has one record more if the call was an event, else those before
-call_adds_its_record : (accounts : Accounts) (request : Request) (at : Place) (lines : List LogLine) (next : Place) (before : List Call)
+-- the records in the lines of a call are what its request adds
+call_adds_its_record : (accounts : Accounts) (before : List Call) (request : Request) (at : Place) (lines : List LogLine) (next : Place)
     → IsRun accounts before at → IsAnsweredBy accounts (server_nonce_of before) request at lines next
-    → AreRecords accounts before (filter is_record (run_lines before))
-    → HasRecordOf accounts request before (AreRecords accounts before) (filter is_record (run_lines before ++ lines))
-call_adds_its_record accounts (greets server_nonce) at lines next before run answered records =
-    let whole = filter-append is_record (run_lines before) lines
-    ∙ ap (λ (l : List LogLine). filter is_record (run_lines before) ++ l) (ap (filter is_record) answered.says)
-    ∙ append-nil (filter is_record (run_lines before)) in
-    subst (λ (l : List LogLine). AreRecords accounts before l) (sym whole) records
-call_adds_its_record accounts (hears event moment) at lines next before run turn records = (
-  at,
-  filter is_record (run_lines before),
-  turn.recorded,
-  run,
-  turn.is_record,
-  records,
-  filter-append is_record (run_lines before) lines
-      ∙ ap (λ (l : List LogLine). filter is_record (run_lines before) ++ l)
-      (turn_has_one_record accounts (server_nonce_of before) event moment at lines next turn),
-)
+    → IsRecordedAs accounts before request (filter is_record lines)
+call_adds_its_record accounts before (greets new) at lines next run answered = ap (filter is_record) answered.says
+call_adds_its_record accounts before (hears event moment) at lines next run turn =
+    (at, turn.recorded, run, turn.is_record, turn_has_one_record accounts (server_nonce_of before) event moment at lines next turn)
 
 -- the log of a run has as many offers of mechanisms as clients were greeted
 pub run_has_its_offers : (accounts : Accounts) (calls : List Call) (at : Place) → IsRun accounts calls at
-    → length (filter is_offer (run_lines calls)) ≡ length (nonces_in calls)
+    → count_by is_offer (run_lines calls) ≡ count_by (λ call. is_greeting call.request) calls
 run_has_its_offers accounts [] at run = refl
 run_has_its_offers accounts (c ∷ before) at (place, run, answered) =
-    call_adds_its_offer accounts (server_nonce_of before) c.request place c.lines at (run_lines before) (nonces_in before) answered
-    (run_has_its_offers accounts before place run)
+    let earlier = run_has_its_offers accounts before place run in
+    let added = call_offers_if_it_greets accounts (server_nonce_of before) c.request place c.lines at answered in
+    let whole = sum_by-append (λ (l : LogLine). cond (is_offer l) 1 0) (run_lines before) c.lines in
+    omega (arith, whole, earlier, added)
 
 -- the records in the log of a run are those of what clients did in its calls, in their order
 pub run_has_its_records : (accounts : Accounts) (calls : List Call) (at : Place) → IsRun accounts calls at
     → AreRecords accounts calls (filter is_record (run_lines calls))
 run_has_its_records accounts [] at run = refl
-run_has_its_records accounts (c ∷ before) at (place, run, answered) =
-    call_adds_its_record accounts c.request place c.lines at before run answered (run_has_its_records accounts before place run)
+run_has_its_records accounts (c ∷ before) at (place, run, answered) = (
+  filter is_record (run_lines before),
+  filter is_record c.lines,
+  run_has_its_records accounts before place run,
+  call_adds_its_record accounts before c.request place c.lines at run answered,
+  filter-append is_record (run_lines before) c.lines,
+)
 
 -- the law: the log of a desk has one offer for each greeting and one record for each thing that a client did, and no others
 pub log_has_its_records : {S : Type 0} {facts : S → StoreFacts} {IsStored : List ℕ → Type 0} {start : BookFields} {calls : List Call}
