@@ -1,11 +1,9 @@
 -- What a keeper of a book does with a change: it is saved before it is reported, and undone if it can't be saved.
-use Rattle.std.specs.Prelude.{ℕ, ◌≡◌, ◌≤◌, ◌⊎◌, Bool, true, false, List}
+use Rattle.std.specs.Prelude.{ℕ, ◌≡◌, ◌⊎◌, Bool, true, false, List}
 use Rattle.std.specs.declared.option.Option.{Option}
-use Rattle.std.specs.declared.option.Option.TheVariants.{Some}
 use Rattle.otp_core.specs.Attempt.{CodeTexts}
-use Rattle.otp_core.specs.Ranges.{max_counter, IsMoment}
+use Rattle.otp_core.specs.Ranges.{IsMoment}
 use Rattle.otp_core.specs.declared.token.reply.Reply.{Reply}
-use Rattle.otp_core.specs.declared.token.reply.Reply.TheVariants.{Pass}
 use Rattle.book_format.specs.Book.{BookFields}
 use Rattle.book_format.specs.Trees.{IsBookText}
 use Rattle.account_book.specs.SavedBooks.{needs_save, SavesBook}
@@ -46,10 +44,14 @@ pub record IsAttemptAtMoment (old : BookFields) (name : List ℕ) (moment : ℕ)
   pub is_moment : IsMoment moment
   pub answered : IsBookAttempt old name moment sent reply new
 
+-- a reply that needs a save is due to an attempt, which makes the old book the new one
+abbrev pub IsSavingReplyDue : (name : List ℕ) → (moment : ℕ) → CodeTexts → (old new : BookFields) → Type 0
+IsSavingReplyDue name moment sent old new =
+    (reply : Option Reply) × (needs_save reply ≡ true) × IsAttemptAtMoment old name moment sent reply new
+
 -- some reply that is due to this attempt needs a save
 abbrev pub IsToBeSaved : BookFields → (name : List ℕ) → (moment : ℕ) → CodeTexts → Type 0
-IsToBeSaved old name moment sent =
-    (reply : Option Reply) × (next : BookFields) × (needs_save reply ≡ true) × IsAttemptAtMoment old name moment sent reply next
+IsToBeSaved old name moment sent = (next : BookFields) × IsSavingReplyDue name moment sent old next
 
 -- the outcome of a code: a reply that is due and kept; or the store failed to save the book with the reply that was due
 abbrev pub IsCodeOutcome : (IsStored : List ℕ → Type 0) → (old_book : BookFields) → (old_store : StoreFacts) → (name : List ℕ)
@@ -59,10 +61,4 @@ IsCodeOutcome IsStored old_book old_store name moment sent (Replied reply) new_b
     × IsSavedIfChanged IsStored (needs_save reply) old_book old_store new_book new_store
 IsCodeOutcome IsStored old_book old_store name moment sent NotSaved new_book new_store =
     (new_book ≡ old_book)
-    × ((reply : Option Reply) × (next : BookFields) × (needs_save reply ≡ true)
-    × IsAttemptAtMoment old_book name moment sent reply next
-    × FailsToSave old_store next new_store)
-
--- if the outcome of a code is a pass, its counter is in its range
-abbrev pub IsPassInRange : CodeJudged → Type 0
-IsPassInRange judged = (counter : ℕ) → judged ≡ Replied (Some (Pass counter)) → counter ≤ max_counter
+    × IsChangeUnsaved (IsSavingReplyDue name moment sent) old_book old_store fault.NotSaved new_store

@@ -1,12 +1,12 @@
 //! The keeper of a book: it saves each change before it reports it.
-ghost use Rattle.std.specs.Prelude.{◌≡◌, ◌≤◌, ℕ, true, not, is_some, Some, IfErr, IfOk, OnErr, OnOk};
+ghost use Rattle.std.specs.Prelude.{◌≡◌, ◌≤◌, true, not, is_some, Some, IfErr, IfOk, OnErr, OnOk};
 ghost use Rattle.account_book.specs.Accounts.{account_at, IsAdded, IsChanged};
 ghost use Rattle.account_book.specs.Enrolled.{enrolled};
 ghost use Rattle.account_book.specs.SavedBooks.{SavesBook};
 ghost use Rattle.account_book.specs.Tokens.{token_at, with_token, IsUnlocked};
 ghost use Rattle.otp_core.specs.Ranges.{IsMoment};
 ghost use Rattle.otp_core.specs.SentCodes.{texts_of};
-ghost use Rattle.book_keeper.specs.Keeper.{IsChangeUnsaved, IsCodeOutcome, IsSavedIfChanged, IsPassInRange, IsToBeSaved, IsUnsaved};
+ghost use Rattle.book_keeper.specs.Keeper.{IsChangeUnsaved, IsCodeOutcome, IsSavedIfChanged, IsToBeSaved, IsUnsaved};
 
 use account_book::{Book, BookStore, EnrolFault};
 use otp_core::{Moment, Reply, SentCodes, Token};
@@ -175,7 +175,6 @@ impl<S: BookStore> Keeper<S> {
     ) -> Result<CodeJudged, AllocError>
         ensures ok { IfOk result (λ judged. IsCodeOutcome S.IsStored self.old.book (S.facts self.old.store) name.now moment
             (texts_of sent.entry) judged self.new.book (S.facts self.new.store)) }
-        ensures counter { IfOk result IsPassInRange }
         ensures err { OnErr result ((self.new.book ≡ self.old.book) × (self.new.store ≡ self.old.store)) }
         // If nothing is to be saved, memory does not run out.
         ensures no_memory { OnErr result (IsToBeSaved self.old.book name.now moment (texts_of sent.entry)) }

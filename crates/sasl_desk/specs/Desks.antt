@@ -14,7 +14,7 @@ use Rattle.sasl_desk.specs.Keeper.{IsAttemptJudged}
 use Rattle.sasl_desk.specs.Runs.{Request, Call, call_of, run_lines, server_nonce_of, wire_bytes, IsRun}
 use Rattle.sasl_desk.specs.SavedCalls.{IsAttemptOf, CountsSaves, AsksToSaveAttempt, IsQuiet, LeavesFailedStore}
 use Rattle.sasl_desk.specs.Sessions.{IsSessionAt, CanBeWritten}
-use Rattle.sasl_desk.specs.Spent.{AreSpent, spent_by}
+use Rattle.sasl_desk.specs.Spent.{spent_by}
 use Rattle.sasl_desk.specs.declared.session.Session.{Session}
 use Rattle.sasl_desk.specs.declared.session.Session.TheVariants.{WaitAuth, WaitFirst, WaitFinal, WaitCode}
 use Rattle.book_keeper.specs.declared.keeper.Keeper.{Keeper}
@@ -137,8 +137,6 @@ module _ {S : Type 0} (facts : S → StoreFacts) (IsStored : List ℕ → Type 0
     -- the book has each attempt in it, and the store holds its text, except after a save in which the store failed
     pub is_book : IsBookAfterReplies start (reverse told) desk.keeper.book
     pub is_stored : IsStoredAt IsStored (accounts_in start) calls place desk.keeper.book (facts desk.keeper.store)
-    -- the counters spent before are still spent, and so is each counter that a reply used
-    pub spent : (ps : List (List ℕ × ℕ)) → AreSpent ps start → AreSpent (spent_by_all (reverse told) ++ ps) desk.keeper.book
 
   -- what a call did: it added lines, and a desk that had answered some calls has now answered this one as well
   pub record Answers (old : Desk S) (request : Request) (wire wire' log log' : List ℕ) (new : Desk S) : Type 0 where

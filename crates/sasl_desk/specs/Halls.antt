@@ -15,12 +15,11 @@ use Rattle.log_grammar.specs.Demands.{Accounts, demands}
 use Rattle.log_grammar.specs.Numbered.{Numbered, numbered, of_number, given_in, closed_in, IsNumberedLogUpTo}
 use Rattle.log_grammar.specs.Versions.{max_open_sessions}
 use Rattle.log_grammar.specs.NumberedLines.{numbered_text, IsNumberedWritable, max_session_number}
-use Rattle.sasl_desk.specs.Desks.{session_phase, IsStoredAt, HoldsBook, IsBookAfterReplies, spent_by_all}
+use Rattle.sasl_desk.specs.Desks.{session_phase, IsStoredAt, HoldsBook, IsBookAfterReplies}
 use Rattle.sasl_desk.specs.OpenSessions.{is_of}
 use Rattle.sasl_desk.specs.Runs.{Request, greets, Call, call_of, server_nonce_of, wire_bytes, IsRun}
 use Rattle.sasl_desk.specs.SavedCalls.{CountsSaves, AsksToSaveAttempt, IsQuiet, LeavesFailedStore}
 use Rattle.sasl_desk.specs.Sessions.{IsSessionAt}
-use Rattle.sasl_desk.specs.Spent.{AreSpent}
 use Rattle.book_keeper.specs.declared.keeper.Keeper.{Keeper}
 use Rattle.sasl_desk.specs.declared.hall.Hall.{Hall}
 use Rattle.sasl_desk.specs.declared.hall.open_session.OpenSession.{OpenSession}
@@ -143,8 +142,6 @@ module _ {S : Type 0} (facts : S → StoreFacts) (IsStored : List ℕ → Type 0
     -- the book has each attempt in it, and the store holds its text, except after a save in which the store failed
     pub is_book : IsBookAfterReplies start (reverse told) hall.keeper.book
     pub is_stored : IsStoredAfter IsStored (accounts_in start) calls places hall.keeper.book (facts hall.keeper.store)
-    -- the counters spent before are still spent, and so is each counter that a reply used
-    pub spent : (ps : List (List ℕ × ℕ)) → AreSpent ps start → AreSpent (spent_by_all (reverse told) ++ ps) hall.keeper.book
 
   -- what a call of a session did: it added lines, and a hall that had answered some calls has now answered this one as well
   pub record AnswersIn (old : HallFields S) (number : ℕ) (request : Request) (phase_after : Phase) (wire wire' log log' : List ℕ)

@@ -3,9 +3,6 @@ use Rattle.std.specs.Prelude.{◌≡◌}
 use Rattle.book_format.specs.Book.{BookFields}
 use Rattle.account_book.specs.Store.{StoreFacts}
 use Rattle.book_keeper.specs.Keeper.{FailsToSave, IsAttemptAtMoment}
-use Rattle.book_keeper.specs.declared.keeper.CodeJudged.{CodeJudged}
-use Rattle.book_keeper.specs.declared.keeper.CodeJudged.TheVariants.{Replied, NotSaved}
-use Rattle.log_grammar.specs.Lines.{IsReplyInRange}
 use Rattle.log_grammar.specs.LoggedAttempt.{LoggedAttempt}
 use Rattle.sasl_desk.specs.declared.fault.DeskFault.{DeskFault}
 use Rattle.sasl_desk.specs.declared.fault.DeskFault.TheVariants.{Halted, Unwritable, NoNumber, NoMemory}
@@ -21,8 +18,3 @@ IsNotBegun old_store book NoMemory new_store = new_store ≡ old_store
 IsNotBegun old_store book Halted new_store = FailsToSave old_store book new_store
 IsNotBegun old_store book Unwritable new_store = ⊥
 IsNotBegun old_store book NoNumber new_store = ⊥
-
--- the outcome of a code is not a pass, or is a pass whose counter is in its range
-abbrev pub IsJudgedInRange : CodeJudged → Type 0
-IsJudgedInRange (Replied reply) = IsReplyInRange reply
-IsJudgedInRange NotSaved = Unit {0}

@@ -10,10 +10,8 @@ use Rattle.otp_core.specs.declared.token.reply.Reply.{Reply}
 use Rattle.otp_core.specs.declared.token.kinds.TokenFields.{TokenFields}
 use Rattle.book_format.specs.Book.{BookFields}
 use Rattle.account_book.specs.Tokens.{token_at}
-use Rattle.log_grammar.specs.Books.{accounts_in}
 use Rattle.log_grammar.specs.LoggedAttempt.{LoggedAttempt}
-use Rattle.log_grammar.specs.Demands.{HasDueReply}
-use Rattle.sasl_log.specs.Tokens.{IsBookAfter}
+use Rattle.sasl_desk.specs.Keeper.{IsAttemptJudged}
 
 -- a counter can pass at a moment after a history, by itself or as the first of a pair
 abbrev pub CanPass : TokenFields → List Attempt → (moment counter : ℕ) → Type 0
@@ -57,6 +55,5 @@ spent_by attempt = of_account attempt.account (used_by_reply attempt.sent attemp
 -- what was spent stays spent, and the counters that a reply uses are different ones and are then spent as well. So over any number
 -- of replies, in any number of runs that each continue with the book of the one before, no counter of an account passes twice.
 abbrev pub SpentStaysSpent : Type 0
-SpentStaysSpent = (old new : BookFields) (attempt : LoggedAttempt) (counters : List (List ℕ × ℕ)) → IsMoment attempt.moment
-    → HasDueReply (accounts_in old) [] attempt → IsBookAfter (accounts_in old) (attempt ∷ []) new
-    → AreSpent counters old → AreSpent (spent_by attempt ++ counters) new
+SpentStaysSpent = (old new : BookFields) (attempt : LoggedAttempt) (counters : List (List ℕ × ℕ))
+    → IsAttemptJudged old attempt new → AreSpent counters old → AreSpent (spent_by attempt ++ counters) new

@@ -30,6 +30,7 @@ use otp_core::laws::{begins_with_itself, candidates_are_new, legal_histories_joi
 pub fn spent_stays_spent()
     ensures { SpentStaysSpent }
 {
+    begins_with_itself();
     legal_histories_join();
     candidates_are_new();
 }
@@ -40,7 +41,6 @@ pub fn replies_spend_counters()
     ensures { (start : BookFields) (latest_first : List LoggedAttempt) (last : BookFields) (spent : List (List ℕ × ℕ))
         → IsBookAfterReplies start latest_first last → AreSpent spent start → AreSpent (spent_by_all latest_first ++ spent) last }
 {
-    begins_with_itself();
     spent_stays_spent();
 }
 
@@ -128,7 +128,6 @@ pub fn told_counters_are_saved<S: BookStore>()
         → IsAttemptJudged desk.keeper.book attempt next
         → AreSpent (spent_by attempt ++ (spent_by_all (reverse stands.told) ++ spent)) next }
 {
-    begins_with_itself();
     spent_stays_spent();
 }
 
@@ -140,7 +139,6 @@ pub fn no_counter_passes_twice<S: BookStore>()
         → AreChanges S.facts S.IsStored first changes last → AreSpent spent first
         → AreSpent (spent_by_changes changes ++ spent) last }
 {
-    begins_with_itself();
     candidates_are_new();
     spent_stays_spent();
     tokens_are_apart();

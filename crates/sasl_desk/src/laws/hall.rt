@@ -21,7 +21,6 @@ ghost use Rattle.sasl_desk.specs.Spent.{AreSpent, spent_by};
 use crate::laws::spent_stays_spent;
 use account_book::BookStore;
 use log_grammar::laws::each_text_is_at_most_one_line;
-use otp_core::laws::begins_with_itself;
 use scram_ends::laws::at_most_one_verdict_is_due;
 use scram_text::laws::{has_one_client_first, has_one_server_final, spells_one_name};
 
@@ -116,7 +115,6 @@ pub fn told_counters_are_saved<S: BookStore>()
         → AreSpent spent start → IsAttemptJudged hall.keeper.book attempt next
         → AreSpent (spent_by attempt ++ (spent_by_all (reverse stands.told) ++ spent)) next }
 {
-    begins_with_itself();
     spent_stays_spent();
 }
 

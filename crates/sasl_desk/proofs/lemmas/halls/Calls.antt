@@ -22,7 +22,6 @@ use Rattle.sasl_desk.specs.TurnResults.{IsTurnWritten}
 use Rattle.sasl_desk.specs.Prefix.{prefix, prefixed_bytes}
 use Rattle.sasl_desk.specs.Runs.{Request, hears}
 use Rattle.sasl_desk.specs.Sessions.{IsSessionAt}
-use Rattle.sasl_desk.specs.Spent.{SpentStaysSpent}
 use Rattle.sasl_desk.specs.declared.hall.open_session.OpenSession.{OpenSession}
 use Rattle.book_keeper.specs.declared.keeper.Keeper.{Keeper}
 use Rattle.sasl_desk.specs.declared.session.Session.{Session}
@@ -77,7 +76,7 @@ halted_phase_iff_halted Over = (λ is. absurd (cc is), λ is. absurd (cc is))
 halted_phase_iff_halted (Halted session) = (λ is. refl, λ is. refl)
 
 -- a hall in which the open session of this number takes a turn
-module _ (itself : BeginsWithItself) (stays : SpentStaysSpent) {S : Type 0} {facts : S → StoreFacts} {IsStored : List ℕ → Type 0}
+module _ (itself : BeginsWithItself) {S : Type 0} {facts : S → StoreFacts} {IsStored : List ℕ → Type 0}
     {old new : Keeper S} {n : ℕ} {session : Session} {server_nonce : List ℕ} (others : List OpenSession) (given : ℕ) {event : ClientEvent}
     {moment : ℕ} {left : AfterTurn} {wire wire' log log' : List ℕ} where
   -- a hall has answered a call when the session's turn was taken and its lines were written
@@ -90,7 +89,7 @@ module _ (itself : BeginsWithItself) (stays : SpentStaysSpent) {S : Type 0} {fac
     logged = written.logged ∙ ap (λ (b : List ℕ). log ++ b) (prefixed_bytes_are_numbered n lines);
     sent = written.sent;
     stands = λ start calls s.
-        let step = turn_is_hall_step itself s event moment stays lines left new t in
+        let step = turn_is_hall_step itself s event moment lines left new t in
         let after = step_adds_hall_call s event moment lines left new step in (
           after.0,
           subst (λ (p : Place). IsPhaseOf p (phase_left left)) (sym after.1)

@@ -16,15 +16,13 @@ use Rattle.log_grammar.specs.Numbered.{Numbered, of_number}
 use Rattle.log_grammar.specs.Versions.{max_open_sessions}
 use Rattle.log_grammar.proofs.lemmas.lines.LackLf.{reply_is_writable}
 use Rattle.log_grammar.proofs.lemmas.lines.Written.{halt_is_writable}
-use Rattle.sasl_desk.specs.Desks.{IsBookAfterReplies, spent_by_all}
+use Rattle.sasl_desk.specs.Desks.{IsBookAfterReplies}
 use Rattle.sasl_desk.specs.Events.{ClientEvent}
 use Rattle.sasl_desk.specs.OpenSessions.{open_session_of}
 use Rattle.sasl_desk.specs.Halls.{hall_of, hall_lines, IsHallAfter}
 use Rattle.book_keeper.specs.Keeper.{IsCodeOutcome}
-use Rattle.sasl_desk.specs.Keeper.{IsJudgedInRange}
 use Rattle.sasl_desk.specs.Runs.{hears, Call, call_of, server_nonce_of}
 use Rattle.sasl_desk.specs.SessionTurns.{IsLeftAt, IsCodeDue, turn_lines}
-use Rattle.sasl_desk.specs.Spent.{AreSpent, SpentStaysSpent}
 use Rattle.sasl_desk.specs.TurnResults.{after_turn_of, judged_lines, after_judged, SessionAnswers, IsTurnOf}
 use Rattle.sasl_desk.specs.declared.hall.open_session.OpenSession.{OpenSession}
 use Rattle.book_keeper.specs.declared.keeper.Keeper.{Keeper}
@@ -32,11 +30,11 @@ use Rattle.book_keeper.specs.declared.keeper.CodeJudged.{CodeJudged}
 use Rattle.book_keeper.specs.declared.keeper.CodeJudged.TheVariants.{Replied, NotSaved}
 use Rattle.sasl_desk.specs.declared.session.Session.{Session}
 use Rattle.sasl_desk.specs.declared.turn.AfterTurn.{AfterTurn}
-use Rattle.sasl_desk.proofs.lemmas.turns.Keepers.{judged_reply_is_due}
+use Rattle.sasl_desk.proofs.lemmas.turns.Keepers.{judged_reply_is_due, judged_reply_is_in_range}
 use Rattle.sasl_desk.proofs.lemmas.turns.Paths.{session_has_client_turn, left_place_is_not_halted, turn_has_no_reply}
 use Rattle.sasl_desk.proofs.lemmas.turns.Taken.{session_turn_is_taken, reply_turn_is_taken, halt_turn_is_taken}
 use Rattle.sasl_desk.proofs.lemmas.runs.HeldBooks.{held_book_fits_place, kept_store_holds_book, lost_save_fits_halt}
-use Rattle.sasl_desk.proofs.lemmas.runs.BooksAfterReplies.{book_after_told, reply_adds_to_book, replies_spend_counters}
+use Rattle.sasl_desk.proofs.lemmas.runs.BooksAfterReplies.{book_after_told, reply_adds_to_book}
 use Rattle.sasl_desk.proofs.lemmas.halls.Paths.{ends_of, turn_has_turn_lines, turn_closes_its_session, numbered_goes_on_by_path}
 use Rattle.sasl_desk.proofs.lemmas.halls.Paths.{numbered_goes_on_by_reply}
 use Rattle.sasl_desk.proofs.lemmas.halls.OpenAfterTurns.{LeavesSession}
@@ -84,18 +82,16 @@ module _ (itself : BeginsWithItself) {S : Type 0} {facts : S → StoreFacts} {Is
         stored = held_book_fits_place IsStored accounts (call_of (hears event moment) lines ∷ of_number n calls) old.book
             (facts old.store) next (left_place_is_not_halted accounts next t.turn.answer.session turn.is_answer.left)
             (working_hall_holds_book s refl);
-        spent = s.spent;
       })
 
   -- a turn in which the keeper judged a code, or two in a row, or lost the save for it, is a step of the hall
-  code_is_hall_step : SpentStaysSpent → (name : List ℕ) (sent : CodeTexts) (new : Keeper S) → IsCodeDue event (s.places n) name sent
+  code_is_hall_step : (name : List ℕ) (sent : CodeTexts) (new : Keeper S) → IsCodeDue event (s.places n) name sent
       → IsWritable (heard (code_line sent)) → (judged : CodeJudged)
-      → IsCodeOutcome IsStored old.book (facts old.store) name moment sent judged new.book (facts new.store) → IsJudgedInRange judged
+      → IsCodeOutcome IsStored old.book (facts old.store) name moment sent judged new.book (facts new.store)
       → IsHallStep s event moment (judged_lines moment sent judged) (after_judged name judged) new
-  code_is_hall_step stays name sent new due written (Replied reply) (one, kept) range =
+  code_is_hall_step name sent new due written (Replied reply) (one, kept) =
       let accounts = accounts_in start in
       let t = logged_attempt_of name moment sent reply in
-      let is_book = reply_adds_to_book start old.book new.book s.told t s.is_book one in
       record {
         next = waits_code name;
         told = s.told ++ t ∷ [];
@@ -103,14 +99,13 @@ module _ (itself : BeginsWithItself) {S : Type 0} {facts : S → StoreFacts} {Is
         spelled = numbered_goes_on_by_reply s.spelled n name sent moment reply (any_line_follows_log s refl n) due.place
             (judged_reply_is_due old.book new.book t one accounts s.told (book_after_told itself start s.told old.book s.is_book));
         turns = (tt, (tt, tt));
-        writable = (written, (reply_is_writable moment reply one.is_moment range, tt));
+        writable = (written, (reply_is_writable moment reply one.is_moment (judged_reply_is_in_range old.book name moment sent reply new.book one), tt));
         leaves = (refl, refl);
-        is_book = is_book;
+        is_book = reply_adds_to_book start old.book new.book s.told t s.is_book one;
         stored = kept_store_holds_book IsStored (needs_save reply) old.book new.book (facts old.store) (facts new.store) kept
             (working_hall_holds_book s refl);
-        spent = λ ps. replies_spend_counters itself stays start (reverse (s.told ++ t ∷ [])) new.book ps is_book;
       }
-  code_is_hall_step stays name sent new due written NotSaved judged range =
+  code_is_hall_step name sent new due written NotSaved judged =
       let accounts = accounts_in start in
       let lines = judged_lines moment sent NotSaved in
       let taken = halt_turn_is_taken accounts (server_nonce_of (of_number n calls)) event moment (s.places n) name sent due in
@@ -128,15 +123,13 @@ module _ (itself : BeginsWithItself) {S : Type 0} {facts : S → StoreFacts} {Is
         is_book = subst (λ (b : BookFields). IsBookAfterReplies start (reverse s.told) b) (sym judged.0) s.is_book;
         stored = lost_save_fits_halt IsStored accounts (of_number n calls) (s.places n) old.book new.book (facts old.store)
             (facts new.store) name event moment sent run due.place (working_hall_holds_book s refl) judged;
-        spent = λ ps spent. subst (λ (b : BookFields). AreSpent (spent_by_all (reverse s.told) ++ ps) b) (sym judged.0)
-            (s.spent ps spent);
       }
 
   -- each turn of a session is a step of its hall
-  pub turn_is_hall_step : SpentStaysSpent → (lines : List LogLine) (left : AfterTurn) (new : Keeper S)
+  pub turn_is_hall_step : (lines : List LogLine) (left : AfterTurn) (new : Keeper S)
       → IsTurnOf facts IsStored old session server_nonce event moment lines left new → IsHallStep s event moment lines left new
-  turn_is_hall_step stays lines left new (inl t) = answer_is_hall_step lines left new t
-  turn_is_hall_step stays lines left new (inr (name, sent, asked, t)) =
+  turn_is_hall_step lines left new (inl t) = answer_is_hall_step lines left new t
+  turn_is_hall_step lines left new (inr (name, sent, asked, t)) =
       let after = book_after_told itself start s.told old.book s.is_book in
       let due = asked.asks (accounts_in start) (s.places n) after.entries (s.standing refl).0.0 in
-      rw (t.lines_are, t.is_left) (code_is_hall_step stays name sent new due asked.writable t.judged t.is_judged t.in_range)
+      rw (t.lines_are, t.is_left) (code_is_hall_step name sent new due asked.writable t.judged t.is_judged)

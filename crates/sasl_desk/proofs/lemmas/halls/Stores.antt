@@ -1,6 +1,5 @@
 -- What the store of a hall holds, wherever the hall stops: a book that its run may leave, in which all that was told is spent.
 use Rattle.std.proofs.Common.{inr, ℕ, List, [], ◌∷◌, ◌++◌, reverse, refl}
-use Rattle.otp_core.specs.Laws.{BeginsWithItself}
 use Rattle.book_format.specs.Book.{BookFields}
 use Rattle.book_format.specs.Trees.{IsBookText}
 use Rattle.account_book.specs.SavedBooks.{HasStoredText}
@@ -75,26 +74,26 @@ module _ {S : Type 0} {facts : S → StoreFacts} {IsStored : List ℕ → Type 0
 
   -- the law, after a call: in each book whose text the store may hold, what was spent before the run is spent, and so is each counter
   -- that a reply used
-  pub told_counters_are_saved_ended : BeginsWithItself → SpentStaysSpent → (ps : List (List ℕ × ℕ)) (text : List ℕ) → AreSpent ps start
+  pub told_counters_are_saved_ended : SpentStaysSpent → (ps : List (List ℕ × ℕ)) (text : List ℕ) → AreSpent ps start
       → MayHold (facts hall.keeper.store) text
       → (saved : BookFields) × IsBookText text saved × AreSpent (spent_by_all (reverse s.told) ++ ps) saved
-  told_counters_are_saved_ended itself stays ps text spent holds =
-      left_text_keeps_told_counters itself stays start hall.keeper.book s.told s.spent ps text spent (hall_text_may_be_left text holds)
+  told_counters_are_saved_ended stays ps text spent holds =
+      left_text_keeps_told_counters stays start hall.keeper.book s.told s.is_book ps spent text (hall_text_may_be_left text holds)
 
   -- the law, within a call: in each book whose text the store may hold while it saves a text of the hall's book with one more attempt,
   -- what was spent before the run is spent, and so is each counter that a reply used
-  pub told_counters_are_saved_within : BeginsWithItself → SpentStaysSpent → (ps : List (List ℕ × ℕ)) (t : LoggedAttempt)
+  pub told_counters_are_saved_within : SpentStaysSpent → (ps : List (List ℕ × ℕ)) (t : LoggedAttempt)
       (next : BookFields) (asked text : List ℕ) → AreSpent ps start → IsAttemptJudged hall.keeper.book t next → IsBookText asked next
       → MayHoldWithinSave (facts hall.keeper.store) asked text
       → (saved : BookFields) × IsBookText text saved × AreSpent (spent_by_all (reverse s.told) ++ ps) saved
-  told_counters_are_saved_within itself stays ps t next asked text spent one =
-      text_within_save_keeps_told_counters itself stays start hall.keeper.book s.told s.spent ps t next spent one (facts hall.keeper.store)
+  told_counters_are_saved_within stays ps t next asked text spent one =
+      text_within_save_keeps_told_counters stays start hall.keeper.book s.told s.is_book ps spent t next one (facts hall.keeper.store)
       hall_text_may_be_left asked text
 
   -- the law, of the book that is saved: in the hall's book with one more attempt, what was spent before the run is spent, and so is each
   -- counter that a reply used, and each that the attempt used
-  pub told_counters_are_saved_next : BeginsWithItself → SpentStaysSpent → (ps : List (List ℕ × ℕ)) (t : LoggedAttempt)
+  pub told_counters_are_saved_next : SpentStaysSpent → (ps : List (List ℕ × ℕ)) (t : LoggedAttempt)
       (next : BookFields) → AreSpent ps start → IsAttemptJudged hall.keeper.book t next
       → AreSpent (spent_by t ++ (spent_by_all (reverse s.told) ++ ps)) next
-  told_counters_are_saved_next itself stays =
-      next_book_keeps_told_counters itself stays start hall.keeper.book s.told s.spent
+  told_counters_are_saved_next stays ps t next spent one =
+      next_book_keeps_told_counters stays start hall.keeper.book s.told s.is_book ps spent t next one

@@ -17,13 +17,12 @@ use Rattle.log_grammar.proofs.lemmas.many_sessions.OpenCounts.{open_number_is_in
 use Rattle.log_grammar.proofs.lemmas.many_sessions.LinesOfNumber.{one_and_others_cover_each, put_sets_own, put_keeps_others, given_in-append}
 use Rattle.log_grammar.proofs.lemmas.many_sessions.LinesOfNumber.{closed_in-append}
 use Rattle.log_grammar.proofs.lemmas.ListEnds.{appended_lists_keep_all}
-use Rattle.sasl_desk.specs.Desks.{IsStoredAt, IsBookAfterReplies, spent_by_all}
+use Rattle.sasl_desk.specs.Desks.{IsStoredAt, IsBookAfterReplies}
 use Rattle.sasl_desk.specs.Events.{ClientEvent}
 use Rattle.sasl_desk.specs.OpenSessions.{is_of, open_session_of}
 use Rattle.sasl_desk.specs.Halls.{hall_of, hall_lines, IsHallAfter}
 use Rattle.sasl_desk.specs.Runs.{hears, Call, call_of, server_nonce_of, IsTurnTaken}
 use Rattle.sasl_desk.specs.Sessions.{CanBeWritten}
-use Rattle.sasl_desk.specs.Spent.{AreSpent}
 use Rattle.sasl_desk.specs.declared.hall.open_session.OpenSession.{OpenSession}
 use Rattle.book_keeper.specs.declared.keeper.Keeper.{Keeper}
 use Rattle.sasl_desk.specs.declared.session.Session.{Session}
@@ -79,8 +78,6 @@ module _ {S : Type 0} {facts : S → StoreFacts} {IsStored : List ℕ → Type 0
     -- the store holds what it has to hold when the session is at that place
     pub stored : IsStoredAt IsStored (accounts_in start) (call_of (hears event moment) lines ∷ of_number n calls) next new.book
         (facts new.store)
-    -- what was spent at the start is spent in the new book, and so is each counter that a reply used
-    pub spent : (ps : List (List ℕ × ℕ)) → AreSpent ps start → AreSpent (spent_by_all (reverse told) ++ ps) new.book
 
   -- after the turn the hall stands for one call more, and the session at the place to which the turn led
   pub step_adds_hall_call : (event : ClientEvent) (moment : ℕ) (lines : List LogLine) (left : AfterTurn) (new : Keeper S)
@@ -137,7 +134,6 @@ module _ {S : Type 0} {facts : S → StoreFacts} {IsStored : List ℕ → Type 0
               (is.0.1 ∙ ap server_nonce_of (sym (own_item_comes_first n call calls)));
           is_book = step.is_book;
           is_stored = store_fits_next_call n call calls step.next s.places IsStored accounts new.book (facts new.store) step.stored;
-          spent = step.spent;
         },
         here,
       )

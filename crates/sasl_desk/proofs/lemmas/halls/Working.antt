@@ -136,5 +136,4 @@ module _ {S : Type 0} {facts : S → StoreFacts} {IsStored : List ℕ → Type 0
         (s.standing working);
     is_book = s.is_book;
     is_stored = s.is_stored;
-    spent = s.spent;
   }

@@ -11,7 +11,7 @@ use Rattle.sasl_log.proofs.lemmas.audits.AuditedLineByLine.{book_follows_no_repl
 use Rattle.sasl_desk.specs.Desks.{IsBookAfterReplies, spent_by_all}
 use Rattle.sasl_desk.specs.Keeper.{IsAttemptJudged}
 use Rattle.sasl_desk.specs.Spent.{AreSpent, spent_by, SpentStaysSpent}
-use Rattle.sasl_desk.proofs.lemmas.turns.Keepers.{judged_reply_is_due, judged_book_is_after}
+use Rattle.sasl_desk.proofs.lemmas.turns.Keepers.{judged_book_is_after}
 
 module _ (itself : BeginsWithItself) (start : BookFields) where
   -- the book after replies, of which the latest is given first, is the one that is due after them
@@ -36,20 +36,11 @@ pub reply_adds_to_book : (start old new : BookFields) (told : List LoggedAttempt
 reply_adds_to_book start old new told t before one =
     subst (λ (l : List LoggedAttempt). IsBookAfterReplies start l new) (sym (reverse-append told (t ∷ []))) (old, before, one)
 
--- what replies spend
-module _ (itself : BeginsWithItself) (stays : SpentStaysSpent) where
-  -- what was spent, and what an attempt used, is spent in the book after it
-  pub attempt_spends_counters : (old new : BookFields) (t : LoggedAttempt) → IsAttemptJudged old t new → (ps : List (List ℕ × ℕ))
-      → AreSpent ps old → AreSpent (spent_by t ++ ps) new
-  attempt_spends_counters old new t one ps spent =
-      let self = book_follows_no_replies itself old in
-      stays old new t ps one.is_moment (judged_reply_is_due old new t one (accounts_in old) [] self)
-      (judged_book_is_after old new t one (accounts_in old) [] self) spent
-
-  -- the law: what was spent, and what replies used, is spent in the book after them
-  pub replies_spend_counters : (start : BookFields) (latest_first : List LoggedAttempt) (last : BookFields) (ps : List (List ℕ × ℕ))
-      → IsBookAfterReplies start latest_first last → AreSpent ps start → AreSpent (spent_by_all latest_first ++ ps) last
-  replies_spend_counters start [] last ps same spent = subst (λ (b : BookFields). AreSpent ps b) (sym same) spent
-  replies_spend_counters start (t ∷ before) last ps (old, earlier, one) spent =
-      subst (λ (l : List (List ℕ × ℕ)). AreSpent l last) (sym (append_assoc (spent_by t) (spent_by_all before) ps))
-      (attempt_spends_counters old last t one (spent_by_all before ++ ps) (replies_spend_counters start before old ps earlier spent))
+-- the law: what was spent, and what replies used, is spent in the book after them
+pub replies_spend_counters : SpentStaysSpent → (start : BookFields) (latest_first : List LoggedAttempt) (last : BookFields)
+    (ps : List (List ℕ × ℕ))
+    → IsBookAfterReplies start latest_first last → AreSpent ps start → AreSpent (spent_by_all latest_first ++ ps) last
+replies_spend_counters stays start [] last ps same spent = subst (λ (b : BookFields). AreSpent ps b) (sym same) spent
+replies_spend_counters stays start (t ∷ before) last ps (old, earlier, one) spent =
+    subst (λ (l : List (List ℕ × ℕ)). AreSpent l last) (sym (append_assoc (spent_by t) (spent_by_all before) ps))
+    (stays old last t (spent_by_all before ++ ps) one (replies_spend_counters stays start before old ps earlier spent))

@@ -9,7 +9,6 @@ use Rattle.log_grammar.specs.Lines.{said, mechs, log_bytes}
 use Rattle.log_grammar.specs.Words.{offered_names}
 use Rattle.sasl_desk.specs.Events.{ClientEvent}
 use Rattle.sasl_desk.specs.Runs.{greets, hears, wire_bytes}
-use Rattle.sasl_desk.specs.Spent.{SpentStaysSpent}
 use Rattle.sasl_desk.specs.TurnResults.{IsTurnWritten}
 use Rattle.sasl_desk.specs.Desks.{IsDeskAfter, Answers, phase_of, session_phase, desk_of, state_after}
 use Rattle.sasl_desk.specs.declared.turn.AfterTurn.{AfterTurn}
@@ -39,7 +38,7 @@ halted_phase_shows_halting_turn Over server_nonce is = absurd (cc is)
 halted_phase_shows_halting_turn (Halted session) server_nonce is = refl
 
 -- a desk with an open session, and what a turn makes of it
-module _ (itself : BeginsWithItself) (stays : SpentStaysSpent) (law : GoesOnByALine) {S : Type 0} {facts : S → StoreFacts}
+module _ (itself : BeginsWithItself) (law : GoesOnByALine) {S : Type 0} {facts : S → StoreFacts}
     {IsStored : List ℕ → Type 0} {old : Keeper S} {session : Session} {server_nonce : List ℕ} {event : ClientEvent} {moment : ℕ}
     {left : AfterTurn} {wire wire' log log' : List ℕ} {new : Desk S} where
   -- when the turn was taken and its lines were written, the desk has answered the call
@@ -50,7 +49,7 @@ module _ (itself : BeginsWithItself) (stays : SpentStaysSpent) (law : GoesOnByAL
     lines = lines;
     logged = written.logged;
     sent = written.sent;
-    stands = λ start calls s. rw is_state (turn_adds_desk_call s itself law event moment stays lines left new.keeper t);
+    stands = λ start calls s. rw is_state (turn_adds_desk_call s itself law event moment lines left new.keeper t);
     saves = λ start calls s. turn_counts_saves t (open_desk_holds_book s);
     asks = λ start calls s. turn_asks_for_save (accounts_in start) s.place s.is_state.0 t (open_desk_holds_book s);
     quiet = turn_is_quiet t;

@@ -3,14 +3,14 @@ use Rattle.std.proofs.Common.{◌≡◌, inl, inr, ℕ, List, [], ◌∷◌, ◌
 use Rattle.book_format.specs.Book.{BookFields}
 use Rattle.account_book.specs.Store.{StoreFacts}
 use Rattle.account_book.specs.Laws.{TokensAreApart, AddedIsApart}
-use Rattle.otp_core.specs.Laws.{BeginsWithItself, CandidatesAreNew}
+use Rattle.otp_core.specs.Laws.{CandidatesAreNew}
 use Rattle.log_grammar.specs.LoggedAttempt.{LoggedAttempt}
 use Rattle.log_grammar.proofs.lemmas.ListEnds.{back_keeps_all}
 use Rattle.sasl_desk.specs.Spent.{AreDifferent, IsCounterSpent, AreSpent, spent_by, SpentStaysSpent}
 use Rattle.sasl_desk.specs.Desks.{spent_by_all}
 use Rattle.sasl_desk.specs.Changes.{RunOf, MayLeave, IsRunOf, Change, desk_ran, hall_ran, judged, unlocked, added}
 use Rattle.sasl_desk.specs.Changes.{IsChange, AreChanges, spent_by_change, spent_by_changes}
-use Rattle.sasl_desk.proofs.lemmas.runs.BooksAfterReplies.{attempt_spends_counters}
+use Rattle.sasl_desk.proofs.lemmas.runs.BooksAfterReplies.{replies_spend_counters}
 use Rattle.sasl_desk.proofs.lemmas.runs.Unlocks.{unlock_keeps_spent_counters, addition_keeps_spent_counters}
 
 -- of spent counters that are all different, those in the last part of the list are so too
@@ -25,13 +25,13 @@ rest_is_spent book ps qs spent = record {
   spent = back_keeps_all (λ (p : List ℕ × ℕ). IsCounterSpent book p.0 p.1) ps qs spent.spent;
 }
 
-module _ (itself : BeginsWithItself) (stays : SpentStaysSpent) where
+module _ (stays : SpentStaysSpent) where
   -- what was spent in a book is spent in each book that a run with it may leave
   pub left_book_keeps_spent_counters : (kept left : BookFields) (ps : List (List ℕ × ℕ)) → MayLeave kept left → AreSpent ps kept
       → AreSpent ps left
   left_book_keeps_spent_counters kept left ps (inl same) spent = subst (λ (b : BookFields). AreSpent ps b) (sym same) spent
   left_book_keeps_spent_counters kept left ps (inr (t, one)) spent =
-      rest_is_spent left (spent_by t) ps (attempt_spends_counters itself stays kept left t one ps spent)
+      rest_is_spent left (spent_by t) ps (stays kept left t ps one spent)
 
   -- what was spent before, and what the replies of a run used, is spent in the book that the run leaves, if this is so of the book that
   -- its desk or hall has
@@ -55,10 +55,12 @@ module _ (itself : BeginsWithItself) (stays : SpentStaysSpent) where
     change_spends_counters : (c : Change) (old new : BookFields) (ps : List (List ℕ × ℕ)) → IsChange facts IsStored c old new
         → AreSpent ps old → AreSpent (spent_by_change c ++ ps) new
     change_spends_counters (desk_ran r) old new ps ran spent =
-        run_spends_counters r ps ran (λ start calls desk s. s.spent ps) spent
+        run_spends_counters r ps ran
+        (λ start calls desk s. replies_spend_counters stays start (reverse s.told) desk.keeper.book ps s.is_book) spent
     change_spends_counters (hall_ran r) old new ps ran spent =
-        run_spends_counters r ps ran (λ start calls hall s. s.spent ps) spent
-    change_spends_counters (judged t) old new ps one spent = attempt_spends_counters itself stays old new t one ps spent
+        run_spends_counters r ps ran
+        (λ start calls hall s. replies_spend_counters stays start (reverse s.told) hall.keeper.book ps s.is_book) spent
+    change_spends_counters (judged t) old new ps one spent = stays old new t ps one spent
     change_spends_counters (unlocked name) old new ps changed spent =
         unlock_keeps_spent_counters apart fresh old new name ps changed spent
     change_spends_counters (added name account) old new ps is spent =

@@ -67,7 +67,7 @@ module _ (IsStored : List ℕ → Type 0) where
       → IsRun accounts calls at → at ≡ waits_code name → HoldsBook IsStored old was
       → IsCodeOutcome IsStored old was name moment sent NotSaved new now
       → IsStoredAt IsStored accounts (call_of (hears event moment) (judged_lines moment sent NotSaved) ∷ calls) halted new now
-  lost_save_fits_halt accounts calls at old new was now name event moment sent run here held (same, (reply, next, needs, one, loses)) =
+  lost_save_fits_halt accounts calls at old new was now name event moment sent run here held (same, (next, (reply, needs, one), loses)) =
       let lost = store_failed_in_this_save was now loses.text held.working loses.lost in
       let of_old : (IsBookText now.saved old × IsStored now.saved) ⊎ IsBookText now.saved next = elim lost.saved [
         | inl before ↦ inl (subst (λ (t : List ℕ). IsBookText t old) (sym before) held.saved, subst IsStored (sym before) held.stored)

@@ -20,12 +20,10 @@ use Rattle.log_grammar.proofs.lemmas.ListEnds.{appended_lists_keep_all}
 use Rattle.log_grammar.proofs.lemmas.lines.Written.{offer_is_writable, header_is_writable, halt_is_writable}
 use Rattle.sasl_desk.specs.Events.{ClientEvent}
 use Rattle.book_keeper.specs.Keeper.{IsCodeOutcome}
-use Rattle.sasl_desk.specs.Keeper.{IsJudgedInRange}
 use Rattle.sasl_desk.specs.SessionTurns.{IsLeftAt, IsCodeDue, turn_lines}
 use Rattle.sasl_desk.specs.Runs.{greets, hears, Call, call_of, run_lines, server_nonce_of}
-use Rattle.sasl_desk.specs.Spent.{AreSpent, SpentStaysSpent}
 use Rattle.sasl_desk.specs.TurnResults.{after_turn_of, judged_lines, after_judged, SessionAnswers, IsTurnOf}
-use Rattle.sasl_desk.specs.Desks.{IsStateAt, HoldsBook, IsStoredAt, IsBookAfterReplies, spent_by_all, IsDeskAfter, desk_of, state_after}
+use Rattle.sasl_desk.specs.Desks.{IsStateAt, HoldsBook, IsStoredAt, IsBookAfterReplies, IsDeskAfter, desk_of, state_after}
 use Rattle.book_keeper.specs.declared.keeper.Keeper.{Keeper}
 use Rattle.book_keeper.specs.declared.keeper.CodeJudged.{CodeJudged}
 use Rattle.book_keeper.specs.declared.keeper.CodeJudged.TheVariants.{Replied, NotSaved}
@@ -34,13 +32,13 @@ use Rattle.sasl_desk.specs.declared.desk.state.State.TheVariants.{Closed, Open, 
 use Rattle.sasl_desk.specs.declared.session.Session.{Session}
 use Rattle.sasl_desk.specs.declared.session.Session.TheVariants.{WaitAuth}
 use Rattle.sasl_desk.specs.declared.turn.AfterTurn.{AfterTurn}
-use Rattle.sasl_desk.proofs.lemmas.turns.Keepers.{judged_reply_is_due}
+use Rattle.sasl_desk.proofs.lemmas.turns.Keepers.{judged_reply_is_due, judged_reply_is_in_range}
 use Rattle.sasl_desk.proofs.lemmas.turns.Paths.{session_has_client_turn, left_place_is_not_halted, turn_has_no_reply, log_goes_on_by_path}
 use Rattle.sasl_desk.proofs.lemmas.turns.Paths.{log_goes_on_by_reply}
 use Rattle.sasl_desk.proofs.lemmas.turns.Taken.{session_turn_is_taken, reply_turn_is_taken, halt_turn_is_taken}
 use Rattle.sasl_desk.proofs.lemmas.runs.HeldBooks.{saved_store_holds_book, kept_store_holds_book, client_turn_store_holds_book, held_book_fits_place}
 use Rattle.sasl_desk.proofs.lemmas.runs.HeldBooks.{lost_save_fits_halt}
-use Rattle.sasl_desk.proofs.lemmas.runs.BooksAfterReplies.{book_after_told, reply_adds_to_book, replies_spend_counters}
+use Rattle.sasl_desk.proofs.lemmas.runs.BooksAfterReplies.{book_after_told, reply_adds_to_book}
 
 -- after a turn that leaves its session at a place, its desk is in the state that is due there
 left_desk_fits_place : (accounts : Accounts) (server_nonce kept : List ℕ) (at : Place) (session : Option Session) → kept ≡ server_nonce
@@ -63,7 +61,6 @@ new_desk_stands_for_book law facts IsStored book keeper was same holds = record 
   is_book = same;
   is_stored = subst (λ (b : BookFields). HoldsBook IsStored b (facts keeper.store)) (sym same)
       (saved_store_holds_book IsStored book was (facts keeper.store) holds);
-  spent = λ ps spent. subst (λ (b : BookFields). AreSpent ps b) (sym same) spent;
 }
 
 -- a closed desk
@@ -87,7 +84,6 @@ module _ (law : GoesOnByALine) {S : Type 0} {facts : S → StoreFacts} {IsStored
         is_state = (refl, refl);
         is_book = s.is_book;
         is_stored = subst (λ (p : Place). IsStoredAt IsStored accounts calls p keeper.book (facts keeper.store)) s.is_state s.is_stored;
-        spent = s.spent;
       }
 
 -- a desk with an open session
@@ -125,19 +121,17 @@ module _ {S : Type 0} {facts : S → StoreFacts} {IsStored : List ℕ → Type 0
           is_book = s.is_book;
           is_stored = held_book_fits_place IsStored accounts (call_of (hears event moment) lines ∷ calls) old.book (facts old.store) next
               (left_place_is_not_halted accounts next t.turn.answer.session turn.is_answer.left) open_desk_holds_book;
-          spent = s.spent;
         })
 
     -- when the keeper has judged a code, or two in a row, or has lost the save for it, the desk stands for one call more
-    code_adds_desk_call : SpentStaysSpent → (name : List ℕ) (sent : CodeTexts) (new : Keeper S) → IsCodeDue event s.place name sent
+    code_adds_desk_call : (name : List ℕ) (sent : CodeTexts) (new : Keeper S) → IsCodeDue event s.place name sent
         → IsWritable (heard (code_line sent)) → (judged : CodeJudged)
-        → IsCodeOutcome IsStored old.book (facts old.store) name moment sent judged new.book (facts new.store) → IsJudgedInRange judged
+        → IsCodeOutcome IsStored old.book (facts old.store) name moment sent judged new.book (facts new.store)
         → IsDeskAfter facts IsStored start (call_of (hears event moment) (judged_lines moment sent judged) ∷ calls)
         (desk_of new (state_after (after_judged name judged) server_nonce))
-    code_adds_desk_call stays name sent new due written (Replied reply) (one, kept) range =
+    code_adds_desk_call name sent new due written (Replied reply) (one, kept) =
         let accounts = accounts_in start in
         let t = logged_attempt_of name moment sent reply in
-        let is_book = reply_adds_to_book start old.book new.book s.told t s.is_book one in
         record {
           place = waits_code name;
           told = s.told ++ t ∷ [];
@@ -146,14 +140,13 @@ module _ {S : Type 0} {facts : S → StoreFacts} {IsStored : List ℕ → Type 0
               (subst (λ (p : Place). Begins (demands accounts) (run_lines calls) p s.told) due.place s.begins)
               (judged_reply_is_due old.book new.book t one accounts s.told (book_after_told itself start s.told old.book s.is_book));
           writable = appended_lists_keep_all IsWritable (run_lines calls) (judged_lines moment sent (Replied reply)) s.writable
-              (written, (reply_is_writable moment reply one.is_moment range, tt));
+              (written, (reply_is_writable moment reply one.is_moment (judged_reply_is_in_range old.book name moment sent reply new.book one), tt));
           is_state = (refl, s.is_state.1);
-          is_book = is_book;
+          is_book = reply_adds_to_book start old.book new.book s.told t s.is_book one;
           is_stored = kept_store_holds_book IsStored (needs_save reply) old.book new.book (facts old.store) (facts new.store) kept
               open_desk_holds_book;
-          spent = λ ps. replies_spend_counters itself stays start (reverse (s.told ++ t ∷ [])) new.book ps is_book;
         }
-    code_adds_desk_call stays name sent new due written NotSaved judged range =
+    code_adds_desk_call name sent new due written NotSaved judged =
         let accounts = accounts_in start in
         let lines = judged_lines moment sent NotSaved in
         let taken = halt_turn_is_taken accounts (server_nonce_of calls) event moment s.place name sent due in
@@ -167,20 +160,18 @@ module _ {S : Type 0} {facts : S → StoreFacts} {IsStored : List ℕ → Type 0
           is_book = subst (λ (b : BookFields). IsBookAfterReplies start (reverse s.told) b) (sym judged.0) s.is_book;
           is_stored = lost_save_fits_halt IsStored accounts calls s.place old.book new.book (facts old.store) (facts new.store) name event
               moment sent s.is_run due.place open_desk_holds_book judged;
-          spent = λ ps spent. subst (λ (b : BookFields). AreSpent (spent_by_all (reverse s.told) ++ ps) b) (sym judged.0)
-              (s.spent ps spent);
         }
 
     -- after each turn of its session the desk stands for one call more
-    pub turn_adds_desk_call : SpentStaysSpent → (lines : List LogLine) (left : AfterTurn) (new : Keeper S)
+    pub turn_adds_desk_call : (lines : List LogLine) (left : AfterTurn) (new : Keeper S)
         → IsTurnOf facts IsStored old session server_nonce event moment lines left new
         → IsDeskAfter facts IsStored start (call_of (hears event moment) lines ∷ calls) (desk_of new (state_after left server_nonce))
-    turn_adds_desk_call stays lines left new (inl t) = answer_adds_desk_call lines left new t
-    turn_adds_desk_call stays lines left new (inr (name, sent, asked, t)) =
+    turn_adds_desk_call lines left new (inl t) = answer_adds_desk_call lines left new t
+    turn_adds_desk_call lines left new (inr (name, sent, asked, t)) =
         let after = book_after_told itself start s.told old.book s.is_book in
         let due = asked.asks (accounts_in start) s.place after.entries s.is_state.0 in
         rw (t.is_left, t.lines_are)
-        (code_adds_desk_call stays name sent new due asked.writable t.judged t.is_judged t.in_range)
+        (code_adds_desk_call name sent new due asked.writable t.judged t.is_judged)
 
 -- a desk that is halted stands for the calls for which it stood
 pub halted_desk_stands : {S : Type 0} {facts : S → StoreFacts} {IsStored : List ℕ → Type 0} {start : BookFields} {calls : List Call}
@@ -194,5 +185,4 @@ halted_desk_stands s = record {
   is_state = tt;
   is_book = s.is_book;
   is_stored = s.is_stored;
-  spent = s.spent;
 }

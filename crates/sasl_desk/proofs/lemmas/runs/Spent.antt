@@ -9,7 +9,7 @@ use Rattle.otp_core.specs.Ranges.{IsMoment}
 use Rattle.otp_core.specs.Window.{IsAbove}
 use Rattle.otp_core.specs.Reply.{IsFitting, IsDueReply}
 use Rattle.otp_core.specs.History.{IsAfter, IsLegal}
-use Rattle.otp_core.specs.Laws.{CandidatesAreNew, LegalHistoriesJoin}
+use Rattle.otp_core.specs.Laws.{BeginsWithItself, CandidatesAreNew, LegalHistoriesJoin}
 use Rattle.otp_core.specs.declared.token.reply.Reply.{Reply}
 use Rattle.otp_core.specs.declared.token.reply.Reply.TheVariants.{Pass, Fail, Locked}
 use Rattle.otp_core.specs.declared.token.kinds.TokenFields.{TokenFields}
@@ -20,7 +20,9 @@ use Rattle.log_grammar.specs.LoggedAttempt.{LoggedAttempt, logged_attempt_of}
 use Rattle.log_grammar.specs.Demands.{attempts_of, IsReplyDueBy}
 use Rattle.sasl_log.specs.Tokens.{LeadsTo, IsBookAfter}
 use Rattle.log_grammar.proofs.lemmas.ListEnds.{front_keeps_all, back_keeps_all}
+use Rattle.sasl_log.proofs.lemmas.audits.AuditedLineByLine.{book_follows_no_replies}
 use Rattle.sasl_desk.proofs.lemmas.Lists.{each_follows}
+use Rattle.sasl_desk.proofs.lemmas.turns.Keepers.{judged_reply_is_due, judged_book_is_after}
 use Rattle.sasl_desk.specs.Spent.{CanPass, IsBelow, IsCounterSpent, AreSpent, used_by_reply, of_account, SpentStaysSpent}
 
 -- attempts that lead from a token lead to a token after them
@@ -193,7 +195,10 @@ module _ (join : LegalHistoriesJoin) (fresh : CandidatesAreNew) (old new : BookF
       pair_pass_spends_counters join fresh old new name moment start has is ps spent c first second
       (reply_by_token_is_due start moment (two_texts first second) (Pass c) due).1 after
 
--- the law: what was spent stays spent over each reply that is due
-pub spent_stays_spent : LegalHistoriesJoin → CandidatesAreNew → SpentStaysSpent
-spent_stays_spent join fresh old new t ps is due after spent =
-    due_reply_spends_counters join fresh old new t.account t.moment is ps spent t.sent t.reply (token_at old t.account) refl due after
+-- the law: what was spent stays spent over each attempt that was judged
+pub spent_stays_spent : BeginsWithItself → LegalHistoriesJoin → CandidatesAreNew → SpentStaysSpent
+spent_stays_spent itself join fresh old new t ps one spent =
+    let accounts = accounts_in old in
+    let self = book_follows_no_replies itself old in
+    due_reply_spends_counters join fresh old new t.account t.moment one.is_moment ps spent t.sent t.reply (token_at old t.account) refl
+    (judged_reply_is_due old new t one accounts [] self) (judged_book_is_after old new t one accounts [] self)

@@ -5,7 +5,6 @@ use Rattle.book_format.specs.Book.{BookFields}
 use Rattle.book_format.specs.Trees.{IsBookText}
 use Rattle.account_book.specs.SavedBooks.{HasStoredText}
 use Rattle.account_book.specs.Store.{StoreFacts}
-use Rattle.otp_core.specs.Laws.{BeginsWithItself}
 use Rattle.log_grammar.specs.Books.{accounts_in}
 use Rattle.log_grammar.specs.Lines.{log_bytes}
 use Rattle.log_grammar.specs.LoggedAttempt.{LoggedAttempt}
@@ -15,10 +14,11 @@ use Rattle.sasl_desk.specs.Keeper.{IsAttemptJudged}
 use Rattle.sasl_desk.specs.Runs.{Call, run_lines}
 use Rattle.sasl_desk.specs.Saved.{IsLogSaved}
 use Rattle.sasl_desk.specs.Spent.{AreSpent, spent_by, SpentStaysSpent}
-use Rattle.sasl_desk.specs.Desks.{MayHold, MayHoldWithinSave, HoldsBook, IsLostAfter, IsStoredAt, spent_by_all, IsDeskAfter}
+use Rattle.sasl_desk.specs.Desks.{MayHold, MayHoldWithinSave, HoldsBook, IsLostAfter, IsStoredAt, IsBookAfterReplies, spent_by_all}
+use Rattle.sasl_desk.specs.Desks.{IsDeskAfter}
 use Rattle.sasl_desk.specs.Changes.{MayLeave, IsDeskRunLeaving}
 use Rattle.sasl_desk.specs.declared.desk.Desk.{Desk}
-use Rattle.sasl_desk.proofs.lemmas.runs.BooksAfterReplies.{attempt_spends_counters}
+use Rattle.sasl_desk.proofs.lemmas.runs.BooksAfterReplies.{replies_spend_counters}
 use Rattle.sasl_desk.proofs.lemmas.runs.Changes.{left_book_keeps_spent_counters}
 
 -- the text is that of a book that a run may leave: of this book, which the run kept, or of that with one more attempt
@@ -63,30 +63,35 @@ module _ (IsStored : List ℕ → Type 0) (accounts : Accounts) (calls : List Ca
   book_was_saved place held = (store.saved, held.saved, held.stored)
 
 -- a desk or a hall that began with a book and has this one now: what was spent before, and what the replies in its log used, is spent
-module _ (itself : BeginsWithItself) (stays : SpentStaysSpent) (start kept : BookFields) (told : List LoggedAttempt)
-    (spends : (ps : List (List ℕ × ℕ)) → AreSpent ps start → AreSpent (spent_by_all (reverse told) ++ ps) kept)
-    (ps : List (List ℕ × ℕ)) where
+module _ (stays : SpentStaysSpent) (start kept : BookFields) (told : List LoggedAttempt)
+    (is_book : IsBookAfterReplies start (reverse told) kept) (ps : List (List ℕ × ℕ)) (spent : AreSpent ps start) where
+  -- it is spent in the book that the desk or hall has
+  kept_book_keeps_told_counters : AreSpent (spent_by_all (reverse told) ++ ps) kept
+  kept_book_keeps_told_counters = replies_spend_counters stays start (reverse told) kept ps is_book spent
+
   -- it is spent in the book of each text that is left, after a call
-  pub left_text_keeps_told_counters : (text : List ℕ) → AreSpent ps start → IsTextLeft kept text
+  pub left_text_keeps_told_counters : (text : List ℕ) → IsTextLeft kept text
       → (saved : BookFields) × IsBookText text saved × AreSpent (spent_by_all (reverse told) ++ ps) saved
-  left_text_keeps_told_counters text spent (left, leaves, is_text) =
-      (left, is_text, left_book_keeps_spent_counters itself stays kept left (spent_by_all (reverse told) ++ ps) leaves (spends ps spent))
+  left_text_keeps_told_counters text (left, leaves, is_text) = (
+    left,
+    is_text,
+    left_book_keeps_spent_counters stays kept left (spent_by_all (reverse told) ++ ps) leaves kept_book_keeps_told_counters,
+  )
 
   -- within a call that judges an attempt
-  module _ (t : LoggedAttempt) (next : BookFields) (spent : AreSpent ps start) (one : IsAttemptJudged kept t next) where
+  module _ (t : LoggedAttempt) (next : BookFields) (one : IsAttemptJudged kept t next) where
     -- it is spent in the book of each text that the store may hold while it saves a text of the book with the attempt
     pub text_within_save_keeps_told_counters : (store : StoreFacts) → ((text : List ℕ) → MayHold store text → IsTextLeft kept text)
         → (asked text : List ℕ) → IsBookText asked next → MayHoldWithinSave store asked text
         → (saved : BookFields) × IsBookText text saved × AreSpent (spent_by_all (reverse told) ++ ps) saved
     text_within_save_keeps_told_counters store left asked text is_text (inl holds) =
-        left_text_keeps_told_counters text spent (left text holds)
+        left_text_keeps_told_counters text (left text holds)
     text_within_save_keeps_told_counters store left asked text is_text (inr same) =
-        left_text_keeps_told_counters text spent (next, inr (t, one), subst (λ (x : List ℕ). IsBookText x next) (sym same) is_text)
+        left_text_keeps_told_counters text (next, inr (t, one), subst (λ (x : List ℕ). IsBookText x next) (sym same) is_text)
 
     -- it is spent in the book with the attempt, and so is what the attempt used
     pub next_book_keeps_told_counters : AreSpent (spent_by t ++ (spent_by_all (reverse told) ++ ps)) next
-    next_book_keeps_told_counters =
-        attempt_spends_counters itself stays kept next t one (spent_by_all (reverse told) ++ ps) (spends ps spent)
+    next_book_keeps_told_counters = stays kept next t (spent_by_all (reverse told) ++ ps) one kept_book_keeps_told_counters
 
 -- a desk that has answered these calls
 module _ {S : Type 0} {facts : S → StoreFacts} {IsStored : List ℕ → Type 0} {start : BookFields} {calls : List Call} {desk : Desk S}
@@ -128,26 +133,26 @@ module _ {S : Type 0} {facts : S → StoreFacts} {IsStored : List ℕ → Type 0
 
   -- the law, after a call: in each book whose text the store may hold, what was spent before the run is spent, and so is each counter
   -- that a reply used
-  pub told_counters_are_saved_ended : BeginsWithItself → SpentStaysSpent → (ps : List (List ℕ × ℕ)) (text : List ℕ) → AreSpent ps start
+  pub told_counters_are_saved_ended : SpentStaysSpent → (ps : List (List ℕ × ℕ)) (text : List ℕ) → AreSpent ps start
       → MayHold (facts desk.keeper.store) text
       → (saved : BookFields) × IsBookText text saved × AreSpent (spent_by_all (reverse s.told) ++ ps) saved
-  told_counters_are_saved_ended itself stays ps text spent holds =
-      left_text_keeps_told_counters itself stays start desk.keeper.book s.told s.spent ps text spent (desk_text_may_be_left text holds)
+  told_counters_are_saved_ended stays ps text spent holds =
+      left_text_keeps_told_counters stays start desk.keeper.book s.told s.is_book ps spent text (desk_text_may_be_left text holds)
 
   -- the law, within a call: in each book whose text the store may hold while it saves a text of the desk's book with one more attempt,
   -- what was spent before the run is spent, and so is each counter that a reply used
-  pub told_counters_are_saved_within : BeginsWithItself → SpentStaysSpent → (ps : List (List ℕ × ℕ)) (t : LoggedAttempt)
+  pub told_counters_are_saved_within : SpentStaysSpent → (ps : List (List ℕ × ℕ)) (t : LoggedAttempt)
       (next : BookFields) (asked text : List ℕ) → AreSpent ps start → IsAttemptJudged desk.keeper.book t next → IsBookText asked next
       → MayHoldWithinSave (facts desk.keeper.store) asked text
       → (saved : BookFields) × IsBookText text saved × AreSpent (spent_by_all (reverse s.told) ++ ps) saved
-  told_counters_are_saved_within itself stays ps t next asked text spent one =
-      text_within_save_keeps_told_counters itself stays start desk.keeper.book s.told s.spent ps t next spent one (facts desk.keeper.store)
+  told_counters_are_saved_within stays ps t next asked text spent one =
+      text_within_save_keeps_told_counters stays start desk.keeper.book s.told s.is_book ps spent t next one (facts desk.keeper.store)
       desk_text_may_be_left asked text
 
   -- the law, of the book that is saved: in the desk's book with one more attempt, what was spent before the run is spent, and so is each
   -- counter that a reply used, and each that the attempt used
-  pub told_counters_are_saved_next : BeginsWithItself → SpentStaysSpent → (ps : List (List ℕ × ℕ)) (t : LoggedAttempt)
+  pub told_counters_are_saved_next : SpentStaysSpent → (ps : List (List ℕ × ℕ)) (t : LoggedAttempt)
       (next : BookFields) → AreSpent ps start → IsAttemptJudged desk.keeper.book t next
       → AreSpent (spent_by t ++ (spent_by_all (reverse s.told) ++ ps)) next
-  told_counters_are_saved_next itself stays =
-      next_book_keeps_told_counters itself stays start desk.keeper.book s.told s.spent
+  told_counters_are_saved_next stays ps t next spent one =
+      next_book_keeps_told_counters stays start desk.keeper.book s.told s.is_book ps spent t next one

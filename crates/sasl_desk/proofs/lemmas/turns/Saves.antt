@@ -67,7 +67,7 @@ module _ (IsStored : List ℕ → Type 0) (name : List ℕ) (moment : ℕ) (sent
   code_counts_saves (Replied (Some Fail)) held (one, kept) = kept.saved.begun.counted
   code_counts_saves (Replied (Some Locked)) held (one, kept) = let same = ap (λ (f : StoreFacts). f.saves) kept.1 in omega (arith, same)
   code_counts_saves (Replied None) held (one, kept) = let same = ap (λ (f : StoreFacts). f.saves) kept.1 in omega (arith, same)
-  code_counts_saves NotSaved held (same, (reply, next, needs, one, loses)) =
+  code_counts_saves NotSaved held (same, (next, (reply, needs, one), loses)) =
       (store_failed_in_this_save was now loses.text held.working loses.lost).begun.counted
 
   -- a code that needs a save is an attempt, and the store was asked to save the book with it
@@ -98,7 +98,7 @@ module _ (IsStored : List ℕ → Type 0) (name : List ℕ) (moment : ℕ) (sent
   )
   code_asks_for_save event at (Replied (Some Locked)) here held judged some = absurd (some refl)
   code_asks_for_save event at (Replied None) here held judged some = absurd (some refl)
-  code_asks_for_save event at NotSaved here held (same, (reply, next, needs, one, loses)) some = (
+  code_asks_for_save event at NotSaved here held (same, (next, (reply, needs, one), loses)) some = (
     logged_attempt_of name moment sent reply,
     next,
     record { event = event; answer = said halt; is_request = refl; place = here; lines_are = refl; to_save = needs },
@@ -120,7 +120,7 @@ module _ (IsStored : List ℕ → Type 0) (name : List ℕ) (moment : ℕ) (sent
   halting_code_failed_saving : (judged : CodeJudged) → IsCodeOutcome IsStored old was name moment sent judged new now
       → halted_after (after_judged name judged) ≡ true → (now.failed ≡ true) × (new ≡ old)
   halting_code_failed_saving (Replied reply) judged is = absurd (cc is)
-  halting_code_failed_saving NotSaved (same, (reply, next, needs, one, loses)) is =
+  halting_code_failed_saving NotSaved (same, (next, (reply, needs, one), loses)) is =
       (lost_store_has_failed was now loses.text loses.lost, same)
 
 -- what a turn of a session did to its keeper

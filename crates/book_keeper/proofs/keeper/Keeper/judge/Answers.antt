@@ -18,14 +18,16 @@ returns-in-Err-NotSaved-clause-ok g c =
     let lost = c.in-Err-NotSaved.ensures.err in (
       c.in-Err-NotSaved.ensures.undone,
       (
-        Some c.judge-reply.result,
         lost.0,
-        (let apart : c.judge-reply.result ≢ Locked = search rules in reply_but_locked_needs_save c.judge-reply.result apart),
-        token_attempt_is_judged _ _ c.args.name.now c.in-Some.before c.judge-reply.new.self c.args.moment _ c.judge-reply.result
-            c.law_of_moments.ensures
-            (sym c.token.ensures ∙ c.in-Some.is)
-            (rw c.copy-next.ensures at c.judge-reply.ensures)
-            lost.1,
+        (
+          Some c.judge-reply.result,
+          (let apart : c.judge-reply.result ≢ Locked = search rules in reply_but_locked_needs_save c.judge-reply.result apart),
+          token_attempt_is_judged _ _ c.args.name.now c.in-Some.before c.judge-reply.new.self c.args.moment _ c.judge-reply.result
+              c.law_of_moments.ensures
+              (sym c.token.ensures ∙ c.in-Some.is)
+              (rw c.copy-next.ensures at c.judge-reply.ensures)
+              lost.1,
+        ),
         rw c.in-Err-NotSaved.field-0-is at lost.2,
       ),
     )
@@ -33,12 +35,14 @@ returns-in-Err-NotSaved-clause-ok g c =
 pub returns-in-Err-NoMemory-clause-no_memory : goal.returns-in-Err-NoMemory-clause-no_memory
 returns-in-Err-NoMemory-clause-no_memory g c =
     let lost = c.in-Err-NoMemory.ensures.err in (
-      Some c.judge-reply.result,
       lost.0,
-      (let apart : c.judge-reply.result ≢ Locked = search rules in reply_but_locked_needs_save c.judge-reply.result apart),
-      token_attempt_is_judged _ _ c.args.name.now c.in-Some.before c.judge-reply.new.self c.args.moment _ c.judge-reply.result
-          c.law_of_moments.ensures
-          (sym c.token.ensures ∙ c.in-Some.is)
-          (rw c.copy-next.ensures at c.judge-reply.ensures)
-          lost.1,
+      (
+        Some c.judge-reply.result,
+        (let apart : c.judge-reply.result ≢ Locked = search rules in reply_but_locked_needs_save c.judge-reply.result apart),
+        token_attempt_is_judged _ _ c.args.name.now c.in-Some.before c.judge-reply.new.self c.args.moment _ c.judge-reply.result
+            c.law_of_moments.ensures
+            (sym c.token.ensures ∙ c.in-Some.is)
+            (rw c.copy-next.ensures at c.judge-reply.ensures)
+            lost.1,
+      ),
     )
