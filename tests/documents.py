@@ -8,8 +8,8 @@ With names, only these of the functions below are used. By default all are.
 
 Each link between pages leads to a page and a section in it. Each path between backquotes is in the repository, and each source file or edit
 that is named is there. Each block of code, definitions, proofs or an edit that a page shows stands in one as it is. Each name that a page
-of promises has between backquotes is in the sources. Each name without a space in a page for maintainers, in docs/FAULTS.md or in
-docs/TESTING.md is in the sources or in a script. A name that a page gives together with a file, as in `name` of `file.rt` or `file.rt`
+of promises has between backquotes is in the sources. Each name without a space in a page for maintainers, in docs/FAULTS.md,
+docs/SECURITY.md or docs/TESTING.md is in the sources or in a script. A name that a page gives together with a file, as in `name` of `file.rt` or `file.rt`
 (`name`, `other`), is in that file. So is each law of docs/LOG_PROMISES.md in one of the files that are named before its table. run.py runs
 each script in this folder that takes a program, and docs/TESTING.md names each script. A script that runs a list of tests uses all of its
 functions. The sizes in docs/PROMISES.md and README.md are about those of the sources, and docs/TESTING.md says how many rows the tables of
@@ -31,6 +31,7 @@ TOP = Path(__file__).resolve().parent.parent
 PAGES = [TOP / "README.md", TOP / "CONTRIBUTING.md", TOP / "CHANGELOG.md", *sorted(TOP.glob("docs/*.md")), TOP / "bench" / "README.md"]
 PROMISES = ["PROMISES.md", "LOG_PROMISES.md", "COMMAND_PROMISES.md", "CONTRACTS.md"]
 MAINTAINERS = ["ARCHITECTURE.md", "DECISIONS.md", "MUTATIONS.md", "PROVING.md", "FAULTS.md", "TESTING.md", "TIMES.md", "WORDS.md"]
+MAINTAINERS += ["SECURITY.md"]
 
 # The kit with which everything was proved: its name, and the checksum of its logic.
 KIT = re.search(r"^KIT = (.+)$", (TOP / "Makefile").read_text(encoding="utf-8"), re.MULTILINE).group(1)
