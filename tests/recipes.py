@@ -469,6 +469,27 @@ def a_password_that_is_refused(folder):
     has_keys_of(book_of(folder)["accounts"][NAME], b"another one", 4096)
 
 
+def one_mechanism(folder):
+    """The account keeps only its keys for SCRAM-SHA-256. By that mechanism a login is accepted; by SCRAM-SHA-1 it is refused, after a
+    challenge like a decoy's. Run again, the block fails, and the book stays as it is."""
+    enrolled(folder)
+    before = book_of(folder)
+    [drop] = blocks("Serve an account by SHA-256 only")
+    does(folder, drop)
+    del before["accounts"][NAME]["sha1"]
+    states(folder, before, "what the book states after the keys are dropped")
+    does(folder, "tools/list-unlike-decoys book.toml")
+    does(folder, "tools/list-accounts book.toml", printed=f"other: sha1 keys, sha256 keys\n{NAME}: sha256 keys\n")
+    for trial, (mechanism, status, answer) in each([("SCRAM-SHA-256", 0, r"S OK :v=.*"), ("SCRAM-SHA-1", 1, r"S NO :e=invalid-proof")]):
+        with trial:
+            login = f"scramotp login --book book.toml --name {NAME} --mechanism {mechanism} --socket socket"
+            ended, log, faults = ran(folder, login, "pencil\n")
+            equal((ended, faults), (status, ""), log)
+            holds(re.search(rf"^S CONT :r=.*,s=.{{24}},i=4096\nC RESP .*\n{answer}$", log, re.M), "another answer is due", answer, log)
+    equal(ran(folder, drop)[0], 1, "the status of the block for an account without these keys")
+    states(folder, before, "what the book states after nothing was dropped")
+
+
 def a_removed_account(folder):
     """The account is removed with all its tables, with or without a token, and no other account is."""
     enrolled(folder)
@@ -889,6 +910,7 @@ TESTS = [
     a_password_of_one_mechanism,
     a_first_password,
     a_password_that_is_refused,
+    one_mechanism,
     a_removed_account,
     a_renamed_account,
     what_accounts_have,
