@@ -1,6 +1,6 @@
 #!/usr/bin/env python3
 """Checks each block of docs/FORMATS.md: the book and the logs are good ones, and the commands do what the page says they do. Checks the
-session of a hall that docs/OPERATING.md shows, which is the one of docs/FORMATS.md.
+session of a hall that docs/SERVING.md shows, which is the one of docs/FORMATS.md.
 
 Usage: formats.py PROGRAM [TEST ..]
 
@@ -22,13 +22,13 @@ from expected import AUDITS
 from suite import PROGRAM, blocks_of, document, each, program_on_path
 
 DOCUMENT = document("docs/FORMATS.md")
-OPERATING = suite.TOP / "docs" / "OPERATING.md"
+SERVING = suite.TOP / "docs" / "SERVING.md"
 LOGIN, TWO_SESSIONS = "clean sessions=1 accepted=1 codes=0", "clean sessions=2 accepted=0 codes=0"
 
 
-def block(title, language=""):
-    """The only block in this language in the section with this title."""
-    [text] = [text for *place, text in blocks_of(DOCUMENT) if place == [title, language]]
+def block(title, language="", page=DOCUMENT):
+    """The only block in this language in the section of a page with this title."""
+    [text] = [text for *place, text in blocks_of(page) if place == [title, language]]
     return text
 
 
@@ -37,6 +37,9 @@ LOG = block("The lines of the protocol and of the log")
 NUMBERED = block("Numbered lines")
 COMMANDS = block("Many logs")
 GRAMMAR = block("The grammar of the lines", "abnf")
+TRANSCRIPT = block("A session", "sh", SERVING)
+# Before a line that a transcript shows as printed.
+SHOWN = "#> "
 
 # The rules of RFC 5234, appendix B.1, that the grammar cites.
 CORE = {"SP": "%x20", "LF": "%x0A", "DIGIT": "%x30-39"}
@@ -174,41 +177,22 @@ def the_grammar(folder):
                 holds(no_line(log) > (number or log.count(b"\n")), "the grammar lacks a line of the log", shows)
 
 
-def has_form(text, line):
-    """Whether a line is a text in which `..` stands for any bytes."""
-    return re.fullmatch(".*".join(map(re.escape, text.split(".."))), line) is not None
-
-
-def event_of(writes):
-    """The event that a row of the table of a session writes, with the whole message of LOG where `..` stands; nothing if it is no event."""
-    event = re.fullmatch(r"`((?:line \d+ \d+ )?)(.*)`", writes)
-    if not event:
-        return ""
-    [text] = [line for line in [event[2], *(line[2:] for line in LOG.splitlines())] if ".." not in line and has_form(event[2], line)]
-    return f"{event[1]}{text}\n"
-
-
 def a_session_of_a_hall(folder):
-    """A hall that gets the events of the session in docs/OPERATING.md prints the lines that the table shows, and the client is sent those
-    of the server among them."""
-    table = re.search(r"^\| Your program writes \|.*\n.*\n((?:\|.*\n)+)", OPERATING.read_text(encoding="utf-8"), re.M)[1]
-    rows = [row.strip("| ").split(" | ") for row in table.splitlines()]
-    book = suite.BookFolder(folder, BOOK).book
-    status, output, faults = processes.ran([PROGRAM, "hall", "--book", book], "".join(event_of(writes) for writes, *_ in rows))
-    equal((status, faults), (0, ""), "the end of the hall")
-    printed, shown = output.splitlines(), [re.findall(r"`([^`]*)`", prints) for _, prints, _ in rows]
-    equal(len(printed), sum(map(len, shown)), "the number of lines")
-    for trial, (row, texts) in each(zip(rows, shown)):
-        with trial:
-            lines = [printed.pop(0) for _ in texts]
-            equal([has_form(text, line) for text, line in zip(texts, lines)], [True for _ in texts], (row, lines))
-            sent = re.findall(r"sends (?:client 1 )?`([^`]*)`", row[2])
-            equal([f"1 S {text}" for text in sent], [text for text in texts if text.startswith("1 S ")], row)
+    """The command of docs/SERVING.md prints what is shown below it: the login that this page has in a log, and a code. An audit calls it
+    clean."""
+    environment = with_files(folder, book="")
+    command = "".join(line for line in TRANSCRIPT.splitlines(True) if not line.startswith(SHOWN))
+    shown = "".join(line.removeprefix(SHOWN) for line in TRANSCRIPT.splitlines(True) if line.startswith(SHOWN))
+    equal(processes.ran(["bash", "-c", command], cwd=folder, env=environment), (0, shown, ""), command)
+    login = [f"1 {line}" for line in LOG.splitlines()[1:-2]]
+    equal(shown.splitlines()[1:len(login) + 1], login, "the lines of the login")
+    suite.BookFolder(folder, BOOK).audited(shown, "clean sessions=1 accepted=1 codes=1")
 
 
 def every_block(folder):
-    """No block of the document is left out."""
+    """No block of the documents is left out."""
     equal([text for *_, text in blocks_of(DOCUMENT)], [BOOK, LOG, NUMBERED, GRAMMAR, COMMANDS], "the blocks of the page")
+    equal([text for *_, text in blocks_of(SERVING)], [TRANSCRIPT], "the blocks of docs/SERVING.md")
 
 
 suite.run_all([the_book, the_logs, many_logs, the_grammar, a_session_of_a_hall, every_block])

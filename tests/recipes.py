@@ -55,7 +55,7 @@ exit $status
 """
 
 # The section whose block runs until an interrupt.
-SERVED = "Serve many logins with `hall`"
+SERVED = "Serve logins with `serve-hall`"
 
 
 def all_blocks():

@@ -26,7 +26,7 @@ from suite import BOOK_OF_USER, blocks_of, each, seen
 from tool_runs import TOOLS, book_of, does, ran, start, with_tools
 
 OPERATING = TOOLS.parent / "docs" / "OPERATING.md"
-[SERVE] = [block for title, _, block in blocks_of(OPERATING) if title == "Serve many logins with `hall`"]
+[SERVE] = [block for title, _, block in blocks_of(OPERATING) if title == "Serve logins with `serve-hall`"]
 # Its commands without the parentheses, and with the tool replacing the shell, so that signals reach it.
 START = SERVE.removeprefix("(\n").removesuffix(")\n").replace("tools/", "exec tools/")
 
