@@ -1,6 +1,6 @@
 #!/usr/bin/env python3
-"""Checks each block of docs/FORMATS.md: the book and the logs are good ones, and the commands do what the page says they do. Checks the
-session of a hall that docs/SERVING.md shows, which is the one of docs/FORMATS.md.
+"""Checks each block of docs/FORMATS.md: the book and the logs are good ones, and the commands do what the page says they do. Checks those
+of docs/SERVING.md too: a session of a hall, which is the one of docs/FORMATS.md, and the code that decides whom to let in.
 
 Usage: formats.py PROGRAM [TEST ..]
 
@@ -38,6 +38,7 @@ NUMBERED = block("Numbered lines")
 COMMANDS = block("Many logs")
 GRAMMAR = block("The grammar of the lines", "abnf")
 TRANSCRIPT = block("A session", "sh", SERVING)
+LETS_IN = block("Who has logged in", "python", SERVING)
 # Before a line that a transcript shows as printed.
 SHOWN = "#> "
 
@@ -189,10 +190,43 @@ def a_session_of_a_hall(folder):
     suite.BookFolder(folder, BOOK).audited(shown, "clean sessions=1 accepted=1 codes=1")
 
 
+def let_in(lines, needs_code):
+    """The lines of a session at which the code of docs/SERVING.md lets someone in, with the names that it returns."""
+    there = {}
+    exec(LETS_IN, there)
+    session = there["Session"](needs_code)
+    return [(line, names) for line in lines if (names := session.hears(line))]
+
+
+def who_has_logged_in(folder):
+    """The code of docs/SERVING.md lets a client in at OK, or, if it needs a code, only at a PASS after it, and by the names that it gave."""
+    lines = [line.removeprefix(SHOWN)[2:] for line in TRANSCRIPT.splitlines() if line.startswith(f"{SHOWN}1 ")]
+    [accepted] = [line for line in lines if line.startswith("S OK ")]
+    equal(let_in(lines, False), [(accepted, ("user", "user"))], "without a code")
+    equal(let_in(lines, True), [("S PASS 59 0", ("user", "user"))], "with a code")
+    for trial, last in each(["S FAIL 59", "S LOCKED 59", "S NOCODE 59", "S HALT"]):
+        with trial:
+            equal(let_in([*lines[:6], last], True), [], last)
+    refused = [*lines[:4], "S NO :e=invalid-proof", "E"]
+    equal([let_in(refused, needs_code) for needs_code in (False, True)], [[], []], "a login that is refused")
+    equal(let_in(["S PASS 59 0"], True), [], "a code without a login")
+    name, other = "a,b=2C %41", "=3D,c"
+    enrol = [PROGRAM, "enrol", "--book", f"{folder}/book.toml", "--name", name]
+    equal(processes.ran(enrol, "pencil\n"), (0, f"enrolled {name}\n", ""), "an account with a comma and an equals sign")
+    book = Path(folder, "book.toml")
+    book.write_text(book.read_text().replace("act_as = []", f'act_as = ["{other}"]'))
+    for trial, (acts_as, names) in each([([], (name, name)), (["--as", other], (name, other))]):
+        with trial:
+            login = suite.login_words(book, f"{folder}/socket", *acts_as, name=name)
+            status, log, faults = processes.ran(login, "pencil\n")
+            equal((status, faults), (0, ""), log)
+            equal([given for _, given in let_in(log.splitlines(), False)], [names], log)
+
+
 def every_block(folder):
     """No block of the documents is left out."""
     equal([text for *_, text in blocks_of(DOCUMENT)], [BOOK, LOG, NUMBERED, GRAMMAR, COMMANDS], "the blocks of the page")
-    equal([text for *_, text in blocks_of(SERVING)], [TRANSCRIPT], "the blocks of docs/SERVING.md")
+    equal([text for *_, text in blocks_of(SERVING)], [TRANSCRIPT, LETS_IN], "the blocks of docs/SERVING.md")
 
 
-suite.run_all([the_book, the_logs, many_logs, the_grammar, a_session_of_a_hall, every_block])
+suite.run_all([the_book, the_logs, many_logs, the_grammar, a_session_of_a_hall, who_has_logged_in, every_block])
