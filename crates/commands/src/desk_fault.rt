@@ -8,9 +8,8 @@ use sasl_desk::{DeskFault, ServeFault};
 use std::alloc::Global;
 
 /// The fault of a command whose desk or hall refuses a call. Halted becomes CannotWrite of the book: a command calls no desk or
-/// hall that has halted, so only `begin` returns Halted, when its save fails. NoNumber becomes CannotWrite too, as no fault of its
-/// own is needed: a hall gives one number for each input line at most, and there are more than 9 * 10^18 numbers. At a thousand
-/// million lines a second, these last for more than 290 years.
+/// hall that has halted, so only `begin` returns Halted, when its save fails. NoNumber becomes CannotWrite too, but never comes: a
+/// hall gives at most one number for each line of its input, which has at most 16777216 bytes.
 pub(crate) fn desk_fault(alloc: Global, path: &str, fault: DeskFault) -> Fault
     requires { fault ≢ DeskFault.Unwritable }
     ensures unwritten { IsFileUnwrittenOrNoMemory path.now result }
