@@ -111,12 +111,21 @@ module _ {File : Type 0} (bytes_of written_to : File → Option (List ℕ)) wher
     pub is_named : Names found name words
     pub stops : StopsAt name words fault input old new
 
-  -- the command that the words name has ended: it has run, with this status or up to this fault; or the fault is that the output
-  -- can't be written
+  -- the command that the words name has ended, before its output is flushed: it has run, with this status or up to this fault
+  abbrev pub EndsBeforeFlush : (found : Option (Text × List Row)) → (ended : Result ℕ Fault) → (input old new : Option (List ℕ)) → Type 0
+  EndsBeforeFlush found ended input old new =
+      MatchResult ended (λ status. RunsCommand found status input old new) (λ fault. RunsUntil found fault input old new)
+
+  -- the command that the words name has run, and its output, which holds what it printed, can't be flushed: that is the fault
+  abbrev pub RunsUnflushed : (found : Option (Text × List Row)) → Fault → (input old new : Option (List ℕ)) → Type 0
+  RunsUnflushed found fault input old new = (fault ≡ CannotWriteOutput) × ((status : ℕ) × RunsCommand found status input old new)
+
+  -- the command that the words name has ended: it has run, with this status or up to this fault; or it has run, and the fault is that
+  -- its output can't be flushed
   abbrev pub EndsCommand : (found : Option (Text × List Row)) → (ended : Result ℕ Fault) → (input old new : Option (List ℕ)) → Type 0
   EndsCommand found ended input old new =
       MatchResult ended (λ status. RunsCommand found status input old new)
-      (λ fault. (fault ≡ CannotWriteOutput) ⊎ RunsUntil found fault input old new)
+      (λ fault. RunsUntil found fault input old new ⊎ RunsUnflushed found fault input old new)
 
   -- a run ends: nothing is wrong with the command line, and the command that it names has run, with this exit status; or what is
   -- wrong with the line is reported

@@ -4,7 +4,7 @@ ghost use Rattle.std.specs.Io.KnownBytes.{Appends};
 ghost use Rattle.clap.specs.Words.{kind_of, subcommand_rows_of};
 ghost use Rattle.command_line.specs.Fault.{status_of};
 ghost use Rattle.command_words.specs.Commands.{NamesCommand};
-ghost use Rattle.commands.specs.Program.{answer_status, EndsCommand, EndsRun, Explains};
+ghost use Rattle.commands.specs.Program.{answer_status, EndsBeforeFlush, EndsCommand, EndsRun, Explains};
 
 use crate::audit::audit;
 use crate::hall::hall;
@@ -140,7 +140,7 @@ where
     }
 }
 
-// As `dispatch`, without the flush.
+// As `dispatch`, without the flush and its fault.
 fn run_command<R, I: TerminalInput, O: Write + Drop, E: TerminalOutput>(
     rt: &R,
     matches: &ArgMatches<'_>,
@@ -153,7 +153,7 @@ where
     R::File: BookFileExt,
     requires { NamesCommand (subcommand_rows_of matches.now) }
     ensures most { IfOk result.0 (λ status. status ≤ 3) }
-    ensures ends { EndsCommand R.File.remaining R.File.contents (subcommand_rows_of matches.now) result.0 (I.remaining input.old)
+    ensures ends { EndsBeforeFlush R.File.remaining R.File.contents (subcommand_rows_of matches.now) result.0 (I.remaining input.old)
         (O.contents output) (O.contents result.1) }
 {
     let alloc = rt.alloc();

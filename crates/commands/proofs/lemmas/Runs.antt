@@ -12,7 +12,6 @@ use Rattle.clap.specs.declared.parser.matches.ArgMatches.{ArgMatches}
 use Rattle.clap.specs.declared.parser.matches.ArgMatches.TheViews.{out-ArgMatches, out-SubCommand}
 use Rattle.clap.specs.declared.parser.matches.SubCommand.{SubCommand}
 use Rattle.command_line.specs.declared.fault.Fault.{Fault}
-use Rattle.command_line.specs.declared.fault.Fault.TheVariants.{CannotWriteOutput}
 use Rattle.command_words.specs.Commands.CommandName.{Keys, Enrol, Code, Verify, Unlock, Login, Hall, Audit, Upgrade}
 use Rattle.command_words.specs.Commands.{CommandName, NamesCommand, program, word_of}
 use Rattle.command_words.proofs.lemmas.Naming.{faultless_line_names_command}
@@ -59,12 +58,12 @@ pub done_command_has_run : {File : Type 0} {bytes_of written_to : File
 done_command_has_run name words is done =
     record { name = name; words = words; is_named = is; printed = _; has_done = done; kept = Keeps-refl _ }
 
--- a named command that stops with a fault is a run until the fault, unless the output can't be written
+-- a named command that stops with a fault is a run until the fault
 pub stopped_command_has_run : {File : Type 0} {bytes_of written_to : File
     → Option (List ℕ)} {found : Option (Text × List Row)} {fault : Fault} {input old new : Option (List ℕ)}
     (name : CommandName) (words : ArgMatches) → Names found name words → StopsAt bytes_of written_to name words fault input old new
-    → (fault ≡ CannotWriteOutput) ⊎ RunsUntil bytes_of written_to found fault input old new
-stopped_command_has_run name words is stopped = inr (record { name = name; words = words; is_named = is; stops = stopped })
+    → RunsUntil bytes_of written_to found fault input old new
+stopped_command_has_run name words is stopped = record { name = name; words = words; is_named = is; stops = stopped }
 
 -- if no subcommand was entered, no command is found
 unentered_finds_no_command : {Z : Type 0} (o : Option (Box SubCommand Z)) (word : Text) (rows : List Row)
