@@ -2,7 +2,7 @@
 ghost use Rattle.std.specs.Prelude.{◌≡◌, IfErr, IfOk, OnOk};
 ghost use Rattle.account_commands.specs.Code.{IsCodeFor, IsTooEarly, IsFactorAsked, IsFactorInRange, PrintsCodeAsked};
 ghost use Rattle.account_commands.specs.Code.{CannotPrintCode, LacksFactor};
-ghost use Rattle.command_io.specs.Printed.{PrintsNothing};
+ghost use Rattle.command_io.specs.Printed.{PrintsNothingUnlessOutputFailed};
 
 use crate::moving_factor::{MovingFactor, TotpInput};
 use clap::ArgMatches;
@@ -17,7 +17,7 @@ use std::io::Write;
 /// (no clause says so); also CannotWriteOutput and NoMemory.
 pub fn code<O: Write>(alloc: Global, matches: &ArgMatches<'_>, output: &mut O) -> Result<(), Fault>
     ensures ok { OnOk result (PrintsCodeAsked matches.now (O.contents output.old) (O.contents output.new)) }
-    ensures err { IfErr result (λ fault. PrintsNothing fault (O.contents output.old) (O.contents output.new)) }
+    ensures err { IfErr result (λ fault. PrintsNothingUnlessOutputFailed fault (O.contents output.old) (O.contents output.new)) }
     ensures why { IfErr result (CannotPrintCode matches.now) }
 {
     let secret = value::secret(alloc, given(matches, OptionName::Secret))?;

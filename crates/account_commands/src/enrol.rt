@@ -9,7 +9,7 @@ ghost use Rattle.command_io.specs.File.{IsFileUnreadOrNoMemory};
 ghost use Rattle.command_io.specs.HeldBook.{IsReadBook};
 ghost use Rattle.command_io.specs.Input.{IsFirstLine};
 ghost use Rattle.command_words.specs.Values.{given_value};
-ghost use Rattle.command_io.specs.Printed.{PrintsNothing};
+ghost use Rattle.command_io.specs.Printed.{PrintsNothingUnlessOutputFailed};
 
 use account_book::{Book, SALT_LEN};
 use book_file::{BookFile, BookFileExt, FileStore};
@@ -52,7 +52,7 @@ where
     E: TerminalOutput,
     ensures ok { OnOk result (EnrolsAsked R.File.remaining R.File.contents matches.now (I.remaining input.old) (O.contents output.old)
         (O.contents output.new)) }
-    ensures err { IfErr result (λ fault. PrintsNothing fault (O.contents output.old) (O.contents output.new)) }
+    ensures err { IfErr result (λ fault. PrintsNothingUnlessOutputFailed fault (O.contents output.old) (O.contents output.new)) }
     ensures why { IfErr result (CannotEnrol R.File.remaining matches.now (I.remaining input.old)) }
 {
     let account = read_account(rt.alloc(), matches, input, faults)?;

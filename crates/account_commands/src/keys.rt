@@ -5,7 +5,7 @@ ghost use Rattle.scram_text.specs.Class.{IsPassword};
 ghost use Rattle.command_io.specs.BadValues.{HasBadPassword};
 ghost use Rattle.command_io.specs.Input.{IsFirstLine};
 ghost use Rattle.account_commands.specs.Keys.{printed_keys, CannotPrintKeys, PrintsKeysAsked};
-ghost use Rattle.command_io.specs.Printed.{PrintsNothing};
+ghost use Rattle.command_io.specs.Printed.{PrintsNothingUnlessOutputFailed};
 
 use clap::ArgMatches;
 use command_io::input;
@@ -29,7 +29,7 @@ pub fn keys<I: TerminalInput, O: Write, E: TerminalOutput>(
     faults: &mut E,
 ) -> Result<(), Fault>
     ensures ok { OnOk result (PrintsKeysAsked matches.now (I.remaining input.old) (O.contents output.old) (O.contents output.new)) }
-    ensures err { IfErr result (λ fault. PrintsNothing fault (O.contents output.old) (O.contents output.new)) }
+    ensures err { IfErr result (λ fault. PrintsNothingUnlessOutputFailed fault (O.contents output.old) (O.contents output.new)) }
     ensures why { IfErr result (CannotPrintKeys matches.now (I.remaining input.old)) }
 {
     let mechanism = value::mechanism(given(matches, OptionName::Mechanism))?;
@@ -57,7 +57,7 @@ fn print_keys<I: BufRead, O: Write>(
     // A stream failed, memory ran out, or the first line is not a password.
     ensures err { IfErr result (λ fault. (fault ≡ Fault.CannotReadInput) ⊎ ((fault ≡ Fault.CannotWriteOutput)
         ⊎ ((fault ≡ Fault.NoMemory) ⊎ HasBadPassword (I.remaining input.old) fault))) }
-    ensures unprinted { IfErr result (λ fault. PrintsNothing fault (O.contents output.old) (O.contents output.new)) }
+    ensures unprinted { IfErr result (λ fault. PrintsNothingUnlessOutputFailed fault (O.contents output.old) (O.contents output.new)) }
 {
     let line = input::first_line(alloc, input)?;
     let text = keys_text(alloc, mechanism, salt, count, line.as_slice())?;

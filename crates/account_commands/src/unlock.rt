@@ -1,7 +1,7 @@
 //! The command `unlock`: sets a token's failures to 0, so that it accepts codes again.
 ghost use Rattle.std.specs.Prelude.{OnOk, IfErr};
 ghost use Rattle.account_commands.specs.Unlock.{CannotUnlock, UnlocksAsked};
-ghost use Rattle.command_io.specs.Printed.{PrintsNothing};
+ghost use Rattle.command_io.specs.Printed.{PrintsNothingUnlessOutputFailed};
 
 use book_file::BookFileExt;
 use clap::ArgMatches;
@@ -28,7 +28,7 @@ where
     O: Write,
     E: Write,
     ensures ok { OnOk result (UnlocksAsked R.File.remaining R.File.contents matches.now (O.contents output.old) (O.contents output.new)) }
-    ensures err { IfErr result (λ fault. PrintsNothing fault (O.contents output.old) (O.contents output.new)) }
+    ensures err { IfErr result (λ fault. PrintsNothingUnlessOutputFailed fault (O.contents output.old) (O.contents output.new)) }
     ensures why { IfErr result (CannotUnlock R.File.remaining matches.now) }
 {
     let name = value::name(given(matches, OptionName::Name))?;

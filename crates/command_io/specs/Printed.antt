@@ -5,5 +5,5 @@ use Rattle.command_line.specs.declared.fault.Fault.{Fault}
 use Rattle.command_line.specs.declared.fault.Fault.TheVariants.{CannotWriteOutput}
 
 -- nothing was printed, unless the fault is that the output can't be written
-abbrev pub PrintsNothing : Fault → (old new : Option (List ℕ)) → Type 0
-PrintsNothing fault old new = (fault ≡ CannotWriteOutput) ⊎ (new ≡ old)
+abbrev pub PrintsNothingUnlessOutputFailed : Fault → (old new : Option (List ℕ)) → Type 0
+PrintsNothingUnlessOutputFailed fault old new = (fault ≡ CannotWriteOutput) ⊎ (new ≡ old)

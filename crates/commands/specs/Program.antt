@@ -18,7 +18,7 @@ use Rattle.account_commands.specs.Code.{CannotPrintCode, PrintsCodeAsked}
 use Rattle.account_commands.specs.Enrol.{CannotEnrol, EnrolsAsked}
 use Rattle.account_commands.specs.Keys.{CannotPrintKeys, PrintsKeysAsked}
 use Rattle.account_commands.specs.Unlock.{CannotUnlock, UnlocksAsked}
-use Rattle.command_io.specs.Printed.{PrintsNothing}
+use Rattle.command_io.specs.Printed.{PrintsNothingUnlessOutputFailed}
 use Rattle.commands.specs.Audit.{CannotAudit, PrintsAudit}
 use Rattle.commands.specs.Upgrade.{CannotUpgrade, PrintsUpgrade}
 use Rattle.commands.specs.Hall.{CannotRunHall, RunsHall, RunsToBadEvent}
@@ -88,12 +88,12 @@ module _ {File : Type 0} (bytes_of written_to : File → Option (List ℕ)) wher
   StopsAt Hall words fault input old new =
       StopsAfter fault old new ((last : List (List ℕ)) × RunsHall bytes_of written_to input last old new)
       × (fault ≡ BadEvent → RunsToBadEvent bytes_of written_to input old new) × CannotRunHall bytes_of words fault
-  StopsAt Keys words fault input old new = PrintsNothing fault old new × CannotPrintKeys words input fault
-  StopsAt Code words fault input old new = PrintsNothing fault old new × CannotPrintCode words fault
-  StopsAt Enrol words fault input old new = PrintsNothing fault old new × CannotEnrol bytes_of words input fault
-  StopsAt Unlock words fault input old new = PrintsNothing fault old new × CannotUnlock bytes_of words fault
-  StopsAt Audit words fault input old new = PrintsNothing fault old new × CannotAudit bytes_of words fault
-  StopsAt Upgrade words fault input old new = PrintsNothing fault old new × CannotUpgrade words fault
+  StopsAt Keys words fault input old new = PrintsNothingUnlessOutputFailed fault old new × CannotPrintKeys words input fault
+  StopsAt Code words fault input old new = PrintsNothingUnlessOutputFailed fault old new × CannotPrintCode words fault
+  StopsAt Enrol words fault input old new = PrintsNothingUnlessOutputFailed fault old new × CannotEnrol bytes_of words input fault
+  StopsAt Unlock words fault input old new = PrintsNothingUnlessOutputFailed fault old new × CannotUnlock bytes_of words fault
+  StopsAt Audit words fault input old new = PrintsNothingUnlessOutputFailed fault old new × CannotAudit bytes_of words fault
+  StopsAt Upgrade words fault input old new = PrintsNothingUnlessOutputFailed fault old new × CannotUpgrade words fault
 
   -- the command that the words name has run, and ends with this status; what it printed is in the output
   pub record RunsCommand (found : Option (Text × List Row)) (status : ℕ) (input old new : Option (List ℕ)) : Type 0 where
