@@ -109,6 +109,11 @@ module _ {S : Type 0} (facts : S → StoreFacts) (IsStored : List ℕ → Type 0
   abbrev pub HearsLine : (line : List ℕ) → (old : Hall S) → (log : SinkFacts) → (new : Hall S) → (log' : SinkFacts) → Type 0
   HearsLine line old log new log' = (event : InputEvent) × SaysEvent line event × Hears (event ∷ []) old log new log'
 
+  -- after a fault at what the hall was to hear: the log has failed, and that is the fault; or the hall has heard nothing, or this
+  abbrev pub MayHaveHeard : (This : Hall S → SinkFacts → Hall S → SinkFacts → Type 0) → (old : Hall S) → (log : SinkFacts) → (new : Hall S)
+      → (log' : SinkFacts) → Fault → Type 0
+  MayHaveHeard This old log new log' fault = IsLogFault log' fault ⊎ (Hears [] old log new log' ⊎ This old log new log')
+
   -- the hall has heard what the lines of an input say, in order; `last` are its last lines, which are left out
   pub record HearsUpTo (input : Option (List ℕ)) (last : List (List ℕ)) (old : Hall S) (log : SinkFacts) (new : Hall S)
       (log' : SinkFacts) : Type 0 where

@@ -16,9 +16,9 @@ use Rattle.sasl_desk.specs.Saved.{AreLinesSaved}
 use Rattle.sasl_desk.specs.declared.session.phase.Phase.{Phase}
 use Rattle.sasl_desk.specs.declared.hall.Hall.{Hall}
 use Rattle.commands.specs.Hall.{InputEvent, opens, does_at, IsBadEvent, IsBadEventAfter, AreCallsFor, IsHallLogOf, Hears, HearsLine, HearsUpTo}
-use Rattle.commands.specs.Hall.{HearsFirstLines, MeetsBadEvent, PrintsHallLog, PrintsToBadEvent}
+use Rattle.commands.specs.Hall.{HearsFirstLines, MayHaveHeard, MeetsBadEvent, PrintsHallLog, PrintsToBadEvent}
 use Rattle.command_io.specs.Input.{line_bytes, TakesLine}
-use Rattle.commands.specs.PrintedLog.{IsLogFault, StopsAfter}
+use Rattle.commands.specs.PrintedLog.{StopsAfter}
 use Rattle.commands.proofs.lemmas.HallLogs.{hearings_join}
 use Rattle.command_io.proofs.lemmas.InputLines.{end_has_no_lines, taken_line_begins_lines, some_lines}
 
@@ -95,7 +95,7 @@ module _ {S : Type 0} {facts : S → StoreFacts} {IsStored : List ℕ → Type 0
 
   -- after a fault at a line, a hall has heard the lines before it, and this line or not; or the log has failed
   pub hall_at_line_heard_first : {new : Hall S} {c : SinkFacts} (fault : Fault)
-      → (IsLogFault c fault ⊎ (Hears facts IsStored [] now b new c ⊎ HearsLine facts IsStored line now b new c))
+      → MayHaveHeard facts IsStored (HearsLine facts IsStored line) now b new c fault
       → HearsFirstLines facts IsStored first start a new c fault
   hall_at_line_heard_first fault (inl failed) = inl failed
   hall_at_line_heard_first fault (inr (inl none)) = let found = unheard_line_is_left none in inr (line ∷ found.0, found.1)
