@@ -1,5 +1,5 @@
 -- What a run of `verify` does to its book: each line that it answers is an attempt, and so a change of the book.
-use Rattle.std.specs.Prelude.{ℕ, ◌≡◌, ◌⊎◌, Bool, false, List, [], ◌∷◌, ◌++◌, map, reverse, IfSome}
+use Rattle.std.specs.Prelude.{ℕ, ◌≡◌, ◌⊎◌, Bool, List, [], ◌∷◌, ◌++◌, map, reverse, IfSome}
 use Rattle.std.specs.List.{AllZip, flat_map}
 use Rattle.std.specs.Str.{byte}
 use Rattle.std.specs.Io.KnownBytes.{Appends}
@@ -9,11 +9,11 @@ use Rattle.otp_core.specs.Attempt.{CodeTexts}
 use Rattle.otp_core.specs.declared.token.reply.Reply.{Reply}
 use Rattle.book_format.specs.Book.{BookFields}
 use Rattle.book_format.specs.Trees.{IsBookText}
-use Rattle.account_book.specs.Store.{StoreFacts}
 use Rattle.log_grammar.specs.Lines.{reply_text}
 use Rattle.log_grammar.specs.LoggedAttempt.{LoggedAttempt, logged_attempt_of}
 use Rattle.sasl_desk.specs.Keeper.{IsAttemptJudged}
-use Rattle.sasl_desk.specs.Changes.{Change, judged, AreChanges}
+use Rattle.sasl_desk.specs.Changes.{Change, judged}
+use Rattle.sasl_desk.specs.Desks.{HoldsBook, IsBookAfterReplies}
 use Rattle.command_line.specs.declared.fault.Fault.{Fault}
 use Rattle.command_line.specs.declared.fault.Fault.TheVariants.{CannotWriteOutput}
 use Rattle.command_io.specs.HeldBook.{HeldFacts}
@@ -43,19 +43,18 @@ PrintsUntil fault attempts old new =
 abbrev pub judged_changes : List LoggedAttempt → List Change
 judged_changes attempts = map judged (reverse attempts)
 
--- the store of a held book has not failed, and holds a text of the book
-pub record HoldsItsBook (held : HeldFacts) : Type 0 where
-  pub working : held.store.failed ≡ false
-  pub saved : IsBookText held.store.saved held.book
+-- the store of a held book has not failed, and holds a text of the book, wherever that text is from
+abbrev pub HoldsItsBook : HeldFacts → Type 0
+HoldsItsBook held = HoldsBook (λ text. Unit {0}) held.book held.store
 
--- the lines of an input, if its bytes are known, except these last ones: each made one of these attempts, in order, and the attempts, as
--- changes, made the old book the new one
-pub record MakesChanges {S : Type 0} (facts : S → StoreFacts) (IsStored : List ℕ → Type 0) (name : List ℕ) (moment : ℕ)
-    (input : Option (List ℕ)) (last : List (List ℕ)) (attempts : List LoggedAttempt) (old new : BookFields) : Type 0 where
+-- the lines of an input, if its bytes are known, except these last ones: each made one of these attempts, in order, and the attempts made
+-- the old book the new one
+pub record MakesAttempts (name : List ℕ) (moment : ℕ) (input : Option (List ℕ)) (last : List (List ℕ)) (attempts : List LoggedAttempt)
+    (old new : BookFields) : Type 0 where
   pub lines : List (List ℕ)
   pub are : IfSome input (λ bytes. AreLinesOf bytes (lines ++ last))
   pub made : AllZip (MakesAttempt name moment) lines attempts
-  pub changes : AreChanges facts IsStored old (judged_changes attempts) new
+  pub leads : IsBookAfterReplies old (reverse attempts) new
 
 -- a run of `verify` within a save: it has answered the lines of its input before this one, and the store is given a text of the book with
 -- the attempt that this line makes

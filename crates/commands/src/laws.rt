@@ -7,7 +7,7 @@ ghost use Rattle.book_format.specs.Trees.{IsBookText};
 ghost use Rattle.account_book.specs.Enrolled.{enrolled};
 ghost use Rattle.book_file.specs.Saved.{IsSavedText};
 ghost use Rattle.log_grammar.specs.LoggedAttempt.{LoggedAttempt};
-ghost use Rattle.sasl_desk.specs.Desks.{spent_by_all, MayHold, MayHoldWithinSave};
+ghost use Rattle.sasl_desk.specs.Desks.{spent_by_all, IsBookAfterReplies, MayHold, MayHoldWithinSave};
 ghost use Rattle.sasl_desk.specs.Changes.{Change, added, unlocked, AreChanges};
 ghost use Rattle.sasl_desk.specs.Saved.{IsToldSaved};
 ghost use Rattle.sasl_desk.specs.Spent.{AreSpent};
@@ -18,11 +18,11 @@ ghost use Rattle.command_io.specs.Input.{LinesInTurn};
 ghost use Rattle.command_words.specs.Values.{given_value};
 ghost use Rattle.account_commands.specs.Enrol.{EnrolsAsked};
 ghost use Rattle.account_commands.specs.Unlock.{UnlocksAsked};
-ghost use Rattle.commands.specs.Attempts.{judged_changes, printed_replies, HoldsItsBook, MakesChanges, PrintsUntil, SavesNextLine};
+ghost use Rattle.commands.specs.Attempts.{judged_changes, printed_replies, HoldsItsBook, MakesAttempts, PrintsUntil, SavesNextLine};
 ghost use Rattle.commands.specs.Verify.{VerifyRun, AnswersLine, AnswersFirstLines, BeginsToVerify, VerifiesAllLines, VerifiesFirstLines};
 
 use account_book::BookStore;
-use sasl_desk::laws::no_counter_passes_twice;
+use sasl_desk::laws::replies_spend_counters;
 use std::fs::Files;
 
 /// Changes that follow others are, together with these, changes from the first book to the last.
@@ -32,12 +32,13 @@ pub fn changes_follow_changes<S: BookStore>()
         → AreChanges S.facts S.IsStored first (after ++ before) last }
 {}
 
-/// What a run of `verify` did to its book, after any number of its lines, is a list of changes, one for each line that it answered: the
-/// attempt with what the line says, judged by the token. The replies to these attempts are what it printed (`all`). Each text that the
-/// store may hold then is of the book that the changes lead to (`saved`). So both also hold of a run that is stopped between two lines.
+/// What a run of `verify` did to its book, after any number of its lines, is a list of attempts, one for each line that it answered, with
+/// what the line says, judged by the token. Such attempts are changes of the book (`changes`). The replies to them are what it printed
+/// (`all`). Each text that the store may hold then is of the book that the attempts lead to (`saved`). So both also hold of a run that is
+/// stopped between two lines.
 ///
 /// While the run saves the attempt of its next line, and until it prints the reply, the text that the store may hold is of this book, or
-/// of the book that the changes lead to with this attempt as the last of them (`within`). If a fault ended the run, they lead to the book
+/// of the book that the attempts lead to with this one as the last of them (`within`). If a fault ended the run, they lead to the book
 /// of whichever text the store may hold: those of the lines before the one at fault, and perhaps that of this line (`first`).
 ///
 /// All this holds if the store had not failed as the run began, and held a text of the run's book.
@@ -48,8 +49,10 @@ pub fn answered_lines_are_changes<S: BookStore>()
     ensures all { (name : List ℕ) (moment : ℕ) (input : Option (List ℕ)) (last : List (List ℕ)) (old : VerifyRun) (all_passed : Bool)
         (new : VerifyRun) → LinesInTurn (AnswersLine S.IsStored name moment) input last old all_passed new
         → (attempts : List LoggedAttempt)
-        × MakesChanges S.facts S.IsStored name moment input last attempts old.held.book new.held.book
+        × MakesAttempts name moment input last attempts old.held.book new.held.book
         × Appends old.printed new.printed (printed_replies attempts) }
+    ensures changes { (attempts : List LoggedAttempt) (old new : BookFields) → IsBookAfterReplies old (reverse attempts) new
+        → AreChanges S.facts S.IsStored old (judged_changes attempts) new }
     ensures saved { (name : List ℕ) (moment : ℕ) (input : Option (List ℕ)) (last : List (List ℕ)) (old : VerifyRun) (all_passed : Bool)
         (new : VerifyRun) (text : List ℕ) → LinesInTurn (AnswersLine S.IsStored name moment) input last old all_passed new
         → HoldsItsBook old.held → MayHold new.held.store text → IsBookText text new.held.book }
@@ -58,14 +61,14 @@ pub fn answered_lines_are_changes<S: BookStore>()
         → HoldsItsBook old.held → MayHoldWithinSave middle.held.store asked text
         → (attempts : List LoggedAttempt) × Appends old.printed middle.printed (printed_replies attempts)
         × ((IsBookText text middle.held.book
-        × MakesChanges S.facts S.IsStored name moment input (saves.line ∷ saves.last) attempts old.held.book middle.held.book)
+        × MakesAttempts name moment input (saves.line ∷ saves.last) attempts old.held.book middle.held.book)
         ⊎ (IsBookText text saves.next
-        × MakesChanges S.facts S.IsStored name moment input saves.last (attempts ++ saves.attempt ∷ []) old.held.book saves.next)) }
+        × MakesAttempts name moment input saves.last (attempts ++ saves.attempt ∷ []) old.held.book saves.next)) }
     ensures first { (path name : List ℕ) (moment : ℕ) (input : Option (List ℕ)) (old : VerifyRun) (fault : Fault) (new : VerifyRun)
         (text : List ℕ) → AnswersFirstLines S.IsStored path name moment input old fault new
         → HoldsItsBook old.held → MayHold new.held.store text
         → (left : BookFields) × (last : List (List ℕ)) × (attempts : List LoggedAttempt) × IsBookText text left
-        × MakesChanges S.facts S.IsStored name moment input last attempts old.held.book left
+        × MakesAttempts name moment input last attempts old.held.book left
         × PrintsUntil fault attempts old.printed new.printed }
 {}
 
@@ -73,20 +76,20 @@ pub fn answered_lines_are_changes<S: BookStore>()
 /// was spent before the run; all these counters are different. This holds of a run that answered all lines (`all`), and of one that a
 /// fault ended (`first`). If the output can't be written, it is not known what is printed. It also holds of a run wherever it is stopped:
 /// between two lines (`between`), or while it saves the attempt of its next line and until it prints the reply (`within`).
-pub fn verified_counters_are_spent<R: Files, S: BookStore>()
+pub fn verified_counters_are_spent<R: Files>()
     ensures all { (words : ArgMatches) (input old : Option (List ℕ)) (all_passed : Bool) (new : Option (List ℕ))
         (run : VerifiesAllLines R.File.remaining R.File.contents words input old all_passed new)
         (text : List ℕ) (spent : List (List ℕ × ℕ)) → MayHold run.last.held.store text
         → AreSpent spent run.first.held.book
         → (left : BookFields) × (attempts : List LoggedAttempt) × IsBookText text left
-        × MakesChanges S.facts S.IsStored (given_value words option.Name) run.moment input [] attempts run.first.held.book left
+        × MakesAttempts (given_value words option.Name) run.moment input [] attempts run.first.held.book left
         × Appends old new (printed_replies attempts) × AreSpent (spent_by_all (reverse attempts) ++ spent) left }
     ensures first { (words : ArgMatches) (input old : Option (List ℕ)) (fault : Fault) (new : Option (List ℕ))
         (run : VerifiesFirstLines R.File.remaining R.File.contents words input old fault new)
         (text : List ℕ) (spent : List (List ℕ × ℕ)) → MayHold run.last.held.store text
         → AreSpent spent run.first.held.book
         → (left : BookFields) × (last : List (List ℕ)) × (attempts : List LoggedAttempt) × IsBookText text left
-        × MakesChanges S.facts S.IsStored (given_value words option.Name) run.moment input last attempts run.first.held.book left
+        × MakesAttempts (given_value words option.Name) run.moment input last attempts run.first.held.book left
         × PrintsUntil fault attempts old new × AreSpent (spent_by_all (reverse attempts) ++ spent) left }
     ensures between { (words : ArgMatches) (input old : Option (List ℕ)) (moment : ℕ) (first : VerifyRun) (last : List (List ℕ))
         (all_passed : Bool) (middle : VerifyRun) (text : List ℕ) (spent : List (List ℕ × ℕ))
@@ -102,7 +105,7 @@ pub fn verified_counters_are_spent<R: Files, S: BookStore>()
         → (left : BookFields) × (attempts : List LoggedAttempt) × IsBookText text left
         × Appends old middle.printed (printed_replies attempts) × AreSpent (spent_by_all (reverse attempts) ++ spent) left }
 {
-    no_counter_passes_twice::<S>();
+    replies_spend_counters();
 }
 
 /// What `unlock` and `enrol` do to a book is one change. What a log of `login` or of `hall` tells of codes is a list of changes, from the

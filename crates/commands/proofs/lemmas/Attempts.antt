@@ -6,7 +6,7 @@ use Rattle.std.specs.Io.KnownBytes.{Appends}
 use Rattle.std.proofs.KnownBytes.{Appends-nil, Appends-trans}
 use Rattle.std.proofs.lemmas.Bool.{false≢true}
 use Rattle.std.proofs.lemmas.Grind.{reverse_onto}
-use Rattle.std.proofs.lemmas.List.{map-append, reverse-append}
+use Rattle.std.proofs.lemmas.List.{reverse-append}
 use Rattle.otp_core.specs.Attempt.{CodeTexts}
 use Rattle.otp_core.specs.declared.token.reply.Reply.{Reply}
 use Rattle.otp_core.specs.declared.token.reply.Reply.TheVariants.{Pass, Fail, Locked}
@@ -18,14 +18,15 @@ use Rattle.book_keeper.specs.Keeper.{IsAttemptAtMoment}
 use Rattle.log_grammar.specs.LoggedAttempt.{LoggedAttempt, logged_attempt_of}
 use Rattle.sasl_desk.specs.Desks.{spent_by_all, IsBookAfterReplies, MayHold, MayHoldWithinSave}
 use Rattle.sasl_desk.specs.Keeper.{IsAttemptJudged}
-use Rattle.sasl_desk.specs.Changes.{Change, judged, AreChanges, spent_by_changes}
+use Rattle.sasl_desk.specs.Changes.{Change, judged, AreChanges}
 use Rattle.sasl_desk.specs.Spent.{AreSpent, spent_by}
+use Rattle.sasl_desk.proofs.lemmas.runs.BooksAfterReplies.{reply_adds_to_book}
 use Rattle.clap.specs.declared.parser.matches.ArgMatches.{ArgMatches}
 use Rattle.command_line.specs.declared.fault.Fault.{Fault}
 use Rattle.command_line.specs.declared.fault.Fault.TheVariants.{CannotWriteOutput}
 use Rattle.command_io.specs.HeldBook.{HeldFacts, IsReplySaved, IsReplyUnsaved}
 use Rattle.command_io.specs.Input.{AreLinesOf, EachInTurn, LinesInTurn}
-use Rattle.commands.specs.Attempts.{MakesAttempt, printed_replies, PrintsUntil, judged_changes, HoldsItsBook, MakesChanges, SavesNextLine}
+use Rattle.commands.specs.Attempts.{MakesAttempt, printed_replies, PrintsUntil, HoldsItsBook, MakesAttempts, SavesNextLine}
 use Rattle.commands.specs.SentCodes.{SaysCodes}
 use Rattle.commands.specs.Verify.{VerifyRun, AnswersLine, AnswersFirstLines, BeginsToVerify, FailsAtLine, IsUnprinted}
 
@@ -37,40 +38,26 @@ one_more_agrees R [] (z ∷ ys) x y all one = absurd all
 one_more_agrees R (z ∷ xs) [] x y all one = absurd all
 one_more_agrees R (w ∷ xs) (z ∷ ys) x y (same, all) one = (same, one_more_agrees R xs ys x y all one)
 
--- the first attempt is the first change
-judged_changes-first : (attempt : LoggedAttempt) (attempts : List LoggedAttempt)
-    → judged_changes (attempt ∷ attempts) ≡ judged_changes attempts ++ judged attempt ∷ []
-judged_changes-first attempt attempts =
-    ap (map judged) (reverse_onto attempts attempt []) ∙ map-append judged (reverse attempts) (attempt ∷ [])
-
--- the last attempt is the latest change
-judged_changes-last : (attempts : List LoggedAttempt) (attempt : LoggedAttempt)
-    → judged_changes (attempts ++ attempt ∷ []) ≡ judged attempt ∷ judged_changes attempts
-judged_changes-last attempts attempt = ap (map judged) (reverse-append attempts (attempt ∷ []))
-
--- attempts use the same counters as the changes that they are
-spent_by_changes-judged : (attempts : List LoggedAttempt) → spent_by_changes (map judged attempts) ≡ spent_by_all attempts
-spent_by_changes-judged [] = refl
-spent_by_changes-judged (attempt ∷ attempts) = ap (λ counters. spent_by attempt ++ counters) (spent_by_changes-judged attempts)
-
 -- a store that saved a book holds its text
-saved_book_is_held : (IsKept : List ℕ → Type 0) (old new : HeldFacts) → SavesBook IsKept old.store new.book new.store → HoldsItsBook new
-saved_book_is_held IsKept old new saves = record {
+saved_book_is_held : (IsStored : List ℕ → Type 0) (old new : HeldFacts) → SavesBook IsStored old.store new.book new.store → HoldsItsBook new
+saved_book_is_held IsStored old new saves = record {
   working = saves.saved.working;
   saved = subst (λ (t : List ℕ). IsBookText t new.book) (sym saves.saved.saved) saves.is_text;
+  stored = tt;
 }
 
 -- after a reply the store holds a text of the book, if it did so before
-saved_reply_keeps_book_held : (IsKept : List ℕ → Type 0) (old : HeldFacts) (name : List ℕ) (moment : ℕ) (sent : CodeTexts) (reply : Reply)
-    (new : HeldFacts) → IsReplySaved IsKept old name moment sent reply new → HoldsItsBook old → HoldsItsBook new
-saved_reply_keeps_book_held IsKept old name moment sent (Pass counter) new is holds = saved_book_is_held IsKept old new is.kept
-saved_reply_keeps_book_held IsKept old name moment sent Fail new is holds = saved_book_is_held IsKept old new is.kept
-saved_reply_keeps_book_held IsKept old name moment sent Locked new is holds =
+saved_reply_keeps_book_held : (IsStored : List ℕ → Type 0) (old : HeldFacts) (name : List ℕ) (moment : ℕ) (sent : CodeTexts) (reply : Reply)
+    (new : HeldFacts) → IsReplySaved IsStored old name moment sent reply new → HoldsItsBook old → HoldsItsBook new
+saved_reply_keeps_book_held IsStored old name moment sent (Pass counter) new is holds = saved_book_is_held IsStored old new is.kept
+saved_reply_keeps_book_held IsStored old name moment sent Fail new is holds = saved_book_is_held IsStored old new is.kept
+saved_reply_keeps_book_held IsStored old name moment sent Locked new is holds =
     let (book, store) = is.kept in
     record {
       working = subst (λ (s : StoreFacts). s.failed ≡ false) (sym store) holds.working;
       saved = subst (λ (b : BookFields). IsBookText new.store.saved b) (sym book)
           (subst (λ (s : StoreFacts). IsBookText s.saved old.book) (sym store) holds.saved);
+      stored = tt;
     }
 
 -- each text that the store may hold is one of the book, if it holds one and has not failed
@@ -81,7 +68,8 @@ held_text_is_of_book held text holds (inr (failed, same)) = absurd (false≢true
 -- a run that begins holds its book
 pub run_holds_its_book : {File : Type 0} (bytes_of : File → Option (List ℕ)) (words : ArgMatches) (printed : Option (List ℕ)) (moment : ℕ)
     (run : VerifyRun) → BeginsToVerify bytes_of words printed moment run → HoldsItsBook run.held
-run_holds_its_book bytes_of words printed moment run begins = record { working = begins.working; saved = begins.is_book.is_text }
+run_holds_its_book bytes_of words printed moment run begins =
+    record { working = begins.working; saved = begins.is_book.is_text; stored = tt }
 
 -- if counters are spent, so are those that are left when the first are taken away
 later_counters_are_spent : (first rest : List (List ℕ × ℕ)) (book : BookFields) → AreSpent (first ++ rest) book → AreSpent rest book
@@ -115,228 +103,223 @@ module _ {S : Type 0} (facts : S → StoreFacts) (IsStored : List ℕ → Type 0
   replies_are_changes start [] book same = same
   replies_are_changes start (attempt ∷ before) book (old, earlier, one) = (old, replies_are_changes start before old earlier, one)
 
-  -- if no counter passes twice over changes, what attempts used is spent in the book that they leave
-  pub attempts_spend_counters : ((first : BookFields) (changes : List Change) (last : BookFields) (spent : List (List ℕ × ℕ))
-      → AreChanges facts IsStored first changes last → AreSpent spent first → AreSpent (spent_by_changes changes ++ spent) last)
-      → (attempts : List LoggedAttempt) (old new : BookFields) (spent : List (List ℕ × ℕ))
-      → AreChanges facts IsStored old (judged_changes attempts) new → AreSpent spent old
-      → AreSpent (spent_by_all (reverse attempts) ++ spent) new
-  attempts_spend_counters twice attempts old new spent changes before =
-      subst (λ (counters : List (List ℕ × ℕ)). AreSpent (counters ++ spent) new) (spent_by_changes-judged (reverse attempts))
-      (twice old (judged_changes attempts) new spent changes before)
+-- replies that follow others are, together with these, replies from the first book to the last; the latest of each are given first
+replies_follow_replies : (first : BookFields) (before : List LoggedAttempt) (middle : BookFields) (after : List LoggedAttempt)
+    (last : BookFields) → IsBookAfterReplies first before middle → IsBookAfterReplies middle after last
+    → IsBookAfterReplies first (after ++ before) last
+replies_follow_replies first before middle [] last earlier same =
+    subst (λ (b : BookFields). IsBookAfterReplies first before b) (sym same) earlier
+replies_follow_replies first before middle (attempt ∷ after) last earlier (next, later, one) =
+    (next, replies_follow_replies first before middle after next earlier later, one)
 
-  -- lines that are answered, at this moment and by the account of this name
-  module _ (IsKept : List ℕ → Type 0) (name : List ℕ) (moment : ℕ) where
-    -- lines that are answered leave a text of the book in the store
-    answered_lines_keep_book_held : (lines : List (List ℕ)) (old : VerifyRun) (all_passed : Bool) (new : VerifyRun)
-        → EachInTurn (AnswersLine IsKept name moment) lines old all_passed new → HoldsItsBook old.held → HoldsItsBook new.held
-    answered_lines_keep_book_held [] old all_passed new (same, is) holds =
-        subst (λ (r : VerifyRun). HoldsItsBook r.held) (sym same) holds
-    answered_lines_keep_book_held (line ∷ lines) old all_passed new (passed, next, others, (reply, answered, passes), rest, is) holds =
-        answered_lines_keep_book_held lines next others new rest
-        (saved_reply_keeps_book_held IsKept old.held name moment answered.sent reply next.held answered.saved holds)
+-- lines that are answered, at this moment and by the account of this name
+module _ (IsStored : List ℕ → Type 0) (name : List ℕ) (moment : ℕ) where
+  -- lines that are answered leave a text of the book in the store
+  answered_lines_keep_book_held : (lines : List (List ℕ)) (old : VerifyRun) (all_passed : Bool) (new : VerifyRun)
+      → EachInTurn (AnswersLine IsStored name moment) lines old all_passed new → HoldsItsBook old.held → HoldsItsBook new.held
+  answered_lines_keep_book_held [] old all_passed new (same, is) holds =
+      subst (λ (r : VerifyRun). HoldsItsBook r.held) (sym same) holds
+  answered_lines_keep_book_held (line ∷ lines) old all_passed new (passed, next, others, (reply, answered, passes), rest, is) holds =
+      answered_lines_keep_book_held lines next others new rest
+      (saved_reply_keeps_book_held IsStored old.held name moment answered.sent reply next.held answered.saved holds)
 
-    -- the law, of the store: after these lines it holds no text but those of the book
-    pub answered_lines_are_changes_saved : (input : Option (List ℕ)) (last : List (List ℕ)) (old : VerifyRun) (all_passed : Bool)
-        (new : VerifyRun) (text : List ℕ) → LinesInTurn (AnswersLine IsKept name moment) input last old all_passed new
-        → HoldsItsBook old.held → MayHold new.held.store text → IsBookText text new.held.book
-    answered_lines_are_changes_saved input last old all_passed new text answers holds may =
-        held_text_is_of_book new.held text (answered_lines_keep_book_held answers.lines old all_passed new answers.in_turn holds) may
+  -- the law, of the store: after these lines it holds no text but those of the book
+  pub answered_lines_are_changes_saved : (input : Option (List ℕ)) (last : List (List ℕ)) (old : VerifyRun) (all_passed : Bool)
+      (new : VerifyRun) (text : List ℕ) → LinesInTurn (AnswersLine IsStored name moment) input last old all_passed new
+      → HoldsItsBook old.held → MayHold new.held.store text → IsBookText text new.held.book
+  answered_lines_are_changes_saved input last old all_passed new text answers holds may =
+      held_text_is_of_book new.held text (answered_lines_keep_book_held answers.lines old all_passed new answers.in_turn holds) may
 
-    -- lines made these attempts in order: as changes they made the old book the new one, and the replies were printed
-    record HaveChanged (lines : List (List ℕ)) (attempts : List LoggedAttempt) (old new : VerifyRun) : Type 0 where
-      made : AllZip (MakesAttempt name moment) lines attempts
-      printed : Appends old.printed new.printed (printed_replies attempts)
-      changes : AreChanges facts IsStored old.held.book (judged_changes attempts) new.held.book
+  -- lines made these attempts in order: they made the old book the new one, and the replies were printed
+  record HaveMade (lines : List (List ℕ)) (attempts : List LoggedAttempt) (old new : VerifyRun) : Type 0 where
+    made : AllZip (MakesAttempt name moment) lines attempts
+    printed : Appends old.printed new.printed (printed_replies attempts)
+    leads : IsBookAfterReplies old.held.book (reverse attempts) new.held.book
 
-    -- lines that are answered have made attempts
-    answered_lines_have_changed : (lines : List (List ℕ)) (old : VerifyRun) (all_passed : Bool) (new : VerifyRun)
-        → EachInTurn (AnswersLine IsKept name moment) lines old all_passed new
-        → (attempts : List LoggedAttempt) × HaveChanged lines attempts old new
-    answered_lines_have_changed [] old all_passed new (same, is) = (
-      [],
-      subst (λ (r : VerifyRun). HaveChanged [] [] old r) (sym same)
-          (record { made = tt; printed = Appends-nil old.printed; changes = refl }),
-    )
-    answered_lines_have_changed (line ∷ lines) old all_passed new (passed, next, others, (reply, answered, passes), rest, is) =
-        let attempt = logged_attempt_of name moment answered.sent (Some reply) in
-        let more = answered_lines_have_changed lines next others new rest in (
-          attempt ∷ more.0,
-          record {
-            made = ((answered.sent, reply, answered.says, refl), more.1.made);
-            printed = Appends-trans old.printed next.printed new.printed _ (printed_replies more.0) answered.printed more.1.printed;
-            changes = subst (λ (cs : List Change). AreChanges facts IsStored old.held.book cs new.held.book)
-                (sym (judged_changes-first attempt more.0))
-                (changes_follow_changes old.held.book (judged attempt ∷ []) next.held.book (judged_changes more.0) new.held.book
-                (old.held.book, refl, answered.saved.due) more.1.changes);
-          },
-        )
+  -- lines that are answered have made attempts
+  answered_lines_have_made : (lines : List (List ℕ)) (old : VerifyRun) (all_passed : Bool) (new : VerifyRun)
+      → EachInTurn (AnswersLine IsStored name moment) lines old all_passed new
+      → (attempts : List LoggedAttempt) × HaveMade lines attempts old new
+  answered_lines_have_made [] old all_passed new (same, is) = (
+    [],
+    subst (λ (r : VerifyRun). HaveMade [] [] old r) (sym same)
+        (record { made = tt; printed = Appends-nil old.printed; leads = refl }),
+  )
+  answered_lines_have_made (line ∷ lines) old all_passed new (passed, next, others, (reply, answered, passes), rest, is) =
+      let attempt = logged_attempt_of name moment answered.sent (Some reply) in
+      let more = answered_lines_have_made lines next others new rest in (
+        attempt ∷ more.0,
+        record {
+          made = ((answered.sent, reply, answered.says, refl), more.1.made);
+          printed = Appends-trans old.printed next.printed new.printed _ (printed_replies more.0) answered.printed more.1.printed;
+          leads = subst (λ (l : List LoggedAttempt). IsBookAfterReplies old.held.book l new.held.book)
+              (sym (reverse_onto more.0 attempt []))
+              (replies_follow_replies old.held.book (attempt ∷ []) next.held.book (reverse more.0) new.held.book
+              (old.held.book, refl, answered.saved.due) more.1.leads);
+        },
+      )
 
-    -- the law, of a run that answered all lines except these last ones
-    pub answered_lines_are_changes_all : (input : Option (List ℕ)) (last : List (List ℕ)) (old : VerifyRun) (all_passed : Bool)
-        (new : VerifyRun) → LinesInTurn (AnswersLine IsKept name moment) input last old all_passed new
-        → (attempts : List LoggedAttempt)
-        × MakesChanges facts IsStored name moment input last attempts old.held.book new.held.book
-        × Appends old.printed new.printed (printed_replies attempts)
-    answered_lines_are_changes_all input last old all_passed new answers =
-        let changed = answered_lines_have_changed answers.lines old all_passed new answers.in_turn in (
-          changed.0,
-          record { lines = answers.lines; are = answers.are; made = changed.1.made; changes = changed.1.changes },
-          changed.1.printed,
-        )
+  -- the law, of a run that answered all lines except these last ones
+  pub answered_lines_are_changes_all : (input : Option (List ℕ)) (last : List (List ℕ)) (old : VerifyRun) (all_passed : Bool)
+      (new : VerifyRun) → LinesInTurn (AnswersLine IsStored name moment) input last old all_passed new
+      → (attempts : List LoggedAttempt)
+      × MakesAttempts name moment input last attempts old.held.book new.held.book
+      × Appends old.printed new.printed (printed_replies attempts)
+  answered_lines_are_changes_all input last old all_passed new answers =
+      let (attempts, have) = answered_lines_have_made answers.lines old all_passed new answers.in_turn in
+      (attempts, record { lines = answers.lines; are = answers.are; made = have.made; leads = have.leads }, have.printed)
 
-    -- the attempt that the next line makes is one change more
-    next_line_makes_change : (input : Option (List ℕ)) (line : List ℕ) (last : List (List ℕ)) (attempts : List LoggedAttempt)
-        (attempt : LoggedAttempt) (old middle next : BookFields)
-        → MakesChanges facts IsStored name moment input (line ∷ last) attempts old middle
-        → MakesAttempt name moment line attempt → IsAttemptJudged middle attempt next
-        → MakesChanges facts IsStored name moment input last (attempts ++ attempt ∷ []) old next
-    next_line_makes_change input line last attempts attempt old middle next changes made one = record {
-      lines = changes.lines ++ line ∷ [];
-      are = subst (λ (all : List (List ℕ)). IfSome input (λ bytes. AreLinesOf bytes all))
-          (sym (append_assoc changes.lines (line ∷ []) last)) changes.are;
-      made = one_more_agrees (MakesAttempt name moment) changes.lines attempts line attempt changes.made made;
-      changes = subst (λ (cs : List Change). AreChanges facts IsStored old cs next) (sym (judged_changes-last attempts attempt))
-          (middle, changes.changes, one);
-    }
+  -- the next line makes one attempt more
+  next_line_makes_attempt : (input : Option (List ℕ)) (line : List ℕ) (last : List (List ℕ)) (attempts : List LoggedAttempt)
+      (attempt : LoggedAttempt) (old middle next : BookFields)
+      → MakesAttempts name moment input (line ∷ last) attempts old middle
+      → MakesAttempt name moment line attempt → IsAttemptJudged middle attempt next
+      → MakesAttempts name moment input last (attempts ++ attempt ∷ []) old next
+  next_line_makes_attempt input line last attempts attempt old middle next makes made one = record {
+    lines = makes.lines ++ line ∷ [];
+    are = subst (λ (all : List (List ℕ)). IfSome input (λ bytes. AreLinesOf bytes all))
+        (sym (append_assoc makes.lines (line ∷ []) last)) makes.are;
+    made = one_more_agrees (MakesAttempt name moment) makes.lines attempts line attempt makes.made made;
+    leads = reply_adds_to_book old middle next attempts attempt makes.leads one;
+  }
 
-    -- the law, of a run within a save
-    pub answered_lines_are_changes_within : (input : Option (List ℕ)) (old middle : VerifyRun) (asked text : List ℕ)
-        (saves : SavesNextLine IsKept name moment input old middle asked) → HoldsItsBook old.held
-        → MayHoldWithinSave middle.held.store asked text
-        → (attempts : List LoggedAttempt) × Appends old.printed middle.printed (printed_replies attempts)
-        × ((IsBookText text middle.held.book
-        × MakesChanges facts IsStored name moment input (saves.line ∷ saves.last) attempts old.held.book middle.held.book)
-        ⊎ (IsBookText text saves.next
-        × MakesChanges facts IsStored name moment input saves.last (attempts ++ saves.attempt ∷ []) old.held.book saves.next))
-    answered_lines_are_changes_within input old middle asked text saves holds may =
-        let (attempts, changes, printed) =
-        answered_lines_are_changes_all input (saves.line ∷ saves.last) old saves.all_passed middle saves.answers in (
+  -- the law, of a run within a save
+  pub answered_lines_are_changes_within : (input : Option (List ℕ)) (old middle : VerifyRun) (asked text : List ℕ)
+      (saves : SavesNextLine IsStored name moment input old middle asked) → HoldsItsBook old.held
+      → MayHoldWithinSave middle.held.store asked text
+      → (attempts : List LoggedAttempt) × Appends old.printed middle.printed (printed_replies attempts)
+      × ((IsBookText text middle.held.book
+      × MakesAttempts name moment input (saves.line ∷ saves.last) attempts old.held.book middle.held.book)
+      ⊎ (IsBookText text saves.next
+      × MakesAttempts name moment input saves.last (attempts ++ saves.attempt ∷ []) old.held.book saves.next))
+  answered_lines_are_changes_within input old middle asked text saves holds may =
+      let (attempts, makes, printed) =
+      answered_lines_are_changes_all input (saves.line ∷ saves.last) old saves.all_passed middle saves.answers in (
+        attempts,
+        printed,
+        elim may [
+          | inl before ↦
+              let is_text =
+              answered_lines_are_changes_saved input (saves.line ∷ saves.last) old saves.all_passed middle text saves.answers holds
+              before in
+              inl (is_text, makes)
+          | inr same ↦
+              let makes_too =
+              next_line_makes_attempt input saves.line saves.last attempts saves.attempt old.held.book middle.held.book saves.next makes
+              saves.made saves.judged in
+              inr (subst (λ (t : List ℕ). IsBookText t saves.next) (sym same) saves.is_text, makes_too)
+        ],
+      )
+
+  -- a run that a fault ended
+  module _ (path : List ℕ) (input : Option (List ℕ)) (old : VerifyRun) (fault : Fault) (new : VerifyRun) (text : List ℕ) where
+    -- the text is that of a book to which attempts led, and the replies to these are printed as far as the run came
+    abbrev LeavesText : Type 0
+    LeavesText =
+        (left : BookFields) × (last : List (List ℕ)) × (attempts : List LoggedAttempt) × IsBookText text left
+        × MakesAttempts name moment input last attempts old.held.book left
+        × PrintsUntil fault attempts old.printed new.printed
+
+    -- the run left the book after the lines that it answered
+    leaves_book_before : (last : List (List ℕ)) (all_passed : Bool) (middle : VerifyRun)
+        → LinesInTurn (AnswersLine IsStored name moment) input last old all_passed middle → new.printed ≡ middle.printed
+        → IsBookText text middle.held.book → LeavesText
+    leaves_book_before last all_passed middle walk silent is_text =
+        let (attempts, makes, printed) = answered_lines_are_changes_all input last old all_passed middle walk in (
+          middle.held.book,
+          last,
           attempts,
-          printed,
-          elim may [
-            | inl before ↦
-                let is_text =
-                answered_lines_are_changes_saved input (saves.line ∷ saves.last) old saves.all_passed middle text saves.answers holds
-                before in
-                inl (is_text, changes)
-            | inr same ↦
-                let changes_too =
-                next_line_makes_change input saves.line saves.last attempts saves.attempt old.held.book middle.held.book saves.next changes
-                saves.made saves.judged in
-                inr (subst (λ (t : List ℕ). IsBookText t saves.next) (sym same) saves.is_text, changes_too)
-          ],
+          is_text,
+          makes,
+          inl (subst (λ (o : Option (List ℕ)). Appends old.printed o (printed_replies attempts)) (sym silent) printed),
         )
 
-    -- a run that a fault ended
-    module _ (path : List ℕ) (input : Option (List ℕ)) (old : VerifyRun) (fault : Fault) (new : VerifyRun) (text : List ℕ) where
-      -- the text is that of a book to which attempts led, and the replies to these are printed as far as the run came
-      abbrev LeavesText : Type 0
-      LeavesText =
-          (left : BookFields) × (last : List (List ℕ)) × (attempts : List LoggedAttempt) × IsBookText text left
-          × MakesChanges facts IsStored name moment input last attempts old.held.book left
-          × PrintsUntil fault attempts old.printed new.printed
-
-      -- the run left the book after the lines that it answered
-      leaves_book_before : (last : List (List ℕ)) (all_passed : Bool) (middle : VerifyRun)
-          → LinesInTurn (AnswersLine IsKept name moment) input last old all_passed middle → new.printed ≡ middle.printed
-          → IsBookText text middle.held.book → LeavesText
-      leaves_book_before last all_passed middle walk silent is_text =
-          let (attempts, changes, printed) = answered_lines_are_changes_all input last old all_passed middle walk in (
-            middle.held.book,
+    -- a run that a fault ended at a line, after the lines before it
+    module _ (line : List ℕ) (last : List (List ℕ)) (all_passed : Bool) (middle : VerifyRun)
+        (walk : LinesInTurn (AnswersLine IsStored name moment) input (line ∷ last) old all_passed middle) where
+      -- the run left the book with the attempt of this line
+      leaves_book_after : (sent : CodeTexts) (reply : Reply) (next : BookFields) → SaysCodes line sent
+          → IsAttemptAtMoment middle.held.book name moment sent (Some reply) next
+          → (fault ≡ CannotWriteOutput) ⊎ (new.printed ≡ middle.printed) → IsBookText text next → LeavesText
+      leaves_book_after sent reply next says due output is_text =
+          let (attempts, makes, printed) = answered_lines_are_changes_all input (line ∷ last) old all_passed middle walk in
+          let attempt = logged_attempt_of name moment sent (Some reply) in (
+            next,
             last,
-            attempts,
+            attempts ++ attempt ∷ [],
             is_text,
-            changes,
-            inl (subst (λ (o : Option (List ℕ)). Appends old.printed o (printed_replies attempts)) (sym silent) printed),
+            next_line_makes_attempt input line last attempts attempt old.held.book middle.held.book next makes
+                (sent, reply, says, refl) due,
+            inr (
+              attempts,
+              attempt,
+              refl,
+              elim output [
+                | inl cannot ↦ inl cannot
+                | inr silent ↦
+                    inr (subst (λ (o : Option (List ℕ)). Appends old.printed o (printed_replies attempts)) (sym silent) printed)
+              ],
+            ),
           )
 
-      -- a run that a fault ended at a line, after the lines before it
-      module _ (line : List ℕ) (last : List (List ℕ)) (all_passed : Bool) (middle : VerifyRun)
-          (walk : LinesInTurn (AnswersLine IsKept name moment) input (line ∷ last) old all_passed middle) where
-        -- the run left the book with the attempt of this line
-        leaves_book_after : (sent : CodeTexts) (reply : Reply) (next : BookFields) → SaysCodes line sent
-            → IsAttemptAtMoment middle.held.book name moment sent (Some reply) next
-            → (fault ≡ CannotWriteOutput) ⊎ (new.printed ≡ middle.printed) → IsBookText text next → LeavesText
-        leaves_book_after sent reply next says due output is_text =
-            let (attempts, changes, printed) = answered_lines_are_changes_all input (line ∷ last) old all_passed middle walk in
-            let attempt = logged_attempt_of name moment sent (Some reply) in (
-              next,
-              last,
-              attempts ++ attempt ∷ [],
-              is_text,
-              next_line_makes_change input line last attempts attempt old.held.book middle.held.book next changes
-                  (sent, reply, says, refl) due,
-              inr (
-                attempts,
-                attempt,
-                refl,
-                elim output [
-                  | inl cannot ↦ inl cannot
-                  | inr silent ↦
-                      inr (subst (λ (o : Option (List ℕ)). Appends old.printed o (printed_replies attempts)) (sym silent) printed)
-                ],
-              ),
-            )
+      -- the store held a text of the book as the run began, and may hold the text at its end
+      module _ (holds : HoldsItsBook old.held) (may : MayHold new.held.store text) where
+        -- up to the fault the store held a text of the book
+        held_until_fault : HoldsItsBook middle.held
+        held_until_fault = answered_lines_keep_book_held walk.lines old all_passed middle walk.in_turn holds
 
-        -- the store held a text of the book as the run began, and may hold the text at its end
-        module _ (holds : HoldsItsBook old.held) (may : MayHold new.held.store text) where
-          -- up to the fault the store held a text of the book
-          held_until_fault : HoldsItsBook middle.held
-          held_until_fault = answered_lines_keep_book_held walk.lines old all_passed middle walk.in_turn holds
+        -- if nothing was asked of the store at this line, the run left the book after the lines before it
+        unasked_leaves_book_before : new.held.store ≡ middle.held.store → new.printed ≡ middle.printed → LeavesText
+        unasked_leaves_book_before same silent =
+            leaves_book_before (line ∷ last) all_passed middle walk silent
+            (held_text_is_of_book middle.held text held_until_fault (subst (λ (s : StoreFacts). MayHold s text) same may))
 
-          -- if nothing was asked of the store at this line, the run left the book after the lines before it
-          unasked_leaves_book_before : new.held.store ≡ middle.held.store → new.printed ≡ middle.printed → LeavesText
-          unasked_leaves_book_before same silent =
-              leaves_book_before (line ∷ last) all_passed middle walk silent
-              (held_text_is_of_book middle.held text held_until_fault (subst (λ (s : StoreFacts). MayHold s text) same may))
+        -- if the save of this line's attempt failed, the run left the book before or after the attempt
+        failed_save_leaves_either : (sent : CodeTexts) (reply : Reply) (next : BookFields) (given : List ℕ) → SaysCodes line sent
+            → IsAttemptAtMoment middle.held.book name moment sent (Some reply) next → IsBookText given next
+            → IsFailedSave middle.held.store given new.held.store → new.printed ≡ middle.printed → MayHold new.held.store text
+            → LeavesText
+        failed_save_leaves_either sent reply next given says due is_text fails silent (inl same) = elim fails.saved [
+          | inl kept ↦ leaves_book_before (line ∷ last) all_passed middle walk silent
+              (subst (λ (t : List ℕ). IsBookText t middle.held.book) (sym (same ∙ kept)) held_until_fault.saved)
+          | inr put ↦ leaves_book_after sent reply next says due (inr silent)
+              (subst (λ (t : List ℕ). IsBookText t next) (sym (same ∙ put)) is_text)
+        ]
+        failed_save_leaves_either sent reply next given says due is_text fails silent (inr (failed, same)) =
+            leaves_book_after sent reply next says due (inr silent)
+            (subst (λ (t : List ℕ). IsBookText t next) (sym (same ∙ fails.begun.asked)) is_text)
 
-          -- if the save of this line's attempt failed, the run left the book before or after the attempt
-          failed_save_leaves_either : (sent : CodeTexts) (reply : Reply) (next : BookFields) (given : List ℕ) → SaysCodes line sent
-              → IsAttemptAtMoment middle.held.book name moment sent (Some reply) next → IsBookText given next
-              → IsFailedSave middle.held.store given new.held.store → new.printed ≡ middle.printed → MayHold new.held.store text
-              → LeavesText
-          failed_save_leaves_either sent reply next given says due is_text fails silent (inl same) = elim fails.saved [
-            | inl kept ↦ leaves_book_before (line ∷ last) all_passed middle walk silent
-                (subst (λ (t : List ℕ). IsBookText t middle.held.book) (sym (same ∙ kept)) held_until_fault.saved)
-            | inr put ↦ leaves_book_after sent reply next says due (inr silent)
-                (subst (λ (t : List ℕ). IsBookText t next) (sym (same ∙ put)) is_text)
-          ]
-          failed_save_leaves_either sent reply next given says due is_text fails silent (inr (failed, same)) =
-              leaves_book_after sent reply next says due (inr silent)
-              (subst (λ (t : List ℕ). IsBookText t next) (sym (same ∙ fails.begun.asked)) is_text)
+        -- if the reply to this line was not saved, the run left a book to which attempts led
+        lost_reply_leaves_text : (sent : CodeTexts) → SaysCodes line sent → IsReplyUnsaved middle.held name moment sent new.held
+            → new.printed ≡ middle.printed → LeavesText
+        lost_reply_leaves_text sent says (as_before, inl same) silent = unasked_leaves_book_before same silent
+        lost_reply_leaves_text sent says (as_before, inr (next, (None, needs, due), fails)) silent = absurd (false≢true needs)
+        lost_reply_leaves_text sent says (as_before, inr (next, (Some reply, needs, due), fails)) silent = elim fails.lost [
+          | inl (failed, same) ↦ unasked_leaves_book_before same silent
+          | inr fails_now ↦ failed_save_leaves_either sent reply next fails.text says due fails.is_text fails_now silent may
+        ]
 
-          -- if the reply to this line was not saved, the run left a book to which attempts led
-          lost_reply_leaves_text : (sent : CodeTexts) → SaysCodes line sent → IsReplyUnsaved middle.held name moment sent new.held
-              → new.printed ≡ middle.printed → LeavesText
-          lost_reply_leaves_text sent says (as_before, inl same) silent = unasked_leaves_book_before same silent
-          lost_reply_leaves_text sent says (as_before, inr (next, (None, needs, due), fails)) silent = absurd (false≢true needs)
-          lost_reply_leaves_text sent says (as_before, inr (next, (Some reply, needs, due), fails)) silent = elim fails.lost [
-            | inl (failed, same) ↦ unasked_leaves_book_before same silent
-            | inr fails_now ↦ failed_save_leaves_either sent reply next fails.text says due fails.is_text fails_now silent may
-          ]
+        -- if the reply to this line was saved and not printed, the run left the book with the attempt
+        unprinted_reply_leaves_text : (sent : CodeTexts) (reply : Reply) → SaysCodes line sent
+            → IsReplySaved IsStored middle.held name moment sent reply new.held → IsUnprinted fault middle.printed new.printed
+            → LeavesText
+        unprinted_reply_leaves_text sent reply says saved unprinted =
+            leaves_book_after sent reply new.held.book says saved.due
+            (elim unprinted [ inl cannot ↦ inl cannot | inr short ↦ inr short.1 ])
+            (held_text_is_of_book new.held text
+            (saved_reply_keeps_book_held IsStored middle.held name moment sent reply new.held saved held_until_fault) may)
 
-          -- if the reply to this line was saved and not printed, the run left the book with the attempt
-          unprinted_reply_leaves_text : (sent : CodeTexts) (reply : Reply) → SaysCodes line sent
-              → IsReplySaved IsKept middle.held name moment sent reply new.held → IsUnprinted fault middle.printed new.printed
-              → LeavesText
-          unprinted_reply_leaves_text sent reply says saved unprinted =
-              leaves_book_after sent reply new.held.book says saved.due
-              (elim unprinted [ inl cannot ↦ inl cannot | inr short ↦ inr short.1 ])
-              (held_text_is_of_book new.held text
-              (saved_reply_keeps_book_held IsKept middle.held name moment sent reply new.held saved held_until_fault) may)
+        -- a fault at this line leaves a book to which attempts led
+        fault_at_line_leaves_text : FailsAtLine IsStored path name moment line middle fault new → LeavesText
+        fault_at_line_leaves_text (sent, says, inl (lost, why, silent)) = lost_reply_leaves_text sent says lost silent
+        fault_at_line_leaves_text (sent, says, inr (reply, saved, unprinted)) =
+            unprinted_reply_leaves_text sent reply says saved unprinted
 
-          -- a fault at this line leaves a book to which attempts led
-          fault_at_line_leaves_text : FailsAtLine IsKept path name moment line middle fault new → LeavesText
-          fault_at_line_leaves_text (sent, says, inl (lost, why, silent)) = lost_reply_leaves_text sent says lost silent
-          fault_at_line_leaves_text (sent, says, inr (reply, saved, unprinted)) =
-              unprinted_reply_leaves_text sent reply says saved unprinted
-
-      -- the law, of a run that a fault ended
-      pub answered_lines_are_changes_first : AnswersFirstLines IsKept path name moment input old fault new → HoldsItsBook old.held
-          → MayHold new.held.store text → LeavesText
-      answered_lines_are_changes_first (inl (last, all_passed, walk, unread)) holds may =
-          leaves_book_before last all_passed new walk refl
-          (answered_lines_are_changes_saved input last old all_passed new text walk holds may)
-      answered_lines_are_changes_first (inr (line, last, all_passed, middle, walk, fails)) holds may =
-          fault_at_line_leaves_text line last all_passed middle walk holds may fails
+    -- the law, of a run that a fault ended
+    pub answered_lines_are_changes_first : AnswersFirstLines IsStored path name moment input old fault new → HoldsItsBook old.held
+        → MayHold new.held.store text → LeavesText
+    answered_lines_are_changes_first (inl (last, all_passed, walk, unread)) holds may =
+        leaves_book_before last all_passed new walk refl
+        (answered_lines_are_changes_saved input last old all_passed new text walk holds may)
+    answered_lines_are_changes_first (inr (line, last, all_passed, middle, walk, fails)) holds may =
+        fault_at_line_leaves_text line last all_passed middle walk holds may fails
