@@ -13,7 +13,8 @@ use Rattle.account_book.specs.SavedBooks.{needs_save, SavesBook}
 use Rattle.account_book.specs.Store.{StoreFacts}
 use Rattle.account_book.specs.Tokens.{IsUnlocked, token_at}
 use Rattle.book_file.specs.Text.{IsRead}
-use Rattle.book_keeper.specs.Keeper.{FailsToSave, IsAttemptAtMoment, IsSavedIfChanged}
+use Rattle.book_keeper.specs.Keeper.{IsAttemptAtMoment, IsChangeUnsaved, IsSavedIfChanged}
+use Rattle.book_keeper.specs.declared.keeper.SaveFault.TheVariants.{NotSaved}
 use Rattle.command_line.specs.Fault.{fault_of_book}
 use Rattle.command_line.specs.declared.fault.Fault.{Fault}
 use Rattle.command_line.specs.declared.fault.Fault.TheVariants.{NoSuchAccount, NoToken, CannotRead, CannotWrite, NoMemory}
@@ -30,16 +31,15 @@ pub record HeldFacts : Type 0 where
 abbrev pub held_shown : {S : Type 0} → (S → StoreFacts) → HeldBook S → HeldFacts
 held_shown facts held = record { book = held.keeper.book; store = facts held.keeper.store }
 
--- a held book is not changed: the book is as it was, and the store is too, or it fails to save the book with the change
-abbrev pub FailsToChange : (old : HeldFacts) → (Changes : BookFields → BookFields → Type 0) → (new : HeldFacts) → Type 0
-FailsToChange old Changes new =
-    (new.book ≡ old.book)
-    × ((new.store ≡ old.store) ⊎ ((next : BookFields) × Changes old.book next × FailsToSave old.store next new.store))
+-- the store after a change that fails: if the fault is that the book's file can't be written, it fails to save some book with the change;
+-- after any other fault it is as it was
+abbrev pub IsStoreAfterFault : (old : HeldFacts) → (Changes : BookFields → BookFields → Type 0) → Fault → (new : StoreFacts) → Type 0
+IsStoreAfterFault old Changes (CannotWrite file) new = IsChangeUnsaved Changes old.book old.store NotSaved new
+IsStoreAfterFault old Changes fault new = new ≡ old.store
 
--- if the fault is that the book's file can't be written, the store fails to save some book with this change
-abbrev pub IfUnwritten : Fault → (old : HeldFacts) → (Changes : BookFields → BookFields → Type 0) → (new : HeldFacts) → Type 0
-IfUnwritten (CannotWrite file) old Changes new = (next : BookFields) × Changes old.book next × FailsToSave old.store next new.store
-IfUnwritten fault old Changes new = Unit {0}
+-- a held book is not changed, and this is the fault
+abbrev pub FailsToChange : (old : HeldFacts) → (Changes : BookFields → BookFields → Type 0) → Fault → (new : HeldFacts) → Type 0
+FailsToChange old Changes fault new = (new.book ≡ old.book) × IsStoreAfterFault old Changes fault new.store
 
 -- a text was read from a file and is not a book: the fault is that of its first fault
 abbrev pub IsFaultOfText : {File : Type 0} → (bytes_of : File → Option (List ℕ)) → Fault → Type 0
@@ -81,9 +81,9 @@ abbrev pub IsSavingReplyDue : (name : List ℕ) → (moment : ℕ) → CodeTexts
 IsSavingReplyDue name moment sent old new =
     (reply : Option Reply) × (needs_save reply ≡ true) × IsAttemptAtMoment old name moment sent reply new
 
--- a reply is not saved: the book is as it was, and the store is too, or it fails to save the book with a reply that was due
-abbrev pub IsReplyUnsaved : (old : HeldFacts) → (name : List ℕ) → (moment : ℕ) → CodeTexts → (new : HeldFacts) → Type 0
-IsReplyUnsaved old name moment sent new = FailsToChange old (IsSavingReplyDue name moment sent) new
+-- a reply is not saved, and this is the fault: only a reply that was due can fail to be saved
+abbrev pub IsReplyUnsaved : (old : HeldFacts) → (name : List ℕ) → (moment : ℕ) → CodeTexts → Fault → (new : HeldFacts) → Type 0
+IsReplyUnsaved old name moment sent fault new = FailsToChange old (IsSavingReplyDue name moment sent) fault new
 
 -- the token of this name is unlocked, and the book is saved
 pub record IsUnlockSaved (IsStored : List ℕ → Type 0) (name : List ℕ) (old new : HeldFacts) : Type 0 where

@@ -1,12 +1,12 @@
 //! A book that this run holds, and its store. Each change is saved before it is reported, and undone if it can't be saved.
-ghost use Rattle.std.specs.Prelude.{◌≡◌, ◌≢◌, true, is_some, None, IfErr, IfOk, MatchOption, OnErr, OnOk, string_bytes};
+ghost use Rattle.std.specs.Prelude.{◌≡◌, ◌≢◌, true, is_some, None, IfErr, IfOk, MatchOption, OnOk, string_bytes};
 ghost use Rattle.account_book.specs.Accounts.{account_at};
 ghost use Rattle.account_book.specs.SavedBooks.{SavesBook};
 ghost use Rattle.account_book.specs.Tokens.{token_at};
 ghost use Rattle.book_keeper.specs.Keeper.{FailsToSave};
 ghost use Rattle.otp_core.specs.SentCodes.{texts_of};
 ghost use Rattle.command_line.specs.Fault.{IsTokenFault, IsFileUnwrittenOrNoMemory};
-ghost use Rattle.command_io.specs.HeldBook.{held_shown, FailsToChange, IfUnwritten, IsSavingReplyDue, IsUnlockSaved};
+ghost use Rattle.command_io.specs.HeldBook.{held_shown, FailsToChange, IsUnlockSaved};
 ghost use Rattle.command_io.specs.HeldBook.{IsEnrolled, IsReplySaved, IsReplyUnsaved, IsTokenUnlocked, LacksToken};
 
 use crate::new_account::{NewAccount, Salts};
@@ -57,9 +57,7 @@ impl<'a, S: BookStore> HeldBook<'a, S> {
             (IsFileUnwrittenOrNoMemory self.old.path.now fault) (λ account. fault ≡ Fault.NameTaken)) }
         ensures path { self.new.path.now ≡ self.old.path.now }
         ensures unasked { IfErr result (λ fault. fault ≡ Fault.NoMemory → self.new.keeper.store ≡ self.old.keeper.store) }
-        ensures unsaved { OnErr result (FailsToChange (held_shown S.facts self.old) (IsEnrolled account.now salts.now)
-            (held_shown S.facts self.new)) }
-        ensures why { IfErr result (λ fault. IfUnwritten fault (held_shown S.facts self.old) (IsEnrolled account.now salts.now)
+        ensures unsaved { IfErr result (λ fault. FailsToChange (held_shown S.facts self.old) (IsEnrolled account.now salts.now) fault
             (held_shown S.facts self.new)) }
         ensures saved { OnOk result (SavesBook S.IsStored (S.facts self.old.keeper.store) self.new.keeper.book
             (S.facts self.new.keeper.store)) }
@@ -106,10 +104,8 @@ impl<'a, S: BookStore> HeldBook<'a, S> {
         ensures path { self.new.path.now ≡ self.old.path.now }
         ensures err { IfErr result (IsTokenFault self.old.path.now (account_at self.old.keeper.book name.now)) }
         ensures unasked { IfErr result (λ fault. fault ≡ Fault.NoMemory → self.new.keeper.store ≡ self.old.keeper.store) }
-        ensures unsaved { OnErr result (IsReplyUnsaved (held_shown S.facts self.old) name.now moment (texts_of sent.entry)
+        ensures unsaved { IfErr result (λ fault. IsReplyUnsaved (held_shown S.facts self.old) name.now moment (texts_of sent.entry) fault
             (held_shown S.facts self.new)) }
-        ensures why { IfErr result (λ fault. IfUnwritten fault (held_shown S.facts self.old)
-            (IsSavingReplyDue name.now moment (texts_of sent.entry)) (held_shown S.facts self.new)) }
     {
         self.check_token(name)?;
         let file = String::from_str(alloc, self.path)?;
@@ -128,9 +124,7 @@ impl<'a, S: BookStore> HeldBook<'a, S> {
         ensures path { self.new.path.now ≡ self.old.path.now }
         ensures err { IfErr result (IsTokenFault self.old.path.now (account_at self.old.keeper.book name.now)) }
         ensures unasked { IfErr result (λ fault. fault ≡ Fault.NoMemory → self.new.keeper.store ≡ self.old.keeper.store) }
-        ensures unsaved { OnErr result (FailsToChange (held_shown S.facts self.old) (IsTokenUnlocked name.now)
-            (held_shown S.facts self.new)) }
-        ensures why { IfErr result (λ fault. IfUnwritten fault (held_shown S.facts self.old) (IsTokenUnlocked name.now)
+        ensures unsaved { IfErr result (λ fault. FailsToChange (held_shown S.facts self.old) (IsTokenUnlocked name.now) fault
             (held_shown S.facts self.new)) }
     {
         self.check_token(name)?;

@@ -54,7 +54,7 @@ IsUnprinted fault old new = (fault ≡ CannotWriteOutput) ⊎ ((fault ≡ NoMemo
 -- can't be written, or memory ran out
 abbrev pub IsReplyLost : (path name : List ℕ) → (moment : ℕ) → CodeTexts → (old : VerifyRun) → Fault → (new : VerifyRun) → Type 0
 IsReplyLost path name moment sent old fault new =
-    IsReplyUnsaved old.held name moment sent new.held × IsTokenFault path (account_at old.held.book name) fault
+    IsReplyUnsaved old.held name moment sent fault new.held × IsTokenFault path (account_at old.held.book name) fault
     × (new.printed ≡ old.printed)
 
 -- how the lines of an input are answered: `IsStored` is true of each text that is stored

@@ -14,7 +14,8 @@ use Rattle.book_format.specs.Book.{BookFields}
 use Rattle.book_format.specs.Trees.{IsBookText}
 use Rattle.account_book.specs.SavedBooks.{SavesBook}
 use Rattle.account_book.specs.Store.{StoreFacts, IsFailedSave}
-use Rattle.book_keeper.specs.Keeper.{IsAttemptAtMoment}
+use Rattle.book_keeper.specs.Keeper.{IsAttemptAtMoment, IsChangeUnsaved}
+use Rattle.book_keeper.specs.declared.keeper.SaveFault.TheVariants.{NotSaved}
 use Rattle.log_grammar.specs.LoggedAttempt.{LoggedAttempt, logged_attempt_of}
 use Rattle.sasl_desk.specs.Desks.{spent_by_all, IsBookAfterReplies, MayHold, MayHoldWithinSave}
 use Rattle.sasl_desk.specs.Keeper.{IsAttemptJudged}
@@ -23,8 +24,8 @@ use Rattle.sasl_desk.specs.Spent.{AreSpent, spent_by}
 use Rattle.sasl_desk.proofs.lemmas.runs.BooksAfterReplies.{reply_adds_to_book}
 use Rattle.clap.specs.declared.parser.matches.ArgMatches.{ArgMatches}
 use Rattle.command_line.specs.declared.fault.Fault.{Fault}
-use Rattle.command_line.specs.declared.fault.Fault.TheVariants.{CannotWriteOutput}
-use Rattle.command_io.specs.HeldBook.{HeldFacts, IsReplySaved, IsReplyUnsaved}
+use Rattle.command_line.specs.declared.fault.Fault.TheVariants.{CannotWrite, CannotWriteOutput}
+use Rattle.command_io.specs.HeldBook.{HeldFacts, IsReplySaved, IsSavingReplyDue, IsStoreAfterFault}
 use Rattle.command_io.specs.Input.{AreLinesOf, EachInTurn, LinesInTurn}
 use Rattle.commands.specs.Attempts.{MakesAttempt, printed_replies, PrintsUntil, HoldsItsBook, MakesAttempts, SavesNextLine}
 use Rattle.commands.specs.SentCodes.{SaysCodes}
@@ -64,6 +65,12 @@ saved_reply_keeps_book_held IsStored old name moment sent Locked new is holds =
 held_text_is_of_book : (held : HeldFacts) (text : List ℕ) → HoldsItsBook held → MayHold held.store text → IsBookText text held.book
 held_text_is_of_book held text holds (inl same) = subst (λ (t : List ℕ). IsBookText t held.book) (sym same) holds.saved
 held_text_is_of_book held text holds (inr (failed, same)) = absurd (false≢true (sym holds.working ∙ failed))
+
+-- after a change that fails, the store is as it was, or it failed to save a book with the change
+store_was_unasked_or_failed : (old : HeldFacts) (Changes : BookFields → BookFields → Type 0) (fault : Fault) (new : StoreFacts)
+    → IsStoreAfterFault old Changes fault new → (new ≡ old.store) ⊎ IsChangeUnsaved Changes old.book old.store NotSaved new
+store_was_unasked_or_failed old Changes (CannotWrite file) new fails = inr fails
+store_was_unasked_or_failed old Changes fault new same = inl same
 
 -- a run that begins holds its book
 pub run_holds_its_book : {File : Type 0} (bytes_of : File → Option (List ℕ)) (words : ArgMatches) (printed : Option (List ℕ)) (moment : ℕ)
@@ -289,12 +296,14 @@ module _ (IsStored : List ℕ → Type 0) (name : List ℕ) (moment : ℕ) where
             leaves_book_after sent reply next says due (inr silent)
             (subst (λ (t : List ℕ). IsBookText t next) (sym (same ∙ fails.begun.asked)) is_text)
 
-        -- if the reply to this line was not saved, the run left a book to which attempts led
-        lost_reply_leaves_text : (sent : CodeTexts) → SaysCodes line sent → IsReplyUnsaved middle.held name moment sent new.held
+        -- if the store was not asked at this line, or failed to save a reply that was due, the run left a book to which attempts led
+        lost_reply_leaves_text : (sent : CodeTexts) → SaysCodes line sent
+            → (new.held.store ≡ middle.held.store)
+            ⊎ IsChangeUnsaved (IsSavingReplyDue name moment sent) middle.held.book middle.held.store NotSaved new.held.store
             → new.printed ≡ middle.printed → LeavesText
-        lost_reply_leaves_text sent says (as_before, inl same) silent = unasked_leaves_book_before same silent
-        lost_reply_leaves_text sent says (as_before, inr (next, (None, needs, due), fails)) silent = absurd (false≢true needs)
-        lost_reply_leaves_text sent says (as_before, inr (next, (Some reply, needs, due), fails)) silent = elim fails.lost [
+        lost_reply_leaves_text sent says (inl same) silent = unasked_leaves_book_before same silent
+        lost_reply_leaves_text sent says (inr (next, (None, needs, due), fails)) silent = absurd (false≢true needs)
+        lost_reply_leaves_text sent says (inr (next, (Some reply, needs, due), fails)) silent = elim fails.lost [
           | inl (failed, same) ↦ unasked_leaves_book_before same silent
           | inr fails_now ↦ failed_save_leaves_either sent reply next fails.text says due fails.is_text fails_now silent may
         ]
@@ -311,7 +320,8 @@ module _ (IsStored : List ℕ → Type 0) (name : List ℕ) (moment : ℕ) where
 
         -- a fault at this line leaves a book to which attempts led
         fault_at_line_leaves_text : FailsAtLine IsStored path name moment line middle fault new → LeavesText
-        fault_at_line_leaves_text (sent, says, inl (lost, why, silent)) = lost_reply_leaves_text sent says lost silent
+        fault_at_line_leaves_text (sent, says, inl (lost, why, silent)) =
+            lost_reply_leaves_text sent says (store_was_unasked_or_failed middle.held _ fault new.held.store lost.1) silent
         fault_at_line_leaves_text (sent, says, inr (reply, saved, unprinted)) =
             unprinted_reply_leaves_text sent reply says saved unprinted
 
