@@ -1,3 +1,2 @@
 -- The lemmas that the proofs of this crate cite.
-pub mod AddedAccounts
 pub mod EnrolFaults

@@ -26,31 +26,47 @@ use Rattle.command_io.specs.declared.new_account.Salts.{Salts}
 abbrev pub new_book : (decoy_key : List ℕ) → BookFields
 new_book decoy_key = record { decoy_key = decoy_key; decoy_count = 4096; accounts = [] }
 
--- a source of random bytes gives the key of a new book, if one is made, and then two salts, each of 16 bytes as a decoy's: no byte is
--- used twice
-pub record TakesKeyAndSalts (old : Option (List ℕ)) (key : List ℕ) (salts : Salts) (new : Option (List ℕ)) : Type 0 where
-  pub length_key : (key ≡ []) ⊎ (length key ≡ 32)
+-- the book was read from a file
+abbrev pub IsBookRead : {File : Type 0} → (bytes_of : File → Option (List ℕ)) → BookFields → Type 0
+IsBookRead bytes_of book = (text : List ℕ) × IsReadBook bytes_of text book
+
+-- the book was read from a file, and no bytes are taken from the source of random bytes; or it is a new one, whose key is the next 32
+-- bytes of the source
+abbrev pub IsReadOrMade : {File : Type 0} → (bytes_of : File → Option (List ℕ)) → (old new : Option (List ℕ)) → BookFields → Type 0
+IsReadOrMade bytes_of old new book =
+    (IsBookRead bytes_of book × (new ≡ old))
+    ⊎ ((decoy_key : List ℕ) × (length decoy_key ≡ 32) × Consumes old new decoy_key × (book ≡ new_book decoy_key))
+
+-- a source of random bytes gives two salts, each of 16 bytes as a decoy's, one after the other: no byte is in both
+pub record TakesSalts (old : Option (List ℕ)) (salts : Salts) (new : Option (List ℕ)) : Type 0 where
   pub length_sha1 : length salts.sha1 ≡ 16
   pub length_sha256 : length salts.sha256 ≡ 16
-  pub taken : Consumes old new (key ++ (salts.sha1 ++ salts.sha256))
+  pub taken : Consumes old new (salts.sha1 ++ salts.sha256)
 
--- the book was read from a file, or is a new one with this key of 32 bytes
-abbrev pub IsReadOrNew : {File : Type 0} → (bytes_of : File → Option (List ℕ)) → (key : List ℕ) → BookFields → Type 0
-IsReadOrNew bytes_of key book =
-    ((text : List ℕ) × IsReadBook bytes_of text book) ⊎ ((length key ≡ 32) × (book ≡ new_book key))
+-- the book is this one, or was read from a file since
+abbrev pub IsThisOrReadBook : {File : Type 0} → (bytes_of : File → Option (List ℕ)) → (this book : BookFields) → Type 0
+IsThisOrReadBook bytes_of this book = (book ≡ this) ⊎ IsBookRead bytes_of book
 
--- an account with the keys of a password is added to a book that was read or is new, and the text of the resulting book is written to
--- a file; `old` and `new` are what a source of random bytes has left before and after
-pub record AddsAccount {File : Type 0} (bytes_of written_to : File → Option (List ℕ)) (account : NewAccount) (old new : Option (List ℕ))
-    : Type 0 where
-  pub key : List ℕ
-  pub salts : Salts
-  pub is_taken : TakesKeyAndSalts old key salts new
+-- an account with the keys of a password is added to a book, which is this one or was read from a file since, and the text of the
+-- resulting book is written to a file
+pub record SavesAccount {File : Type 0} (bytes_of written_to : File → Option (List ℕ)) (this : BookFields) (account : NewAccount)
+    (salts : Salts) : Type 0 where
   pub first : BookFields
-  pub is_first : IsReadOrNew bytes_of key first
+  pub is_first : IsThisOrReadBook bytes_of this first
   pub last : BookFields
   pub is_enrolled : IsEnrolled account salts first last
   pub is_saved : HasStoredText (IsSavedText written_to) last
+
+-- an account is added to a book that was read or is new, with the next random bytes as salts, and saved; `old`, `middle` and `new` are
+-- what the source of random bytes has left before, once the book is there, and after
+pub record AddsAccount {File : Type 0} (bytes_of written_to : File → Option (List ℕ)) (account : NewAccount) (old new : Option (List ℕ))
+    : Type 0 where
+  pub book : BookFields
+  pub middle : Option (List ℕ)
+  pub is_there : IsReadOrMade bytes_of old middle book
+  pub salts : Salts
+  pub are_taken : TakesSalts middle salts new
+  pub saved : SavesAccount bytes_of written_to book account salts
 
 -- the account that the words and the first line of the input describe is added to a book
 pub record EnrolsAsked {File : Type 0} (bytes_of written_to : File → Option (List ℕ)) (words : ArgMatches)
@@ -75,20 +91,19 @@ abbrev pub DescribesNoAccount : ArgMatches → (input : Option (List ℕ)) → F
 DescribesNoAccount words input fault =
     HasBadValue (option.Name ∷ option.Count ∷ []) words fault ⊎ (HasBadPassword input fault ⊎ IsInputUnreadOrNoMemory fault)
 
--- the name is taken in a book that was read from a file
-abbrev pub IsNameTaken : {File : Type 0} → (bytes_of : File → Option (List ℕ)) → (name : List ℕ) → Fault → Type 0
-IsNameTaken bytes_of name fault =
-    (fault ≡ NameTaken) × (text : List ℕ) × (book : BookFields) × IsReadBook bytes_of text book × (is_some (account_at book name) ≡ true)
+-- the name is taken in such a book
+abbrev pub IsNameTaken : (Is : BookFields → Type 0) → (name : List ℕ) → Fault → Type 0
+IsNameTaken Is name fault = (fault ≡ NameTaken) × (book : BookFields) × Is book × (is_some (account_at book name) ≡ true)
 
 -- the book at this path can't be held or read, or can't be saved
 abbrev pub CannotBeChanged : {File : Type 0} → (bytes_of : File → Option (List ℕ)) → (path : List ℕ) → Fault → Type 0
 CannotBeChanged bytes_of path fault = CannotOpenBook bytes_of path fault ⊎ IsFileUnwrittenOrNoMemory path fault
 
--- the fault that ends `enrol`: no account is described, the name is taken, the book can't be held, read or saved, the file of random
+-- the fault that ends `enrol`: no account is described, the name is taken in a book that was read, the book can't be held, read or saved, the file of random
 -- bytes can't be read, the output can't be written, or memory ran out
 abbrev pub CannotEnrol : {File : Type 0} → (bytes_of : File → Option (List ℕ)) → ArgMatches → (input : Option (List ℕ)) → Fault → Type 0
 CannotEnrol bytes_of words input fault =
     DescribesNoAccount words input fault
-    ⊎ (IsNameTaken bytes_of (given_value words option.Name) fault
+    ⊎ (IsNameTaken (IsBookRead bytes_of) (given_value words option.Name) fault
     ⊎ (CannotBeChanged bytes_of (given_value words option.Book) fault
     ⊎ (IsFileUnreadOrNoMemory (given_value words option.Random) fault ⊎ (fault ≡ CannotWriteOutput))))

@@ -3,8 +3,8 @@ ghost use Rattle.std.specs.Prelude.{◌≡◌, ◌⊎◌, IfOk, IfErr, IfSome, O
 ghost use Rattle.std.specs.Fmt.{decimal};
 ghost use Rattle.scram_text.specs.Class.{IsPassword, IsPlainName};
 ghost use Rattle.scram_text.specs.Parts.{IsCount};
-ghost use Rattle.account_commands.specs.Enrol.{CannotBeChanged, CannotEnrol, DescribesNoAccount, EnrolsAsked};
-ghost use Rattle.account_commands.specs.Enrolling.{IsNameTakenIn, IsReadOrMade, SavesAccount, TakesSalts};
+ghost use Rattle.account_commands.specs.Enrol.{CannotBeChanged, CannotEnrol, DescribesNoAccount, EnrolsAsked, IsNameTaken};
+ghost use Rattle.account_commands.specs.Enrol.{IsReadOrMade, IsThisOrReadBook, SavesAccount, TakesSalts};
 ghost use Rattle.command_io.specs.File.{IsFileUnreadOrNoMemory};
 ghost use Rattle.command_io.specs.HeldBook.{IsReadBook};
 ghost use Rattle.command_io.specs.Input.{IsFirstLine};
@@ -147,7 +147,7 @@ where
     R::File: BookFileExt,
     E: Write,
     ensures saved { OnOk result (SavesAccount R.File.remaining R.File.contents book account.now salts.now) }
-    ensures err { IfErr result (λ fault. IsNameTakenIn R.File.remaining book account.now.name fault
+    ensures err { IfErr result (λ fault. IsNameTaken (IsThisOrReadBook R.File.remaining book) account.now.name fault
         ⊎ CannotBeChanged R.File.remaining path.now fault) }
 {
     let alloc = rt.alloc();

@@ -116,8 +116,8 @@ pub fn other_commands_make_changes<R: Files, S: BookStore>()
         → AreChanges S.facts S.IsStored run.first (unlocked (given_value words option.Name) ∷ []) run.last }
     ensures enrol { (words : ArgMatches) (input old new : Option (List ℕ))
         (run : EnrolsAsked R.File.remaining R.File.contents words input old new)
-        → AreChanges S.facts S.IsStored run.is_added.first (added run.account.name (enrolled run.account.password
-        run.is_added.salts.sha1 run.is_added.salts.sha256 run.account.count) ∷ []) run.is_added.last }
+        → AreChanges S.facts S.IsStored run.is_added.saved.first (added run.account.name (enrolled run.account.password
+        run.is_added.salts.sha1 run.is_added.salts.sha256 run.account.count) ∷ []) run.is_added.saved.last }
     ensures told { (start : BookFields) (told : List LoggedAttempt)
         (saved : IsToldSaved (IsSavedText R.File.contents) start told)
         → AreChanges S.facts S.IsStored start (judged_changes told) saved.last }

@@ -1,5 +1,4 @@
 use Rattle.std.proofs.lemmas.Result.{err_from_is_err_and, on_ok_weaker}
-use Rattle.account_commands.proofs.lemmas.AddedAccounts.{account_is_added}
 use Rattle.account_commands.proofs.lemmas.EnrolFaults.{unsaved_account_ends_enrol}
 use Rattle.account_commands.proofs.enrol.enrol.Goals as goal
 
@@ -16,9 +15,14 @@ returns-clause-ok g c =
       count_range = c.in_ok-account.ensures.count.1;
       file = c.in_ok-random.random.file;
       after = c.two_salts.new.random.file;
-      is_added = account_is_added g.R.File.Read.remaining _ c.in_ok-book.book c.in_ok-account.account c.in_ok-salts.salts _
-          (g.R.File.Read.remaining c.read_or_new.new.random.file) _ c.in_ok-book.ensures.book c.in_ok-salts.ensures.salts
-          c.in_ok-add_and_save.ensures.saved;
+      is_added = record {
+        book = c.in_ok-book.book;
+        middle = g.R.File.Read.remaining c.read_or_new.new.random.file;
+        is_there = c.in_ok-book.ensures.book;
+        salts = c.in_ok-salts.salts;
+        are_taken = c.in_ok-salts.ensures.salts;
+        saved = c.in_ok-add_and_save.ensures.saved;
+      };
       printed = rw c.text.ensures.value at printed;
     })
     c.print_done.ensures.printed

@@ -6,7 +6,7 @@ pub returns-clause-unlock : goal.returns-clause-unlock
 returns-clause-unlock g c = λ words old new run. (run.first, refl, run.is_unlocked.1)
 
 pub returns-clause-enrol : goal.returns-clause-enrol
-returns-clause-enrol g c = λ words input old new run. (run.is_added.first, refl, run.is_added.is_enrolled)
+returns-clause-enrol g c = λ words input old new run. (run.is_added.saved.first, refl, run.is_added.saved.is_enrolled)
 
 pub returns-clause-told : goal.returns-clause-told
 returns-clause-told g c = λ start told saved.
