@@ -168,7 +168,10 @@ where
         }
         _ => {
             let store = FileStore::new(file, text.unwrap_or(String::new(alloc)));
-            HeldBook::new(book, store, path).save(alloc)
+            match HeldBook::begin(alloc, book, store, path) {
+                Ok(_) => Ok(()),
+                Err((_, fault)) => Err(fault),
+            }
         }
     }
 }

@@ -27,7 +27,7 @@ pub struct HeldBook<'a, S> {
 }
 
 impl<'a, S: BookStore> HeldBook<'a, S> {
-    /// A held book whose changes are saved in `store`; `path` is the path that faults name.
+    /// A held book that `store` holds already (no contract says so); `path` is the path that faults name.
     pub fn new(book: Book, store: S, path: &'a str) -> HeldBook<'a, S>
         ensures book { result.keeper.book ≡ book }
         ensures store { result.keeper.store ≡ store }
@@ -36,6 +36,30 @@ impl<'a, S: BookStore> HeldBook<'a, S> {
         HeldBook {
             keeper: Keeper::resume(book, store),
             path,
+        }
+    }
+
+    /// A held book that `store` then holds; `path` is the path that faults name. Faults, returned with the store: CannotWrite if the
+    /// store fails, and NoMemory, after which the store is unchanged.
+    pub fn begin(
+        alloc: Global,
+        book: Book,
+        store: S,
+        path: &'a str,
+    ) -> Result<HeldBook<'a, S>, (S, Fault)>
+        ensures book { IfOk result (λ held. held.keeper.book ≡ book) }
+        ensures path { IfOk result (λ held. held.path.now ≡ path.now) }
+        ensures saved { IfOk result (λ held. SavesBook S.IsStored (S.facts store) book (S.facts held.keeper.store)) }
+        ensures err { IfErr result (λ failed. IsFileUnwrittenOrNoMemory path.now failed.1) }
+        ensures why { IfErr result (λ failed. failed.1 ≢ Fault.NoMemory → FailsToSave (S.facts store) book (S.facts failed.0)) }
+        ensures unasked { IfErr result (λ failed. failed.1 ≡ Fault.NoMemory → failed.0 ≡ store) }
+    {
+        let Ok(file) = String::from_str(alloc, path) else {
+            return Err((store, Fault::NoMemory));
+        };
+        match Keeper::begin(alloc, book, store) {
+            Ok(keeper) => Ok(HeldBook { keeper, path }),
+            Err((_, store, fault)) => Err((store, save_fault(fault, file))),
         }
     }
 
@@ -132,24 +156,6 @@ impl<'a, S: BookStore> HeldBook<'a, S> {
         match self.keeper.unlock(alloc, name) {
             Ok(true) => Ok(()),
             Ok(false) => unreachable!(),
-            Err(fault) => Err(save_fault(fault, file)),
-        }
-    }
-
-    /// Saves the book's text. Faults: CannotWrite if the store fails, and NoMemory, after which the store is unchanged.
-    pub fn save(&mut self, alloc: Global) -> Result<(), Fault>
-        ensures book { self.new.keeper.book ≡ self.old.keeper.book }
-        ensures path { self.new.path.now ≡ self.old.path.now }
-        ensures err { IfErr result (IsFileUnwrittenOrNoMemory self.old.path.now) }
-        ensures why { IfErr result (λ fault. fault ≢ Fault.NoMemory
-            → FailsToSave (S.facts self.old.keeper.store) self.old.keeper.book (S.facts self.new.keeper.store)) }
-        ensures unasked { IfErr result (λ fault. fault ≡ Fault.NoMemory → self.new.keeper.store ≡ self.old.keeper.store) }
-        ensures saved { OnOk result (SavesBook S.IsStored (S.facts self.old.keeper.store) self.old.keeper.book
-            (S.facts self.new.keeper.store)) }
-    {
-        let file = String::from_str(alloc, self.path)?;
-        match self.keeper.save(alloc) {
-            Ok(()) => Ok(()),
             Err(fault) => Err(save_fault(fault, file)),
         }
     }
