@@ -13,7 +13,7 @@ use Rattle.account_book.specs.SavedBooks.{needs_save, SavesBook}
 use Rattle.account_book.specs.Store.{StoreFacts}
 use Rattle.account_book.specs.Tokens.{IsUnlocked, token_at}
 use Rattle.book_file.specs.Text.{IsRead}
-use Rattle.book_keeper.specs.Keeper.{IsAttemptAtMoment, IsChangeUnsaved, IsSavedIfChanged}
+use Rattle.book_keeper.specs.Keeper.{IsAttemptAtMoment, IsChangeUnsaved, IsSavedIfChanged, IsSavingReplyDue}
 use Rattle.book_keeper.specs.declared.keeper.SaveFault.TheVariants.{NotSaved}
 use Rattle.command_line.specs.Fault.{fault_of_book}
 use Rattle.command_line.specs.declared.fault.Fault.{Fault}
@@ -75,11 +75,6 @@ pub record IsReplySaved (IsStored : List ℕ → Type 0) (old : HeldFacts) (name
     (new : HeldFacts) : Type 0 where
   pub due : IsAttemptAtMoment old.book name moment sent (Some reply) new.book
   pub kept : IsSavedIfChanged IsStored (needs_save (Some reply)) old.book old.store new.book new.store
-
--- a reply that needs a save is due to an attempt, which makes the old book the new one
-abbrev pub IsSavingReplyDue : (name : List ℕ) → (moment : ℕ) → CodeTexts → (old new : BookFields) → Type 0
-IsSavingReplyDue name moment sent old new =
-    (reply : Option Reply) × (needs_save reply ≡ true) × IsAttemptAtMoment old name moment sent reply new
 
 -- a reply is not saved, and this is the fault: only a reply that was due can fail to be saved
 abbrev pub IsReplyUnsaved : (old : HeldFacts) → (name : List ℕ) → (moment : ℕ) → CodeTexts → Fault → (new : HeldFacts) → Type 0

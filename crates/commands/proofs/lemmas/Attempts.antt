@@ -1,5 +1,5 @@
 -- A run of `verify` as changes of its book, line by line.
-use Rattle.std.proofs.Common.{◌≡◌, ◌⊎◌, inl, inr, Bool, ℕ, List, [], ◌∷◌, ◌++◌, Option, refl, sym, ◌∙◌, ap, subst, append_assoc}
+use Rattle.std.proofs.Common.{◌≡◌, ◌⊎◌, inl, inr, Bool, ℕ, List, [], ◌∷◌, ◌++◌, Option, refl, sym, ◌∙◌, subst, append_assoc}
 use Rattle.std.specs.Prelude.{map, reverse, IfSome, None, Some, false}
 use Rattle.std.specs.List.{AllZip}
 use Rattle.std.specs.Io.KnownBytes.{Appends}
@@ -14,7 +14,7 @@ use Rattle.book_format.specs.Book.{BookFields}
 use Rattle.book_format.specs.Trees.{IsBookText}
 use Rattle.account_book.specs.SavedBooks.{SavesBook}
 use Rattle.account_book.specs.Store.{StoreFacts, IsFailedSave}
-use Rattle.book_keeper.specs.Keeper.{IsAttemptAtMoment, IsChangeUnsaved}
+use Rattle.book_keeper.specs.Keeper.{IsAttemptAtMoment, IsChangeUnsaved, IsSavingReplyDue}
 use Rattle.book_keeper.specs.declared.keeper.SaveFault.TheVariants.{NotSaved}
 use Rattle.log_grammar.specs.LoggedAttempt.{LoggedAttempt, logged_attempt_of}
 use Rattle.sasl_desk.specs.Desks.{spent_by_all, IsBookAfterReplies, MayHold, MayHoldWithinSave}
@@ -25,7 +25,7 @@ use Rattle.sasl_desk.proofs.lemmas.runs.BooksAfterReplies.{reply_adds_to_book}
 use Rattle.clap.specs.declared.parser.matches.ArgMatches.{ArgMatches}
 use Rattle.command_line.specs.declared.fault.Fault.{Fault}
 use Rattle.command_line.specs.declared.fault.Fault.TheVariants.{CannotWrite, CannotWriteOutput}
-use Rattle.command_io.specs.HeldBook.{HeldFacts, IsReplySaved, IsSavingReplyDue, IsStoreAfterFault}
+use Rattle.command_io.specs.HeldBook.{HeldFacts, IsReplySaved, IsStoreAfterFault}
 use Rattle.command_io.specs.Input.{AreLinesOf, EachInTurn, LinesInTurn}
 use Rattle.commands.specs.Attempts.{MakesAttempt, printed_replies, PrintsUntil, HoldsItsBook, MakesAttempts, SavesNextLine}
 use Rattle.commands.specs.SentCodes.{SaysCodes}
