@@ -171,7 +171,8 @@ pub record RunsHall {File : Type 0} (bytes_of written_to : File → Option (List
 -- `RunsHall`, and the next line of the input is bad after it
 abbrev pub RunsToBadEvent : {File : Type 0} → (bytes_of written_to : File → Option (List ℕ)) → (input old new : Option (List ℕ)) → Type 0
 RunsToBadEvent bytes_of written_to input old new =
-    (text : List ℕ) × (book : BookFields) × IsReadBook bytes_of text book × PrintsToBadEvent (IsSavedText written_to) book input old new
+    (line : List ℕ) × (last : List (List ℕ)) × (run : RunsHall bytes_of written_to input (line ∷ last) old new)
+    × IsBadEventAfter (accounts_in run.book) run.printed.calls line
 
 -- the fault at which a hall stops hearing: a line of its input can't be read, says no event, or one of a session that is not open; the
 -- book, whose file has this path, can't be saved; the output can't be written; or memory ran out

@@ -10,7 +10,7 @@ max_log_line_and_lf_len = max_log_line_len + 1
 abbrev pub max_call_lines : ℕ
 max_call_lines = 3
 
--- the most bytes that a call of a desk adds to its log. Each call asks for as much room for what it sends, which is at most one line
+-- no call of a desk adds more bytes than this to its log. Each call asks for as much room for what it sends, which is at most one line
 abbrev pub max_call_bytes : ℕ
 max_call_bytes = max_call_lines * max_log_line_and_lf_len
 
@@ -22,7 +22,7 @@ max_u64_digits = 20
 abbrev pub max_prefix_len : ℕ
 max_prefix_len = max_u64_digits + 1
 
--- the most bytes that a call of a hall adds to its log
+-- no call of a hall adds more bytes than this to its log
 abbrev pub max_numbered_call_bytes : ℕ
 max_numbered_call_bytes = max_call_lines * (max_log_line_and_lf_len + max_prefix_len)
 

@@ -22,6 +22,7 @@ use Rattle.sasl_desk.specs.Keeper.{IsAttemptJudged}
 use Rattle.sasl_desk.specs.Changes.{Change, judged, AreChanges}
 use Rattle.sasl_desk.specs.Spent.{AreSpent, spent_by}
 use Rattle.sasl_desk.proofs.lemmas.runs.BooksAfterReplies.{reply_adds_to_book}
+use Rattle.sasl_desk.proofs.lemmas.runs.Changes.{rest_is_spent}
 use Rattle.clap.specs.declared.parser.matches.ArgMatches.{ArgMatches}
 use Rattle.command_line.specs.declared.fault.Fault.{Fault}
 use Rattle.command_line.specs.declared.fault.Fault.TheVariants.{CannotWrite, CannotWriteOutput}
@@ -78,17 +79,11 @@ pub run_holds_its_book : {File : Type 0} (bytes_of : File → Option (List ℕ))
 run_holds_its_book bytes_of words printed moment run begins =
     record { working = begins.working; saved = begins.is_book.is_text; stored = tt }
 
--- if counters are spent, so are those that are left when the first are taken away
-later_counters_are_spent : (first rest : List (List ℕ × ℕ)) (book : BookFields) → AreSpent (first ++ rest) book → AreSpent rest book
-later_counters_are_spent [] rest book spent = spent
-later_counters_are_spent (counter ∷ first) rest book spent =
-    later_counters_are_spent first rest book (record { different = spent.different.1; spent = spent.spent.1 })
-
 -- what attempts and one more used contains what the attempts used
 pub earlier_counters_are_spent : (attempts : List LoggedAttempt) (attempt : LoggedAttempt) (spent : List (List ℕ × ℕ)) (book : BookFields)
     → AreSpent (spent_by_all (reverse (attempts ++ attempt ∷ [])) ++ spent) book → AreSpent (spent_by_all (reverse attempts) ++ spent) book
 earlier_counters_are_spent attempts attempt spent book all =
-    later_counters_are_spent (spent_by attempt) (spent_by_all (reverse attempts) ++ spent) book
+    rest_is_spent book (spent_by attempt) (spent_by_all (reverse attempts) ++ spent)
     (subst (λ (l : List (List ℕ × ℕ)). AreSpent l book) (append_assoc (spent_by attempt) (spent_by_all (reverse attempts)) spent)
     (subst (λ (latest_first : List LoggedAttempt). AreSpent (spent_by_all latest_first ++ spent) book)
     (reverse-append attempts (attempt ∷ [])) all))

@@ -20,7 +20,9 @@ returns-in-Ok-clause-err g c =
     c.hear_input.ensures.err
 
 pub returns-in-Ok-clause-bad : goal.returns-in-Ok-clause-bad
-returns-in-Ok-clause-bad g c = λ is. (_, _, c.in-Ok.ensures.read, c.hear_input.ensures.bad is)
+returns-in-Ok-clause-bad g c = λ is.
+    let (line, last, log, bad) = c.hear_input.ensures.bad is in
+    (line, last, record { text = _; book = _; is_read = c.in-Ok.ensures.read; printed = log }, bad)
 
 pub returns-in-Err-clause-bad : goal.returns-in-Err-clause-bad
 returns-in-Err-clause-bad g c = λ is. absurd (unopened_book_excludes_bad_event _ _ _ c.in-Err.ensures.err (cc is))

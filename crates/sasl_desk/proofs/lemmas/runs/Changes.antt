@@ -19,7 +19,7 @@ rest_is_different [] qs all = all
 rest_is_different (p ∷ ps) qs all = rest_is_different ps qs all.1
 
 -- of counters that are spent, those in the last part of the list are spent
-rest_is_spent : (book : BookFields) (ps qs : List (List ℕ × ℕ)) → AreSpent (ps ++ qs) book → AreSpent qs book
+pub rest_is_spent : (book : BookFields) (ps qs : List (List ℕ × ℕ)) → AreSpent (ps ++ qs) book → AreSpent qs book
 rest_is_spent book ps qs spent = record {
   different = rest_is_different ps qs spent.different;
   spent = back_keeps_all (λ (p : List ℕ × ℕ). IsCounterSpent book p.0 p.1) ps qs spent.spent;
