@@ -7,9 +7,10 @@ Usage: documents.py [CHECK ..]
 With names, only these of the functions below are used. By default all are.
 
 Each link between pages leads to a page and a section in it. Each path between backquotes is in the repository, and each source file or edit
-that is named is there. Each block of code, definitions, proofs or an edit that a page shows stands in one as it is. Each name that a page
-of promises has between backquotes is in the sources. Each name without a space in a page for maintainers, in docs/FAULTS.md,
-docs/SECURITY.md or docs/TESTING.md is in the sources or in a script. A name that a page gives together with a file, as in `name` of `file.rt` or `file.rt`
+that is named is there. Each block of code, definitions, proofs or an edit that a page shows stands in one as it is, or in the head of a
+library. The sources have each signature in docs/EMBEDDING.md. Each name that a page of promises has between backquotes is in the sources.
+Each name without a space in a page for maintainers, in docs/FAULTS.md, docs/SECURITY.md or docs/TESTING.md is in the sources or in a
+script. A name that a page gives together with a file, as in `name` of `file.rt` or `file.rt`
 (`name`, `other`), is in that file. So is each law of docs/LOG_PROMISES.md in one of the files that are named before its table. run.py runs
 each script in this folder that takes a program, and docs/TESTING.md names each script. A script that runs a list of tests uses all of its
 functions. The sizes in docs/PROMISES.md and README.md are about those of the sources, and docs/TESTING.md says how many rows the tables of
@@ -30,7 +31,7 @@ from edit_sources import Unusable, planted_edits, read_planted
 TOP = Path(__file__).resolve().parent.parent
 PAGES = [TOP / "README.md", TOP / "CONTRIBUTING.md", TOP / "CHANGELOG.md", *sorted(TOP.glob("docs/*.md")), TOP / "bench" / "README.md"]
 PROMISES = ["PROMISES.md", "LOG_PROMISES.md", "COMMAND_PROMISES.md", "CONTRACTS.md"]
-MAINTAINERS = ["ARCHITECTURE.md", "DECISIONS.md", "MUTATIONS.md", "PROVING.md", "FAULTS.md", "TESTING.md", "TIMES.md", "WORDS.md"]
+MAINTAINERS = ["ARCHITECTURE.md", "DECISIONS.md", "EMBEDDING.md", "MUTATIONS.md", "PROVING.md", "FAULTS.md", "TESTING.md", "TIMES.md", "WORDS.md"]
 MAINTAINERS += ["PROVING_NOTES.md", "SECURITY.md"]
 
 # The kit with which everything was proved: its name, and the checksum of its logic.
@@ -109,6 +110,27 @@ def missing_blocks(page, texts):
     for block in re.finditer(r"^```(?:rust|antt|edit)\n(.*?)^```$", page_text, re.MULTILINE | re.DOTALL):
         if not any(block[1] in text for text in texts.values()):
             yield f"{page.name}:{page_text.count(chr(10), 0, block.start()) + 1}"
+
+
+def heads_of(texts):
+    """The head of each library, without the marks of its comment."""
+    heads = {f"head of {path}": text for path, text in texts.items() if path.endswith("/src/lib.rt")}
+    return {path: "\n".join(re.findall(r"^//! ?(.*)$", text, re.MULTILINE)) + "\n" for path, text in heads.items()}
+
+
+def without_blanks(name, rest):
+    """A signature as it is compared: without blanks, and without a comma after the last argument."""
+    return name + re.sub(r"\s|,(?=\s*\))", "", rest)
+
+
+def unknown_signatures():
+    """The signatures in docs/EMBEDDING.md that no public function has, without its type parameters."""
+    form = re.compile(r"pub fn (\w+)(?:<[^(]*>)?(\([^{]*?)\s*(?=//|\{|requires\b|ensures\b)")
+    has = {without_blanks(*match.groups()) for text in sources().values() for match in form.finditer(text)}
+    for number, line in prose(TOP / "docs" / "EMBEDDING.md"):
+        for name, rest in re.findall(r"^\| `(?:\w+::)?(\w+)(\(.*\).*?)` \|", line):
+            if without_blanks(name, rest) not in has:
+                yield f"{number}: {name}{rest}"
 
 
 def words_of(text):
@@ -334,7 +356,7 @@ def checks():
         ("no such link", PAGES, broken_links),
         ("no such path", PAGES, missing_paths),
         ("more than 140 columns", PAGES, wide_lines),
-        ("no source shows this block", PAGES, missing_blocks, texts | edits),
+        ("no source shows this block", PAGES, missing_blocks, texts | edits | heads_of(texts)),
         ("no crate has this file", PAGES, unknown_files, [*paths, *edits]),
         ("the file beside this name does not have it", PAGES, misplaced_names, texts | scripts),
         ("no source has this name", promises, unknown_names, paths, known),
@@ -345,6 +367,7 @@ def checks():
     for kind, find in [
         ("a stale size", stale_sizes),
         ("the table of sizes in docs/ARCHITECTURE.md should have", stale_crates),
+        ("no public function has this signature of docs/EMBEDDING.md", unknown_signatures),
         ("the kit of the Makefile is missing", pages_of_another_kit),
         ("docs/PROMISES.md says that no source has this word", taken_unproved),
         ("docs/TIMES.md gives no time of this library", untimed_crates),
