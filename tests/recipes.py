@@ -89,6 +89,9 @@ def with_fob(folder):
     does(folder, blocks("Give a user one-time codes")[-1].replace(FOB, NAME).replace("no such account", "no token"))
 
 
+# The book by which each recorded log is judged.
+BOOKS_OF_LOGS = {"sha1": "hotp.toml", "sha256": "sha256.toml", "twice": "hotp.toml"}
+
 # The tables of an account's keys.
 MECHANISMS = ["sha1", "sha256"]
 
@@ -829,20 +832,66 @@ def units(folder):
     equal(keys["stored"], stored, "the stored key of the account that the unit made")
 
 
-def units_are_known(folder):
-    """systemd knows each key and value of the units. It is not run: its command `systemd-analyze verify` reads them. What that says of
-    other units of the machine is left out."""
+def ended_logs(folder):
+    """Each log but the newest is audited by the book beside it. The status is 1 if one is not clean, and 0 if there is only one log or
+    none."""
+    environment = program_on_path(folder)
+    [audits] = blocks("Audit a log")
+    clean = "clean sessions=1 accepted=1 codes=0"
+    for trial, (logs, status, printed) in each([
+        ([], 0, []),
+        (["sha1"], 0, []),
+        (["sha1", "sha256", "twice"], 0, [clean, clean]),
+        (["twice", "sha1", "sha256"], 1, ["line 10: reply, due FAIL 6", clean]),
+    ]):
+        with trial:
+            for path in Path(folder).glob("hall-*"):
+                path.unlink()
+            names = [f"hall-{1700000000 + number}.log" for number in range(len(logs))]
+            for name, log in zip(names, logs):
+                shutil.copy(AUDITS / f"{log}.log", Path(folder, name))
+                shutil.copy(AUDITS / BOOKS_OF_LOGS[log], Path(folder, f"{name}.toml"))
+            due = "".join(f"{name}: {answer}\n" for name, answer in zip(names, printed))
+            equal(suite.ran(["bash", "-c", audits], cwd=folder, env=environment), (status, due, ""), logs)
+
+
+def a_new_log_each_night(folder):
+    """The command of the timer's service restarts the unit that the page names, and systemd knows the timer's time."""
+    service, timer = blocks("A new log each night", "ini")
+    [command] = re.findall(r"^ExecStart=(.*)$", service, re.M)
+    [at] = re.findall(r"^OnCalendar=(.*)$", timer, re.M)
+    equal(command, "systemctl try-restart scramotp-hall.service", "the command at night")
+    holds("`/etc/systemd/system/scramotp-hall.service`" in UNITS.read_text(encoding="utf-8"), "the page does not name the unit")
     if not shutil.which("systemd-analyze"):
         suite.not_tested("what systemd makes of the units, since there is no systemd-analyze")
         return
+    status, output, _ = suite.ran(["systemd-analyze", "calendar", at])
+    equal((status, "Next elapse" in output), (0, True), at, output)
+
+
+def misspelled(unit):
+    """A unit whose first key has its first two letters in the other order."""
+    return re.sub(r"^(\w)(\w)(?=\w*=)", r"\2\1", unit, count=1, flags=re.M)
+
+
+def units_are_known(folder):
+    """systemd knows each key and value of the units. It is not run: its command `systemd-analyze verify` reads them. What that says of
+    other units of the machine is left out. A timer is read beside the service before it in the page, which it starts."""
+    if not shutil.which("systemd-analyze"):
+        suite.not_tested("what systemd makes of the units, since there is no systemd-analyze")
+        return
+    before = ""
     for trial, (title, _, unit) in each([block for block in all_blocks() if block[1] == "ini"]):
         with trial:
-            for text, told in [(unit, ""), (unit.replace("User=", "Uesr="), "Unknown key")]:
-                Path(folder, "tested.service").write_text(text)
-                status, _, faults = suite.ran(["systemd-analyze", "verify", f"{folder}/tested.service"])
-                of_it = [line for line in faults.splitlines() if "tested.service" in line]
+            kind = "timer" if "[Timer]" in unit else "service"
+            for text, told in [(unit, ""), (misspelled(unit), "Unknown key")]:
+                Path(folder, "tested.service").write_text(before)
+                Path(folder, f"tested.{kind}").write_text(text)
+                status, _, faults = suite.ran(["systemd-analyze", "verify", f"{folder}/tested.{kind}"])
+                of_it = [line for line in faults.splitlines() if re.search(r"\btested\.(?:service|timer)\b", line)]
                 equal((status, bool(of_it)), (0, bool(told)), title, faults)
                 holds(all(told in line for line in of_it), title, faults)
+        before = unit
 
 
 def a_unit_of_a_hall(folder):
@@ -925,7 +974,9 @@ TESTS = [
     a_shell,
     every_tool,
     all_in_order,
+    ended_logs,
     units,
+    a_new_log_each_night,
     units_are_known,
     a_unit_of_a_hall,
     what_is_watched,
