@@ -1,8 +1,8 @@
 """For edits.py, planted.py and documents.py: where the functions of a crate are in its sources, and what edits change.
 
 An edit has the form that `rt help` describes. That of a crate changes src/ or specs/, and one of a definition in specs/ belongs to no
-function. The edits in tests/planted/ change what no crate has: a tool, a unit of systemd, the Makefile, a C file through which the program
-makes calls, or kills.py.
+function. The edits in tests/planted/ change what no crate has: a tool, a page with blocks that a test runs, the Makefile, a C file through
+which the program makes calls, or kills.py.
 """
 import re
 from collections.abc import Iterable
@@ -13,7 +13,7 @@ from pathlib import Path
 FOLDERS = ("must-fail", "edits")
 # Where in a crate an edit may make changes; and where in the repository one in tests/planted/ may.
 EDITED = ("src/", "specs/")
-EDITED_BY_TESTS = ("tools/", "docs/SYSTEMD.md", "Makefile", "tests/refuse_", "tests/turn_clock.c", "tests/pass_calls.c", "tests/kills.py")
+EDITED_BY_TESTS = ("tools/", "docs/", "Makefile", "tests/refuse_", "tests/turn_clock.c", "tests/pass_calls.c", "tests/kills.py")
 
 FUNCTION = re.compile(r"( *)(?:pub(?:\([a-z ]+\))? )?(?:(?:const|unsafe) )*fn (\w+)")
 IMPL = re.compile(r"impl(?:<.*?>)? (?:(?:\w+::)*(\w+)(?:<(.*?)>)? for )?(?:\w+::)*(\w+)")
