@@ -1,5 +1,5 @@
 -- The log of a run records what its clients did, and nothing else.
-use Rattle.std.proofs.Common.{◌≡◌, ℕ, true, false, List, [], ◌∷◌, ◌++◌, filter, count_by, cond, refl, ◌∙◌, ap, arith}
+use Rattle.std.proofs.Common.{◌≡◌, ℕ, true, false, List, [], ◌∷◌, ◌++◌, filter, count_by, cond, ◌+◌, refl, ◌∙◌, ap, arith}
 use Rattle.std.specs.List.{AllByRecursion}
 use Rattle.std.proofs.lemmas.List.Elements.{filter-append}
 use Rattle.std.proofs.lemmas.List.Sums.{sum_by-append}
@@ -68,7 +68,7 @@ turn_has_one_record accounts server_nonce event moment at lines next t =
 -- the lines of a call have one offer if it is a greeting, and else none
 call_offers_if_it_greets : (accounts : Accounts) (server_nonce : List ℕ) (request : Request) (at : Place) (lines : List LogLine)
     (next : Place) → IsAnsweredBy accounts server_nonce request at lines next
-    → count_by is_offer lines ≡ count_by is_greeting (request ∷ [])
+    → count_by is_offer lines ≡ cond (is_greeting request) 1 0
 call_offers_if_it_greets accounts server_nonce (greets new) at lines next answered = ap (count_by is_offer) answered.says
 call_offers_if_it_greets accounts server_nonce (hears event moment) at lines next turn =
     ap (count_by is_offer) turn.lines_are
@@ -89,8 +89,12 @@ run_has_its_offers accounts [] at run = refl
 run_has_its_offers accounts (c ∷ before) at (place, run, answered) =
     let earlier = run_has_its_offers accounts before place run in
     let added = call_offers_if_it_greets accounts (server_nonce_of before) c.request place c.lines at answered in
-    let whole = sum_by-append (λ (l : LogLine). cond (is_offer l) 1 0) (run_lines before) c.lines in
-    omega (arith, whole, earlier, added)
+    let lines : count_by is_offer (run_lines (c ∷ before)) ≡ count_by is_offer (run_lines before) + count_by is_offer c.lines =
+    sum_by-append (λ (l : LogLine). cond (is_offer l) 1 0) (run_lines before) c.lines in
+    let calls : count_by (λ (call : Call). is_greeting call.request) (c ∷ before)
+    ≡ cond (is_greeting c.request) 1 0 + count_by (λ (call : Call). is_greeting call.request) before =
+    sum_by-append (λ (call : Call). cond (is_greeting call.request) 1 0) (c ∷ []) before in
+    omega (arith, lines, calls, earlier, added)
 
 -- the records in the log of a run are those of what clients did in its calls, in their order
 pub run_has_its_records : (accounts : Accounts) (calls : List Call) (at : Place) → IsRun accounts calls at
