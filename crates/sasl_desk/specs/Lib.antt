@@ -16,6 +16,7 @@ pub mod Desks
 pub mod OpenSessions
 pub mod Halls
 pub mod Records
+pub mod AcceptedLogins
 pub mod Alone
 pub mod Saved
 pub mod Changes

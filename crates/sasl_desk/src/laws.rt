@@ -6,12 +6,17 @@ ghost use Rattle.log_grammar.specs.Books.{accounts_in};
 ghost use Rattle.log_grammar.specs.Versions.{IsLogFront, IsClean};
 ghost use Rattle.log_grammar.specs.Lines.{LogLine, said, halt, log_bytes};
 ghost use Rattle.log_grammar.specs.LoggedAttempt.{LoggedAttempt};
+ghost use Rattle.log_grammar.specs.Places.{Place};
+ghost use Rattle.log_grammar.specs.Demands.{Accounts};
+ghost use Rattle.sasl_desk.specs.AcceptedLogins.{LinesAcceptExactlyValid};
 ghost use Rattle.sasl_desk.specs.Desks.{MayHold, MayHoldWithinSave, IsDeskAfter, IsBookAfterReplies, desk_phase, spent_by_all};
 ghost use Rattle.sasl_desk.specs.Keeper.{IsAttemptJudged};
 ghost use Rattle.sasl_desk.specs.Records.{HasItsRecords};
 ghost use Rattle.sasl_desk.specs.Changes.{IsDeskRunLeaving, Change, AreChanges, spent_by_changes};
-ghost use Rattle.sasl_desk.specs.Runs.{Call, run_lines, wire_bytes};
+ghost use Rattle.sasl_desk.specs.Halls.{IsSessionRun};
+ghost use Rattle.sasl_desk.specs.Runs.{Call, run_lines, wire_bytes, IsRun};
 ghost use Rattle.sasl_desk.specs.Saved.{IsLogSaved};
+ghost use Rattle.sasl_desk.specs.Serves.{call_lines};
 ghost use Rattle.sasl_desk.specs.Sessions.{LongTextsAreBad};
 ghost use Rattle.sasl_desk.specs.Spent.{SpentStaysSpent, AreSpent, spent_by};
 ghost use Rattle.sasl_desk.specs.declared.desk.Desk.{Desk};
@@ -24,6 +29,8 @@ use account_book::BookStore;
 use account_book::laws::{added_is_apart, tokens_are_apart};
 use log_grammar::laws::goes_on_by_no_other;
 use otp_core::laws::{begins_with_itself, candidates_are_new, legal_histories_join};
+use scram_ends::laws::{accepts_exactly_valid, at_most_one_verdict_is_due};
+use scram_text::laws::{has_one_client_first, spells_one_name};
 
 /// A spent counter is one at which no code passes again. It stays spent, whatever the reply. The counters that a reply uses were
 /// not spent before it, and are spent after it.
@@ -67,6 +74,31 @@ pub fn log_is_clean<S: BookStore>()
         → (lines : List LogLine) → run_lines calls ≡ lines ++ said halt ∷ [] → IsClean (accounts_in start) (log_bytes (run_lines calls)) }
 {
     goes_on_by_no_other();
+}
+
+/// A client that sends its messages of a login is told `S OK` if its login is valid (RFC 5802, sections 3 and 5), and else `S NO`. In the
+/// log of a run, and in the lines of each session of a hall, each `S OK` directly follows the other messages of a valid login, and the
+/// first three of a login are directly followed by its outcome. This is so after each call, so the call that hears a client-final
+/// message gives the outcome.
+pub fn runs_accept_exactly_valid()
+    ensures desk { (accounts : Accounts) (calls : List Call) (place : Place) → IsRun accounts calls place
+        → LinesAcceptExactlyValid accounts (run_lines calls) }
+    ensures session { (accounts : Accounts) (calls : List Call) (place : Place) → IsSessionRun accounts calls place
+        → LinesAcceptExactlyValid accounts (call_lines calls) }
+{
+    accepts_exactly_valid();
+    at_most_one_verdict_is_due();
+    has_one_client_first();
+    spells_one_name();
+}
+
+/// Whatever a desk was asked, its log tells `S OK` of each login that is valid for an account of the book with which it began, and of no
+/// other.
+pub fn log_accepts_exactly_valid<S: BookStore>()
+    ensures { (start : BookFields) (calls : List Call) (desk : Desk S) → IsDeskAfter S.facts S.IsStored start calls desk
+        → LinesAcceptExactlyValid (accounts_in start) (run_lines calls) }
+{
+    runs_accept_exactly_valid();
 }
 
 /// A desk's log offers mechanisms once for each client that was greeted. It records all that its clients did, in order, each act as

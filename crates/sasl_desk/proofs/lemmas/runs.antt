@@ -3,6 +3,7 @@ pub mod HeldBooks
 pub mod BooksAfterReplies
 pub mod IsDeskAfter
 pub mod Calls
+pub mod RestingRuns
 pub mod Records
 pub mod Acceptances
 pub mod AnswerShapes
@@ -12,6 +13,8 @@ pub mod SameRequests
 pub mod Spent
 pub mod Unlocks
 pub mod Logs
+pub mod PathLines
+pub mod AcceptedLogins
 pub mod Changes
 pub mod Stores
 pub mod Answered

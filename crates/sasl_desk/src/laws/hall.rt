@@ -7,6 +7,7 @@ ghost use Rattle.log_grammar.specs.Lines.{LogLine, said, halt};
 ghost use Rattle.log_grammar.specs.Numbered.{Numbered, numbered, of_number};
 ghost use Rattle.log_grammar.specs.LoggedAttempt.{LoggedAttempt};
 ghost use Rattle.log_grammar.specs.Versions.{IsLogFront, IsClean};
+ghost use Rattle.sasl_desk.specs.AcceptedLogins.{LinesAcceptExactlyValid};
 ghost use Rattle.sasl_desk.specs.Alone.{HaveSameRequests, HaveSameEntries, up_to_acceptance};
 ghost use Rattle.sasl_desk.specs.Desks.{MayHold, MayHoldWithinSave, spent_by_all};
 ghost use Rattle.sasl_desk.specs.Halls.{HallFields, busy_lines, hall_lines, hall_bytes, numbered_bytes, phase_in, IsPhaseIn, IsHallAfter};
@@ -18,7 +19,7 @@ ghost use Rattle.sasl_desk.specs.Saved.{AreLinesSaved};
 ghost use Rattle.sasl_desk.specs.Serves.{call_lines};
 ghost use Rattle.sasl_desk.specs.Spent.{AreSpent, spent_by};
 
-use crate::laws::spent_stays_spent;
+use crate::laws::{runs_accept_exactly_valid, spent_stays_spent};
 use account_book::BookStore;
 use log_grammar::laws::each_text_is_at_most_one_line;
 use scram_ends::laws::at_most_one_verdict_is_due;
@@ -43,6 +44,15 @@ pub fn log_is_clean<S: BookStore>()
         → (lines : List (Numbered LogLine)) (number : ℕ) → hall_lines calls ≡ lines ++ numbered number (said halt) ∷ []
         → IsClean (accounts_in start) (hall_bytes calls) }
 {}
+
+/// Whatever a hall was asked, the lines of each session tell `S OK` of each login that is valid for an account of the book with which
+/// the hall began, and of no other.
+pub fn log_accepts_exactly_valid<S: BookStore>()
+    ensures { (start : BookFields) (calls : List (Numbered Call)) (hall : HallFields S) → IsHallAfter S.facts S.IsStored start calls hall
+        → (number : ℕ) → LinesAcceptExactlyValid (accounts_in start) (of_number number (hall_lines calls)) }
+{
+    runs_accept_exactly_valid();
+}
 
 /// The phase of a session is that of the place to which its lines have led. There is none if and only if no session of the number
 /// is open.

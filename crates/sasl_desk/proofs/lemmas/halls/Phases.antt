@@ -1,5 +1,5 @@
 -- Where each number stands in a hall: between sessions if it has no open session; and the phase of each open session is that of its place.
-use Rattle.std.proofs.Common.{◌≡◌, inl, inr, Bool, true, false, ℕ, List, [], ◌∷◌, refl, sym, ◌∙◌, subst, arith}
+use Rattle.std.proofs.Common.{◌≡◌, inl, inr, Bool, true, false, ℕ, List, refl, sym, ◌∙◌, subst, arith}
 use Rattle.std.specs.List.{find}
 use Rattle.std.specs.declared.option.Option.{Option}
 use Rattle.std.specs.declared.option.Option.TheVariants.{None, Some}
@@ -7,34 +7,21 @@ use Rattle.std.proofs.lemmas.Bool.{cases_Bool, eqb-true}
 use Rattle.book_format.specs.Book.{BookFields}
 use Rattle.account_book.specs.Store.{StoreFacts}
 use Rattle.log_grammar.specs.Books.{accounts_in}
-use Rattle.log_grammar.specs.Lines.{LogLine}
-use Rattle.log_grammar.specs.Places.{Place, before_all, between, over, is_closed}
+use Rattle.log_grammar.specs.Places.{Place, before_all, between, is_closed}
 use Rattle.log_grammar.specs.Demands.{Accounts}
 use Rattle.log_grammar.specs.Numbered.{Numbered, of_number}
 use Rattle.sasl_desk.specs.Desks.{session_phase}
 use Rattle.sasl_desk.specs.OpenSessions.{is_of}
 use Rattle.sasl_desk.specs.Halls.{HallFields, IsSessionRun, IsOpenSessionAt, IsHallAfter, open_session_phase, phase_in, IsPhaseOf, IsPhaseIn}
-use Rattle.sasl_desk.specs.Runs.{Request, greets, hears, Call, IsAtRest, IsAnsweredBy, IsRun, server_nonce_of}
+use Rattle.sasl_desk.specs.Runs.{Call, IsAtRest}
 use Rattle.sasl_desk.specs.declared.hall.open_session.OpenSession.{OpenSession}
 use Rattle.sasl_desk.proofs.lemmas.Lists.{none_is_counted_if_none_found, found_has_property, found_is_counted}
+use Rattle.sasl_desk.proofs.lemmas.runs.RestingRuns.{run_rests}
 use Rattle.sasl_desk.proofs.lemmas.halls.Calls.{session_phase_fits_place}
 use Rattle.sasl_desk.proofs.lemmas.halls.Working.{open_place_counts_one, closed_place_counts_none}
 
--- after a call with its answer, nothing is left to be said at the place
-answered_call_rests : (accounts : Accounts) (server_nonce : List ℕ) (request : Request) (place at : Place) (lines : List LogLine)
-    → IsAnsweredBy accounts server_nonce request place lines at
-    → IsAtRest at
-answered_call_rests accounts server_nonce (greets new) place at lines greeting = rw greeting.waits (over, refl)
-answered_call_rests accounts server_nonce (hears event moment) place at lines turn = turn.rests
-
--- after a run, nothing is left to be said at the place
-run_rests : (accounts : Accounts) (calls : List Call) (at : Place) → IsRun accounts calls at → IsAtRest at
-run_rests accounts [] at run = rw run tt
-run_rests accounts (c ∷ calls) at (place, run, answered) =
-    answered_call_rests accounts (server_nonce_of calls) c.request place at c.lines answered
-
 -- after a run of a hall's session, nothing is left to be said at the place
-session_run_rests : (accounts : Accounts) (calls : List Call) (at : Place) → IsSessionRun accounts calls at → IsAtRest at
+pub session_run_rests : (accounts : Accounts) (calls : List Call) (at : Place) → IsSessionRun accounts calls at → IsAtRest at
 session_run_rests accounts calls at (inl run) = run_rests accounts calls at run
 session_run_rests accounts calls at (inr (turned, is)) = rw is tt
 
