@@ -1,4 +1,4 @@
--- What clients are told of their logins: `S OK` if, and only if, the login is valid.
+-- What clients are told of their logins: a login is answered by `S OK` if, and only if, it is valid.
 use Rattle.std.specs.Prelude.{ℕ, ◌≡◌, List, ◌∷◌, ◌++◌}
 use Rattle.log_grammar.specs.Lines.{LogLine, said, accepts, refuses}
 use Rattle.log_grammar.specs.Demands.{Accounts}
@@ -13,7 +13,7 @@ BeginWithOutcome accounts mechanism client_first server_first client_final (said
     IsNoLogin accounts mechanism client_first server_first client_final
 BeginWithOutcome accounts mechanism client_first server_first client_final lines = ⊥
 
--- in these lines, of one session or of sessions one after another, `S OK` tells of each valid login, and of no other
+-- in these lines, of one session or of sessions one after another, a login is answered by `S OK` if and only if it is valid
 pub record LinesAcceptExactlyValid (accounts : Accounts) (lines : List LogLine) : Type 0 where
   -- directly before each `S OK` stand the first three messages of a login, which its own makes valid
   pub accepted : (before : List LogLine) (server_final : List ℕ) (more : List LogLine)

@@ -76,10 +76,9 @@ pub fn log_is_clean<S: BookStore>()
     goes_on_by_no_other();
 }
 
-/// A client that sends its messages of a login is told `S OK` if its login is valid (RFC 5802, sections 3 and 5), and else `S NO`. In the
-/// log of a run, and in the lines of each session of a hall, each `S OK` directly follows the other messages of a valid login, and the
-/// first three of a login are directly followed by its outcome. This is so after each call, so the call that hears a client-final
-/// message gives the outcome.
+/// A login is answered by `S OK` if it is valid (RFC 5802, sections 3 and 5), and else by `S NO`: in the log of a run, and in the lines of
+/// each session of a hall, each `S OK` directly follows the other messages of a valid login, and the first three of a login are
+/// directly followed by its outcome. This is so after each call, so the call that hears a client-final message gives the outcome.
 pub fn runs_accept_exactly_valid()
     ensures desk { (accounts : Accounts) (calls : List Call) (place : Place) → IsRun accounts calls place
         → LinesAcceptExactlyValid accounts (run_lines calls) }
@@ -92,8 +91,8 @@ pub fn runs_accept_exactly_valid()
     spells_one_name();
 }
 
-/// Whatever a desk was asked, its log tells `S OK` of each login that is valid for an account of the book with which it began, and of no
-/// other.
+/// Whatever a desk was asked, in its log a login is answered by `S OK` if and only if it is valid for an account of the book with which
+/// the desk began.
 pub fn log_accepts_exactly_valid<S: BookStore>()
     ensures { (start : BookFields) (calls : List Call) (desk : Desk S) → IsDeskAfter S.facts S.IsStored start calls desk
         → LinesAcceptExactlyValid (accounts_in start) (run_lines calls) }

@@ -45,8 +45,8 @@ pub fn log_is_clean<S: BookStore>()
         → IsClean (accounts_in start) (hall_bytes calls) }
 {}
 
-/// Whatever a hall was asked, the lines of each session tell `S OK` of each login that is valid for an account of the book with which
-/// the hall began, and of no other.
+/// Whatever a hall was asked, in the lines of each session a login is answered by `S OK` if and only if it is valid for an account of
+/// the book with which the hall began.
 pub fn log_accepts_exactly_valid<S: BookStore>()
     ensures { (start : BookFields) (calls : List (Numbered Call)) (hall : HallFields S) → IsHallAfter S.facts S.IsStored start calls hall
         → (number : ℕ) → LinesAcceptExactlyValid (accounts_in start) (of_number number (hall_lines calls)) }

@@ -1,4 +1,4 @@
--- In the log of a run, and in the lines of a session of a hall, `S OK` tells of each valid login, and of no other.
+-- In the log of a run, and in the lines of a session of a hall, a login is answered by `S OK` if and only if it is valid.
 use Rattle.std.proofs.Common.{inl, inr, true, ℕ, List, [], ◌∷◌, ◌++◌, refl, sym, ◌∙◌, subst, append_assoc, append-nil}
 use Rattle.std.specs.declared.option.Option.TheVariants.{Some}
 use Rattle.scram_text.specs.Laws.{SpellsOneName, HasOneClientFirst}
@@ -59,7 +59,7 @@ module _ (t : LoginLaws) (accounts : Accounts) {Leads : List LogLine → Place �
       line_is_outcome before m three.account first challenge last line more next (subst (λ (p : Place). Leads before p) three.at earlier)
       (subst (λ (p : Place). IsVisitTransition (demands accounts) p line next) three.at goes)
 
-  -- in lines that lead to a place where nothing is left to be said, `S OK` tells of each valid login, and of no other
+  -- in lines that lead to a place where nothing is left to be said, a login is answered by `S OK` if and only if it is valid
   pub lines_accept_exactly_valid : (lines : List LogLine) (place : Place) → Leads lines place → IsAtRest place
       → LinesAcceptExactlyValid accounts lines
   lines_accept_exactly_valid lines place leads rests = record {
@@ -75,7 +75,7 @@ module _ (t : LoginLaws) (accounts : Accounts) {Leads : List LogLine → Place �
   }
 
 module _ (t : LoginLaws) (accounts : Accounts) (calls : List Call) (place : Place) where
-  -- the law: in the log of a run, `S OK` tells of each valid login, and of no other
+  -- the law: in the log of a run, a login is answered by `S OK` if and only if it is valid
   pub desk_runs_accept_exactly_valid : IsRun accounts calls place → LinesAcceptExactlyValid accounts (run_lines calls)
   desk_runs_accept_exactly_valid run =
       lines_accept_exactly_valid t accounts (paths_lead (demands accounts) before_all (inl refl)) (run_lines calls) place
