@@ -92,7 +92,7 @@ run_has_its_offers accounts (c ∷ before) at (place, run, answered) =
     let lines : count_by is_offer (run_lines (c ∷ before)) ≡ count_by is_offer (run_lines before) + count_by is_offer c.lines =
     sum_by-append (λ (l : LogLine). cond (is_offer l) 1 0) (run_lines before) c.lines in
     let calls : count_by (λ (call : Call). is_greeting call.request) (c ∷ before)
-    ≡ cond (is_greeting c.request) 1 0 + count_by (λ (call : Call). is_greeting call.request) before =
+    ≡ (0 + cond (is_greeting c.request) 1 0) + count_by (λ (call : Call). is_greeting call.request) before =
     sum_by-append (λ (call : Call). cond (is_greeting call.request) 1 0) (c ∷ []) before in
     omega (arith, lines, calls, earlier, added)
 
