@@ -4,12 +4,12 @@ what it leaves and prints.
 
 Usage: recipes.py PROGRAM [TEST ..]
 
-Blocks are found by their section and their language. bash runs each in a folder of its own, which has an account book and a link to
-tools/, with the program on the PATH, and then all but the first in one folder, in their order. Of a systemd unit, the command and the
-credentials are used, and `systemd-analyze verify` reads it, if the machine has that. So each of the tools is tried; the block of
-`serve-hall` is run by serve_hall.py. `make install`, `useradd`, sudo and systemd are not run. Codes, keys and verifiers are those of RFC
-4226 and RFC 7677, from keys.csv (made by Dovecot), or from Python's hashlib. Any other block that no test runs is a fault. Takes the 30
-seconds for which an edit waits for a book. DOCUMENT=PATH in the environment names another page than OPERATING.md.
+Blocks are found by their section and their language. bash runs each in a folder of its own, which has an account book and a link to tools/,
+with the program on the PATH, and then all but the first in one folder, in their order. Of a systemd unit, the command and the credentials
+are used, except those of the timer, and `systemd-analyze verify` reads it, if the machine has that. So each of the tools is tried; the
+block of `serve-hall` is run by serve_hall.py. `make install`, `useradd`, sudo and systemd are not run. Codes, keys and verifiers are those
+of RFC 4226 and RFC 7677, from keys.csv (made by Dovecot), or from Python's hashlib. Any other block that no test runs is a fault. Takes the
+30 seconds for which an edit waits for a book. DOCUMENT=PATH in the environment names another page than OPERATING.md.
 """
 import base64
 import fcntl
