@@ -10,14 +10,14 @@ Each link between pages leads to a page and a section in it. Each path between b
 that is named is there. Each block of code, definitions, proofs or an edit that a page shows stands in one as it is, or in the head of a
 library. The sources have each signature in docs/EMBEDDING.md. Each name that a page of promises has between backquotes is in the sources.
 Each name without a space in a page for maintainers, in docs/FAULTS.md, docs/SECURITY.md or docs/TESTING.md is in the sources or in a
-script. A name that a page gives together with a file, as in `name` of `file.rt` or `file.rt`
-(`name`, `other`), is in that file. So is each law of docs/LOG_PROMISES.md in one of the files that are named before its table. run.py runs
-each script in this folder that takes a program, and docs/TESTING.md names each script. A script that runs a list of tests uses all of its
-functions. The sizes in docs/PROMISES.md and README.md are about those of the sources, and docs/TESTING.md says how many rows the tables of
-vectors and of faulty books have. docs/ARCHITECTURE.md says about how large each library is. The kit that the Makefile names is that in
-docs/PROMISES.md and README.md. No source has a word by which something is taken unproved. docs/MUTATIONS.md says how many edits each crate
-has. tests/data/planted.csv has a row for each edit that a test has to refuse. docs/TIMES.md names each library. No line of a page has over
-140 columns, outside tables and code blocks. Each fault has a line, and the status is then 1.
+script. A name that a page gives together with a file, as in `name` of `file.rt` or `file.rt` (`name`, `other`), is in that file. So is each
+law of docs/LOG_PROMISES.md in one of the files that are named before its table. run.py runs each script in this folder that takes a
+program, and docs/TESTING.md names each script. A script that runs a list of tests uses all of its functions. The sizes in docs/PROMISES.md
+and README.md are about those of the sources, and docs/TESTING.md says how many rows the tables of vectors and of faulty books have.
+docs/ARCHITECTURE.md says about how large each library is. The kit that the Makefile names is that in docs/PROMISES.md and README.md. No
+source has a word by which something is taken unproved. docs/MUTATIONS.md says how many edits each crate has. tests/data/planted.csv has a
+row for each edit that a test has to refuse. docs/TIMES.md names each library. No line of a page has over 140 columns, outside tables and
+code blocks. Each fault has a line, and the status is then 1.
 """
 import ast
 import csv
@@ -31,8 +31,8 @@ from edit_sources import Unusable, planted_edits, read_planted
 TOP = Path(__file__).resolve().parent.parent
 PAGES = [TOP / "README.md", TOP / "CONTRIBUTING.md", TOP / "CHANGELOG.md", *sorted(TOP.glob("docs/*.md")), TOP / "bench" / "README.md"]
 PROMISES = ["PROMISES.md", "LOG_PROMISES.md", "COMMAND_PROMISES.md", "CONTRACTS.md"]
-MAINTAINERS = ["ARCHITECTURE.md", "DECISIONS.md", "EMBEDDING.md", "MUTATIONS.md", "PROVING.md", "FAULTS.md", "TESTING.md", "TIMES.md", "WORDS.md"]
-MAINTAINERS += ["PROVING_NOTES.md", "SECURITY.md"]
+MAINTAINERS = ["ARCHITECTURE.md", "DECISIONS.md", "EMBEDDING.md", "MUTATIONS.md", "PROVING.md", "FAULTS.md", "TESTING.md", "TIMES.md"]
+MAINTAINERS += ["WORDS.md", "PROVING_NOTES.md", "SECURITY.md"]
 
 # The kit with which everything was proved: its name, and the checksum of its logic.
 KIT = re.search(r"^KIT = (.+)$", (TOP / "Makefile").read_text(encoding="utf-8"), re.MULTILINE).group(1)
