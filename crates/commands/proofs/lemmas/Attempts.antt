@@ -316,7 +316,8 @@ module _ (IsStored : List ℕ → Type 0) (name : List ℕ) (moment : ℕ) where
         -- a fault at this line leaves a book to which attempts led
         fault_at_line_leaves_text : FailsAtLine IsStored path name moment line middle fault new → LeavesText
         fault_at_line_leaves_text (sent, says, inl (lost, why, silent)) =
-            lost_reply_leaves_text sent says (store_was_unasked_or_failed middle.held _ fault new.held.store lost.1) silent
+            lost_reply_leaves_text sent says (store_was_unasked_or_failed middle.held (IsSavingReplyDue name moment sent) fault new.held.store
+            lost.1) silent
         fault_at_line_leaves_text (sent, says, inr (reply, saved, unprinted)) =
             unprinted_reply_leaves_text sent reply says saved unprinted
 

@@ -1,5 +1,5 @@
 -- What a hall hears from the lines of its input, one after another.
-use Rattle.std.proofs.Common.{◌≡◌, ◌⊎◌, inl, inr, ℕ, ◌≤◌, Bool, List, [], ◌∷◌, ◌++◌, reverse, length, Option, None, append-nil, sym, subst}
+use Rattle.std.proofs.Common.{◌≡◌, inl, inr, ℕ, ◌≤◌, Bool, List, [], ◌∷◌, ◌++◌, reverse, length, Option, None, append-nil, sym, subst}
 use Rattle.std.specs.Io.KnownBytes.{Appends, IsAtEnd}
 use Rattle.std.proofs.lemmas.Grind.{reverse_onto}
 use Rattle.book_format.specs.Book.{BookFields}

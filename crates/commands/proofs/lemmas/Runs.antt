@@ -1,5 +1,5 @@
 -- One run of the program, in terms of the command that it runs.
-use Rattle.std.proofs.Common.{◌≡◌, ◌≢◌, ◌⊎◌, ◌∙◌, inl, inr, ℕ, List, [], Option, refl, sym, subst, ap}
+use Rattle.std.proofs.Common.{◌≡◌, ◌≢◌, ◌∙◌, inl, ℕ, List, [], Option, refl, sym, subst, ap}
 use Rattle.std.specs.Prelude.{Some, None, Ok, Err, Box, true, codes, option_map, IfErr, IfOk, MatchResult}
 use Rattle.std.specs.Box.{box_value}
 use Rattle.std.specs.declared.result.Result.{Result}
