@@ -1,12 +1,12 @@
 use Rattle.std.proofs.Common.{inl, inr, refl, sym}
-use Rattle.std.proofs.lemmas.Result.{err_from_is_err_and, on_ok_weaker, IfErr-weaker}
+use Rattle.std.proofs.lemmas.Result.{err_from_is_err_and, IfErr-weaker}
 use Rattle.account_commands.proofs.lemmas.EnrolFaults.{failed_adding_has_reason, failed_saving_has_reason}
 use Rattle.command_io.proofs.lemmas.Results.{on_ok_from_both}
 use Rattle.account_commands.proofs.enrol.add_and_save.Goals as goal
 
 -- the book's file has changed, and the account is added to the book that it holds now
-pub returns-in_ok-held-in-Some-found-clause-saved : goal.returns-in_ok-held-in-Some-found-clause-saved
-returns-in_ok-held-in-Some-found-clause-saved g c =
+pub returns-in-Some-found-clause-saved : goal.returns-in-Some-found-clause-saved
+returns-in-Some-found-clause-saved g c =
     let read = rw c.in-Some-found.is at c.in_ok-found.ensures.read in
     let saved = rw (sym c.in_ok-held-in-Some-found.ensures.saved) at read in
     on_ok_from_both c.enrol.result c.enrol.ensures.added c.enrol.ensures.saved
@@ -18,20 +18,20 @@ returns-in_ok-held-in-Some-found-clause-saved g c =
       is_saved = (done.text, done.is_text, done.stored);
     })
 
-pub returns-in_default-clause-saved : goal.returns-in_default-clause-saved
-returns-in_default-clause-saved g c =
-    on_ok_weaker c.save.result
-    (λ saved. record {
+-- the file has the text that the book had, or there is none, and the book is saved
+pub returns-in-Ok-begin-clause-saved : goal.returns-in-Ok-begin-clause-saved
+returns-in-Ok-begin-clause-saved g c =
+    let done = c.in-Ok-begin.ensures.saved in
+    record {
       first = c.args.book;
       is_first = inl refl;
       last = c.add_to.new.book;
       is_enrolled = c.in_ok-add_to.ensures.added;
-      is_saved = let done = rw c.new-in_default.ensures.book at saved in (done.text, done.is_text, done.stored);
-    })
-    c.save.ensures.saved
+      is_saved = (done.text, done.is_text, done.stored);
+    }
 
-pub returns-in_ok-held-in-Some-found-clause-err : goal.returns-in_ok-held-in-Some-found-clause-err
-returns-in_ok-held-in-Some-found-clause-err g c =
+pub returns-in-Some-found-clause-err : goal.returns-in-Some-found-clause-err
+returns-in-Some-found-clause-err g c =
     let read = rw c.in-Some-found.is at c.in_ok-found.ensures.read in
     let saved = rw (sym c.in_ok-held-in-Some-found.ensures.saved) at read in
     IfErr-weaker c.enrol.result _ _
