@@ -1,19 +1,18 @@
 -- What the client of the command `login` says, and when it is logged in (RFC 5802, sections 3 and 5).
-use Rattle.std.specs.Prelude.{ℕ, ◌≡◌, List, [], ◌∷◌, ◌++◌, IfSome}
+use Rattle.std.specs.Prelude.{ℕ, ◌≡◌, ◌⊎◌, Bool, true, false, List, [], ◌∷◌, ◌++◌}
 use Rattle.std.specs.Str.{byte}
-use Rattle.std.specs.Io.KnownBytes.{Appends}
 use Rattle.std.specs.declared.option.Option.{Option}
 use Rattle.std.specs.declared.option.Option.TheVariants.{None, Some}
 use Rattle.mac_core.specs.Mechanism.{name_of, IsOffered}
 use Rattle.mac_core.specs.declared.mechanism.Mechanism.{Mechanism}
 use Rattle.mac_core.specs.declared.mechanism.Mechanism.TheVariants.{ScramSha256}
-use Rattle.scram_text.specs.Messages.{ServerFirstParts}
+use Rattle.scram_text.specs.Messages.{ClientFirstParts, ServerFirstParts}
 use Rattle.scram_ends.specs.Stages.{Started, Answered, answered_login}
 use Rattle.scram_ends.specs.Client.{AreUsual, StandsForStarted, IsAnswerable, StandsForAnswered}
-use Rattle.scram_ends.specs.Honest.{IsHonest, honest_signature}
+use Rattle.scram_ends.specs.Honest.{IsHonestFirst, IsHonest, honest_signature}
 use Rattle.scram_ends.specs.Login.{IsAuthentic}
 use Rattle.log_grammar.specs.Lines.{IsLine, ClientLine, auth_with, resp, client_text, from_server, mechs, cont, accepts}
-use Rattle.commands.specs.Talked.{Talked, Receives}
+use Rattle.commands.specs.Talked.{Talked, HasTalked}
 use Rattle.commands.specs.declared.login.client_end.ClientEnd.{ClientEnd}
 use Rattle.commands.specs.declared.login.client_end.User.{User}
 use Rattle.commands.specs.declared.login.client_end.Next.{Next}
@@ -47,15 +46,19 @@ abbrev pub IsChosen : (asked : Option Mechanism) → (names : List ℕ) → Mech
 IsChosen (Some asked) names mechanism = mechanism ≡ asked
 IsChosen None names mechanism = IsOffered mechanism names × (IsOffered ScramSha256 names → mechanism ≡ ScramSha256)
 
--- the client of this user begins a login with this nonce, when it is offered these mechanisms: it says the one that is chosen and
--- the first message of the login
-pub record BeginsLogin (user : User) (nonce names said : List ℕ) (stage : Stage) : Type 0 where
-  pub login : Started
+-- a login that the client of this user begins with this nonce, when it is offered these mechanisms
+pub record IsLoginOf (user : User) (nonce names : List ℕ) (login : Started) : Type 0 where
   pub is_mechanism : IsChosen user.mechanism names login.mechanism
   pub are_limits : AreUsual login.limits
   pub is_name : login.name ≡ user.name
   pub is_authzid : login.authzid ≡ user.authzid
   pub is_nonce : login.nonce ≡ nonce
+
+-- the client of this user begins a login with this nonce, when it is offered these mechanisms: it says the one that is chosen and
+-- the first message of the login
+pub record BeginsLogin (user : User) (nonce names said : List ℕ) (stage : Stage) : Type 0 where
+  pub login : Started
+  pub is_of_user : IsLoginOf user nonce names login
   pub waits : WaitsForChallenge stage login
   pub line : said ≡ said_line (auth_with (name_of login.mechanism) login.client_first)
 
@@ -85,44 +88,89 @@ ShowsKeys (Proved client) line = (message : List ℕ) × IsLine line (from_serve
     × ((login : Answered) (expecting : StandsForAnswered client login) → IsAuthentic message expecting.signature)
 ShowsKeys stage line = ⊥
 
--- if the client waits for the challenge or for the signature, it stands for some login
-abbrev pub HasItsLogin : Stage → Type 0
-HasItsLogin Silent = Unit {0}
-HasItsLogin (Begun client) = (login : Started) × StandsForStarted client login
-HasItsLogin (Proved client) = (login : Answered) × StandsForAnswered client login
-HasItsLogin Over = Unit {0}
+-- a line offers no mechanism that the client takes
+abbrev pub OffersNone : (asked : Option Mechanism) → (line : List ℕ) → Type 0
+OffersNone asked line =
+    (names : List ℕ) (mechanism : Mechanism) → IsLine line (from_server (mechs names)) → IsChosen asked names mechanism → ⊥
 
--- a client must leave at a line: if it has its login, there is nothing that it may say, and the line does not show that the server
--- has the account's keys
-abbrev pub HasToLeave : ClientEnd → (received : List ℕ) → Type 0
-HasToLeave client received = HasItsLogin client.stage
-    → ((said : List ℕ) (new : Stage) → MaySay client client.stage received said new → ⊥) × (ShowsKeys client.stage received → ⊥)
+-- a line has no challenge that the client of this login may answer
+abbrev pub HasNoChallenge : Started → (line : List ℕ) → Type 0
+HasNoChallenge login line =
+    (server_first : List ℕ) (challenge : ServerFirstParts) → IsLine line (from_server (cont server_first))
+    → IsAnswerable login.limits login.nonce server_first challenge → ⊥
 
--- the login is one of this user, by the mechanism that the user asks for, if any, with this nonce and this password
-pub record IsOfUser (user : User) (nonce password : List ℕ) (login : Answered) : Type 0 where
-  pub is_mechanism : IfSome user.mechanism (λ asked. login.mechanism ≡ asked)
-  pub is_name : login.name ≡ user.name
-  pub is_authzid : login.authzid ≡ user.authzid
-  pub is_nonce : login.nonce ≡ nonce
-  pub is_password : login.password ≡ password
+-- a line does not accept a login with this signature
+abbrev pub DoesNotAccept : (signature line : List ℕ) → Type 0
+DoesNotAccept signature line = (message : List ℕ) → IsLine line (from_server (accepts message)) → IsAuthentic message signature → ⊥
 
--- all that a client says until it is logged in: the name of the login's mechanism with its first message, and then its last message
-abbrev pub login_said : Answered → List ℕ
-login_said login = said_line (auth_with (name_of login.mechanism) login.client_first) ++ said_line (resp login.client_final)
+-- the client of a user has to leave at a line: it offers no mechanism that the client takes, or it is not a challenge that the client
+-- may answer in its login, or it does not accept that login with the signature that the client expects
+abbrev pub HasToLeave : User → Stage → (received : List ℕ) → Type 0
+HasToLeave user Silent received = OffersNone user.mechanism received
+HasToLeave user (Begun client) received = (login : Started) → StandsForStarted client login → HasNoChallenge login received
+HasToLeave user (Proved client) received =
+    (login : Answered) (expecting : StandsForAnswered client login) → DoesNotAccept expecting.signature received
+HasToLeave user Over received = Unit {0}
 
--- the server has shown that it has the account's keys (RFC 5802, section 3)
+-- a client has received an offer of mechanisms, and has then begun this login of its user, with this nonce, by its first message
+pub record HasBegun (user : User) (nonce received said : List ℕ) (login : Started) : Type 0 where
+  pub offer : List ℕ
+  pub names : List ℕ
+  pub is_offer : IsLine offer (from_server (mechs names))
+  pub is_received : received ≡ offer ++ byte "\n" ∷ []
+  pub is_of_user : IsLoginOf user nonce names login
+  pub first : ClientFirstParts
+  pub is_first : IsHonestFirst login.name login.authzid login.nonce login.client_first first
+  pub is_said : said ≡ said_line (auth_with (name_of login.mechanism) login.client_first)
+
+-- a client has begun a login of its user, with this nonce, has received its challenge, and has then sent its last message, with
+-- this password
+pub record HasProved (user : User) (nonce password received said : List ℕ) (login : Answered) : Type 0 where
+  pub begun : Started
+  pub received_before : List ℕ
+  pub said_before : List ℕ
+  pub has_begun : HasBegun user nonce received_before said_before begun
+  pub is_login : login ≡ answered_login begun password login.server_first login.client_final
+  pub challenge : List ℕ
+  pub is_challenge : IsLine challenge (from_server (cont login.server_first))
+  pub is_received : received ≡ received_before ++ (challenge ++ byte "\n" ∷ [])
+  pub is_said : said ≡ said_before ++ said_line (resp login.client_final)
+
+-- the client is logged in: in a login of this user, the server has shown that it has the account's keys (RFC 5802, section 3)
 pub record IsLoggedIn (user : User) (nonce password : List ℕ) (old new : Talked) : Type 0 where
-  -- the login is one of this user, and its messages are those of an honest client
+  -- the client has said the messages of this login, which are those of an honest client, and nothing else
   pub login : Answered
-  pub is_of_user : IsOfUser user nonce password login
   pub honest : IsHonest login
-  -- the client says these messages, and nothing else
-  pub said : Appends old.said new.said (login_said login)
-  -- the last line that the client receives is in the log, and accepts the login
   pub before : List ℕ
+  pub said : List ℕ
+  pub proved : HasProved user nonce password before said login
+  -- the last line that the client receives is in the log, and accepts the login
   pub line : List ℕ
   pub message : List ℕ
-  pub received : Receives old new (before ++ (line ++ byte "\n" ∷ []))
+  pub talked : HasTalked old new before said line
   pub is_acceptance : IsLine line (from_server (accepts message))
   -- this line has the signature that the keys of the password make over the login's messages
   pub authentic : IsAuthentic message (honest_signature login honest)
+
+-- a client that has received and said this gets no further at a line: the line offers no mechanism that it takes; or it has begun a
+-- login, and the line has no challenge that it may answer; or it has sent its last message, and the line does not accept the login with
+-- the signature that the keys of the password make
+abbrev pub GetsNoFurther : User → (nonce password received said line : List ℕ) → Type 0
+GetsNoFurther user nonce password received said line =
+    ((received ≡ []) × (said ≡ []) × OffersNone user.mechanism line)
+    ⊎ (((login : Started) × HasBegun user nonce received said login × HasNoChallenge login line)
+    ⊎ ((login : Answered) × (honest : IsHonest login) × HasProved user nonce password received said login
+    × DoesNotAccept (honest_signature login honest) line))
+
+-- the client is not logged in: in a login of this user it gets no further at the last line that it receives, which is in the log
+pub record IsNotLoggedIn (user : User) (nonce password : List ℕ) (old new : Talked) : Type 0 where
+  pub before : List ℕ
+  pub said : List ℕ
+  pub line : List ℕ
+  pub talked : HasTalked old new before said line
+  pub ends : GetsNoFurther user nonce password before said line
+
+-- how a login ends: whether the client is logged in
+abbrev pub EndsLogin : User → (nonce password : List ℕ) → (old : Talked) → (is_in : Bool) → (new : Talked) → Type 0
+EndsLogin user nonce password old true new = IsLoggedIn user nonce password old new
+EndsLogin user nonce password old false new = IsNotLoggedIn user nonce password old new

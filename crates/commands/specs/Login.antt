@@ -1,5 +1,5 @@
--- What the command `login` prints, and when the user is let in and each code passes.
-use Rattle.std.specs.Prelude.{ℕ, ◌≡◌, Bool, true, List, [], option_map, IfSome}
+-- What the command `login` prints, and whether the user is let in and each code passes.
+use Rattle.std.specs.Prelude.{ℕ, ◌≡◌, ◌⊎◌, Bool, false, List, [], option_map, IfSome}
 use Rattle.std.specs.Fmt.{decimal}
 use Rattle.std.specs.Io.KnownBytes.{Appends}
 use Rattle.std.specs.declared.option.Option.{Option}
@@ -13,36 +13,39 @@ use Rattle.command_line.specs.declared.option_name.OptionName.TheVariants as opt
 use Rattle.log_grammar.specs.Demands.{Accounts}
 use Rattle.log_grammar.specs.Lines.{LogLine, log_bytes}
 use Rattle.log_grammar.specs.Versions.{IsClean, IsLogFront}
-use Rattle.commands.specs.ClientEnd.{IsLoggedIn}
+use Rattle.commands.specs.ClientEnd.{IsLoggedIn, IsNotLoggedIn}
 use Rattle.command_io.specs.HeldBook.{IsReadBook}
-use Rattle.command_io.specs.Input.{TakesLine, LinesInTurn}
+use Rattle.command_io.specs.Input.{TakesLine}
 use Rattle.command_words.specs.Values.{value_of, given_value}
 use Rattle.commands.specs.Nonces.{AreNonces}
 use Rattle.commands.specs.Talked.{Talked, LogSays}
 use Rattle.commands.specs.declared.login.client_end.User.{User}
 use Rattle.commands.specs.DeskLog.{IsGiven, HasSavedLog}
-use Rattle.commands.specs.SentCodes.{SendsLine}
+use Rattle.commands.specs.SentCodes.{SendsCodes}
 
--- the client is logged in, and then sends each line of its input, which passes
-pub record LogsInAndPasses (user : User) (nonce password : List ℕ) (input : Option (List ℕ)) (old new : Talked) : Type 0 where
-  pub middle : Talked
-  pub is_in : IsLoggedIn user nonce password old middle
-  pub passes : LinesInTurn SendsLine input [] middle true new
+-- the client is not logged in; or it is, and then sends the lines of its input. `passed` says whether it is logged in and each line passes.
+abbrev pub LogsInAndSends : User → (nonce password : List ℕ) → (input : Option (List ℕ)) → (old : Talked) → (passed : Bool) → (new : Talked)
+    → Type 0
+LogsInAndSends user nonce password input old passed new =
+    ((passed ≡ false) × IsNotLoggedIn user nonce password old new)
+    ⊎ ((middle : Talked) × IsLoggedIn user nonce password old middle × SendsCodes input middle passed new)
 
--- the client is logged in, each line passes, and then the server sends nothing more
-pub record TalkPasses (user : User) (nonce password : List ℕ) (input : Option (List ℕ)) (old new : Talked) : Type 0 where
+-- the client logs in, or does not, and sends its lines if it is logged in; and then the server sends nothing more
+pub record EndsTalk (user : User) (nonce password : List ℕ) (input : Option (List ℕ)) (old : Talked) (passed : Bool) (new : Talked)
+    : Type 0 where
   pub last : Talked
-  pub passes : LogsInAndPasses user nonce password input old last
+  pub sends : LogsInAndSends user nonce password input old passed last
   pub ends : LogSays last.logged new.logged []
 
--- a log is printed that begins with some lines, and continues with a talk in which this user is let in, with this nonce and this
--- password, and in which each line of the input is sent and passes
-pub record PrintsPasses (user : User) (nonce password : List ℕ) (input old new : Option (List ℕ)) : Type 0 where
+-- a log is printed that begins with some lines, and continues with a talk in which this user logs in, with this nonce and this
+-- password, or is not let in, and then sends the lines of the input
+pub record PrintsTalk (user : User) (nonce password : List ℕ) (input old : Option (List ℕ)) (passed : Bool) (new : Option (List ℕ))
+    : Type 0 where
   pub begun : List LogLine
   pub first : Talked
   pub last : Talked
   pub begins : Appends old first.logged (log_bytes begun)
-  pub passes : TalkPasses user nonce password input first last
+  pub talk : EndsTalk user nonce password input first passed last
   pub printed : last.logged ≡ new
 
 -- the user whom the words describe: the name, and, if they give them, the name to act as and the mechanism
@@ -53,8 +56,9 @@ pub record IsUserAsked (words : ArgMatches) (user : User) : Type 0 where
   pub authzid_range : IfSome user.authzid IsPlainName
   pub is_mechanism : option_map name_of user.mechanism ≡ value_of words option.Mechanism
 
--- `PrintsPasses` is true of what the words and the input ask for, with this nonce of the client
-pub record PrintsPassesAsked (words : ArgMatches) (nonce : List ℕ) (input old new : Option (List ℕ)) : Type 0 where
+-- `PrintsTalk` is true of what the words and the input ask for, with this nonce of the client
+pub record PrintsTalkAsked (words : ArgMatches) (nonce : List ℕ) (input old : Option (List ℕ)) (passed : Bool) (new : Option (List ℕ))
+    : Type 0 where
   -- the user is the one whom the words describe
   pub user : User
   pub is_user : IsUserAsked words user
@@ -64,7 +68,7 @@ pub record PrintsPassesAsked (words : ArgMatches) (nonce : List ℕ) (input old 
   pub rest : Option (List ℕ)
   pub is_first_line : TakesLine input password has_lf rest
   pub is_password : IsPassword password
-  pub passes : PrintsPasses user nonce password rest old new
+  pub talk : PrintsTalk user nonce password rest old passed new
 
 -- a log of this kind, for example a clean one, is printed, in which this is the server's part of the nonce
 pub record PrintsLogin {File : Type 0} (bytes_of written_to : File → Option (List ℕ)) (words : ArgMatches) (server_nonce : List ℕ)
@@ -82,12 +86,12 @@ pub record PrintsLogin {File : Type 0} (bytes_of written_to : File → Option (L
 
 -- what a login prints, given the bytes of files and those written to them
 module _ {File : Type 0} (bytes_of written_to : File → Option (List ℕ)) where
-  -- a clean log is printed, with nonces that the words give, or fresh ones. If the answer is yes, it is that of a login that the words
-  -- ask for, with these nonces, which is accepted, and in which each code passes.
+  -- a clean log is printed, with nonces that the words give, or fresh ones. It is that of a login that the words ask for, with these
+  -- nonces. `passed` says whether it shows that the login is accepted and each code passes.
   abbrev pub RunsLogin : ArgMatches → (input old : Option (List ℕ)) → (passed : Bool) → (new : Option (List ℕ)) → Type 0
   RunsLogin words input old passed new =
       (nonce : List ℕ) × (server_nonce : List ℕ) × AreNonces bytes_of words nonce server_nonce
-      × PrintsLogin bytes_of written_to words server_nonce IsClean old new × (passed ≡ true → PrintsPassesAsked words nonce input old new)
+      × PrintsLogin bytes_of written_to words server_nonce IsClean old new × PrintsTalkAsked words nonce input old passed new
 
   -- a front of a log is printed, with nonces that the words give, or fresh ones
   abbrev pub PrintsLoginFront : ArgMatches → (old new : Option (List ℕ)) → Type 0

@@ -1,13 +1,15 @@
 -- What an input line of `verify` and of `login` says, and what a client sends for it and receives.
-use Rattle.std.specs.Prelude.{ℕ, ◌≡◌, ◌+◌, ◌↔◌, Bool, List, [], ◌∷◌, ◌++◌, codes, take, IsTrue}
+use Rattle.std.specs.Prelude.{ℕ, ◌≡◌, ◌+◌, ◌↔◌, Bool, true, List, [], ◌∷◌, ◌++◌, codes, take, IsTrue}
 use Rattle.std.specs.Str.{byte}
 use Rattle.std.specs.Io.KnownBytes.{Appends}
+use Rattle.std.specs.declared.option.Option.{Option}
 use Rattle.std.specs.declared.option.Option.TheVariants.{Some}
 use Rattle.otp_core.specs.Attempt.{CodeTexts}
 use Rattle.otp_core.specs.Attempt.CodeTexts.{one_text, two_texts}
 use Rattle.otp_core.specs.declared.token.reply.Reply.TheVariants.{Pass}
 use Rattle.log_grammar.specs.Bytes.{LacksLf}
 use Rattle.log_grammar.specs.Lines.{IsLine, max_line_len, from_server, from_client, replies, sync}
+use Rattle.command_io.specs.Input.{LinesInTurn}
 use Rattle.commands.specs.Talked.{Talked, Receives}
 
 -- a line says two codes in a row if it is a SYNC line of the protocol, and else one code, the line itself
@@ -35,3 +37,8 @@ pub record SendsLine (line : List ℕ) (old : Talked) (passed : Bool) (new : Tal
   pub is_line : LacksLf reply
   pub received : Receives old new (reply ++ byte "\n" ∷ [])
   pub is_pass : IsTrue passed ↔ IsPassLine reply
+
+-- the client sends the lines of its input in turn; `all_passed` says whether each line that it sends passes. If each does, it sends all.
+abbrev pub SendsCodes : (input : Option (List ℕ)) → (old : Talked) → (all_passed : Bool) → (new : Talked) → Type 0
+SendsCodes input old all_passed new =
+    (last : List (List ℕ)) × LinesInTurn SendsLine input last old all_passed new × (all_passed ≡ true → last ≡ [])

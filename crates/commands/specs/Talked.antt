@@ -1,7 +1,9 @@
 -- What the client of the command `login` says and receives, and that what it receives is in the log.
-use Rattle.std.specs.Prelude.{ℕ, ◌≡◌, List}
+use Rattle.std.specs.Prelude.{ℕ, ◌≡◌, List, [], ◌∷◌, ◌++◌}
+use Rattle.std.specs.Str.{byte}
 use Rattle.std.specs.Io.KnownBytes.{Appends, Consumes}
 use Rattle.std.specs.declared.option.Option.{Option}
+use Rattle.log_grammar.specs.Bytes.{LacksLf}
 use Rattle.log_grammar.specs.Lines.{LogLine, log_bytes}
 use Rattle.sasl_log.specs.Sink.{SinkFacts}
 use Rattle.sasl_log.specs.Source.{SourceFacts}
@@ -35,3 +37,9 @@ talked_in source sink log talk = record {
 pub record Receives (old new : Talked) (bytes : List ℕ) : Type 0 where
   pub received : Consumes old.to_receive new.to_receive bytes
   pub logged : LogSays old.logged new.logged bytes
+
+-- the client has said this, and has received these bytes and then this line
+pub record HasTalked (old new : Talked) (before said line : List ℕ) : Type 0 where
+  pub sent : Appends old.said new.said said
+  pub lacks : LacksLf line
+  pub received : Receives old new (before ++ (line ++ byte "\n" ∷ []))

@@ -13,7 +13,7 @@ ghost use Rattle.command_io.specs.Input.{IsInputUnreadOrNoMemory, TakesLine};
 ghost use Rattle.command_words.specs.Values.{given_value, value_of};
 ghost use Rattle.commands.specs.DeskLog.{IsDeskLog, StaysItsLog, StaysItsLogWith, IsLogAfterFault, IsLogAfterFaultWith, HasSavedLog};
 ghost use Rattle.commands.specs.DeskLog.{IsGiven};
-ghost use Rattle.commands.specs.Login.{TalkPasses, PrintsPasses, IsUserAsked, PrintsLoginFront, RunsLogin};
+ghost use Rattle.commands.specs.Login.{EndsTalk, PrintsTalk, IsUserAsked, PrintsLoginFront, RunsLogin};
 ghost use Rattle.commands.specs.LoginFaults.{CannotLogIn, CannotPrepare, StopsTalking};
 ghost use Rattle.commands.specs.Nonces.{AreNonces};
 ghost use Rattle.commands.specs.Talked.{LogSays, talked_in};
@@ -97,9 +97,9 @@ where
     I: TerminalInput,
     O: Write + Drop,
     E: TerminalOutput,
-    // It returns true only if the log has a login of the user whom the words describe, with the nonces that they give (a fresh one
-    // for each that they do not give) and with the password in the input's first line, and after it only passes, one for each
-    // further line of the input. If it returns false, only the log is promised.
+    // The log has a login of the user whom the words describe, with the nonces that they give (a fresh one for each that they do not
+    // give) and with the password in the input's first line. If it returns true, this login is accepted, and after it are only passes,
+    // one for each further line of the input. If it returns false, the login is not accepted, or some line is answered by another reply.
     ensures ok { IfOk result.0 (λ passed. RunsLogin R.File.remaining R.File.contents matches.now (I.remaining input.old)
         (O.contents output) passed (O.contents result.1)) }
     ensures err { IfErr result.0 (λ fault. StopsAfter fault (O.contents output) (O.contents result.1)
@@ -192,8 +192,8 @@ where
     ensures ok { OnOk result.0
         (HasSavedLog S.IsStored (IsGiven G.moment) IsClean login.entry.held.keeper.book login.entry.server_nonce
         (O.contents output) (O.contents result.1)) }
-    ensures passes { result.0 ≡ Ok true → PrintsPasses login.entry.client.user login.entry.client.nonce login.entry.client.password
-        (I.remaining login.entry.lines.input.now) (O.contents output) (O.contents result.1) }
+    ensures talk { IfOk result.0 (λ passed. PrintsTalk login.entry.client.user login.entry.client.nonce login.entry.client.password
+        (I.remaining login.entry.lines.input.now) (O.contents output) passed (O.contents result.1)) }
     ensures err { IfErr result.0 (λ fault. StopsAfter fault (O.contents output) (O.contents result.1)
         (HasSavedLog S.IsStored (IsGiven G.moment) IsLogFront login.entry.held.keeper.book login.entry.server_nonce
         (O.contents output) (O.contents result.1))) }
@@ -251,9 +251,8 @@ where
     I: BufRead,
     requires closed { desk_phase talk.old.desk ≡ Phase.Closed }
     requires silent { client.stage ≡ Stage.Silent }
-    ensures passes { result ≡ Ok true → TalkPasses client.user client.nonce client.password
-        (I.remaining lines.old.input.now)
-        (talked_in R.facts W.facts L.facts talk.old) (talked_in R.facts W.facts L.facts talk.new) }
+    ensures talk { IfOk result (λ passed. EndsTalk client.user client.nonce client.password (I.remaining lines.old.input.now)
+        (talked_in R.facts W.facts L.facts talk.old) passed (talked_in R.facts W.facts L.facts talk.new)) }
     ensures log { OnOk result (StaysItsLogWith S.facts S.IsStored C.IsNow server_nonce
         talk.old.desk (L.facts talk.old.log) talk.new.desk (L.facts talk.new.log)) }
     ensures closed { OnOk result (desk_phase talk.new.desk ≡ Phase.Closed) }

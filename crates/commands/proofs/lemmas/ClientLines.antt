@@ -16,8 +16,9 @@ use Rattle.scram_ends.specs.Login.{IsAuthentic}
 use Rattle.scram_ends.specs.Client.{StandsForStarted, IsAnswerable, StandsForAnswered}
 use Rattle.scram_ends.specs.declared.client.ClientOne.{ClientOne}
 use Rattle.scram_ends.specs.declared.client.ClientTwo.{ClientTwo}
-use Rattle.commands.specs.ClientEnd.{IfSays, IsChosen, BeginsLogin, AnswersChallenge, MaySay, ShowsKeys, HasItsLogin, HasToLeave}
+use Rattle.commands.specs.ClientEnd.{IfSays, IsChosen, BeginsLogin, AnswersChallenge, MaySay, HasToLeave}
 use Rattle.commands.specs.declared.login.client_end.ClientEnd.{ClientEnd}
+use Rattle.commands.specs.declared.login.client_end.User.{User}
 use Rattle.commands.specs.declared.login.client_end.Next.{Next}
 use Rattle.commands.specs.declared.login.client_end.Next.TheVariants.{Says, LoggedIn, Leaves}
 use Rattle.commands.specs.declared.login.client_end.Stage.{Stage}
@@ -88,31 +89,21 @@ IsDueTo (Begun one) (cont message) = Unit {0}
 IsDueTo (Proved two) (accepts message) = Unit {0}
 IsDueTo stage line = ⊥
 
--- if the client has its login at this stage, there is nothing that it may say to this line, and the line does not show that the server
--- has the keys
-abbrev pub LeavesAt : ClientEnd → Stage → (received : List ℕ) → Type 0
-LeavesAt client stage received = HasItsLogin stage → ((said : List ℕ) (new : Stage) → MaySay client stage received said new → ⊥)
-    × (ShowsKeys stage received → ⊥)
-
--- if a client at this stage has to leave, so does one whose stage is equal
-stage_makes_client_leave : (client : ClientEnd) (stage : Stage) (received : List ℕ) → client.stage ≡ stage → LeavesAt client stage received
-    → HasToLeave client received
-stage_makes_client_leave client stage received is leaves = subst (λ (s : Stage). LeavesAt client s received) (sym is) leaves
-
 -- a client that received no line after which it may continue has to leave
-undue_line_makes_client_leave : (client : ClientEnd) (stage : Stage) (received : List ℕ)
+pub undue_line_makes_client_leave : (user : User) (stage : Stage) (received : List ℕ)
     → ((line : ServerLine) → IsLine received (from_server line) → IsDueTo stage line → ⊥)
-    → LeavesAt client stage received
-undue_line_makes_client_leave client Silent received none stands = (λ said new may. none (mechs may.0) may.1 tt, λ shows. shows)
-undue_line_makes_client_leave client (Begun one) received none stands = (λ said new may. none (cont may.0) may.1 tt, λ shows. shows)
-undue_line_makes_client_leave client (Proved two) received none stands =
-    (λ said new never. never, λ shows. none (accepts shows.0) shows.1 tt)
-undue_line_makes_client_leave client Over received none stands = (λ said new never. never, λ shows. shows)
+    → HasToLeave user stage received
+undue_line_makes_client_leave user Silent received none = λ names mechanism is chosen. none (mechs names) is tt
+undue_line_makes_client_leave user (Begun one) received none =
+    λ login started server_first challenge is answerable. none (cont server_first) is tt
+undue_line_makes_client_leave user (Proved two) received none = λ login expecting message is authentic. none (accepts message) is tt
+undue_line_makes_client_leave user Over received none = tt
 
 -- a client has to leave if what it received is not a line of the server
-pub no_line_makes_client_leave : (client : ClientEnd) (received : List ℕ) → ((line : ServerLine) → IsLine received (from_server line) → ⊥)
-    → HasToLeave client received
-no_line_makes_client_leave client received none = undue_line_makes_client_leave client client.stage received (λ line is due. none line is)
+pub no_line_makes_client_leave : (user : User) (stage : Stage) (received : List ℕ)
+    → ((line : ServerLine) → IsLine received (from_server line) → ⊥)
+    → HasToLeave user stage received
+no_line_makes_client_leave user stage received none = undue_line_makes_client_leave user stage received (λ line is due. none line is)
 
 -- a text is at most one line of the server
 one_server_line : (received : List ℕ) (one other : ServerLine) → IsLine received (from_server one) → IsLine received (from_server other)
@@ -120,57 +111,43 @@ one_server_line : (received : List ℕ) (one other : ServerLine) → IsLine rece
 one_server_line received one other is also = let same = one_line received (from_server one) (from_server other) is also in cc same
 
 -- a client that leaves after an offer has to: the offer has no mechanism that it takes
-pub offer_leaver_has_to_leave : (client : ClientEnd) (received names : List ℕ) (result : Result Next Fault) → client.stage ≡ Silent
+pub offer_leaver_has_to_leave : (user : User) (stage : Stage) (received names : List ℕ) (result : Result Next Fault) → stage ≡ Silent
     → IsLine received (from_server (mechs names))
-    → IfOk result (λ next. next ≡ Leaves → (mechanism : Mechanism) → IsChosen client.user.mechanism names mechanism → ⊥)
-    → IfOk result (λ next. next ≡ Leaves → HasToLeave client received)
-offer_leaver_has_to_leave client received names result is line leaves =
+    → IfOk result (λ next. next ≡ Leaves → (mechanism : Mechanism) → IsChosen user.mechanism names mechanism → ⊥)
+    → IfOk result (λ next. next ≡ Leaves → HasToLeave user stage received)
+offer_leaver_has_to_leave user stage received names result is line leaves =
     IfOk-weaker result _ _
-    (λ next none left. stage_makes_client_leave client Silent received is (λ stands. (
-      λ said new may.
-          let (others, also, begins) = may in
-          let same = one_server_line received (mechs others) (mechs names) also line in
-          let are : others ≡ names = cc same in
-          none left begins.login.mechanism
-          (subst (λ (n : List ℕ). IsChosen client.user.mechanism n begins.login.mechanism) are begins.is_mechanism),
-      λ shows. shows,
-    ))) leaves
+    (λ next none left. subst (λ (s : Stage). HasToLeave user s received) (sym is) (λ others mechanism also chosen.
+    let same = one_server_line received (mechs others) (mechs names) also line in
+    let are : others ≡ names = cc same in
+    none left mechanism (subst (λ (n : List ℕ). IsChosen user.mechanism n mechanism) are chosen)))
+    leaves
 
 -- a client that leaves after a challenge has to: the challenge is none that it answers
-pub challenge_leaver_has_to_leave : (client : ClientEnd) (one : ClientOne) (received server_first : List ℕ) (result : Result Next Fault)
-    → client.stage ≡ Begun one
+pub challenge_leaver_has_to_leave : (user : User) (one : ClientOne) (stage : Stage) (received server_first : List ℕ)
+    (result : Result Next Fault) → stage ≡ Begun one
     → IsLine received (from_server (cont server_first))
     → IfOk result (λ next. next ≡ Leaves → (login : Started) → StandsForStarted one login
     → (parts : ServerFirstParts) → IsAnswerable login.limits login.nonce server_first parts → ⊥)
-    → IfOk result (λ next. next ≡ Leaves → HasToLeave client received)
-challenge_leaver_has_to_leave client one received server_first result is line leaves =
+    → IfOk result (λ next. next ≡ Leaves → HasToLeave user stage received)
+challenge_leaver_has_to_leave user one stage received server_first result is line leaves =
     IfOk-weaker result _ _
-    (λ next none left. stage_makes_client_leave client (Begun one) received is (λ stands. (
-      λ said new may.
-          let (login, started) = stands in
-          let (other, also, answers) = may in
-          let same = one_server_line received (cont other) (cont server_first) also line in
-          let are : other ≡ server_first = cc same in
-          let answer = answers login started in
-          none left login started answer.challenge
-          (subst (λ (text : List ℕ). IsAnswerable login.limits login.nonce text answer.challenge) are answer.answerable),
-      λ shows. shows,
-    ))) leaves
+    (λ next none left. subst (λ (s : Stage). HasToLeave user s received) (sym is) (λ login started other parts also answerable.
+    let same = one_server_line received (cont other) (cont server_first) also line in
+    let are : other ≡ server_first = cc same in
+    none left login started parts (subst (λ (text : List ℕ). IsAnswerable login.limits login.nonce text parts) are answerable)))
+    leaves
 
 -- a client that leaves after an acceptance has to: the message does not have the signature that it expects
-pub acceptance_leaver_has_to_leave : (client : ClientEnd) (two : ClientTwo) (received message : List ℕ) (result : Result Next Fault)
-    → client.stage ≡ Proved two
+pub acceptance_leaver_has_to_leave : (user : User) (two : ClientTwo) (stage : Stage) (received message : List ℕ)
+    (result : Result Next Fault) → stage ≡ Proved two
     → IsLine received (from_server (accepts message))
     → IfOk result (λ next. next ≡ Leaves → (l : Answered) (x : StandsForAnswered two l) → IsAuthentic message x.signature → ⊥)
-    → IfOk result (λ next. next ≡ Leaves → HasToLeave client received)
-acceptance_leaver_has_to_leave client two received message result is line leaves =
+    → IfOk result (λ next. next ≡ Leaves → HasToLeave user stage received)
+acceptance_leaver_has_to_leave user two stage received message result is line leaves =
     IfOk-weaker result _ _
-    (λ next none left. stage_makes_client_leave client (Proved two) received is (λ stands. (
-      λ said new never. never,
-      λ shows.
-          let (login, expecting) = stands in
-          let (other, also, keys) = shows in
-          let same = one_server_line received (accepts other) (accepts message) also line in
-          let are : other ≡ message = cc same in
-          none left login expecting (subst (λ (text : List ℕ). IsAuthentic text expecting.signature) are (keys login expecting)),
-    ))) leaves
+    (λ next none left. subst (λ (s : Stage). HasToLeave user s received) (sym is) (λ login expecting other also authentic.
+    let same = one_server_line received (accepts other) (accepts message) also line in
+    let are : other ≡ message = cc same in
+    none left login expecting (subst (λ (text : List ℕ). IsAuthentic text expecting.signature) are authentic)))
+    leaves

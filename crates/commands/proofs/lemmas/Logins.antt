@@ -1,5 +1,5 @@
 -- The log of a login: that it stays the desk's log at each step, what of it is printed, and which faults end a talk.
-use Rattle.std.proofs.Common.{◌≡◌, ◌≢◌, inl, inr, ℕ, Option, List, refl, sym, subst}
+use Rattle.std.proofs.Common.{◌≡◌, ◌≢◌, inl, inr, ℕ, Bool, Option, List, refl, sym, subst}
 use Rattle.std.specs.Io.KnownBytes.{Appends}
 use Rattle.book_format.specs.Book.{BookFields}
 use Rattle.account_book.specs.Store.{StoreFacts}
@@ -19,7 +19,7 @@ use Rattle.command_line.specs.declared.fault.Fault.{Fault}
 use Rattle.command_line.specs.declared.fault.Fault.TheVariants.{NoMemory as OutOfMemory}
 use Rattle.commands.specs.DeskLog.{HasSavedLog, IsDeskLog, IsLogAfterFaultWith}
 use Rattle.commands.specs.LoginFaults.{IsFaultOfServing, IsFaultInTurn, StopsTalking}
-use Rattle.commands.specs.Login.{TalkPasses, PrintsPasses}
+use Rattle.commands.specs.Login.{EndsTalk, PrintsTalk}
 use Rattle.commands.specs.PrintedLog.{StopsAfter}
 use Rattle.commands.specs.Talked.{Talked}
 use Rattle.commands.specs.declared.login.client_end.User.{User}
@@ -58,16 +58,16 @@ module _ {S : Type 0} {facts : S → StoreFacts} {IsStored : List ℕ → Type 0
       subst (λ (o : Option (List ℕ)). HasSavedLog IsStored IsNow IsClean book server_nonce before o) (sym is)
       (subst (λ (o : Option (List ℕ)). HasSavedLog IsStored IsNow IsClean book server_nonce o logged) was (clean book given begun))
 
--- a talk whose codes all passed has printed them, after the lines with which the log began
-pub passing_talk_is_printed : (user : User) (nonce password : List ℕ) (input : Option (List ℕ)) (first last : Talked) (begun : List LogLine)
-    (before given after : Option (List ℕ)) → TalkPasses user nonce password input first last → given ≡ before
-    → Appends given first.logged (log_bytes begun) → after ≡ last.logged → PrintsPasses user nonce password input before after
-passing_talk_is_printed user nonce password input first last begun before given after passes was begins is = record {
+-- a talk that has ended is printed, after the lines with which the log began
+pub ended_talk_is_printed : (user : User) (nonce password : List ℕ) (input : Option (List ℕ)) (first last : Talked) (begun : List LogLine)
+    (before given after : Option (List ℕ)) (passed : Bool) → EndsTalk user nonce password input first passed last → given ≡ before
+    → Appends given first.logged (log_bytes begun) → after ≡ last.logged → PrintsTalk user nonce password input before passed after
+ended_talk_is_printed user nonce password input first last begun before given after passed talk was begins is = record {
   begun = begun;
   first = first;
   last = last;
   begins = subst (λ (known : Option (List ℕ)). Appends known first.logged (log_bytes begun)) was begins;
-  passes = passes;
+  talk = talk;
   printed = sym is;
 }
 

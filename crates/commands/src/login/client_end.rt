@@ -91,7 +91,7 @@ impl ClientEnd {
         ensures kept { (self.new.user ≡ self.old.user) × (self.new.nonce ≡ self.old.nonce) × (self.new.password ≡ self.old.password) }
         ensures is_in { IfOk result (λ next. next ≡ Next.LoggedIn → ShowsKeys self.old.stage line.now) }
         ensures says { IfOk result (λ next. IfSays next (λ said. MaySay self.old self.old.stage line.now said self.new.stage)) }
-        ensures leaves { IfOk result (λ next. next ≡ Next.Leaves → HasToLeave self.old line.now) }
+        ensures leaves { IfOk result (λ next. next ≡ Next.Leaves → HasToLeave self.old.user self.old.stage line.now) }
         ensures err { IfErr result (λ fault. fault ≡ Fault.NoMemory) }
     {
         let Ok(Line::FromServer(received)) = read_line(line) else {

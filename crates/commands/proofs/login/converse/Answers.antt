@@ -14,11 +14,11 @@ returns-in_err-hang_up-clause-after_fault g c =
     c.from_residual-in_err-hang_up.ensures.1
     (second_case_weakens (two_steps_keep_log c.in_ok-passed.ensures.log) c.in_err-hang_up.ensures.after_fault)
 
--- if the client was let in and each code passed, it is sent nothing more
-pub returns-clause-passes : goal.returns-clause-passes
-returns-clause-passes g c = λ is. record {
+-- after the login and the codes the client is sent nothing more
+pub returns-clause-talk : goal.returns-clause-talk
+returns-clause-talk g c = record {
   last = talked_in g.R.Source.facts g.W.Sink.facts g.L.Sink.facts c.log_in_and_send.new.self;
-  passes = c.in_ok-passed.ensures.passes is;
+  sends = c.in_ok-passed.ensures.sends;
   ends = c.in_ok-hang_up.ensures.silent;
 }
 

@@ -1,13 +1,13 @@
 use Rattle.std.proofs.Common.{inl, inr}
-use Rattle.std.proofs.lemmas.Result.{IfErr-weaker, IfOk-weaker}
-use Rattle.command_io.proofs.lemmas.Results.{if_ok_and_if_true}
+use Rattle.std.proofs.lemmas.Result.{IfErr-weaker}
+use Rattle.command_io.proofs.lemmas.Results.{if_ok_from_both}
 use Rattle.commands.proofs.lemmas.Cases.{second_case_weakens}
 use Rattle.commands.proofs.login.login.Goals as goal
 
 pub returns-in-Ok-open-clause-ok : goal.returns-in-Ok-open-clause-ok
 returns-in-Ok-open-clause-ok g c =
-    IfOk-weaker c.talk_over.result.0 _ _
-    (λ passed did. (
+    if_ok_from_both c.talk_over.result.0 _ _ _ c.talk_over.ensures.talk c.talk_over.ensures.ok
+    (λ passed talk printed. (
       _,
       _,
       c.in-Ok.ensures.nonces,
@@ -18,21 +18,19 @@ returns-in-Ok-open-clause-ok g c =
         moment = _;
         is_moment = c.in-Ok.ensures.moment.0;
         moment_range = c.in-Ok.ensures.moment.1;
-        printed = did.0;
+        printed = printed;
       },
-      λ is.
-          let (has_lf, first) = c.in-Ok.ensures.password in record {
-            user = _;
-            is_user = c.in-Ok.ensures.user;
-            password = _;
-            has_lf = has_lf;
-            rest = _;
-            is_first_line = first;
-            is_password = c.in-Ok.ensures.is_password;
-            passes = did.1 is;
-          },
+      let (has_lf, first) = c.in-Ok.ensures.password in record {
+        user = _;
+        is_user = c.in-Ok.ensures.user;
+        password = _;
+        has_lf = has_lf;
+        rest = _;
+        is_first_line = first;
+        is_password = c.in-Ok.ensures.is_password;
+        talk = talk;
+      },
     ))
-    (if_ok_and_if_true _ c.talk_over.result.0 c.talk_over.ensures.ok c.talk_over.ensures.passes)
 
 pub returns-in-Ok-open-clause-err : goal.returns-in-Ok-open-clause-err
 returns-in-Ok-open-clause-err g c =

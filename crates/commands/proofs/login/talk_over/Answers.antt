@@ -1,9 +1,9 @@
 use Rattle.std.proofs.Common.{[], ap, ◌∙◌}
-use Rattle.std.proofs.lemmas.Result.{IfErr-weaker, on_ok_weaker}
+use Rattle.std.proofs.lemmas.Result.{IfErr-weaker, IfOk-weaker, on_ok_weaker}
 use Rattle.sasl_log.specs.Sink.{SinkFacts}
 use Rattle.commands.specs.declared.printed_log.PrintedLog.{PrintedLog}
 use Rattle.commands.proofs.lemmas.Faults.{failed_begin_prints_nothing}
-use Rattle.commands.proofs.lemmas.Logins.{passing_talk_is_printed, clean_log_is_printed, login_stops_after}
+use Rattle.commands.proofs.lemmas.Logins.{ended_talk_is_printed, clean_log_is_printed, login_stops_after}
 use Rattle.commands.proofs.login.talk_over.Goals as goal
 
 pub returns-in-Ok-clause-ok : goal.returns-in-Ok-clause-ok
@@ -23,11 +23,13 @@ returns-in-Ok-clause-err g c =
     c.log_is_a_front.ensures c.log_is_saved.ensures)
     c.converse-passed.ensures.after_fault
 
-pub returns-in-Ok-clause-passes : goal.returns-in-Ok-clause-passes
-returns-in-Ok-clause-passes g c = λ is.
+pub returns-in-Ok-clause-talk : goal.returns-in-Ok-clause-talk
+returns-in-Ok-clause-talk g c =
     let before = ap (λ (f : SinkFacts). f.given) c.new.ensures in
     let after = c.into_output.ensures ∙ ap (λ (l : PrintedLog _). g.O.Write.contents l.output) c.into_log.ensures in
-    passing_talk_is_printed _ _ _ _ _ _ _ _ _ _ (c.converse-passed.ensures.passes is) before (c.in-Ok.ensures.log []).logged after
+    IfOk-weaker c.converse-passed.result _ _
+    (λ passed talk. ended_talk_is_printed _ _ _ _ _ _ _ _ _ _ passed talk before (c.in-Ok.ensures.log []).logged after)
+    c.converse-passed.ensures.talk
 
 pub returns-in-Err-clause-err : goal.returns-in-Err-clause-err
 returns-in-Err-clause-err g c =

@@ -11,7 +11,7 @@ use Rattle.commands.proofs.login.client_end.ClientEnd.hear.Goals.{in_default-via
 
 pub returns-in_default-clause-leaves : goal.returns-in_default-clause-leaves
 returns-in_default-clause-leaves c = λ left.
-    no_line_makes_client_leave c.args.self.now c.args.line.now (λ line is. elim c.in_default.branch [
+    no_line_makes_client_leave c.args.self.now.user c.args.self.now.stage c.args.line.now (λ line is. elim c.in_default.branch [
       | in_default-via-in-Ok+in_default w ↦
           let only = rw w.in_default.is at (c.read_line.ensures.every (from_server line) is) in search (rules, only)
       | in_default-via-in_default w ↦ rw w.in_default.is at (c.read_line.ensures.every (from_server line) is)
@@ -53,8 +53,8 @@ returns-in-Silent-Mechs-clause-leaves c =
     let stage : c.args.self.now.stage ≡ Silent = search (rules, c.in-Silent-Mechs.is-0) in
     let line : IsLine c.args.line.now (from_server (mechs c.in-Silent-Mechs.names.now)) =
     rw (c.in-Ok-FromServer.field-0-is, c.in-Silent-Mechs.is-1) at c.in-Ok-FromServer.ensures.ok in
-    offer_leaver_has_to_leave c.args.self.now c.args.line.now c.in-Silent-Mechs.names.now c.send_first.result stage line
-    c.send_first.ensures.leaves
+    offer_leaver_has_to_leave c.args.self.now.user c.args.self.now.stage c.args.line.now c.in-Silent-Mechs.names.now c.send_first.result
+    stage line c.send_first.ensures.leaves
 
 pub returns-in_ok-challenge-in-Begun-Cont-clause-leaves : goal.returns-in_ok-challenge-in-Begun-Cont-clause-leaves
 returns-in_ok-challenge-in-Begun-Cont-clause-leaves c =
@@ -62,7 +62,8 @@ returns-in_ok-challenge-in-Begun-Cont-clause-leaves c =
     let line : IsLine c.args.line.now (from_server (cont c.in-Begun-Cont.message)) =
     rw (c.in-Ok-FromServer.field-0-is, c.in-Begun-Cont.is-1) at c.in-Ok-FromServer.ensures.ok in
     let message : c.in-Begun-Cont.message ≡ c.as_slice.result.now = search rules in
-    challenge_leaver_has_to_leave c.args.self.now c.in-Begun-Cont.client c.args.line.now c.as_slice.result.now c.send_final.result stage
+    challenge_leaver_has_to_leave c.args.self.now.user c.in-Begun-Cont.client c.args.self.now.stage c.args.line.now c.as_slice.result.now
+    c.send_final.result stage
     (subst (λ (text : List ℕ). IsLine c.args.line.now (from_server (cont text))) message line) c.send_final.ensures.leaves
 
 pub returns-in-Proved-Accepts-clause-leaves : goal.returns-in-Proved-Accepts-clause-leaves
@@ -70,6 +71,5 @@ returns-in-Proved-Accepts-clause-leaves c =
     let stage : c.args.self.now.stage ≡ Proved c.in-Proved-Accepts.client = sym c.in-Proved-Accepts.ensures.value in
     let line : IsLine c.args.line.now (from_server (accepts c.in-Proved-Accepts.message)) =
     rw (c.in-Ok-FromServer.field-0-is, c.in-Proved-Accepts.is-1) at c.in-Ok-FromServer.ensures.ok in
-    acceptance_leaver_has_to_leave c.args.self.now c.in-Proved-Accepts.client c.args.line.now c.in-Proved-Accepts.message
-    c.check_signature.result stage
-    line c.check_signature.ensures.leaves
+    acceptance_leaver_has_to_leave c.args.self.now.user c.in-Proved-Accepts.client c.args.self.now.stage c.args.line.now
+    c.in-Proved-Accepts.message c.check_signature.result stage line c.check_signature.ensures.leaves

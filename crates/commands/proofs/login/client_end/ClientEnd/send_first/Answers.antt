@@ -11,13 +11,15 @@ returns-clause-says c =
     let front : c.as_slice.result.now ≡ codes "AUTH " ++ (name_of c.in-Some.mechanism ++ codes " :") = search rules in
     record {
       login = _;
-      is_mechanism = asked_or_best_is_chosen c.args.self.now.user.mechanism c.choose.result c.args.names.now c.in-Some.mechanism
-          (sym c.or.ensures ∙ c.in-Some.is)
-          c.choose.ensures.some c.choose.ensures.best;
-      are_limits = c.usual-limits.ensures;
-      is_name = search rules;
-      is_authzid = search rules;
-      is_nonce = search rules;
+      is_of_user = record {
+        is_mechanism = asked_or_best_is_chosen c.args.self.now.user.mechanism c.choose.result c.args.names.now c.in-Some.mechanism
+            (sym c.or.ensures ∙ c.in-Some.is)
+            c.choose.ensures.some c.choose.ensures.best;
+        are_limits = c.usual-limits.ensures;
+        is_name = search rules;
+        is_authzid = search rules;
+        is_nonce = search rules;
+      };
       waits = started_by;
       line = search (rules, message, front);
     }
