@@ -1,5 +1,5 @@
 -- What the command `login` prints, and whether the user is let in and each code passes.
-use Rattle.std.specs.Prelude.{ℕ, ◌≡◌, ◌⊎◌, Bool, false, List, [], option_map, IfSome}
+use Rattle.std.specs.Prelude.{ℕ, ◌≡◌, ◌⊎◌, Bool, false, List, [], ◌∷◌, option_map, IfSome}
 use Rattle.std.specs.Fmt.{decimal}
 use Rattle.std.specs.Io.KnownBytes.{Appends}
 use Rattle.std.specs.declared.option.Option.{Option}
@@ -11,7 +11,7 @@ use Rattle.book_file.specs.Saved.{IsSavedText}
 use Rattle.clap.specs.declared.parser.matches.ArgMatches.{ArgMatches}
 use Rattle.command_line.specs.declared.option_name.OptionName.TheVariants as option
 use Rattle.log_grammar.specs.Demands.{Accounts}
-use Rattle.log_grammar.specs.Lines.{LogLine, log_bytes}
+use Rattle.log_grammar.specs.Lines.{log_bytes, header}
 use Rattle.log_grammar.specs.Versions.{IsClean, IsLogFront}
 use Rattle.commands.specs.ClientEnd.{IsLoggedIn, IsNotLoggedIn}
 use Rattle.command_io.specs.HeldBook.{IsReadBook}
@@ -37,14 +37,13 @@ pub record EndsTalk (user : User) (nonce password : List ℕ) (input : Option (L
   pub sends : LogsInAndSends user nonce password input old passed last
   pub ends : LogSays last.logged new.logged []
 
--- a log is printed that begins with some lines, and continues with a talk in which this user logs in, with this nonce and this
--- password, or is not let in, and then sends the lines of the input
+-- a log is printed: its first line, and then a talk in which the client of this user logs in, with this nonce and this password, or does
+-- not, and sends the lines of the input if it is logged in
 pub record PrintsTalk (user : User) (nonce password : List ℕ) (input old : Option (List ℕ)) (passed : Bool) (new : Option (List ℕ))
     : Type 0 where
-  pub begun : List LogLine
   pub first : Talked
   pub last : Talked
-  pub begins : Appends old first.logged (log_bytes begun)
+  pub begins : Appends old first.logged (log_bytes (header ∷ []))
   pub talk : EndsTalk user nonce password input first passed last
   pub printed : last.logged ≡ new
 

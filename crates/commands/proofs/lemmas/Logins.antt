@@ -1,10 +1,10 @@
 -- The log of a login: that it stays the desk's log at each step, what of it is printed, and which faults end a talk.
-use Rattle.std.proofs.Common.{◌≡◌, ◌≢◌, inl, inr, ℕ, Bool, Option, List, refl, sym, subst}
+use Rattle.std.proofs.Common.{◌≡◌, ◌≢◌, inl, inr, ℕ, Bool, Option, List, [], ◌∷◌, refl, sym, subst}
 use Rattle.std.specs.Io.KnownBytes.{Appends}
 use Rattle.book_format.specs.Book.{BookFields}
 use Rattle.account_book.specs.Store.{StoreFacts}
 use Rattle.log_grammar.specs.Books.{accounts_in}
-use Rattle.log_grammar.specs.Lines.{LogLine, log_bytes}
+use Rattle.log_grammar.specs.Lines.{log_bytes, header}
 use Rattle.log_grammar.specs.Versions.{IsClean, IsLogFront}
 use Rattle.sasl_log.specs.Sink.{SinkFacts}
 use Rattle.sasl_desk.specs.Runs.{Call, run_lines}
@@ -58,15 +58,14 @@ module _ {S : Type 0} {facts : S → StoreFacts} {IsStored : List ℕ → Type 0
       subst (λ (o : Option (List ℕ)). HasSavedLog IsStored IsNow IsClean book server_nonce before o) (sym is)
       (subst (λ (o : Option (List ℕ)). HasSavedLog IsStored IsNow IsClean book server_nonce o logged) was (clean book given begun))
 
--- a talk that has ended is printed, after the lines with which the log began
-pub ended_talk_is_printed : (user : User) (nonce password : List ℕ) (input : Option (List ℕ)) (first last : Talked) (begun : List LogLine)
+-- a talk that has ended is printed, after the first line of the log
+pub ended_talk_is_printed : (user : User) (nonce password : List ℕ) (input : Option (List ℕ)) (first last : Talked)
     (before given after : Option (List ℕ)) (passed : Bool) → EndsTalk user nonce password input first passed last → given ≡ before
-    → Appends given first.logged (log_bytes begun) → after ≡ last.logged → PrintsTalk user nonce password input before passed after
-ended_talk_is_printed user nonce password input first last begun before given after passed talk was begins is = record {
-  begun = begun;
+    → Appends given first.logged (log_bytes (header ∷ [])) → after ≡ last.logged → PrintsTalk user nonce password input before passed after
+ended_talk_is_printed user nonce password input first last before given after passed talk was begins is = record {
   first = first;
   last = last;
-  begins = subst (λ (known : Option (List ℕ)). Appends known first.logged (log_bytes begun)) was begins;
+  begins = subst (λ (known : Option (List ℕ)). Appends known first.logged (log_bytes (header ∷ []))) was begins;
   talk = talk;
   printed = sym is;
 }

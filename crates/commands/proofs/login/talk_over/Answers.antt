@@ -1,4 +1,4 @@
-use Rattle.std.proofs.Common.{[], ap, ◌∙◌}
+use Rattle.std.proofs.Common.{ap, ◌∙◌}
 use Rattle.std.proofs.lemmas.Result.{IfErr-weaker, IfOk-weaker, on_ok_weaker}
 use Rattle.sasl_log.specs.Sink.{SinkFacts}
 use Rattle.commands.specs.declared.printed_log.PrintedLog.{PrintedLog}
@@ -28,7 +28,7 @@ returns-in-Ok-clause-talk g c =
     let before = ap (λ (f : SinkFacts). f.given) c.new.ensures in
     let after = c.into_output.ensures ∙ ap (λ (l : PrintedLog _). g.O.Write.contents l.output) c.into_log.ensures in
     IfOk-weaker c.converse-passed.result _ _
-    (λ passed talk. ended_talk_is_printed _ _ _ _ _ _ _ _ _ _ passed talk before (c.in-Ok.ensures.log []).logged after)
+    (λ passed talk. ended_talk_is_printed _ _ _ _ _ _ _ _ _ passed talk before c.in-Ok.ensures.header after)
     c.converse-passed.ensures.talk
 
 pub returns-in-Err-clause-err : goal.returns-in-Err-clause-err
