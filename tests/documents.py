@@ -15,8 +15,8 @@ each script in this folder that takes a program, and docs/TESTING.md names each 
 functions. The sizes in docs/PROMISES.md and README.md are about those of the sources, and docs/TESTING.md says how many rows the tables of
 vectors and of faulty books have. docs/ARCHITECTURE.md says about how large each library is. The kit that the Makefile names is that in
 docs/PROMISES.md and README.md. No source has a word by which something is taken unproved. docs/MUTATIONS.md says how many edits each crate
-has. tests/data/planted.csv has a row for each edit that a test has to refuse. docs/TIMES.md names each library. No line of a page has over
-140 columns, outside tables and code blocks. Each fault has a line, and the status is then 1.
+has. tests/data/planted.csv has a row for each edit that a test has to refuse, with what the test says then. docs/TIMES.md names each
+library. No line of a page has over 140 columns, outside tables and code blocks. Each fault has a line, and the status is then 1.
 """
 import ast
 import csv
@@ -25,9 +25,8 @@ import sys
 from pathlib import Path
 
 import run
-from edit_sources import Unusable, planted_edits, read_planted
+from edit_sources import TOP, Unusable, planted_edits, planted_rows, read_planted
 
-TOP = Path(__file__).resolve().parent.parent
 PAGES = [TOP / "README.md", TOP / "CONTRIBUTING.md", TOP / "CHANGELOG.md", *sorted(TOP.glob("docs/*.md")), TOP / "bench" / "README.md"]
 PROMISES = ["PROMISES.md", "LOG_PROMISES.md", "COMMAND_PROMISES.md", "CONTRACTS.md"]
 MAINTAINERS = ["ARCHITECTURE.md", "DECISIONS.md", "MUTATIONS.md", "PROVING.md", "FAULTS.md", "TESTING.md", "TIMES.md", "WORDS.md"]
@@ -260,19 +259,21 @@ def taken_unproved():
 
 
 def stale_bugs():
-    """The rows of planted.csv that have no edit or no test, and the edits in a folder planted/ that have no row or do not apply."""
-    with open(TOP / "tests/data/planted.csv", newline="", encoding="utf-8") as file:
-        rows = list(csv.DictReader(file))
-    yield from (f"no row for {of}/{bug}" for of, bug in planted_edits(TOP).keys() - {(row["of"], row["bug"]) for row in rows})
+    """The rows of planted.csv that have no edit, no test or not what the test says, and the edits in a folder planted/ that have no row or
+    do not apply."""
+    rows = planted_rows(TOP)
+    yield from (f"no row for {of}/{bug}" for of, bug in planted_edits(TOP).keys() - {(row.of, row.bug) for row in rows})
     for row in rows:
-        name, by = f"{row['of']}/{row['bug']}", row["by"]
+        name = f"{row.of}/{row.bug}"
         try:
-            read_planted(TOP, row["of"], row["bug"])
+            read_planted(TOP, row.of, row.bug)
         except Unusable as fault:
             yield f"{name}: {fault}"
-        files = [TOP / "tests" / by] if by.endswith(".py") else [*(TOP / "crates" / by / "src").rglob("*.rt")]
-        if not any(re.search(rf"\b(?:def|fn) {row['test']}\(", file.read_text(encoding="utf-8")) for file in files if file.exists()):
-            yield f"{name}: {by} has no test {row['test']}"
+        files = [TOP / "tests" / row.by] if row.by.endswith(".py") else [*(TOP / "crates" / row.by / "src").rglob("*.rt")]
+        if not any(re.search(rf"\b(?:def|fn) {row.test}\(", file.read_text(encoding="utf-8")) for file in files if file.exists()):
+            yield f"{name}: {row.by} has no test {row.test}"
+        if not row.says:
+            yield f"{name}: {row.test} of {row.by}: the row does not have what the test says"
 
 
 def untimed_crates():
