@@ -201,10 +201,10 @@ def failures(here, command, how, calls):
             name, is_log = call.name, command.name in ("login", "hall")
             kind = "new book" if command.books[0] is None else command.name
             untold = ("any" if ("any", name) in NOT_TOLD else kind, name)
-            fault = due(here.folder, here.before, call)
             if answer == (0, command.printed, ""):
                 holds(untold in NOT_TOLD, what, "it ended well, but NOT_TOLD does not have this call")
             else:
+                fault = due(here.folder, here.before, call)
                 holds(is_told(command, answer, fault), what, "it neither ended well nor reported its fault, after what was due", fault)
                 untold = None
             printed, book = answer.output, book_of(here.folder)
