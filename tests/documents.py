@@ -15,8 +15,9 @@ each script in this folder that takes a program, and docs/TESTING.md names each 
 functions. The sizes in docs/PROMISES.md and README.md are about those of the sources, and docs/TESTING.md says how many rows the tables of
 vectors and of faulty books have. docs/ARCHITECTURE.md says about how large each library is. The kit that the Makefile names is that in
 docs/PROMISES.md and README.md. No source has a word by which something is taken unproved. docs/MUTATIONS.md says how many edits each crate
-has. tests/data/planted.csv has a row for each edit that a test has to refuse, with what the test says then. docs/TIMES.md names each
-library. No line of a page has over 140 columns, outside tables and code blocks. Each fault has a line, and the status is then 1.
+has, how many tests of scripts there are, and for how many of these a bug is planted. tests/data/planted.csv has a row for each edit that a
+test has to refuse, with what the test says then. docs/TIMES.md names each library. No line of a page has over 140 columns, outside tables
+and code blocks. Each fault has a line, and the status is then 1.
 """
 import ast
 import csv
@@ -204,6 +205,17 @@ def rows_of(table):
         return sum(1 for _ in csv.DictReader(file))
 
 
+def tests_of_scripts():
+    """The tests in the lists of the scripts, each with its script."""
+    for path in TOP.glob("tests/*.py"):
+        script = ast.parse(path.read_text(encoding="utf-8"))
+        for it in ast.walk(script):
+            is_list = isinstance(it, ast.Assign | ast.AugAssign) and ast.unparse(it).startswith("TESTS ")
+            if is_list or isinstance(it, ast.Call) and ast.unparse(it.func) == "suite.run_all":
+                lists = [part for part in ast.walk(it) if isinstance(part, ast.List)]
+                yield from ((path.name, test.id) for part in lists for test in part.elts if isinstance(test, ast.Name))
+
+
 def libraries():
     """The names of the libraries on which the program stands, as the Makefile lists them."""
     return re.search(r"^LIBRARIES = (.+)$", (TOP / "Makefile").read_text(encoding="utf-8"), re.MULTILINE).group(1).split()
@@ -213,6 +225,7 @@ def stale_sizes():
     """The sizes that a page does not state, or states wrongly: of the sources by more than one in fifty, of a table by any row."""
     edits = len([*TOP.glob("crates/*/edits/*.edit"), *TOP.glob("crates/*/must-fail/*.edit")])
     code = [f"crates/{name}/src/**/*.rt" for name in [*libraries(), "scramotp"]]
+    tests, planted = {*tests_of_scripts()}, {(row.by, row.test) for row in planted_rows(TOP)}
     for name, form, size, is_exact in [
         ("../README.md", r"some (\d+) lines of definitions", lines_of("crates/*/specs/**/*.antt"), False),
         ("../README.md", r"Some (\d+) \[bugs", edits, False),
@@ -220,6 +233,8 @@ def stale_sizes():
         ("PROMISES.md", r"some (\d+) of code", lines_of(*code), False),
         ("PROMISES.md", r"The (\d+) lines of proofs", lines_of("crates/*/proofs/**/*.antt"), False),
         ("PROMISES.md", r"some (\d+) wrong bodies", edits, False),
+        ("MUTATIONS.md", r"of the (\d+) tests of scripts", len(tests), True),
+        ("MUTATIONS.md", r"scripts, (\d+) have a bug", len(tests & planted), True),
         ("TESTING.md", r"(\d+) rows of keys", rows_of("vectors/keys.csv"), True),
         ("TESTING.md", r"(\d+) codes that oathtool made", rows_of("vectors/codes.csv"), True),
         ("TESTING.md", r"`book_faults\.py`: (\d+) books", rows_of("book_faults/cases.csv"), True),
