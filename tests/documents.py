@@ -15,9 +15,10 @@ law of docs/LOG_PROMISES.md in one of the files that are named before its table.
 program, and docs/TESTING.md names each script. A script that runs a list of tests uses all of its functions. The sizes in docs/PROMISES.md
 and README.md are about those of the sources, and docs/TESTING.md says how many rows the tables of vectors and of faulty books have.
 docs/ARCHITECTURE.md says about how large each library is. The kit that the Makefile names is that in docs/PROMISES.md and README.md. No
-source has a word by which something is taken unproved. docs/MUTATIONS.md says how many edits each crate has. tests/data/planted.csv has a
-row for each edit that a test has to refuse. docs/TIMES.md names each library. No line of a page has over 140 columns, outside tables and
-code blocks. Each fault has a line, and the status is then 1.
+source has a word by which something is taken unproved. docs/MUTATIONS.md says how many edits each crate has, how many tests of scripts there
+are, and for how many of these a bug is planted. tests/data/planted.csv has a row for each edit that a test has to refuse, with what the
+test says then. docs/TIMES.md names each library. No line of a page has over 140 columns, outside tables and code blocks. Each fault has a
+line, and the status is then 1.
 """
 import ast
 import csv
@@ -26,9 +27,8 @@ import sys
 from pathlib import Path
 
 import run
-from edit_sources import Unusable, planted_edits, read_planted
+from edit_sources import TOP, Unusable, planted_edits, planted_rows, read_planted
 
-TOP = Path(__file__).resolve().parent.parent
 PAGES = [TOP / "README.md", TOP / "CONTRIBUTING.md", TOP / "CHANGELOG.md", *sorted(TOP.glob("docs/*.md")), TOP / "bench" / "README.md"]
 PROMISES = ["PROMISES.md", "LOG_PROMISES.md", "COMMAND_PROMISES.md", "CONTRACTS.md"]
 MAINTAINERS = ["ARCHITECTURE.md", "DECISIONS.md", "EMBEDDING.md", "MUTATIONS.md", "PROVING.md", "FAULTS.md", "TESTING.md", "TIMES.md"]
@@ -228,6 +228,17 @@ def rows_of(table):
         return sum(1 for _ in csv.DictReader(file))
 
 
+def tests_of_scripts():
+    """The tests in the lists of the scripts, each with its script."""
+    for path in TOP.glob("tests/*.py"):
+        script = ast.parse(path.read_text(encoding="utf-8"))
+        for it in ast.walk(script):
+            is_list = isinstance(it, ast.Assign | ast.AugAssign) and ast.unparse(it).startswith("TESTS ")
+            if is_list or isinstance(it, ast.Call) and ast.unparse(it.func) == "suite.run_all":
+                lists = [part for part in ast.walk(it) if isinstance(part, ast.List)]
+                yield from ((path.name, test.id) for part in lists for test in part.elts if isinstance(test, ast.Name))
+
+
 def libraries():
     """The names of the libraries on which the program stands, as the Makefile lists them."""
     return re.search(r"^LIBRARIES = (.+)$", (TOP / "Makefile").read_text(encoding="utf-8"), re.MULTILINE).group(1).split()
@@ -245,6 +256,7 @@ def stale_sizes():
     code = lines_of(*(f"crates/{name}/src/**/*.rt" for name in [*libraries(), "scramotp"]))
     definitions, proofs = lines_of("crates/*/specs/**/*.antt"), lines_of("crates/*/proofs/**/*.antt")
     bugs = len(planted_edits(TOP))
+    tests, planted = {*tests_of_scripts()}, {(row.by, row.test) for row in planted_rows(TOP)}
     for name, form, size, most_off in [
         ("../README.md", r"some (\d+) lines of definitions", definitions, definitions // 50),
         ("../README.md", r"Some (\d+) \[bugs", edits, edits // 50),
@@ -252,6 +264,8 @@ def stale_sizes():
         ("PROMISES.md", r"some (\d+) of code", code, code // 50),
         ("PROMISES.md", r"The (\d+) lines of proofs", proofs, proofs // 50),
         ("PROMISES.md", r"some (\d+) wrong bodies", edits, edits // 50),
+        ("MUTATIONS.md", r"of the (\d+) tests of scripts", len(tests), 0),
+        ("MUTATIONS.md", r"scripts, (\d+) have a bug", len(tests & planted), 0),
         ("TESTING.md", r"some (\d+) lines of proofs", proofs, proofs // 50),
         ("TESTING.md", r"some (\d+) lines of code", code, code // 50),
         ("TESTING.md", r"some (\d+) wrong bodies", edits, edits // 50),
@@ -297,19 +311,21 @@ def taken_unproved():
 
 
 def stale_bugs():
-    """The rows of planted.csv that have no edit or no test, and the edits in a folder planted/ that have no row or do not apply."""
-    with open(TOP / "tests/data/planted.csv", newline="", encoding="utf-8") as file:
-        rows = list(csv.DictReader(file))
-    yield from (f"no row for {of}/{bug}" for of, bug in planted_edits(TOP).keys() - {(row["of"], row["bug"]) for row in rows})
+    """The rows of planted.csv that have no edit, no test or not what the test says, and the edits in a folder planted/ that have no row or
+    do not apply."""
+    rows = planted_rows(TOP)
+    yield from (f"no row for {of}/{bug}" for of, bug in planted_edits(TOP).keys() - {(row.of, row.bug) for row in rows})
     for row in rows:
-        name, by = f"{row['of']}/{row['bug']}", row["by"]
+        name = f"{row.of}/{row.bug}"
         try:
-            read_planted(TOP, row["of"], row["bug"])
+            read_planted(TOP, row.of, row.bug)
         except Unusable as fault:
             yield f"{name}: {fault}"
-        files = [TOP / "tests" / by] if by.endswith(".py") else [*(TOP / "crates" / by / "src").rglob("*.rt")]
-        if not any(re.search(rf"\b(?:def|fn) {row['test']}\(", file.read_text(encoding="utf-8")) for file in files if file.exists()):
-            yield f"{name}: {by} has no test {row['test']}"
+        files = [TOP / "tests" / row.by] if row.by.endswith(".py") else [*(TOP / "crates" / row.by / "src").rglob("*.rt")]
+        if not any(re.search(rf"\b(?:def|fn) {row.test}\(", file.read_text(encoding="utf-8")) for file in files if file.exists()):
+            yield f"{name}: {row.by} has no test {row.test}"
+        if not row.says:
+            yield f"{name}: {row.test} of {row.by}: the row does not have what the test says"
 
 
 def untimed_crates():

@@ -1,14 +1,19 @@
-"""For edits.py, planted.py and documents.py: where the functions of a crate are in its sources, and what edits change.
+"""For edits.py, planted.py and documents.py: where the functions of a crate are in its sources, what edits change, and which tests have to
+refuse planted bugs.
 
 An edit has the form that `rt help` describes. That of a crate changes src/ or specs/, and one of a definition in specs/ belongs to no
 function. The edits in tests/planted/ change what no crate has: a tool, a page with blocks that a test runs, the Makefile, a C file through
 which the program makes calls, or kills.py.
 """
+import csv
 import re
 from collections.abc import Iterable
 from dataclasses import dataclass
 from pathlib import Path
+from typing import NamedTuple
 
+# The repository's top.
+TOP = Path(__file__).resolve().parent.parent
 # Where the edits of a crate are that edits.py tries.
 FOLDERS = ("must-fail", "edits")
 # Where in a crate an edit may make changes; and where in the repository one in tests/planted/ may.
@@ -159,6 +164,27 @@ def read_planted(top: Path, of: str, bug: str) -> Edit:
     if path is None:
         raise Unusable("there is no such edit")
     return read_edit(path, top / root_of(of), [], EDITED_BY_TESTS if of == "tests" else EDITED)
+
+
+class PlantedRow(NamedTuple):
+    """A bug and the test that has to refuse it: the crate that is edited, or `tests`; the edit's name; the test's crate or script; the
+    test; and what the test says when it fails for this bug, where `..` stands for what has no space in it, such as a path."""
+
+    of: str
+    bug: str
+    by: str
+    test: str
+    says: str
+
+    def is_reason_of(self, failure: str) -> bool:
+        """Whether what a test says has this row's text."""
+        return bool(self.says) and re.search(r"\S*".join(map(re.escape, self.says.split(".."))), failure) is not None
+
+
+def planted_rows(top: Path) -> list[PlantedRow]:
+    """Returns the rows of tests/data/planted.csv."""
+    with open(top / "tests/data/planted.csv", newline="", encoding="utf-8") as file:
+        return [PlantedRow(**it) for it in csv.DictReader(file)]
 
 
 def edits_of(crate: Path) -> list[Path]:

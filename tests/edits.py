@@ -36,12 +36,11 @@ from dataclasses import dataclass, field
 from functools import cache
 from pathlib import Path
 
-from edit_sources import EDITED, Edit, Function, Unusable, edits_of, functions_of, read_edit
+from edit_sources import EDITED, TOP, Edit, Function, Unusable, edits_of, functions_of, read_edit
 
 # The libraries that each crate uses, as crates.txt lists them.
 Uses = dict[str, list[str]]
 
-TOP = Path(__file__).resolve().parent.parent
 # The folders of a crate that a check reads.
 PARTS = ("src", "specs", "proofs")
 # The status of a check whose path fits no function, or several.

@@ -16,9 +16,8 @@ import stat
 import suite
 from checks import equal, holds
 from processes import ran
-from suite import KEYS_OF_PENCIL, PROGRAM, each
+from suite import KEYS_OF_PENCIL, PROGRAM, TOP, each
 
-TOP = pathlib.Path(__file__).resolve().parent.parent
 REFUSED = "The program is not built, or is older than its sources: run make build first."
 # What make takes from the environment: where to install, and the settings of a make that called it, such as that of `make test`.
 OF_MAKE = {"DESTDIR", "PREFIX", "MAKEFLAGS", "MFLAGS", "MAKELEVEL"}

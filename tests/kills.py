@@ -53,9 +53,9 @@ def kill_at_any_moment(here, started, count, statuses, is_log=True):
         if number >= count and passed_in_killed:
             break
         is_whole, what = number < WHOLE, f"run {number}"
-        holds(here.book.exists(), what, "there is no book after the run before it")
         here.before = here.book.read_text()
         status, printed, faults, seconds = ended(here, started, None if is_whole else random.uniform(0, duration))
+        holds(here.book.exists(), what, "there is no book after it", status, printed)
         found = [*used(printed)]
         if is_whole:
             duration = min(duration, seconds)

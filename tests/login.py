@@ -208,6 +208,7 @@ def another_at_the_path(folder):
     here.socket.unlink()
     here.socket.write_text("another")
     running.ends(0, GONE)
+    holds(here.socket.exists(), "the file that took the socket's path is gone")
     equal(here.socket.read_text(), "another", "the file at the socket's path")
 
 

@@ -1,7 +1,10 @@
 #!/usr/bin/env python3
-"""Plants bugs, one at a time: the test that tests/data/planted.csv names for each has to fail.
+"""Plants bugs, one at a time: the test that tests/data/planted.csv names for each has to fail, and to say why.
 
 Usage: planted.py [--jobs N] [--unbuilt] [BUG ..]
+
+A test could fail for another reason than its bug. So the column `says` has a text that a test's output has to have when it fails: the value
+that is wrong, or what differs, as it follows from the edit. In it `..` stands for what has no space, such as a path.
 
 By default all bugs are tried, and otherwise those of these names; with --unbuilt, only those for which nothing is built. Each is an edit,
 in the form that `rt help` describes:
@@ -20,7 +23,6 @@ The program of `rt try` checks its use of memory and is slow, so a script that k
 here, as RUNS and COUNT say. It can't run together with those C files, so for a bug of a crate no test that loads one of them is named.
 """
 import argparse
-import csv
 import os
 import re
 import shutil
@@ -31,13 +33,11 @@ import threading
 import time
 from concurrent.futures import ThreadPoolExecutor
 from pathlib import Path
-from typing import NamedTuple
 
-from edit_sources import Unusable, read_planted, root_of
+from edit_sources import TOP, PlantedRow, Unusable, planted_rows, read_planted, root_of
 from run import NOT_TESTED
 import shims
 
-TOP = Path(__file__).resolve().parent.parent
 # The built programs, from the repository's top: the one that is tested, and the one whose library calls a script tests.
 PROGRAM = "crates/scramotp/out/scramotp"
 BENCH = "crates/bench/out/bench"
@@ -46,6 +46,8 @@ CALLS = "tests/pass_calls.c"
 # What a copy of the repository has besides them.
 COPIED = ["bench", "crates", "tests", "tools", "docs", "crates.txt", "HANDLES", "Makefile", "LICENSE"]
 COPIED += ["README.md", "CHANGELOG.md", "CONTRIBUTING.md"]
+# How many characters are shown of what a test says.
+SHOWN = 3000
 # The most seconds that a command may take.
 LIMIT = 1800
 # How many runs a script kills, and how many inputs of a kind it tries.
@@ -60,15 +62,6 @@ class NotJudged(Exception):
 
 class NotTested(Exception):
     """What a test that passes does not test on this machine."""
-
-
-class Row(NamedTuple):
-    """A bug and the test that has to refuse it: the crate that is edited, or `tests`; the edit's name; and the test's crate or script."""
-
-    of: str
-    bug: str
-    by: str
-    test: str
 
 
 def ran(words: list[str], folder: Path, **more: str) -> str:
@@ -92,8 +85,8 @@ class Room:
             to.parent.mkdir()
             shutil.copy2(built, to)
 
-    def is_refused(self, row: Row) -> bool:
-        """Whether the row's test fails while its bug is planted."""
+    def failure_with(self, row: PlantedRow) -> str | None:
+        """What `failure` returns while the row's bug is planted."""
         edit, root = read_planted(TOP, row.of, row.bug), root_of(row.of)
         texts = {file: (TOP / root / file).read_text(encoding="utf-8").split("\n") for file, _ in edit.lines}
         for (file, at), line in edit.lines.items():
@@ -101,13 +94,13 @@ class Room:
         try:
             for file, lines in texts.items():
                 (self.top / root / file).write_text("\n".join(lines), encoding="utf-8")
-            return not self.passes(row)
+            return self.failure(row)
         finally:
             for file in texts:
                 shutil.copy2(TOP / root / file, self.top / root / file)
 
-    def passes(self, row: Row) -> bool:
-        """Whether the row's test passes, with the copy's sources as they are."""
+    def failure(self, row: PlantedRow) -> str | None:
+        """What the row's test says when it fails, with the copy's sources as they are, or None if it passes."""
         if row.by.endswith(".py"):
             with tempfile.TemporaryDirectory(prefix="planted-") as folder:
                 # documents.py takes no program.
@@ -115,16 +108,19 @@ class Room:
                 bench = {"BENCH": str(self.loading_calls(BENCH, Path(folder)))} if row.by == "refused_calls.py" else {}
                 said = ran([sys.executable, "-B", row.by, *program, row.test], self.top / "tests", **bench)
             verdict = re.search(f"^{row.by}: (?:(1 passed, 0 failed)|0 passed, 1 failed)$", said, re.M)
+            failure = said
         else:
             said = ran(["rt", "try", "--test"], self.top / "crates" / row.by)
             verdict = re.search(rf"^test (?:\w+::)*{row.test} \.\.\. (?:(ok)$)?", said, re.M)
+            # What it says is before the line of the next test.
+            failure = re.split(r"^test ", said[verdict.start() + 1:], 1, re.M)[0] if verdict else ""
         if not verdict:
             raise NotJudged(said[-1000:])
         if verdict[1] and (untested := NOT_TESTED.search(said)):
             raise NotTested(untested[2])
-        return verdict[1] is not None
+        return None if verdict[1] else failure
 
-    def program(self, row: Row, folder: Path) -> Path:
+    def program(self, row: PlantedRow, folder: Path) -> Path:
         """The program for a script: the one that is built if no crate is edited, and otherwise one that is made of the copy's sources."""
         return self.loading_calls(PROGRAM, folder) if row.of == "tests" else self.made_program(folder / "program")
 
@@ -135,9 +131,10 @@ class Room:
             raise NotJudged(f"this needs {built}: run make build and make bench")
         if (self.top / CALLS).read_bytes() == (TOP / CALLS).read_bytes():
             return program
-        # The user nobody runs it too.
+        # The user nobody runs it too, who can't enter the copy of the repository.
         folder.chmod(0o755)
-        return shims.stand_in(program, shims.compiled("pass_calls", self.top / CALLS, folder), folder / program.name)
+        copied = shutil.copy2(program, folder / f"{program.name}.built")
+        return shims.stand_in(copied, shims.compiled("pass_calls", self.top / CALLS, folder), folder / program.name)
 
     def made_program(self, to: Path) -> Path:
         """Makes the program without proofs: copies it while `rt try` runs it, in a folder that has its output too."""
@@ -172,25 +169,28 @@ class Trial:
             self.own.room = Room(Path(tempfile.mkdtemp(dir=self.folder)))
         return self.own.room
 
-    def passes_without(self, row: Row) -> bool:
+    def passes_without(self, row: PlantedRow) -> bool:
         """Whether the row's test passes without a bug. A test of several rows is run once, unless they are tried at the same time."""
         key = (row.by, row.test, row.of == "tests")
         with self.lock:
             known = self.passed.get(key)
         if known is None:
-            known = self.room().passes(row)
+            known = self.room().failure(row) is None
             with self.lock:
                 self.passed[key] = known
         return known
 
-    def judged(self, row: Row) -> str:
+    def judged(self, row: PlantedRow) -> str:
         """Tries a bug, prints what became of it, and returns the beginning of that."""
         began = time.monotonic()
         try:
-            if not self.room().is_refused(row):
+            failure = self.room().failure_with(row)
+            if failure is None:
                 how = "LET THROUGH"
             elif not self.passes_without(row):
                 how = "NOT JUDGED: it fails without the bug too"
+            elif not row.is_reason_of(failure):
+                how = f"FAILED FOR ANOTHER REASON: it does not say {row.says}, but\n{failure[:SHOWN]}"
             else:
                 how = "refused"
         except NotTested as fault:
@@ -201,10 +201,9 @@ class Trial:
         return how.split(":")[0]
 
 
-def rows_of(bugs: list[str], is_unbuilt: bool) -> list[Row]:
+def rows_of(bugs: list[str], is_unbuilt: bool) -> list[PlantedRow]:
     """The rows of planted.csv, or those of these bugs, and only those for which nothing is built. Exits if there is none of a name."""
-    with open(TOP / "tests/data/planted.csv", newline="", encoding="utf-8") as file:
-        rows = [Row(**it) for it in csv.DictReader(file)]
+    rows = planted_rows(TOP)
     if strangers := set(bugs) - {it.bug for it in rows}:
         sys.exit(f"planted.py: no bug {', '.join(sorted(strangers))}")
     return [it for it in rows if (not bugs or it.bug in bugs) and (it.of == "tests" or not is_unbuilt)]

@@ -31,7 +31,9 @@ from book_cases import cases
 from checks import equal, holds
 from expected import AUDITS, VECTORS, keys_of, rows_of
 from processes import until
-from suite import BOOK_OF_USER, CODES, ROOT, code, document, each, hotp, is_locked, is_root, nobody, program_on_path, read_book, seen, totp
+from suite import (
+    BOOK_OF_USER, CODES, ROOT, code, document, each, hotp, is_awaited, is_locked, is_root, nobody, program_on_path, read_book, seen, totp,
+)
 from tool_runs import TOOLS, book_of, does, ran, start, with_tools
 
 DOCUMENT = document("docs/OPERATING.md")
@@ -237,7 +239,7 @@ def an_edit_waits(folder):
     run = start(folder, "exec scramotp verify --book book.toml --name user --moment 5")
     until(lambda: is_locked(book), "the run should hold the book")
     edit = start(folder, "tools/edit-book book.toml sed s/4096/4097/")
-    time.sleep(0.5)
+    until(lambda: is_awaited(book) or edit.process.poll() is not None, "the edit should wait for the book")
     edit.goes_on()
     run.ends(0, "PASS 5 0\n", text=f"{CODES[0]}\n")
     edit.ends(0)

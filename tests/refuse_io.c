@@ -6,7 +6,8 @@
      interrupted  the call is not made, and fails with EINTR
      short        a read or a write moves one byte
 
-   How many such calls there were, and which one went wrong, is written to the file that COUNTED names. Where TORN names a file,
+   How many such calls there were, which one went wrong, and which file it was of, is written to the file that COUNTED names. A file is
+   given by its path, as the call or the system has it, or is `input`, `output` or `faults`; the clock is `clock`. Where TORN names a file,
    reading its end fails. */
 #define _GNU_SOURCE
 #include <dlfcn.h>
@@ -27,6 +28,7 @@ enum turn { GOES_ON, REFUSED, LATE, SHORT };
 /* Neither count nor descriptor is kept from other threads: a program has one. */
 static unsigned long calls;
 static const char *wrong = "none";
+static char wrong_file[4096] = "none";
 static int torn = -1;
 
 static int is_named(const char *name)
@@ -40,6 +42,27 @@ static int is_named(const char *name)
         at = at ? at + 1 : NULL;
     }
     return 0;
+}
+
+/* The file of a descriptor. */
+static const char *of(int fd)
+{
+    static const char *const streams[] = {"input", "output", "faults"};
+    static char file[4096];
+    char link[32];
+    int before = errno;
+    if (fd >= 0 && fd <= 2)
+        return streams[fd];
+    snprintf(link, sizeof link, "/proc/self/fd/%d", fd);
+    long length = syscall(SYS_readlink, link, file, sizeof file - 1);
+    file[length < 0 ? 0 : length] = 0;
+    errno = before;
+    return file;
+}
+
+static void note(const char *file)
+{
+    snprintf(wrong_file, sizeof wrong_file, "%s", file);
 }
 
 static enum turn next_turn(const char *name)
@@ -59,11 +82,13 @@ static void *next(const char *name)
     return dlsym(RTLD_NEXT, name);
 }
 
-/* A call that is made as it is, or goes wrong. */
-#define CALL(result, name, failed, parameters, arguments)           \
+/* A call of a file that is made as it is, or goes wrong. */
+#define CALL(result, name, failed, file, parameters, arguments)     \
     result name parameters                                          \
     {                                                               \
         enum turn turn = next_turn(#name);                          \
+        if (turn != GOES_ON)                                        \
+            note(file);                                             \
         if (turn == REFUSED)                                        \
             return failed;                                          \
         result made = ((result(*) parameters)next(#name))arguments; \
@@ -74,7 +99,7 @@ static void *next(const char *name)
         return made;                                                \
     }
 
-/* As CALL, of `size` bytes. */
+/* As CALL, of `size` bytes of the file of `fd`. */
 #define MOVE(name, parameters, arguments)                                      \
     static ssize_t name##_whole parameters                                     \
     {                                                                          \
@@ -83,6 +108,8 @@ static void *next(const char *name)
     static ssize_t name##_made parameters                                      \
     {                                                                          \
         enum turn turn = next_turn(#name);                                     \
+        if (turn != GOES_ON)                                                   \
+            note(of(fd));                                                      \
         if (turn == REFUSED)                                                   \
             return -1;                                                         \
         if (turn == SHORT && size > 1)                                         \
@@ -115,30 +142,33 @@ ssize_t __write(int fd, const void *bytes, size_t size) { return write_made(fd, 
 ssize_t recv(int fd, void *bytes, size_t size, int flags) { return recv_made(fd, bytes, size, flags); }
 ssize_t send(int fd, const void *bytes, size_t size, int flags) { return send_made(fd, bytes, size, flags); }
 
-CALL(int, fsync, -1, (int fd), (fd))
-CALL(int, fdatasync, -1, (int fd), (fd))
-CALL(int, ftruncate, -1, (int fd, off_t size), (fd, size))
-CALL(int, flock, -1, (int fd, int how), (fd, how))
-CALL(int, fchmod, -1, (int fd, mode_t mode), (fd, mode))
-CALL(int, fchown, -1, (int fd, uid_t owner, gid_t group), (fd, owner, group))
-CALL(off_t, lseek, -1, (int fd, off_t offset, int from), (fd, offset, from))
-CALL(int, rename, -1, (const char *from, const char *to), (from, to))
-CALL(int, link, -1, (const char *from, const char *to), (from, to))
-CALL(int, unlink, -1, (const char *path), (path))
-CALL(char *, realpath, NULL, (const char *path, char *found), (path, found))
-CALL(int, statx, -1, (int fd, const char *path, int flags, unsigned mask, struct statx *found), (fd, path, flags, mask, found))
-CALL(int, socket, -1, (int domain, int type, int protocol), (domain, type, protocol))
-CALL(int, bind, -1, (int fd, const struct sockaddr *to, socklen_t size), (fd, to, size))
-CALL(int, listen, -1, (int fd, int backlog), (fd, backlog))
-CALL(int, connect, -1, (int fd, const struct sockaddr *to, socklen_t size), (fd, to, size))
-CALL(int, accept4, -1, (int fd, struct sockaddr *from, socklen_t *size, int flags), (fd, from, size, flags))
-CALL(int, shutdown, -1, (int fd, int how), (fd, how))
-CALL(int, ioctl, -1, (int fd, unsigned long what, void *more), (fd, what, more))
-CALL(int, clock_gettime, -1, (clockid_t clock, struct timespec *now), (clock, now))
+CALL(int, fsync, -1, of(fd), (int fd), (fd))
+CALL(int, fdatasync, -1, of(fd), (int fd), (fd))
+CALL(int, ftruncate, -1, of(fd), (int fd, off_t size), (fd, size))
+CALL(int, flock, -1, of(fd), (int fd, int how), (fd, how))
+CALL(int, fchmod, -1, of(fd), (int fd, mode_t mode), (fd, mode))
+CALL(int, fchown, -1, of(fd), (int fd, uid_t owner, gid_t group), (fd, owner, group))
+CALL(off_t, lseek, -1, of(fd), (int fd, off_t offset, int from), (fd, offset, from))
+CALL(int, rename, -1, to, (const char *from, const char *to), (from, to))
+CALL(int, link, -1, to, (const char *from, const char *to), (from, to))
+CALL(int, unlink, -1, path, (const char *path), (path))
+CALL(char *, realpath, NULL, path, (const char *path, char *found), (path, found))
+CALL(int, statx, -1, *path ? path : of(fd), (int fd, const char *path, int flags, unsigned mask, struct statx *found),
+     (fd, path, flags, mask, found))
+CALL(int, socket, -1, "socket", (int domain, int type, int protocol), (domain, type, protocol))
+CALL(int, bind, -1, of(fd), (int fd, const struct sockaddr *to, socklen_t size), (fd, to, size))
+CALL(int, listen, -1, of(fd), (int fd, int backlog), (fd, backlog))
+CALL(int, connect, -1, of(fd), (int fd, const struct sockaddr *to, socklen_t size), (fd, to, size))
+CALL(int, accept4, -1, of(fd), (int fd, struct sockaddr *from, socklen_t *size, int flags), (fd, from, size, flags))
+CALL(int, shutdown, -1, of(fd), (int fd, int how), (fd, how))
+CALL(int, ioctl, -1, of(fd), (int fd, unsigned long what, void *more), (fd, what, more))
+CALL(int, clock_gettime, -1, "clock", (clockid_t clock, struct timespec *now), (clock, now))
 
 static int opened(const char *call, int folder, const char *path, int flags, mode_t mode)
 {
     enum turn turn = next_turn(call);
+    if (turn != GOES_ON)
+        note(path);
     if (turn == REFUSED)
         return -1;
     int fd = syscall(SYS_openat, folder, path, flags, mode);
@@ -178,9 +208,9 @@ int openat(int folder, const char *path, int flags, ...)
 
 __attribute__((destructor)) static void tell(void)
 {
-    char text[64];
+    char text[sizeof wrong_file + 64];
     const char *path = getenv("COUNTED");
     int fd = path ? (int)syscall(SYS_openat, AT_FDCWD, path, O_WRONLY | O_CREAT | O_TRUNC, 0600) : -1;
     if (fd >= 0)
-        syscall(SYS_write, fd, text, snprintf(text, sizeof text, "%lu %s", calls, wrong));
+        syscall(SYS_write, fd, text, snprintf(text, sizeof text, "%lu %s %s", calls, wrong, wrong_file));
 }

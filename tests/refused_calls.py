@@ -79,6 +79,7 @@ def count_told(folder, kind, logged, check):
     for trial, answer in each(answers):
         with trial:
             if answer not in (None, whole):
+                holds("out of memory " in answer, "it has not ended as it should", answer)
                 log, times = answer.rsplit("out of memory ", 1)
                 equal(times, "1\n", kind, answer)
                 holds(check(log), kind, "neither the log that was due nor a clean beginning of it", answer)
@@ -178,6 +179,7 @@ def changed_again(folder, book):
     for trial, answer in each(answers):
         with trial:
             if answer not in (None, whole):
+                holds("out of memory " in answer, "it has not ended as it should", answer)
                 same, times = answer.rsplit("out of memory ", 1)
                 times = [int(it) for it in times.split()]
                 equal(same, texts, answer)

@@ -4,19 +4,20 @@
 Usage: refused_io.py PROGRAM [TEST ..]
 
 A call that fails, whether or not it was made, leaves the book whole, with each change that was reported and at most one more. The output
-is the beginning of what is due, or the log of a desk that halted. The fault is reported with status 3, except that of a call that
-NOT_TOLD names, which loses nothing. A read or a write that is interrupted, or moves only one of several bytes, changes nothing. What the
-program takes from the C library can all go wrong here or in refused_memory.py, or is listed as harmless. Needs `cc` and `nm`.
+is the beginning of what is due, or the log of a desk that halted. The fault is the one of docs/FAULTS.md for the file of the call, and for
+what the command was doing with it: FAULTS has them. It is reported with status 3, except that of a call that NOT_TOLD names, which loses
+nothing. A read or a write that is interrupted, or moves only one of several bytes, changes nothing. What the program takes from the C
+library can all go wrong here or in refused_memory.py, or is listed as harmless. Needs `cc` and `nm`.
 """
 import os
 import pathlib
-import re
+from typing import NamedTuple
 
 import shims
 import suite
 from checks import equal, holds
 from command_table import book_of, commands, is_done, is_front, is_kept, left, new_book, prepare, printed_begins_clean, run
-from suite import PROGRAM, each
+from suite import PROGRAM, each, fault_text
 
 # The calls that move bytes, and the other calls that are refused.
 MOVES = "read,write,recv,send"
@@ -44,11 +45,50 @@ NOT_TOLD = {
     ("login", "unlink"): "the socket is left, and the next login at its path says so",
     ("new book", "statx"): "enrol can't tell whether the new book's path is a link to nothing, at which no book can be made anyway",
 }
-FAULT = r"scramotp: (?:cannot (?:read|write) [ -~]+|socket fault)\n"
+# The fault of a refused call, by its file, as docs/FAULTS.md has them ("All other faults"); {} is the folder. That of a log which was
+# opened, and those of the book, are told by `due`.
+FAULTS = {
+    "input": "cannot read input",
+    "output": "cannot write output",
+    "random": "cannot read {}/random",
+    "log": "cannot read {}/log",
+    "socket": "socket fault",
+}
+# What a command uses to read and to save the book: its file, the file of the next text, their folder, and the clock, by which it waits for
+# other runs.
+OF_THE_BOOK = {"book", "book.new", ".", "clock"}
+
+
+class Call(NamedTuple):
+    """A call of a run, and its file: its path from the folder of the run, a stream's name, `clock`, or `socket`."""
+
+    name: str
+    file: str
+
+
+def saves(before, call):
+    """Whether a call of a run, after these, is of a save, and not of holding and reading the book. A run that has looked for the book's
+    real path begins to hold it. It goes to the start of the text to read it, and saves after that; or there is no book, and it makes the
+    file of the first text, looks for the book again, and writes that file."""
+    begins = [at for at, it in enumerate([*before, call]) if it == ("realpath", "book")]
+    since = before[begins[-1]:] if begins else []
+    if call.file == "book.new" and (call.name == "open" or ("open", "book.new") in since):
+        return True
+    return ("lseek", "book") in since and call != ("read", "book") or ("fsync", "book.new") in since
+
+
+def due(folder, before, call):
+    """The fault of a command whose call, after these, is refused, without its prefix."""
+    if call == ("read", "log"):
+        return "read fault"
+    if call.file in OF_THE_BOOK:
+        return f"cannot {'write' if saves(before, call) else 'read'} {folder}/book"
+    return FAULTS[call.file].format(folder)
 
 
 class Turns:
-    """A folder for runs in which calls go wrong, and how many calls the last run made."""
+    """A folder for runs in which calls go wrong, how many calls the last run made, and which calls were made before the one that went wrong
+    there."""
 
     def __init__(self, folder):
         self.folder = os.path.join(folder, "files")
@@ -56,28 +96,39 @@ class Turns:
         self.shim = shims.built("refuse_io")
         self.counted = pathlib.Path(folder, "counted")
         self.calls = 0
+        self.before = []
+
+    def call(self, name, file):
+        """The call with this name, of the file as refuse_io.c gives it."""
+        if file.startswith("socket:"):
+            return Call(name, "socket")
+        # A file that was open when its name was removed.
+        path = file.removesuffix(" (deleted)")
+        return Call(name, os.path.relpath(path, self.folder) if path.startswith("/") else path)
 
     def turn(self, command, number, calls, how):
-        """Makes a run whose call with this number goes wrong. Returns its answer, and the name of that call, or None if there were not so
-        many calls."""
+        """Makes a run whose call with this number goes wrong. Returns its answer, and that call, or None if there were not so many
+        calls."""
         prepare(self.folder, command)
         self.counted.unlink(missing_ok=True)
         more = {"LD_PRELOAD": self.shim, "CALLS": calls, "REFUSED": str(number), "HOW": how, "COUNTED": str(self.counted)}
         answer = run(command, self.folder, env={**os.environ, **more})
         holds(self.counted.exists(), command.name, "call", number, "the run ended before it could say which call went wrong", answer)
-        count, name = self.counted.read_text().split()
+        count, name, file = self.counted.read_text().split(" ", 2)
         self.calls = int(count)
         holds((name == "none") == (self.calls < number), command.name, "call", number, "of", count, "went wrong:", name)
-        return answer, None if name == "none" else name
+        return answer, None if name == "none" else self.call(name, file)
 
     def turns(self, command, calls, how):
-        """Makes each call go wrong in turn, and yields its name and the run's answer. Ends with a run in which none goes wrong, which has
-        to do all its work."""
-        number, name = 1, ""
-        while name is not None:
-            answer, name = self.turn(command, number, calls, how)
-            if name is not None:
-                yield (command.name, number, name, answer), answer
+        """Makes each call go wrong in turn, and yields it and the run's answer. Ends with a run in which none goes wrong, which has to do
+        all its work."""
+        self.before = []
+        number, call = 1, ()
+        while call is not None:
+            answer, call = self.turn(command, number, calls, how)
+            if call is not None:
+                yield (command.name, number, *call, answer), call, answer
+                self.before.append(call)
             number += 1
         equal(answer, (0, command.printed, ""), command.name, number)
         holds(is_done(self.folder, command), command.name, number, answer, "the command has not saved all", book_of(self.folder))
@@ -86,7 +137,7 @@ class Turns:
 def harmless(here, command, how):
     """A command does its work, whichever of its reads and writes goes wrong in this way. Returns how many each of the runs made."""
     made = []
-    for trial, (what, answer) in each(here.turns(command, MOVES, how)):
+    for trial, (what, _, answer) in each(here.turns(command, MOVES, how)):
         with trial:
             equal(answer, (0, command.printed, ""), what)
             holds(is_done(here.folder, command), what, "the command has not saved all", book_of(here.folder), left(here.folder))
@@ -128,12 +179,12 @@ def reads_and_writes_that_move_one_byte(folder):
     all_harmless(folder, "short")
 
 
-def is_told(command, answer):
-    """Whether a run that did not do all its work reports that, after what it could print."""
-    status, printed, fault = answer
-    if {"audit": (printed, fault), "upgrade": (fault, printed)}.get(command.name) == ("read fault\n", ""):
-        return status == 3
-    return status == 3 and re.fullmatch(FAULT, fault) is not None and is_front(command, printed)
+def is_told(command, answer, fault):
+    """Whether a run that did not do all its work reports this fault, after what it could print. `audit` prints that of a read of the log,
+    and `upgrade` reports it without the prefix."""
+    if fault == "read fault":
+        return answer == {"audit": (3, f"{fault}\n", ""), "upgrade": (3, "", f"{fault}\n")}[command.name]
+    return answer.status == 3 and answer.faults == fault_text(fault) and is_front(command, answer.output)
 
 
 def may_be_left(how, name):
@@ -145,19 +196,22 @@ def may_be_left(how, name):
 
 def failures(here, command, how, calls):
     """Lets each of these calls of a command fail, and yields None for each failure that is told, and for others their name in NOT_TOLD."""
-    for trial, (what, answer) in each(here.turns(command, calls, how)):
+    for trial, (what, call, answer) in each(here.turns(command, calls, how)):
         with trial:
-            call = what[2]
+            name, is_log = call.name, command.name in ("login", "hall")
             kind = "new book" if command.books[0] is None else command.name
-            name = None if is_told(command, answer) else ("any" if ("any", call) in NOT_TOLD else kind, call)
-            is_well = answer == (0, command.printed, "")
-            holds(name is None or is_well, what, "it neither ended well nor reported its fault")
-            holds(name is None or name in NOT_TOLD, what, "it ended well, but NOT_TOLD does not have this call")
-            holds(is_kept(here.folder, command, answer[1]), what, "the book is not whole, or lacks what was reported", book_of(here.folder))
-            holds(left(here.folder) <= may_be_left(how, call), what, "files are left", left(here.folder))
-            is_log = command.name in ("login", "hall")
-            holds(not is_log or printed_begins_clean(here.folder, answer[1]), what, "a line of the log is at fault")
-            yield name
+            untold = ("any" if ("any", name) in NOT_TOLD else kind, name)
+            if answer == (0, command.printed, ""):
+                holds(untold in NOT_TOLD, what, "it ended well, but NOT_TOLD does not have this call")
+            else:
+                fault = due(here.folder, here.before, call)
+                holds(is_told(command, answer, fault), what, "it neither ended well nor reported its fault, after what was due", fault)
+                untold = None
+            printed, book = answer.output, book_of(here.folder)
+            holds(is_kept(here.folder, command, printed), what, "the book is not whole, or lacks what was reported", book)
+            holds(left(here.folder) <= may_be_left(how, name), what, "files are left", left(here.folder))
+            holds(not is_log or printed_begins_clean(here.folder, printed), what, "a line of the log is at fault")
+            yield untold
 
 
 def all_told(folder, how, calls):
@@ -168,7 +222,8 @@ def all_told(folder, how, calls):
         with trial:
             names += failures(here, command, how, calls)
     told = names.count(None)
-    equal({it for it in NOT_TOLD if it[1] in calls.split(",")} - {*names}, set(), "calls of NOT_TOLD that no command makes, or whose failures are all told")
+    untold = {it for it in NOT_TOLD if it[1] in calls.split(",")}
+    equal(untold - {*names}, set(), "calls of NOT_TOLD that no command makes, or whose failures are all told")
     holds(2 * told > len(names), "at most half of the calls are told", told, len(names))
     print(f"refused_io.py: {len(names)} calls {how}, of which {told} are told")
 

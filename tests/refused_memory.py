@@ -1,13 +1,12 @@
 #!/usr/bin/env python3
 """Refuses each request for memory of each command in turn, one in each run. `audit` and `upgrade`, with logs of both versions, end with
-status 3 if a request that they need is refused; an audit of version 2 needs one more than an audit of version 1. Every command says so if
-it can't end well, and the book is whole and has what was reported before. Needs `cc`.
+status 3 if a request that they need is refused; an audit of version 2 needs one more than an audit of version 1. Every command ends with
+`no memory` if it can't end well, and the book is whole and has what was reported before. Needs `cc`.
 
 Usage: refused_memory.py PROGRAM [TEST ..]
 """
 import os
 import pathlib
-import re
 
 import shims
 import suite
@@ -15,7 +14,11 @@ from checks import equal, holds
 from command_table import book_of, commands, is_done, is_front, is_kept, left, new_book, prepare, printed_begins_clean, run
 from expected import AUDITS
 from processes import ran
-from suite import PROGRAM, each
+from suite import PROGRAM, each, fault_text
+
+
+# What a command reports if memory runs out, whatever it needed it for (docs/FAULTS.md).
+FAULT = fault_text("no memory")
 
 
 def split(said, *run):
@@ -44,7 +47,7 @@ def each_is_told(folder, words, printed):
         with trial:
             *told, _ = run_refused(folder, words, shim, number)
             if told != whole:
-                equal(told, [3, "", "scramotp: no memory\n"], words, number)
+                equal(told, [3, "", FAULT], words, number)
                 needed += 1
     holds(2 * needed > requests, "at most half of the requests are needed", words, needed, requests)
     return needed
@@ -66,9 +69,6 @@ def upgrades_are_refused(folder):
     """An upgrade prints the whole new log, or only the fault."""
     pathlib.Path(folder, "log").write_text("SCRAMLOG 1\nS BUSY\nE\nE\n")
     each_is_told(folder, ["upgrade", "--log", "log"], "SCRAMLOG 2\n1 S BUSY\n1 E\n2 E\n")
-
-
-FAULT = r"scramotp: (?:no memory|cannot (?:read|write) [ -~]+|socket fault)\n"
 
 
 def refused(command, folder, shim, number):
@@ -93,8 +93,7 @@ def requests_told(command, here, shim):
             equal(left(here), set(), what, "the files that are left")
             holds(command.name not in ("login", "hall") or printed_begins_clean(here, answer[1]), what, "a line of the log is at fault")
             if answer != whole:
-                equal(answer[0], 3, what, "the status")
-                holds(re.fullmatch(FAULT, answer[2]), what, "the fault is none of memory, a file or a socket")
+                equal((answer[0], answer[2]), (3, FAULT), what, "the status and the fault")
                 holds(is_front(command, answer[1]), what, "its output is no beginning of", command.printed)
                 told += 1
     return requests, told

@@ -233,7 +233,10 @@ def a_client_that_does_not_read(folder):
         except OSError:
             return True
         sent += 1
-        answers(other, "CODE 755224", r"NOCODE \d+")
+        try:
+            answers(other, "CODE 755224", r"NOCODE \d+")
+        except TimeoutError as fault:
+            holds(False, "another client gets no answer while one does not read", sent, fault)
         return False
 
     until(is_cut_off, "a client that does not read should be cut off")
@@ -253,10 +256,11 @@ def a_client_that_ends_no_line(folder):
     with ThreadPoolExecutor(1) as pool:
         sending = pool.submit(endless.sendall, b"x" * (16 << 20))
         logs_in(other, account)
-        sending.result()
+        fault = sending.exception()
+    holds(fault is None, "the tool does not take 16 MB of one line", fault)
     answers(other, f"CODE {account.code(0)}", r"PASS \d+ 0")
     [most] = re.findall(r"^VmHWM:\s+(\d+) kB$", Path(f"/proc/{serving.process.pid}/status").read_text(), re.M)
-    holds(int(most) < 40 << 10, "the kilobytes of memory that the tool has taken", most)
+    holds(int(most) < 40 << 10, "the kilobytes of memory that the tool has taken, after 16 MB of one line", most)
     endless.sendall(b"\n")
     equal([line_of(endless), line_of(endless)], ["NO :", ""], "the end of the line")
     holds(max(map(len, Path(folder, "hall.log").read_bytes().split(b"\n"))) < 6400, "a line of the log is too long")

@@ -185,6 +185,12 @@ def is_locked(path):
     return False
 
 
+def is_awaited(path):
+    """Whether a process waits for the lock of a file, which another one holds."""
+    locks = pathlib.Path("/proc/locks").read_text().splitlines()
+    return any(" -> " in it and it.split()[-3].endswith(f":{os.stat(path).st_ino}") for it in locks)
+
+
 def prints(words, data, status, output="", fault="", *about):
     """Runs a command with this input, and compares its status, its output and its fault, which is given without its prefix."""
     equal(ran(words, data), (status, output, fault_text(fault)), *about)
