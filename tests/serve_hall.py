@@ -6,11 +6,12 @@ Usage: serve_hall.py PROGRAM [TEST ..]
 The tool is started as in the block of docs/OPERATING.md. What the clients send and have to receive is computed with Python's hashlib and
 hmac. The tool goes on if a client is gone before it is greeted, is the 65th, sends no whole line, does not read what it is sent, or sends
 16 MB without the end of a line. If its hall is killed, it ends at the next event, and says why. It ends with status 0 at INT and at TERM,
-and with status 1 and a fault if a code can't be saved. No hall begins if the log or the socket is there already, as after a run that was
-killed.
+and with status 1 and a fault if a code can't be saved, or if the log can't be written. No hall begins if the log or the socket is there
+already, as after a run that was killed.
 """
 import os
 import re
+import resource
 import signal
 import socket
 import time
@@ -175,6 +176,19 @@ def a_hall_that_halts(folder):
             does(place, "scramotp audit --book hall.log.toml --log hall.log", printed="clean sessions=2 accepted=1 codes=0\n")
 
 
+def a_log_that_cannot_be_written(folder):
+    """No client is sent a line that the log does not have whole. The program ends, and says why."""
+    serving = serving_hall(folder, BOOK_OF_USER)
+    greeted(folder).close()
+    log = Path(folder, "hall.log")
+    until(lambda: log.read_text().endswith("1 E\n"), "the first session should end")
+    most = log.stat().st_size + 4
+    resource.prlimit(serving.process.pid, resource.RLIMIT_FSIZE, (most, most))
+    equal(line_of(connected(folder)), "", "what a client is sent whose greeting the log lacks")
+    serving.ends(1, "", "serve-hall: the log can't be written: File too large\n")
+    equal(log.stat().st_size, most, "the size of the log")
+
+
 def a_hall_that_is_killed(folder):
     """If the hall ends while nothing happens, the program ends at the next event, and says why."""
     serving = serving_hall(folder, BOOK_OF_USER)
@@ -310,6 +324,7 @@ suite.run_all(
         a_hall_of_your_own,
         a_full_hall,
         a_hall_that_halts,
+        a_log_that_cannot_be_written,
         a_hall_that_is_killed,
         a_slow_client,
         a_client_that_does_not_read,
