@@ -6,19 +6,19 @@ Usage: documents.py [CHECK ..]
 
 With names, only these of the functions below are used. By default all are.
 
-Each link between pages leads to a page and a section in it. Each path between backquotes is in the repository, and each source file or edit
-that is named is there. Each block of code, definitions, proofs or an edit that a page shows stands in one as it is, or in the head of a
-library. The sources have each signature in docs/EMBEDDING.md. Each name that a page of promises has between backquotes is in the sources.
-Each name without a space in a page for maintainers, in docs/FAULTS.md, docs/SECURITY.md or docs/TESTING.md is in the sources or in a
-script. A name that a page gives together with a file, as in `name` of `file.rt` or `file.rt` (`name`, `other`), is in that file. So is each
-law of docs/LOG_PROMISES.md in one of the files that are named before its table. run.py runs each script in this folder that takes a
-program, and docs/TESTING.md names each script. A script that runs a list of tests uses all of its functions. The sizes in docs/PROMISES.md
-and README.md are about those of the sources, and docs/TESTING.md says how many rows the tables of vectors and of faulty books have.
-docs/ARCHITECTURE.md says about how large each library is. The kit that the Makefile names is that in docs/PROMISES.md and README.md. No
-source has a word by which something is taken unproved. docs/MUTATIONS.md says how many edits each crate has, how many tests of scripts there
-are, and for how many of these a bug is planted. tests/data/planted.csv has a row for each edit that a test has to refuse, with what the
-test says then. docs/TIMES.md names each library. No line of a page has over 140 columns, outside tables and code blocks. Each fault has a
-line, and the status is then 1.
+Each link between pages leads to a page and a section in it. Each path between backquotes is in the repository, and each source file or
+edit that is named is there. Each block of code, definitions, proofs or an edit that a page shows stands in one as it is, or in the head of
+a library. The sources have each signature in docs/EMBEDDING.md. Each name that a page of promises has between backquotes is in the
+sources. Each name without a space in a page for maintainers, in docs/FAULTS.md, docs/SECURITY.md or docs/TESTING.md is in the sources or
+in a script. A name that a page gives together with a file, as in `name` of `file.rt` or `file.rt` (`name`, `other`), is in that file. So
+is each law of docs/LOG_PROMISES.md in one of the files that are named before its table. run.py runs each script in this folder that takes
+a program, and docs/TESTING.md names each script. A script that runs a list of tests uses all of its functions. The sizes in
+docs/PROMISES.md and README.md are about those of the sources, and docs/TESTING.md says how many rows the tables of vectors and of faulty
+books have. docs/PROMISES.md says how many lines of definitions there are to be read for a promise. docs/ARCHITECTURE.md says about how
+large each library is. The kit that the Makefile names is that in docs/PROMISES.md and README.md. No source has a word by which something
+is taken unproved. docs/MUTATIONS.md says how many edits each crate has, how many tests of scripts there are, and for how many of these a
+bug is planted. tests/data/planted.csv has a row for each edit that a test has to refuse, with what the test says then. docs/TIMES.md names
+each library. No line of a page has over 140 columns, outside tables and code blocks. Each fault has a line, and the status is then 1.
 """
 import ast
 import csv
@@ -282,6 +282,45 @@ def stale_sizes():
             yield f"{name}: {' '.join(told) or None}, and not {size}: {form}"
 
 
+def definitions_under(files):
+    """The lines of these files of definitions, and of all files of specs/ that they import."""
+    found, left = set(), [*files]
+    while left:
+        file = left.pop()
+        if file not in found:
+            found.add(file)
+            for crate, module in re.findall(r"^use Rattle\.(\w+)\.specs\.([\w.]+)", file.read_text(encoding="utf-8"), re.MULTILINE):
+                names = module.rstrip(".").split(".")
+                paths = [TOP / "crates" / crate / "specs" / f"{'/'.join(names[:most])}.antt" for most in range(len(names), 0, -1)]
+                left += [path for path in paths if path.exists()][:1]
+    return sum(len(file.read_text(encoding="utf-8").splitlines()) for file in found)
+
+
+def stale_readings():
+    """The lines of definitions to be read for a promise of docs/PROMISES.md, which it states wrongly by more than one in fifty, or not."""
+    text = (TOP / "docs" / "PROMISES.md").read_text(encoding="utf-8")
+    told = re.search(
+        r"some (\d+) lines for promise 1, (\d+) for 2 \((\d+) for the library alone\), (\d+) for 3 \((\d+) for the library alone\) and "
+        r"(\d+) for 4, and some (\d+) together", " ".join(text.split())
+    )
+    sizes, named = [], []
+    for promise in range(1, 5):
+        [listed] = re.findall(rf"### Promise {promise}:.*?\*Definitions, in reading order:\*(.*?)\n- \*", text, re.DOTALL)
+        files, of_library, crate = [], 0, ""
+        for word in re.findall(r"`([\w/]+(?:\.antt)?)`|(Of the command)", listed):
+            if word[1]:
+                of_library = definitions_under(files)
+            elif word[0].endswith(".antt"):
+                files.append(TOP / "crates" / crate / "specs" / word[0])
+            else:
+                crate = word[0]
+        sizes += [definitions_under(files)] + [of_library] * bool(of_library)
+        named += files
+    for number, size in zip(told.groups() if told else [0] * 7, [*sizes, definitions_under(named)], strict=True):
+        if abs(int(number) - size) > size // 50:
+            yield f"{number}, and not {size}"
+
+
 def stale_crates():
     """The libraries that have no row in docs/ARCHITECTURE.md with their lines of code, definitions and proofs, in hundreds, or one that is
     off by more than one hundred and more than a tenth; and the crates with such a row that are no libraries."""
@@ -382,6 +421,7 @@ def checks():
         yield kind, find.__name__, [fault for page in pages for fault in find(page, *given)]
     for kind, find in [
         ("a stale size", stale_sizes),
+        ("the lines of definitions to be read, in docs/PROMISES.md", stale_readings),
         ("the table of sizes in docs/ARCHITECTURE.md should have", stale_crates),
         ("no public function has this signature of docs/EMBEDDING.md", unknown_signatures),
         ("the kit of the Makefile is missing", pages_of_another_kit),
