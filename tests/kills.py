@@ -42,11 +42,11 @@ def ended(here, started, wait):
 
 def kill_at_any_moment(here, started, count, statuses, is_log=True):
     """Makes `count` runs, or RUNS of the environment, one after another, over the book in a folder, and kills each but the first WHOLE at
-    a random moment. If no code has passed in a killed run by then, it makes more, at most four times as many in all. `started` is given
-    the next counter of `user` and an open file; it starts a run that is sent codes around that counter and prints to that file. A run that
-    is not killed ends with one of these statuses, and lets a code pass. No run reports a fault, and its output, if that is a log, is the
-    beginning of a clean one. The book can be read after each run, the counters that were reported as passed are spent in it, and none
-    passes twice."""
+    a random moment. If no code has passed in a killed run by then, it makes more, at most four times as many in all, and waits for up to
+    twice as long, since the runs may have become slower. `started` is given the next counter of `user` and an open file; it starts a run
+    that is sent codes around that counter and prints to that file. A run that is not killed ends with one of these statuses, and lets a
+    code pass. No run reports a fault, and its output, if that is a log, is the beginning of a clean one. The book can be read after each
+    run, the counters that were reported as passed are spent in it, and none passes twice."""
     passed, killed, passed_in_killed, duration = set(), 0, 0, math.inf
     count = int(os.environ.get("RUNS") or count)
     for number in range(4 * count):
@@ -54,7 +54,8 @@ def kill_at_any_moment(here, started, count, statuses, is_log=True):
             break
         is_whole, what = number < WHOLE, f"run {number}"
         here.before = here.book.read_text()
-        status, printed, faults, seconds = ended(here, started, None if is_whole else random.uniform(0, duration))
+        most = duration if number < count else 2 * duration
+        status, printed, faults, seconds = ended(here, started, None if is_whole else random.uniform(0, most))
         holds(here.book.exists(), what, "there is no book after it", status, printed)
         found = [*used(printed)]
         if is_whole:
