@@ -30,7 +30,7 @@ use Rattle.sasl_desk.specs.Saved.{AreLinesSaved}
 use Rattle.sasl_desk.specs.declared.hall.Hall.{Hall}
 use Rattle.command_io.specs.HeldBook.{IsReadBook, CannotOpenBook}
 use Rattle.command_io.specs.Input.{AreLinesOf, IsInputUnreadOrNoMemory}
-use Rattle.commands.specs.PrintedLog.{IsLogFault}
+use Rattle.commands.specs.PrintedLog.{IsLogFault, StopsAfter}
 
 -- an event of a hall: a client arrives, and this is the server's part of its nonce; or the client of the session of this number
 -- does this at this moment
@@ -180,7 +180,12 @@ abbrev pub StopsHearing : (path : List ℕ) → Fault → Type 0
 StopsHearing path fault = IsInputUnreadOrNoMemory fault ⊎ ((fault ≡ BadEvent) ⊎ (IsFileUnwrittenOrNoMemory path fault
     ⊎ (fault ≡ CannotWriteOutput)))
 
--- the fault that ends `hall`: the book can't be held or read, or the hall stops hearing
-abbrev pub CannotRunHall : {File : Type 0} → (bytes_of : File → Option (List ℕ)) → ArgMatches → Fault → Type 0
-CannotRunHall bytes_of words fault =
-    CannotOpenBook bytes_of (given_value words option.Book) fault ⊎ StopsHearing (given_value words option.Book) fault
+-- the fault that ends `hall`, and what is printed before it: the book can't be held or read, and nothing is printed; or the hall stops
+-- hearing, and the log of what it heard may be printed. At a bad event this is the log of all lines before it.
+abbrev pub StopsHall : {File : Type 0} → (bytes_of written_to : File → Option (List ℕ)) → ArgMatches → Fault
+    → (input old new : Option (List ℕ)) → Type 0
+StopsHall bytes_of written_to words fault input old new =
+    (CannotOpenBook bytes_of (given_value words option.Book) fault × (new ≡ old))
+    ⊎ (StopsHearing (given_value words option.Book) fault
+    × StopsAfter fault old new ((last : List (List ℕ)) × RunsHall bytes_of written_to input last old new)
+    × (fault ≡ BadEvent → RunsToBadEvent bytes_of written_to input old new))

@@ -1,4 +1,4 @@
--- Which faults end the command `login`, and what is known of each.
+-- Which faults end the command `login`, what is known of each, and what is printed before it.
 use Rattle.std.specs.Prelude.{ℕ, ◌≡◌, ◌≤◌, length, ◌⊎◌, true, List, [], ◌∷◌}
 use Rattle.std.specs.Io.KnownBytes.{Consumes, IsAtEnd}
 use Rattle.std.specs.declared.option.Option.{Option}
@@ -17,7 +17,8 @@ use Rattle.command_io.specs.File.{IsFileUnreadOrNoMemory}
 use Rattle.command_io.specs.HeldBook.{CannotOpenBook}
 use Rattle.command_io.specs.Input.{IsInputUnreadOrNoMemory}
 use Rattle.command_words.specs.Values.{given_value}
-use Rattle.commands.specs.PrintedLog.{IsUnsavedOrUnlogged}
+use Rattle.commands.specs.Login.{PrintsLoginFront}
+use Rattle.commands.specs.PrintedLog.{IsUnsavedOrUnlogged, StopsAfter}
 
 -- a source gives no line of at most `most` bytes with its LF: it has failed, or it has ended, or these bytes have no LF
 pub record GivesNoLine (most : ℕ) (old new : SourceFacts) : Type 0 where
@@ -63,7 +64,10 @@ abbrev pub StopsTalking : (path : List ℕ) → Fault → Type 0
 StopsTalking path fault = IsInputUnreadOrNoMemory fault ⊎ ((fault ≡ Socket) ⊎ (IsFileUnwrittenOrNoMemory path fault
     ⊎ (fault ≡ CannotWriteOutput)))
 
--- the fault that ends `login`: what it begins with is not there, or its talk ends
-abbrev pub CannotLogIn : {File : Type 0} → (bytes_of : File → Option (List ℕ)) → ArgMatches → (input : Option (List ℕ)) → Fault → Type 0
-CannotLogIn bytes_of words input fault =
-    CannotPrepare bytes_of words input fault ⊎ StopsTalking (given_value words option.Book) fault
+-- the fault that ends `login`, and what is printed before it: what it begins with is not there, and nothing is printed; or its talk
+-- ends, and the front of a log may be printed
+abbrev pub StopsLogin : {File : Type 0} → (bytes_of written_to : File → Option (List ℕ)) → ArgMatches → Fault
+    → (input old new : Option (List ℕ)) → Type 0
+StopsLogin bytes_of written_to words fault input old new =
+    (CannotPrepare bytes_of words input fault × (new ≡ old))
+    ⊎ (StopsTalking (given_value words option.Book) fault × StopsAfter fault old new (PrintsLoginFront bytes_of written_to words old new))

@@ -11,7 +11,7 @@ use Rattle.clap.specs.declared.error.kind.ErrorKind.TheVariants as kind
 use Rattle.clap.specs.declared.parser.matches.ArgMatches.{ArgMatches}
 use Rattle.command_line.specs.Fault.{status_of}
 use Rattle.command_line.specs.declared.fault.Fault.{Fault}
-use Rattle.command_line.specs.declared.fault.Fault.TheVariants.{BadEvent, CannotWriteOutput}
+use Rattle.command_line.specs.declared.fault.Fault.TheVariants.{CannotWriteOutput}
 use Rattle.command_words.specs.Commands.CommandName.{Keys, Enrol, Code, Verify, Unlock, Login, Hall, Audit, Upgrade}
 use Rattle.command_words.specs.Commands.{CommandName, program, word_of}
 use Rattle.account_commands.specs.Code.{CannotPrintCode, PrintsCodeAsked}
@@ -21,10 +21,9 @@ use Rattle.account_commands.specs.Unlock.{CannotUnlock, UnlocksAsked}
 use Rattle.command_io.specs.Printed.{PrintsNothingUnlessOutputFailed}
 use Rattle.commands.specs.Audit.{CannotAudit, PrintsAudit}
 use Rattle.commands.specs.Upgrade.{CannotUpgrade, PrintsUpgrade}
-use Rattle.commands.specs.Hall.{CannotRunHall, RunsHall, RunsToBadEvent}
-use Rattle.commands.specs.LoginFaults.{CannotLogIn}
-use Rattle.commands.specs.Login.{PrintsLoginFront, RunsLogin}
-use Rattle.commands.specs.PrintedLog.{StopsAfter}
+use Rattle.commands.specs.Hall.{RunsHall, StopsHall}
+use Rattle.commands.specs.LoginFaults.{StopsLogin}
+use Rattle.commands.specs.Login.{RunsLogin}
 use Rattle.commands.specs.Verify.{CannotBeginToVerify, VerifiesAllLines, VerifiesFirstLines}
 
 -- the exit status of an answer: 0 for yes, 1 for no
@@ -83,11 +82,8 @@ module _ {File : Type 0} (bytes_of written_to : File → Option (List ℕ)) wher
   abbrev pub StopsAt : CommandName → ArgMatches → Fault → (input old new : Option (List ℕ)) → Type 0
   StopsAt Verify words fault input old new =
       (CannotBeginToVerify bytes_of words fault × (new ≡ old)) ⊎ VerifiesFirstLines bytes_of written_to words input old fault new
-  StopsAt Login words fault input old new =
-      StopsAfter fault old new (PrintsLoginFront bytes_of written_to words old new) × CannotLogIn bytes_of words input fault
-  StopsAt Hall words fault input old new =
-      StopsAfter fault old new ((last : List (List ℕ)) × RunsHall bytes_of written_to input last old new)
-      × (fault ≡ BadEvent → RunsToBadEvent bytes_of written_to input old new) × CannotRunHall bytes_of words fault
+  StopsAt Login words fault input old new = StopsLogin bytes_of written_to words fault input old new
+  StopsAt Hall words fault input old new = StopsHall bytes_of written_to words fault input old new
   StopsAt Keys words fault input old new = PrintsNothingUnlessOutputFailed fault old new × CannotPrintKeys words input fault
   StopsAt Code words fault input old new = PrintsNothingUnlessOutputFailed fault old new × CannotPrintCode words fault
   StopsAt Enrol words fault input old new = PrintsNothingUnlessOutputFailed fault old new × CannotEnrol bytes_of words input fault

@@ -43,8 +43,8 @@ pub record VerifyRun : Type 0 where
   pub printed : Option (List ℕ)
 
 -- a run of `verify`, from its held book
-abbrev pub run_of : {S : Type 0} → (S → StoreFacts) → HeldBook S → Option (List ℕ) → VerifyRun
-run_of facts held printed = record { held = held_shown facts held; printed = printed }
+abbrev pub verify_run_of : {S : Type 0} → (S → StoreFacts) → HeldBook S → Option (List ℕ) → VerifyRun
+verify_run_of facts held printed = record { held = held_shown facts held; printed = printed }
 
 -- the fault of a reply that is not printed: the output can't be written; or memory ran out, and nothing is printed
 abbrev pub IsUnprinted : Fault → (old new : Option (List ℕ)) → Type 0

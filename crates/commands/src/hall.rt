@@ -1,6 +1,6 @@
 //! The command `hall`: judges up to 64 logins at a time, over one book, from the events in its input, and prints the log.
 ghost use Rattle.std.specs.Prelude.{ℕ, List, [], IfErr, IsErrOf, OnOk};
-ghost use Rattle.commands.specs.Hall.{CannotRunHall, PrintsHallLog, PrintsToBadEvent, RunsHall, RunsToBadEvent, StopsHearing};
+ghost use Rattle.commands.specs.Hall.{PrintsHallLog, PrintsToBadEvent, RunsHall, StopsHall, StopsHearing};
 ghost use Rattle.commands.specs.PrintedLog.{StopsAfter};
 
 mod event;
@@ -48,12 +48,8 @@ where
     E: TerminalOutput,
     ensures ok { OnOk result.0 (RunsHall R.File.remaining R.File.contents (I.remaining input.old) []
         (O.contents output) (O.contents result.1)) }
-    ensures err { IfErr result.0 (λ fault. StopsAfter fault (O.contents output) (O.contents result.1)
-        ((last : List (List ℕ)) × RunsHall R.File.remaining R.File.contents (I.remaining input.old) last
-        (O.contents output) (O.contents result.1))) }
-    ensures bad { IsErrOf result.0 Fault.BadEvent
-        → RunsToBadEvent R.File.remaining R.File.contents (I.remaining input.old) (O.contents output) (O.contents result.1) }
-    ensures why { IfErr result.0 (CannotRunHall R.File.remaining matches.now) }
+    ensures err { IfErr result.0 (λ fault. StopsHall R.File.remaining R.File.contents matches.now fault (I.remaining input.old)
+        (O.contents output) (O.contents result.1)) }
 {
     match open_book::open(rt, given(matches, OptionName::Book), faults) {
         Ok(held) => {

@@ -13,8 +13,8 @@ ghost use Rattle.command_io.specs.Input.{IsInputUnreadOrNoMemory, TakesLine};
 ghost use Rattle.command_words.specs.Values.{given_value, value_of};
 ghost use Rattle.commands.specs.DeskLog.{IsDeskLog, StaysItsLog, StaysItsLogWith, IsLogAfterFault, IsLogAfterFaultWith, HasSavedLog};
 ghost use Rattle.commands.specs.DeskLog.{IsGiven};
-ghost use Rattle.commands.specs.Login.{EndsTalk, PrintsTalk, IsUserAsked, PrintsLoginFront, RunsLogin};
-ghost use Rattle.commands.specs.LoginFaults.{CannotLogIn, CannotPrepare, StopsTalking};
+ghost use Rattle.commands.specs.Login.{EndsTalk, PrintsTalk, IsUserAsked, RunsLogin};
+ghost use Rattle.commands.specs.LoginFaults.{CannotPrepare, StopsLogin, StopsTalking};
 ghost use Rattle.commands.specs.Nonces.{AreNonces};
 ghost use Rattle.commands.specs.Talked.{LogSays, talked_in};
 ghost use Rattle.commands.specs.PrintedLog.{StopsAfter};
@@ -102,9 +102,8 @@ where
     // one for each further line of the input. If it returns false, the login is not accepted, or some line is answered by another reply.
     ensures ok { IfOk result.0 (λ passed. RunsLogin R.File.remaining R.File.contents matches.now (I.remaining input.old)
         (O.contents output) passed (O.contents result.1)) }
-    ensures err { IfErr result.0 (λ fault. StopsAfter fault (O.contents output) (O.contents result.1)
-        (PrintsLoginFront R.File.remaining R.File.contents matches.now (O.contents output) (O.contents result.1))) }
-    ensures why { IfErr result.0 (CannotLogIn R.File.remaining matches.now (I.remaining input.old)) }
+    ensures err { IfErr result.0 (λ fault. StopsLogin R.File.remaining R.File.contents matches.now fault (I.remaining input.old)
+        (O.contents output) (O.contents result.1)) }
 {
     let login = match prepare(rt, matches, input, faults) {
         Ok(login) => login,

@@ -2,8 +2,8 @@
 ghost use Rattle.std.specs.Prelude.{◌≡◌, ◌⊎◌, ◌&&◌, IfOk, IfErr, OnOk};
 ghost use Rattle.std.specs.Io.KnownBytes.{Appends};
 ghost use Rattle.command_io.specs.HeldBook.{held_shown};
-ghost use Rattle.commands.specs.Verify.{is_passed, printed_reply, run_of, IsLineAnswered, IsUnprinted, CannotBeginToVerify, FailsAtLine};
-ghost use Rattle.commands.specs.Verify.{MayBePrinted, AnswersAllLines, AnswersFirstLines, VerifiesAllLines, VerifiesFirstLines};
+ghost use Rattle.commands.specs.Verify.{printed_reply, verify_run_of, IsLineAnswered, IsUnprinted, CannotBeginToVerify, FailsAtLine};
+ghost use Rattle.commands.specs.Verify.{is_passed, MayBePrinted, AnswersAllLines, AnswersFirstLines, VerifiesAllLines, VerifiesFirstLines};
 
 use crate::sent_codes::codes_in;
 use account_book::{BookStore, Reply};
@@ -73,9 +73,9 @@ fn answer_lines<S: BookStore, I: BufRead, O: Write>(
     output: &mut O,
 ) -> Result<bool, Fault>
     ensures ok { IfOk result (λ all_passed. AnswersAllLines S.IsStored name.now moment (I.remaining input.old)
-        (run_of S.facts held.old (O.contents output.old)) all_passed (run_of S.facts held.new (O.contents output.new))) }
+        (verify_run_of S.facts held.old (O.contents output.old)) all_passed (verify_run_of S.facts held.new (O.contents output.new))) }
     ensures err { IfErr result (λ fault. AnswersFirstLines S.IsStored held.old.path.now name.now moment (I.remaining input.old)
-        (run_of S.facts held.old (O.contents output.old)) fault (run_of S.facts held.new (O.contents output.new))) }
+        (verify_run_of S.facts held.old (O.contents output.old)) fault (verify_run_of S.facts held.new (O.contents output.new))) }
 {
     let mut lines = Lines::new(input);
     let mut all_passed = true;
@@ -96,9 +96,9 @@ fn answer_line<S: BookStore, O: Write>(
     output: &mut O,
 ) -> Result<Reply, Fault>
     ensures ok { IfOk result (λ reply. IsLineAnswered S.IsStored name.now moment line.now
-        (run_of S.facts held.old (O.contents output.old)) reply (run_of S.facts held.new (O.contents output.new))) }
+        (verify_run_of S.facts held.old (O.contents output.old)) reply (verify_run_of S.facts held.new (O.contents output.new))) }
     ensures err { IfErr result (λ fault. FailsAtLine S.IsStored held.old.path.now name.now moment line.now
-        (run_of S.facts held.old (O.contents output.old)) fault (run_of S.facts held.new (O.contents output.new))) }
+        (verify_run_of S.facts held.old (O.contents output.old)) fault (verify_run_of S.facts held.new (O.contents output.new))) }
     ensures path { held.new.path.now ≡ held.old.path.now }
 {
     let reply = held.judge(alloc, name, moment, codes_in(line))?;

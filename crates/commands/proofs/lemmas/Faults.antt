@@ -1,12 +1,9 @@
--- The faults with which a desk or a hall can't begin, those at which a hall stops hearing, and which faults are not `BadEvent`.
-use Rattle.std.proofs.Common.{◌≡◌, ◌⊎◌, inl, inr, ℕ, List, Option, ap, ◌∙◌, sym, subst}
-use Rattle.book_format.specs.declared.fault.BookWhy.{BookWhy}
-use Rattle.book_format.specs.declared.fault.BookWhy.TheVariants as why
-use Rattle.command_line.specs.Fault.{IsFileUnwrittenOrNoMemory, fault_of_book_why}
+-- The faults with which a desk or a hall can't begin, none of which is `BadEvent`, and those at which a hall stops hearing.
+use Rattle.std.proofs.Common.{◌≡◌, ◌⊎◌, inl, inr, ℕ, List, Option, ap, ◌∙◌, subst}
+use Rattle.command_line.specs.Fault.{IsFileUnwrittenOrNoMemory}
 use Rattle.command_line.specs.declared.fault.Fault.{Fault}
 use Rattle.command_line.specs.declared.fault.Fault.TheVariants.{BadEvent}
 use Rattle.sasl_log.specs.Sink.{SinkFacts}
-use Rattle.command_io.specs.HeldBook.{CannotHoldOrNoMemory, CannotOpenBook}
 use Rattle.commands.specs.Hall.{StopsHearing}
 use Rattle.commands.specs.PrintedLog.{FailsToBegin, IsUnsavedOrUnlogged, StopsAfter}
 
@@ -24,19 +21,6 @@ pub failed_begin_excludes_bad_event : (path : List ℕ) (old new : SinkFacts) (f
 failed_begin_excludes_bad_event path old new fault (inl (output, failed)) is = cc (output, is)
 failed_begin_excludes_bad_event path old new fault (inr (same, unwritten)) is =
     let wrong = subst (IsFileUnwrittenOrNoMemory path) is unwritten in cc wrong
-
--- no fault that says why a text is not a book is a `BadEvent`
-book_why_excludes_bad_event : (reason : BookWhy) → fault_of_book_why reason ≡ BadEvent → ⊥
-book_why_excludes_bad_event why.NoMemory is = cc is
-book_why_excludes_bad_event reason is = cc is
-
--- the fault of a book that can't be held or read is not a `BadEvent`
-pub unopened_book_excludes_bad_event : {File : Type 0} (bytes_of : File → Option (List ℕ)) (path : List ℕ) (fault : Fault)
-    → CannotOpenBook bytes_of path fault
-    → fault ≡ BadEvent → ⊥
-unopened_book_excludes_bad_event bytes_of path fault (inl held) is = let wrong = subst (CannotHoldOrNoMemory path) is held in cc wrong
-unopened_book_excludes_bad_event bytes_of path fault (inr (text, found, read, first, by)) is =
-    book_why_excludes_bad_event found.why (sym by ∙ is)
 
 -- a hall stops hearing at a bad event, an unsaved book or a failed log
 pub line_fault_stops_hearing : (path : List ℕ) (log : SinkFacts) (fault : Fault) → (fault ≡ BadEvent) ⊎ IsUnsavedOrUnlogged path log fault

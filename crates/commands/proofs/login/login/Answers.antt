@@ -1,6 +1,6 @@
-use Rattle.std.proofs.Common.{inl, inr}
+use Rattle.std.proofs.Common.{inl, inr, refl}
 use Rattle.std.proofs.lemmas.Result.{IfErr-weaker}
-use Rattle.command_io.proofs.lemmas.Results.{if_ok_from_both}
+use Rattle.command_io.proofs.lemmas.Results.{if_err_both, if_ok_from_both}
 use Rattle.commands.proofs.lemmas.Cases.{second_case_weakens}
 use Rattle.commands.proofs.login.login.Goals as goal
 
@@ -32,28 +32,27 @@ returns-in-Ok-open-clause-ok g c =
       },
     ))
 
+pub returns-in-Err-clause-err : goal.returns-in-Err-clause-err
+returns-in-Err-clause-err g c = inl (c.in-Err.ensures.err, refl)
+
 pub returns-in-Ok-open-clause-err : goal.returns-in-Ok-open-clause-err
 returns-in-Ok-open-clause-err g c =
     IfErr-weaker c.talk_over.result.0 _ _
-    (λ fault. second_case_weakens (λ printed. (
-      _,
-      _,
-      c.in-Ok.ensures.nonces,
-      record {
-        text = _;
-        book = _;
-        is_read = c.in-Ok.ensures.book;
-        moment = _;
-        is_moment = c.in-Ok.ensures.moment.0;
-        moment_range = c.in-Ok.ensures.moment.1;
-        printed = printed;
-      },
-    )))
-    c.talk_over.ensures.err
-
-pub returns-in-Err-clause-why : goal.returns-in-Err-clause-why
-returns-in-Err-clause-why g c = inl c.in-Err.ensures.err
-
-pub returns-in-Ok-open-clause-why : goal.returns-in-Ok-open-clause-why
-returns-in-Ok-open-clause-why g c =
-    IfErr-weaker c.talk_over.result.0 _ _ (λ fault stops. inr (rw c.in-Ok.ensures.path at stops)) c.talk_over.ensures.why
+    (λ fault stops. inr (
+      rw c.in-Ok.ensures.path at stops.0,
+      second_case_weakens (λ printed. (
+        _,
+        _,
+        c.in-Ok.ensures.nonces,
+        record {
+          text = _;
+          book = _;
+          is_read = c.in-Ok.ensures.book;
+          moment = _;
+          is_moment = c.in-Ok.ensures.moment.0;
+          moment_range = c.in-Ok.ensures.moment.1;
+          printed = printed;
+        },
+      )) stops.1,
+    ))
+    (if_err_both _ _ c.talk_over.result.0 c.talk_over.ensures.why c.talk_over.ensures.err)

@@ -1,7 +1,7 @@
 use Rattle.std.proofs.Common.{rules, refl}
 use Rattle.command_words.specs.Commands.CommandName.{Keys, Enrol, Code, Verify, Unlock, Login, Hall, Audit, Upgrade}
 use Rattle.commands.specs.Program.{answer_status}
-use Rattle.command_io.proofs.lemmas.Results.{if_err_all_three, if_err_both}
+use Rattle.command_io.proofs.lemmas.Results.{if_err_both}
 use Rattle.commands.proofs.lemmas.Runs.{command_ends_as_known, computed_status_ends_as_known, parse_finds_named_command, found_command_is_known}
 use Rattle.commands.proofs.lemmas.Runs.{found_command_has_name, done_command_has_run, stopped_command_has_run}
 use Rattle.commands.proofs.program.run_command.Goals as goal
@@ -57,7 +57,7 @@ returns-in-Some-login-default-clause-ends g c =
     computed_status_ends_as_known _ _ answer_status c.login-passed.result.0 c.answered-in-Some-login-default.result
     c.answered-in-Some-login-default.ensures
     c.login-passed.ensures.ok
-    (if_err_both _ _ c.login-passed.result.0 c.login-passed.ensures.err c.login-passed.ensures.why)
+    c.login-passed.ensures.err
     (λ passed did. done_command_has_run Login _ is (passed, refl, did)) (λ _ stopped. stopped_command_has_run Login _ is stopped)
 
 pub returns-in-Some-hall-default-clause-ends : goal.returns-in-Some-hall-default-clause-ends
@@ -66,7 +66,7 @@ returns-in-Some-hall-default-clause-ends g c =
     c.in-Some-hall-default.is-hall in
     computed_status_ends_as_known _ _ (λ _. 0) c.hall-ended.result.0 c.done-in-Some-hall-default.result c.done-in-Some-hall-default.ensures
     c.hall-ended.ensures.ok
-    (if_err_all_three c.hall-ended.result.0 _ _ _ c.hall-ended.ensures.err c.hall-ended.ensures.bad c.hall-ended.ensures.why)
+    c.hall-ended.ensures.err
     (λ _ did. done_command_has_run Hall _ is (refl, did)) (λ _ stopped. stopped_command_has_run Hall _ is stopped)
 
 pub returns-in-Some-audit-default-clause-ends : goal.returns-in-Some-audit-default-clause-ends
