@@ -777,7 +777,7 @@ def a_shell(folder):
 def every_tool(folder):
     """The table of tools lists each of them, with its usage. Without words, a tool prints its usage."""
     Path(folder, "tools").symlink_to(TOOLS)
-    told = re.findall(r"^\| `(\S+) (.*?)` \|", DOCUMENT.read_text(encoding="utf-8").partition("## Add an account")[0], re.M)
+    told = re.findall(r"^\| `(\S+) (.*?)` \|", DOCUMENT.read_text(encoding="utf-8").partition("## The tools")[2], re.M)
     equal({name for name, _ in told}, set(os.listdir(Path(folder, "tools"))), told)
     for trial, (name, words) in each(told):
         with trial:
