@@ -35,6 +35,7 @@ TESTS = [
     "refused_io.py",
     "oversized.py",
     "failed_saves.py",
+    "power_loss.py",
     "hall.py",
     "hall_faults.py",
     "serve_hall.py",

@@ -1,0 +1,229 @@
+#!/usr/bin/env python3
+"""What a loss of power may leave of a book, at each moment of runs of the built program. No power is lost: the script works out, from the
+calls that a run has made, what a device may have kept by the rules of power_model.py.
+
+Usage: power_loss.py PROGRAM [TEST ..]
+
+Runs of `verify`, `login`, `hall`, `unlock` and `enrol`, also of a new book. In each state that a loss may leave before their first call or
+after any, the book is whole: it has each save that was reported by then, and at most one more. The program goes on from there: a code that
+was reported as passed fails when it is sent again, a name that was reported as enrolled is taken, a token that was reported as unlocked
+takes a code, and no other file is left. Needs `cc`.
+"""
+import os
+import pathlib
+import re
+from typing import NamedTuple
+
+import shims
+import suite
+from checks import equal, holds
+from command_table import BOOK, book_of, command_of, left, new_book, parsed_book, prepare, run, with_token
+from power_model import Folder, Note, read_notes
+from suite import CODES, each
+
+# BOOK with a token that is locked.
+LOCKED = BOOK.replace("failures = 2", "failures = 3")
+
+
+class Loss(NamedTuple):
+    """What a loss of power may leave of a run: the folder's files, and how many saves the run had reported by then."""
+
+    files: frozenset
+    saved: int
+
+    @property
+    def name(self):
+        """What a failure says of it."""
+        sizes = [f"{name} of {len(text)} bytes" for name, text in sorted(self.files) if name.startswith("book")]
+        return f"saves reported: {self.saved}, left: {' and '.join(sizes) or 'no book'}"
+
+
+class Losses:
+    """Runs of commands in a folder, and what a loss of power may leave of each."""
+
+    def __init__(self, folder):
+        self.noted = pathlib.Path(folder, "noted")
+        self.folder = os.path.join(folder, "files")
+        os.mkdir(self.folder)
+        self.count = 0
+
+    def notes_of(self, command):
+        """Runs a command that does all its work, and returns what it did to files and told."""
+        self.noted.unlink(missing_ok=True)
+        more = {"LD_PRELOAD": shims.built("note_files"), "NOTED": str(self.noted)}
+        equal(run(command, self.folder, env={**os.environ, **more}), (0, command.printed, ""), command.name)
+        return read_notes(self.noted)
+
+    def of(self, command, book=BOOK):
+        """All losses of a run with this book, unless the command makes one: before its first call, and after each."""
+        prepare(self.folder, command)
+        if command.books[0] is not None:
+            pathlib.Path(self.folder, "book").write_text(book)
+        device = Folder(self.folder)
+        notes = self.notes_of(command)
+        equal(book_of(self.folder), command.books[-1], command.name, "the book after the run")
+        losses = dict.fromkeys(Loss(files, 0) for files in sorted(device.states(), key=sorted))
+        for note in notes:
+            device.take(note)
+            saved = saves_told(command, *device.told)
+            losses |= dict.fromkeys(Loss(files, saved) for files in sorted(device.states(), key=sorted))
+        holds(now(self.folder) in device.states(), command.name, "what the run has left is none of the states that a loss may leave")
+        self.count += len(losses)
+        return [*losses]
+
+    def put(self, loss):
+        """Makes the folder as the loss leaves it."""
+        for name in os.listdir(self.folder):
+            os.unlink(os.path.join(self.folder, name))
+        for name, text in loss.files:
+            path = pathlib.Path(self.folder, name)
+            path.write_bytes(text)
+            path.chmod(0o600)
+
+
+def now(folder):
+    """The files of a folder, as a loss has them."""
+    return frozenset((path.name, path.read_bytes()) for path in pathlib.Path(folder).iterdir())
+
+
+def saves_told(command, sent, printed):
+    """How many saves a run has reported by what it has sent and printed. A reply that `login` has sent counts like a printed one."""
+    replies = len(re.findall(rb"^PASS .*\n", sent, re.M))
+    return max(command.saves_told(printed.decode()), replies + 1 if replies else 0)
+
+
+def place_of(here, command, loss):
+    """Checks that the book has one of the texts that it may have after a loss, and returns the number of that text's save."""
+    book = book_of(here.folder)
+    holds(book in command.books[loss.saved:loss.saved + 2], "the book has none of the texts that it may have", book)
+    return command.books.index(book, loss.saved)
+
+
+def goes_on(here, again, status, printed, fault=""):
+    """Runs a command on what a loss has left, and compares its answer. It leaves no other file."""
+    equal(run(again, here.folder), (status, printed, f"scramotp: {fault}\n" if fault else ""), "the next run")
+    equal(left(here.folder), set(), "the files that the next run leaves")
+
+
+def is_shown(command, losses):
+    """Checks that the losses are not only what the run leaves when the power stays: each of the run's books is left, and the next file is
+    left empty, with a part of its text, and with all of it."""
+    texts = {text for loss in losses for name, text in loss.files if name == "book.new"}
+    whole = max(texts, key=len)
+    part = {text for text in texts if 0 < len(text) < len(whole) and whole.startswith(text)}
+    holds(b"" in texts and part and whole in texts, command.name, "the model leaves no part of a next text", len(texts))
+    holds(len(losses) > 20 * (len(command.books) - 1), command.name, "too few states", len(losses))
+
+
+def codes_are_sent_again(here, command):
+    """Whatever a loss leaves of a run, its codes are sent to `verify` again: those that were reported as passed fail, and the others pass
+    unless their save has been kept."""
+    losses, again = here.of(command), command_of("verify")
+    is_shown(command, losses)
+    for trial, loss in each(losses):
+        with trial:
+            here.put(loss)
+            place = place_of(here, command, loss)
+            after = command.books[place]["accounts"]["user"]["token"]["next"]
+            replies = "".join(f"PASS 5 {at}\n" if at >= after else "FAIL 5\n" for at in range(2))
+            goes_on(here, again, 1 if after else 0, replies)
+
+
+class Steps(NamedTuple):
+    """Changes of a folder, and which texts the book and the next file may then have, None for a file that is not there."""
+
+    name: str
+    notes: list
+    books: set
+    nexts: set
+
+
+# What a new file may have to which `ab` was written, if it is not synced, and the device has the bytes `old`.
+PARTS = {b"", b"a", b"ab", b"\0\0", b"a\0", b"ol", b"al"}
+
+
+def steps_of(folder, book):
+    """Ways to write `ab` to a book, of which this is the file and which has the text `old`: safe ones, and ones that are not."""
+    path, following = (os.fsencode(os.path.join(folder, name)) for name in ("book", "book.new"))
+    new = book + 1
+    made = [Note("made", new), Note("name", new, 0, following)]
+    data, sync, of_folder = Note("data", new, 0, b"ab"), Note("sync", new), Note("sync", os.stat(folder).st_ino)
+    renamed = [Note("name", new, 0, path), Note("gone", 0, 0, following)]
+    return [
+        Steps("nothing", [], {b"old"}, {None}),
+        Steps("in place", [Note("data", book, 0, b"ab")], {b"old", b"ald", b"abd", b"\0\0d", b"a\0d"}, {None}),
+        Steps("in place, synced", [Note("data", book, 0, b"ab"), Note("sync", book)], {b"abd"}, {None}),
+        Steps("cut", [Note("size", book, 1)], {b"old", b"o"}, {None}),
+        Steps("removed", [Note("gone", 0, 0, path)], {b"old", None}, {None}),
+        Steps("not renamed", [*made, data, sync], {b"old"}, {None, b"ab"}),
+        Steps("not synced", [*made, data, *renamed], {b"old", *PARTS}, {None, *PARTS}),
+        Steps("synced before it is written", [*made, sync, data, *renamed, of_folder], PARTS, {None}),
+        Steps("only the folder is synced", [*made, data, *renamed, of_folder], PARTS, {None}),
+        Steps("the folder is not synced", [*made, data, sync, *renamed], {b"old", b"ab"}, {None, b"ab"}),
+        Steps("the folder is synced before", [*made, data, sync, of_folder, *renamed], {b"old", b"ab"}, {None, b"ab"}),
+        Steps("all is synced", [*made, data, sync, *renamed, of_folder], {b"ab"}, {None}),
+    ]
+
+
+def rules(folder):
+    """The model leaves what its rules say, of saves that are written down here: all of it, and nothing else."""
+    path = pathlib.Path(folder, "book")
+    path.write_bytes(b"old")
+    for trial, steps in each(steps_of(folder, path.stat().st_ino)):
+        with trial:
+            device = Folder(folder)
+            for note in steps.notes:
+                device.take(note)
+            states = [dict(state) for state in device.states()]
+            equal({state.get("book") for state in states}, steps.books, "the book")
+            equal({state.get("book.new") for state in states}, steps.nexts, "the next file")
+
+
+def verify(folder):
+    """A code for which `verify` has printed PASS is spent."""
+    here = Losses(folder)
+    codes_are_sent_again(here, command_of("verify"))
+    print(f"power_loss.py: {here.count} states after verify")
+
+
+def servers(folder):
+    """A code for which `login` or `hall` has logged PASS, or has sent it, is spent."""
+    here = Losses(folder)
+    for trial, name in each(["login", "hall"]):
+        with trial:
+            codes_are_sent_again(here, command_of(name))
+    print(f"power_loss.py: {here.count} states after login and hall")
+
+
+def enrol(folder):
+    """A name that was reported as enrolled is taken, also in a book that was made for it. If it was not, it may be taken or free."""
+    here = Losses(folder)
+    for trial, command in each([command_of("enrol"), new_book()]):
+        with trial:
+            losses = here.of(command)
+            is_shown(command, losses)
+            for inner, loss in each(losses):
+                with inner:
+                    here.put(loss)
+                    answer = (1, "", "name is taken") if place_of(here, command, loss) else (0, command.printed)
+                    goes_on(here, command, *answer)
+                    equal(book_of(here.folder), command.books[-1], "the book after the next run")
+    print(f"power_loss.py: {here.count} states after enrol")
+
+
+def unlock(folder):
+    """A token that was reported as unlocked takes codes."""
+    here, book = Losses(folder), parsed_book(LOCKED)
+    command = command_of("unlock")._replace(books=[book, with_token(book, failures=0)])
+    again = command_of("verify")._replace(text=f"000000\n{CODES[0]}\n")
+    losses = here.of(command, LOCKED)
+    is_shown(command, losses)
+    for trial, loss in each(losses):
+        with trial:
+            here.put(loss)
+            is_unlocked = place_of(here, command, loss) == 1
+            goes_on(here, again, 1, "FAIL 5\nPASS 5 0\n" if is_unlocked else "LOCKED 5\nLOCKED 5\n")
+    print(f"power_loss.py: {here.count} states after unlock")
+
+
+suite.run_all([rules, verify, servers, enrol, unlock])
