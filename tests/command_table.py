@@ -26,7 +26,7 @@ RANDOM = bytes(range(64))
 def parsed_book(text):
     """What a book states, with values for the keys that it may leave out."""
     book = tomllib.loads(text)
-    for account in book["accounts"].values():
+    for account in book.get("accounts", {}).values():
         account.setdefault("act_as", [])
         if "token" in account:
             account["token"].setdefault("sync_ahead", 0)

@@ -19,7 +19,7 @@ import suite
 from checks import equal, holds
 from command_table import BOOK, book_of, command_of, left, new_book, parsed_book, prepare, run, with_token
 from power_model import Folder, Note, read_notes
-from suite import CODES, each
+from suite import CODES, each, fault_text
 
 # BOOK with a token that is locked.
 LOCKED = BOOK.replace("failures = 2", "failures = 3")
@@ -101,17 +101,16 @@ def place_of(here, command, loss):
 
 def goes_on(here, again, status, printed, fault=""):
     """Runs a command on what a loss has left, and compares its answer. It leaves no other file."""
-    equal(run(again, here.folder), (status, printed, f"scramotp: {fault}\n" if fault else ""), "the next run")
+    equal(run(again, here.folder), (status, printed, fault_text(fault)), "the next run")
     equal(left(here.folder), set(), "the files that the next run leaves")
 
 
 def is_shown(command, losses):
-    """Checks that the losses are not only what the run leaves when the power stays: each of the run's books is left, and the next file is
-    left empty, with a part of its text, and with all of it."""
-    texts = {text for loss in losses for name, text in loss.files if name == "book.new"}
-    whole = max(texts, key=len)
-    part = {text for text in texts if 0 < len(text) < len(whole) and whole.startswith(text)}
-    holds(b"" in texts and part and whole in texts, command.name, "the model leaves no part of a next text", len(texts))
+    """Checks that the losses are more than what a run that is killed leaves: the next file is left empty, with a part of a text that a book
+    has, and with all of one, and that in more than one way."""
+    books, nexts = ({text for loss in losses for name, text in loss.files if name == of} for of in ("book", "book.new"))
+    parts = {text for text in nexts - books - {b""} if any(book.startswith(text) for book in books)}
+    holds(b"" in nexts and parts and nexts & books, command.name, "the model leaves no part of a next text", len(nexts))
     holds(len(losses) > 20 * (len(command.books) - 1), command.name, "too few states", len(losses))
 
 
@@ -119,7 +118,6 @@ def codes_are_sent_again(here, command):
     """Whatever a loss leaves of a run, its codes are sent to `verify` again: those that were reported as passed fail, and the others pass
     unless their save has been kept."""
     losses, again = here.of(command), command_of("verify")
-    is_shown(command, losses)
     for trial, loss in each(losses):
         with trial:
             here.put(loss)
@@ -127,6 +125,7 @@ def codes_are_sent_again(here, command):
             after = command.books[place]["accounts"]["user"]["token"]["next"]
             replies = "".join(f"PASS 5 {at}\n" if at >= after else "FAIL 5\n" for at in range(2))
             goes_on(here, again, 1 if after else 0, replies)
+    is_shown(command, losses)
 
 
 class Steps(NamedTuple):
@@ -201,13 +200,13 @@ def enrol(folder):
     for trial, command in each([command_of("enrol"), new_book()]):
         with trial:
             losses = here.of(command)
-            is_shown(command, losses)
             for inner, loss in each(losses):
                 with inner:
                     here.put(loss)
                     answer = (1, "", "name is taken") if place_of(here, command, loss) else (0, command.printed)
                     goes_on(here, command, *answer)
                     equal(book_of(here.folder), command.books[-1], "the book after the next run")
+            is_shown(command, losses)
     print(f"power_loss.py: {here.count} states after enrol")
 
 
@@ -217,12 +216,12 @@ def unlock(folder):
     command = command_of("unlock")._replace(books=[book, with_token(book, failures=0)])
     again = command_of("verify")._replace(text=f"000000\n{CODES[0]}\n")
     losses = here.of(command, LOCKED)
-    is_shown(command, losses)
     for trial, loss in each(losses):
         with trial:
             here.put(loss)
             is_unlocked = place_of(here, command, loss) == 1
             goes_on(here, again, 1, "FAIL 5\nPASS 5 0\n" if is_unlocked else "LOCKED 5\nLOCKED 5\n")
+    is_shown(command, losses)
     print(f"power_loss.py: {here.count} states after unlock")
 
 
