@@ -5,9 +5,9 @@ calls that a run has made, what a device may have kept by the rules of power_mod
 Usage: power_loss.py PROGRAM [TEST ..]
 
 Runs of `verify`, `login`, `hall`, `unlock` and `enrol`, also of a new book. In each state that a loss may leave before their first call or
-after any, the book is whole: it has each save that was reported by then, and at most one more. The program goes on from there: a code that
-was reported as passed fails when it is sent again, a name that was reported as enrolled is taken, a token that was reported as unlocked
-takes a code, and no other file is left. Needs `cc`.
+after any, the book is whole: it has each save that was reported by then, and at most one more. It still is if the power goes again in the
+next run. The program goes on from there: a code that was reported as passed fails when it is sent again, a name that was reported as
+enrolled is taken, a token that was reported as unlocked takes a code, and no other file is left. Needs `cc`.
 """
 import os
 import pathlib
@@ -17,7 +17,7 @@ from typing import NamedTuple
 import shims
 import suite
 from checks import equal, holds
-from command_table import BOOK, book_of, command_of, left, new_book, parsed_book, prepare, run, with_token
+from command_table import BOOK, after_codes, book_of, command_of, left, new_book, parsed_book, prepare, run, with_token
 from power_model import Folder, Note, read_notes
 from suite import CODES, each, fault_text
 
@@ -55,10 +55,14 @@ class Losses:
         return read_notes(self.noted)
 
     def of(self, command, book=BOOK):
-        """All losses of a run with this book, unless the command makes one: before its first call, and after each."""
+        """All losses of a run with this book, unless the command makes one."""
         prepare(self.folder, command)
         if command.books[0] is not None:
             pathlib.Path(self.folder, "book").write_text(book)
+        return self.of_next(command)
+
+    def of_next(self, command):
+        """All losses of a run that finds the folder as it is: before the run's first call, and after each."""
         device = Folder(self.folder)
         notes = self.notes_of(command)
         equal(book_of(self.folder), command.books[-1], command.name, "the book after the run")
@@ -185,6 +189,21 @@ def verify(folder):
     print(f"power_loss.py: {here.count} states after verify")
 
 
+def two_losses(folder):
+    """The power goes once more, in a run that finds what the first loss has left, and is sent the code that is due then."""
+    here, first, books = Losses(folder), command_of("verify"), after_codes(parsed_book(BOOK), 3)
+    for trial, loss in each(here.of(first)):
+        with trial:
+            here.put(loss)
+            place = place_of(here, first, loss)
+            second = first._replace(text=f"{CODES[place]}\n", printed=f"PASS 5 {place}\n", books=books[place:place + 2])
+            for inner, next_loss in each(here.of_next(second)):
+                with inner:
+                    here.put(next_loss)
+                    place_of(here, second, next_loss)
+    print(f"power_loss.py: {here.count} states after one loss or two")
+
+
 def servers(folder):
     """A code for which `login` or `hall` has logged PASS, or has sent it, is spent."""
     here = Losses(folder)
@@ -225,4 +244,4 @@ def unlock(folder):
     print(f"power_loss.py: {here.count} states after unlock")
 
 
-suite.run_all([rules, verify, servers, enrol, unlock])
+suite.run_all([rules, verify, two_losses, servers, enrol, unlock])
