@@ -6,13 +6,6 @@ ghost use Rattle.log_grammar.specs.laws.LogLaws.{CleanLogsAreFronts, EachAccount
 ghost use Rattle.log_grammar.specs.laws.LogLaws.{EachFaultHasOneReason, EachLogIsJudged, ClassesFollowThePlace};
 ghost use Rattle.log_grammar.specs.laws.LogLaws.{FrontsAreWhatBeginsCleanLogs};
 
-use otp_core::laws::{only_one_reply_is_due, some_reply_is_due};
-use scram_ends::laws::{at_most_one_verdict_is_due, some_verdict_is_due};
-use scram_text::laws::{
-    client_first_is_decided, has_one_client_first, has_one_server_final, has_one_server_first,
-    name_is_decided, server_final_is_decided, server_first_is_decided, spells_one_name,
-};
-
 /// A text is the spelling of at most one message, so a reader of a line knows which bytes were sent.
 pub fn escapes_one_message()
     ensures { EscapesOneMessage }
@@ -66,10 +59,7 @@ pub fn goes_on_by_no_other()
 /// The place after a log's lines, and the replies in them, follow from the lines.
 pub fn logs_have_one_reading()
     ensures { LogsHaveOneReading }
-{
-    has_one_client_first();
-    spells_one_name();
-}
+{}
 
 /// The first lines of a front, which is whole lines that a log may begin with, are a front too.
 pub fn fronts_begin_with_fronts()
@@ -100,30 +90,12 @@ pub fn has_one_fault_line()
 /// There is at most one reason why a line is at fault.
 pub fn each_fault_has_one_reason()
     ensures { EachFaultHasOneReason }
-{
-    has_one_client_first();
-    spells_one_name();
-    at_most_one_verdict_is_due();
-    only_one_reply_is_due();
-}
+{}
 
 /// Each list of bytes is a clean log, or has a line at fault and a reason for it: an audit always has an answer.
 pub fn each_log_is_judged()
     ensures { EachLogIsJudged }
-{
-    has_one_client_first();
-    client_first_is_decided();
-    spells_one_name();
-    name_is_decided();
-    has_one_server_first();
-    server_first_is_decided();
-    has_one_server_final();
-    server_final_is_decided();
-    at_most_one_verdict_is_due();
-    some_verdict_is_due();
-    only_one_reply_is_due();
-    some_reply_is_due();
-}
+{}
 
 /// The classes of lines that are due after a log's lines, demands aside, are those of its place.
 pub fn classes_follow_the_place()
@@ -134,9 +106,4 @@ pub fn classes_follow_the_place()
 /// a log may begin with can be completed to a clean log.
 pub fn fronts_are_what_begins_clean_logs()
     ensures { FrontsAreWhatBeginsCleanLogs }
-{
-    has_one_client_first();
-    client_first_is_decided();
-    name_is_decided();
-    some_verdict_is_due();
-}
+{}

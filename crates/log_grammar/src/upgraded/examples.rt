@@ -7,8 +7,6 @@ ghost use Rattle.log_grammar.specs.Why.{is_cut, no_line, out_of_order, other_mec
 ghost use Rattle.log_grammar.specs.laws.Examples.{header_one_text};
 ghost use Rattle.log_grammar.specs.laws.UpgradedExamples.{header_two_text, one_numbered, numbered_no};
 
-use scram_text::laws::{has_one_client_first, spells_one_name};
-
 /// These logs of version 2 are clean: only the first line; sessions that the client ends with `ABORT`, with a line that was not
 /// due, or by going away; one with a mechanism that is not offered; one whose first message is refused; one that ends after the
 /// empty challenge; and two sessions, one after the other.
@@ -46,10 +44,7 @@ pub fn cut_upgraded_logs()
         (one_numbered (codes "1 C AUTH SCRAM-SHA-1 :" ∷ codes "1 S NO :" ∷ [])) 5 is_cut }
     ensures invited_gone { (accounts : Accounts) → IsWhy accounts
         (one_numbered (codes "1 C AUTH SCRAM-SHA-1" ∷ codes "1 S CONT :" ∷ codes "1 C GONE" ∷ [])) 6 is_cut }
-{
-    has_one_client_first();
-    spells_one_name();
-}
+{}
 
 /// These lines are at fault in a log of version 2: a line whose class is not due, such as a session that begins where `E` is due;
 /// other names of mechanisms; a challenge where none is due, and another line where one is; an `S OK`, or an `S NO` with a message,
@@ -75,7 +70,4 @@ pub fn faulty_upgraded_logs()
     ensures first_again { (accounts : Accounts) → IsWhy accounts (ended_by_lf (header_two_text ∷ header_one_text ∷ [])) 2 out_of_order }
     ensures unnumbered { (accounts : Accounts) → IsWhy accounts (ended_by_lf (header_two_text ∷ codes "C ABORT" ∷ [])) 2 no_line }
     ensures numbered_first { (accounts : Accounts) → IsWhy accounts (ended_by_lf (header_two_text ∷ codes "1 SCRAMLOG 1" ∷ [])) 2 no_line }
-{
-    has_one_client_first();
-    spells_one_name();
-}
+{}

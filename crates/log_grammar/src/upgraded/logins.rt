@@ -3,9 +3,8 @@ ghost use Rattle.log_grammar.specs.Upgrades.{upgraded_bytes};
 ghost use Rattle.log_grammar.specs.laws.Logins.{LoginsAreClean, LoginsMayHalt, LoginsAreAnswered, RefusedLoginsAreAtFault};
 ghost use Rattle.log_grammar.specs.laws.Logins.{OtherRepliesAreAtFault};
 
-use crate::upgraded::logs::{upgraded_logs_are_clean, upgraded_logs_have_the_same_fault};
-use crate::version_one::logins::{logins_are_clean, other_answers_to_logins_are_at_fault};
-use scram_ends::laws::accepts_exactly_valid;
+use crate::upgraded::logs::upgraded_logs_have_the_same_fault;
+use crate::version_one::logins::other_answers_to_logins_are_at_fault;
 
 /// A log of version 2 of one valid login is clean if the client then goes away, if a code, or two in a row, is followed by a halt,
 /// and if it is followed by the reply that is due, which is NOCODE if the account has no token.
@@ -13,11 +12,7 @@ pub fn upgraded_logins_are_clean()
     ensures gone { LoginsAreClean upgraded_bytes }
     ensures halted { LoginsMayHalt upgraded_bytes }
     ensures answered { LoginsAreAnswered upgraded_bytes }
-{
-    accepts_exactly_valid();
-    logins_are_clean();
-    upgraded_logs_are_clean();
-}
+{}
 
 /// A log of version 2 that records a valid login as refused is at fault there, and so is one in which a code, or two in a row,
 /// after the login has a reply other than the one due. The reason names what is due: the acceptance, with its signature, or the
@@ -26,7 +21,6 @@ pub fn other_answers_to_upgraded_logins_are_at_fault()
     ensures refused { RefusedLoginsAreAtFault upgraded_bytes }
     ensures answered { OtherRepliesAreAtFault upgraded_bytes }
 {
-    accepts_exactly_valid();
     other_answers_to_logins_are_at_fault();
     upgraded_logs_have_the_same_fault();
 }

@@ -3,8 +3,6 @@
 ghost use Rattle.log_grammar.specs.laws.BySessions.{CleanLogsAreThoseOfSessions, FaultLinesBeginNoCleanLog};
 ghost use Rattle.log_grammar.specs.laws.BySessions.{EachCodeIsOfItsLogin, EachReplyDueFollowsItsLogin};
 
-use crate::laws::fronts_are_what_begins_clean_logs;
-
 /// A log of version 1 is clean if and only if all of these hold:
 ///
 /// - It is the first line and the lines of some sessions, each ended by an LF.
@@ -32,6 +30,4 @@ pub fn each_reply_due_follows_its_login()
 /// last line.
 pub fn fault_lines_begin_no_clean_log()
     ensures { FaultLinesBeginNoCleanLog }
-{
-    fronts_are_what_begins_clean_logs();
-}
+{}

@@ -24,11 +24,6 @@ ghost use Rattle.log_grammar.specs.laws.Logins.{Exchange, IsLoginTo, login_sessi
 ghost use Rattle.log_grammar.specs.laws.Replies.{pass_line, next_two};
 ghost use Rattle.log_grammar.specs.laws.Examples.{header_one_text, offer_text, first_alone, one_session, bare_no, AreWhole};
 
-use crate::laws::classes_follow_the_place;
-use crate::version_one::logins::other_answers_to_logins_are_at_fault;
-use crate::version_one::replies::next_two_hotp_codes_pass;
-use scram_text::laws::{has_one_client_first, spells_one_name};
-
 /// These logs are clean: only the first line; sessions that the client ends with `ABORT`, with a line that was not due, or by going
 /// away; one with a mechanism that is not offered; one whose first message is refused; one that ends after the empty challenge; and
 /// two sessions, one after the other.
@@ -69,10 +64,7 @@ pub fn cut_logs()
         (one_session (codes "C AUTH SCRAM-SHA-1 :" ∷ codes "S NO :" ∷ [])) 5 is_cut }
     ensures invited_gone { (accounts : Accounts) → IsWhy accounts
         (one_session (codes "C AUTH SCRAM-SHA-1" ∷ codes "S CONT :" ∷ codes "C GONE" ∷ [])) 6 is_cut }
-{
-    has_one_client_first();
-    spells_one_name();
-}
+{}
 
 /// These lines are at fault: another first line; a line whose class is not due, such as a session that begins where `E` is due, or
 /// the first line again; other names of mechanisms; a challenge where none is due, and another line where one is; and an `S OK`, or
@@ -95,10 +87,7 @@ pub fn faulty_logs()
         (one_session (codes "C BAD" ∷ codes "S NO :e=other-error" ∷ [])) 4 (other_outcome (refused_with [])) }
     ensures not_first { (accounts : Accounts) → IsWhy accounts
         (one_session (codes "C AUTH SCRAM-SHA-1 :" ∷ codes "S CONT :" ∷ [])) 4 (other_outcome (refused_with [])) }
-{
-    has_one_client_first();
-    spells_one_name();
-}
+{}
 
 /// A log that ends with a halt is clean, and any line that follows a halt is at fault: nothing is due after it.
 pub fn halt_is_last()
@@ -110,11 +99,7 @@ pub fn halt_is_last()
         (text : List ℕ) (line : LogLine) → AreWhole (texts ++ text ∷ []) (log ++ line ∷ [])
         → Begins (demands accounts) log halted told
         → IsWhy accounts (ended_by_lf (texts ++ text ∷ [])) (length texts + 1) out_of_order }
-{
-    has_one_client_first();
-    spells_one_name();
-    classes_follow_the_place();
-}
+{}
 
 /// Bytes without an LF are a log that is cut if there are at most 6202, as many as a line may have; else they are no line.
 pub fn lines_end_with_lf()
@@ -181,7 +166,4 @@ pub fn logs_of_two_codes()
         → t.failures < t.limit → IsCodeWord first → IsCodeWord second → IsCounter counter → IsWhy accounts
         (original_bytes (login_session mechanism exchange ++ heard (sync first second) ∷ pass_line moment counter ∷ [])) 8
         (other_reply moment (Some Fail)) }
-{
-    next_two_hotp_codes_pass();
-    other_answers_to_logins_are_at_fault();
-}
+{}

@@ -9,20 +9,11 @@ ghost use Rattle.log_grammar.specs.Upgrades.{original_bytes};
 ghost use Rattle.log_grammar.specs.laws.Logins.{EachOkEndsALogin, LoginsAreClean, LoginsMayHalt, LoginsAreAnswered, HasPassword};
 ghost use Rattle.log_grammar.specs.laws.Logins.{PasswordsLogIn, RefusedLoginsAreAtFault, OtherRepliesAreAtFault};
 
-use otp_core::laws::only_one_reply_is_due;
-use scram_ends::honest_login;
-use scram_ends::laws::{accepts_exactly_valid, at_most_one_verdict_is_due};
-use scram_text::laws::{has_one_client_first, spells_one_name};
-
 /// An `S OK` may stand in a log if and only if the lines before it end with the first three messages of a login, and its message
 /// makes that login valid (RFC 5802, sections 3 and 5), to the account that the first of them names, with the session's mechanism.
 pub fn each_ok_ends_a_login()
     ensures { EachOkEndsALogin }
-{
-    accepts_exactly_valid();
-    has_one_client_first();
-    spells_one_name();
-}
+{}
 
 /// A log of a valid login is clean if the client then goes away, if a code, or two in a row, is followed by a halt, and if it is
 /// followed by the reply that is due, which is NOCODE if the account has no token.
@@ -30,38 +21,23 @@ pub fn logins_are_clean()
     ensures gone { LoginsAreClean original_bytes }
     ensures halted { LoginsMayHalt original_bytes }
     ensures answered { LoginsAreAnswered original_bytes }
-{
-    accepts_exactly_valid();
-}
+{}
 
 /// A log that records a valid login as refused is at fault there, and so is one in which a code, or two in a row, after the login
 /// has a reply other than the one due. The reason names what is due: the acceptance, with its signature, or the reply.
 pub fn other_answers_to_logins_are_at_fault()
     ensures refused { RefusedLoginsAreAtFault original_bytes }
     ensures answered { OtherRepliesAreAtFault original_bytes }
-{
-    accepts_exactly_valid();
-    at_most_one_verdict_is_due();
-    has_one_client_first();
-    only_one_reply_is_due();
-    spells_one_name();
-}
+{}
 
 /// There is a valid login to each account with a plain name whose keys are those of a password, with a salt and a count that fit
 /// into a challenge, as those of every account book do.
 pub fn passwords_log_in()
     ensures { PasswordsLogIn }
-{
-    honest_login();
-    has_one_client_first();
-    spells_one_name();
-}
+{}
 
 /// If an account with a plain name can be challenged and has a password, some clean log ends with a halt.
 pub fn some_log_halts()
     ensures { (accounts : Accounts) (m : Mechanism) (name password : List ℕ) → CanBeChallenged (accounts.entry m name) → IsPlainName name
         → HasPassword (accounts.entry m name) m password → (lines : List LogLine) × IsClean accounts (log_bytes (lines ++ said halt ∷ [])) }
-{
-    logins_are_clean();
-    passwords_log_in();
-}
+{}

@@ -2,9 +2,6 @@
 ghost use Rattle.log_grammar.specs.laws.Outcomes.{FirstLinesBeginLogs, PlacesHaveTheirMessages, EachOfferIsDue, EachChallengeIsDue};
 ghost use Rattle.log_grammar.specs.laws.Outcomes.{EachRefusalIsDue, EachReplyIsDue, EachHaltEndsACode};
 
-use scram_ends::laws::{accepts_exactly_valid, at_most_one_verdict_is_due};
-use scram_text::laws::{has_one_client_first, spells_one_name};
-
 /// The first lines of what a log may begin with are also what a log may begin with, and their replies are the first ones. So what
 /// is said here about a log's last line holds for each of its lines.
 pub fn first_lines_begin_logs()
@@ -31,12 +28,7 @@ pub fn each_challenge_is_due()
 /// and no fourth message makes the login valid.
 pub fn each_refusal_is_due()
     ensures { EachRefusalIsDue }
-{
-    accepts_exactly_valid();
-    at_most_one_verdict_is_due();
-    has_one_client_first();
-    spells_one_name();
-}
+{}
 
 /// PASS, FAIL, LOCKED and NOCODE may stand if and only if they are the reply that is due to the code before them, or to the two in
 /// a row, after all earlier replies for its account.

@@ -3,8 +3,6 @@
 ghost use Rattle.log_grammar.specs.laws.Reasons.{DueRepliesCanBeWritten, WhatIsDueMayStand, EachLineThatIsDueMayStand};
 ghost use Rattle.log_grammar.specs.laws.Reasons.{FaultsHoldWhateverFollows};
 
-use crate::laws::fronts_are_what_begins_clean_logs;
-
 /// What a reason names as due may stand, in a log of version 1, if a challenge can be written for each account and decoy. If the
 /// reason names the mechanisms, a challenge, an outcome, or a reply whose counter is in its range (`due_replies_can_be_written`
 /// says when it is), then the lines before the line at fault, followed by a line that says what is due, begin a clean log. This is
@@ -12,9 +10,7 @@ use crate::laws::fronts_are_what_begins_clean_logs;
 pub fn what_is_due_may_stand()
     ensures some { WhatIsDueMayStand }
     ensures each { EachLineThatIsDueMayStand }
-{
-    fronts_are_what_begins_clean_logs();
-}
+{}
 
 /// If a whole line is at fault, it is at fault for the same reason in all bytes that begin with the same lines, whatever follows
 /// them.

@@ -1,9 +1,6 @@
 //! Logins in a log of version 2: what `S OK` and `S NO` mean under the number of a session.
 ghost use Rattle.log_grammar.specs.laws.NumberedLogins.{NumberedPlacesHaveTheirMessages, EachNumberedOkEndsALogin, EachNumberedRefusalIsDue};
 
-use scram_ends::laws::{accepts_exactly_valid, at_most_one_verdict_is_due};
-use scram_text::laws::{has_one_client_first, spells_one_name};
-
 /// The messages that the place of a number contains are those of the number's own last lines, whatever stands between them in the
 /// log.
 pub fn numbered_places_have_their_messages()
@@ -15,19 +12,10 @@ pub fn numbered_places_have_their_messages()
 /// neither after a halt nor between BUSY and its `E`.
 pub fn each_numbered_ok_ends_a_login()
     ensures { EachNumberedOkEndsALogin }
-{
-    accepts_exactly_valid();
-    has_one_client_first();
-    spells_one_name();
-}
+{}
 
 /// `S NO` may stand under a number if and only if it is the refusal that is due at the number's place. After a client-final message
 /// it says why the login is refused, and no fourth message makes the login valid.
 pub fn each_numbered_refusal_is_due()
     ensures { EachNumberedRefusalIsDue }
-{
-    accepts_exactly_valid();
-    at_most_one_verdict_is_due();
-    has_one_client_first();
-    spells_one_name();
-}
+{}

@@ -3,30 +3,10 @@
 ghost use Rattle.log_grammar.specs.laws.NumberedLogLaws.{EachNumberedLogIsJudged, HasOneNumberedFaultLine, EachNumberedFaultHasOneReason};
 ghost use Rattle.log_grammar.specs.laws.NumberedLogLaws.{NumberedFrontsBeginWithFronts, NumberedFrontsBeginClean};
 
-use otp_core::laws::{only_one_reply_is_due, some_reply_is_due};
-use scram_ends::laws::{at_most_one_verdict_is_due, some_verdict_is_due};
-use scram_text::laws::{
-    client_first_is_decided, has_one_client_first, has_one_server_final, has_one_server_first,
-    name_is_decided, server_final_is_decided, server_first_is_decided, spells_one_name,
-};
-
 /// Each list of bytes is a clean log of version 2, or has a line at fault and a reason for it.
 pub fn each_numbered_log_is_judged()
     ensures { EachNumberedLogIsJudged }
-{
-    has_one_client_first();
-    client_first_is_decided();
-    spells_one_name();
-    name_is_decided();
-    has_one_server_first();
-    server_first_is_decided();
-    has_one_server_final();
-    server_final_is_decided();
-    at_most_one_verdict_is_due();
-    some_verdict_is_due();
-    only_one_reply_is_due();
-    some_reply_is_due();
-}
+{}
 
 /// Bytes have at most one fault line.
 pub fn has_one_numbered_fault_line()
@@ -36,12 +16,7 @@ pub fn has_one_numbered_fault_line()
 /// There is at most one reason why a line is at fault.
 pub fn each_numbered_fault_has_one_reason()
     ensures { EachNumberedFaultHasOneReason }
-{
-    has_one_client_first();
-    spells_one_name();
-    at_most_one_verdict_is_due();
-    only_one_reply_is_due();
-}
+{}
 
 /// The first lines of a front, which is whole lines that a log may begin with, are a front too.
 pub fn numbered_fronts_begin_with_fronts()
@@ -52,9 +27,4 @@ pub fn numbered_fronts_begin_with_fronts()
 /// one by one, or a halt ends them all.
 pub fn numbered_fronts_begin_clean()
     ensures { NumberedFrontsBeginClean }
-{
-    has_one_client_first();
-    client_first_is_decided();
-    name_is_decided();
-    some_verdict_is_due();
-}
+{}

@@ -9,8 +9,6 @@ ghost use Rattle.log_grammar.specs.laws.NumberedLaws.{GoesOnByANumberedLine, Goe
 ghost use Rattle.log_grammar.specs.laws.NumberedLaws.{NumberedLogsGoOnExactlySo, FirstNumberedLinesAreLogs, SessionsStandAlone};
 ghost use Rattle.log_grammar.specs.laws.NumberedLaws.{OpenSessionsAreCounted, FewSessionsAreOpen, NumberClassesFollowThePlace};
 
-use scram_text::laws::{has_one_client_first, spells_one_name};
-
 /// A log can continue with each line that its number may have; a reply also has to be the one due. No other number's place changes.
 pub fn goes_on_by_a_numbered_line()
     ensures { GoesOnByANumberedLine }
@@ -25,10 +23,7 @@ pub fn goes_on_by_no_other_numbered_line()
 /// The place of each number after a log's lines, and the replies in them, follow from the lines.
 pub fn has_one_numbered_reading()
     ensures { HasOneNumberedReading }
-{
-    has_one_client_first();
-    spells_one_name();
-}
+{}
 
 /// A log can continue with a line of a number if and only if this number may have it. This is what a reader or a writer of a log
 /// has to decide at each line, its ranges aside.
@@ -48,10 +43,7 @@ pub fn first_numbered_lines_are_logs()
 /// The place of a session, and so what may follow its lines, depends only on its own lines, not on those of other sessions.
 pub fn sessions_stand_alone()
     ensures { SessionsStandAlone }
-{
-    has_one_client_first();
-    spells_one_name();
-}
+{}
 
 /// The open sessions and the closed ones are all that have begun; they have the numbers from 1 on.
 pub fn open_sessions_are_counted()

@@ -4,9 +4,4 @@ use Rattle.log_grammar.proofs.lemmas.kinds.AllVersions.{any_version_has_one_reas
 use Rattle.log_grammar.proofs.laws.each_fault_has_one_reason.Goals as goal
 
 pub returns : goal.returns
-returns c = λ accounts. one_fault_reason (any_version accounts) (any_version_has_one_reason (record {
-  one_first = c.has_one_client_first.ensures;
-  one_name = c.spells_one_name.ensures;
-  one_verdict = c.at_most_one_verdict_is_due.ensures;
-  one_reply = c.only_one_reply_is_due.ensures;
-}) accounts)
+returns c = λ accounts. one_fault_reason (any_version accounts) (any_version_has_one_reason accounts)

@@ -1,12 +1,7 @@
 use Rattle.log_grammar.specs.Versions.{any_version}
-use Rattle.log_grammar.proofs.lemmas.demands.DemandsDecided.{decision_laws}
 use Rattle.log_grammar.proofs.lemmas.kinds.Judged.{each_log_is_judged}
 use Rattle.log_grammar.proofs.lemmas.kinds.AllVersions.{any_version_is_sound}
 use Rattle.log_grammar.proofs.laws.each_log_is_judged.Goals as goal
 
 pub returns : goal.returns
-returns c = λ accounts. each_log_is_judged (any_version accounts) (any_version_is_sound (decision_laws c.has_one_client_first.ensures
-    c.client_first_is_decided.ensures c.spells_one_name.ensures c.name_is_decided.ensures c.has_one_server_first.ensures
-    c.server_first_is_decided.ensures c.has_one_server_final.ensures c.server_final_is_decided.ensures
-    c.at_most_one_verdict_is_due.ensures c.some_verdict_is_due.ensures
-    c.only_one_reply_is_due.ensures c.some_reply_is_due.ensures) accounts)
+returns c = λ accounts. each_log_is_judged (any_version accounts) (any_version_is_sound accounts)

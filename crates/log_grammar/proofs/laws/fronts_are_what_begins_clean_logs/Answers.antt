@@ -6,9 +6,4 @@ use Rattle.log_grammar.proofs.laws.fronts_are_what_begins_clean_logs.Goals as go
 pub returns : goal.returns
 returns c = λ accounts fit.
     front_iff_begins_clean (any_version accounts) (any_version_can_be_shortened accounts) (any_version_clean_lines_stand accounts)
-    (any_version_fronts_begin_clean (record {
-      one_first = c.has_one_client_first.ensures;
-      first_decided = c.client_first_is_decided.ensures;
-      name_decided = c.name_is_decided.ensures;
-      some_verdict = c.some_verdict_is_due.ensures;
-    }) accounts fit)
+    (any_version_fronts_begin_clean accounts fit)

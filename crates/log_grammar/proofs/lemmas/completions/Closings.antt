@@ -9,7 +9,7 @@ use Rattle.log_grammar.specs.Demands.{Accounts, AllCanBeChallenged, IsVerdictDue
 use Rattle.log_grammar.specs.state_machine.Steps.{IsTransition, told_at}
 use Rattle.log_grammar.specs.Numbered.{Numbered, MayBeNumbered, MayFollow}
 use Rattle.log_grammar.specs.NumberedLines.{IsNoFirstLine}
-use Rattle.log_grammar.proofs.lemmas.completions.Verdicts.{CompletionLaws, due_refusal_is_writable, due_acceptance_is_writable, some_verdict}
+use Rattle.log_grammar.proofs.lemmas.completions.Verdicts.{due_refusal_is_writable, due_acceptance_is_writable, some_verdict}
 use Rattle.log_grammar.proofs.lemmas.lines.Written.{gone_is_writable, end_is_writable, cont_is_writable, bare_refusal_is_writable}
 use Rattle.log_grammar.proofs.lemmas.lines.Written.{bare_cont_is_writable}
 use Rattle.log_grammar.proofs.lemmas.demands.StillChallenged.{ChallengeMeetsDemand}
@@ -82,9 +82,9 @@ asks_bare_is_closable accounts m = elim (decided_offered m) [
 ]
 
 -- a session can be closed while a client-first message waits for its answer
-got_first_is_closable : CompletionLaws → (accounts : Accounts) → AllCanBeChallenged accounts → (m first : List ℕ)
+got_first_is_closable : (accounts : Accounts) → AllCanBeChallenged accounts → (m first : List ℕ)
     → IsClosable accounts (got_first m first)
-got_first_is_closable laws accounts fit m first = elim (decided_first_message laws m first) [
+got_first_is_closable accounts fit m first = elim (decided_first_message m first) [
   | inr none ↦ refused_place_is_closable accounts (got_first m first) [] bare_refusal_is_writable refl ((none, refl), refl)
   | inl is ↦
       let challenge = some_challenge accounts fit m first is.0 is.1 in
@@ -115,22 +115,22 @@ Exit accounts place =
 
 -- if a challenge can be written for each name, and the place's own challenge meets its demand, each place has an `Exit`: lines that close
 -- its session, unless it is before all lines, a code waits for its reply, or it is halted
-pub place_has_exit : CompletionLaws → (accounts : Accounts) → AllCanBeChallenged accounts → (place : Place)
+pub place_has_exit : (accounts : Accounts) → AllCanBeChallenged accounts → (place : Place)
     → ChallengeMeetsDemand (demands accounts) place → Exit accounts place
-place_has_exit laws accounts fit before_all opened = inr (inl refl)
-place_has_exit laws accounts fit between opened = inl ([], refl)
-place_has_exit laws accounts fit offered opened = inl (client_turn_is_closable accounts offered refl refl)
-place_has_exit laws accounts fit (asks_bare m) opened = inl (asks_bare_is_closable accounts m)
-place_has_exit laws accounts fit (waits_first m) opened = inl (client_turn_is_closable accounts (waits_first m) refl refl)
-place_has_exit laws accounts fit (got_first m first) opened = inl (got_first_is_closable laws accounts fit m first)
-place_has_exit laws accounts fit (waits_final m account first challenge) opened = inl
+place_has_exit accounts fit before_all opened = inr (inl refl)
+place_has_exit accounts fit between opened = inl ([], refl)
+place_has_exit accounts fit offered opened = inl (client_turn_is_closable accounts offered refl refl)
+place_has_exit accounts fit (asks_bare m) opened = inl (asks_bare_is_closable accounts m)
+place_has_exit accounts fit (waits_first m) opened = inl (client_turn_is_closable accounts (waits_first m) refl refl)
+place_has_exit accounts fit (got_first m first) opened = inl (got_first_is_closable accounts fit m first)
+place_has_exit accounts fit (waits_final m account first challenge) opened = inl
     (client_turn_is_closable accounts (waits_final m account first challenge) refl refl)
-place_has_exit laws accounts fit (got_final m account first challenge last) opened =
-    let due = some_verdict laws.some_verdict accounts m account first challenge last opened in
+place_has_exit accounts fit (got_final m account first challenge last) opened =
+    let due = some_verdict accounts m account first challenge last opened in
     inl (got_final_is_closable accounts m account first challenge last due.0 due.1)
-place_has_exit laws accounts fit (waits_code account) opened = inl (client_turn_is_closable accounts (waits_code account) refl refl)
-place_has_exit laws accounts fit (got_code account sent) opened = inr (inr (inl (account, sent, refl)))
-place_has_exit laws accounts fit leaving opened =
+place_has_exit accounts fit (waits_code account) opened = inl (client_turn_is_closable accounts (waits_code account) refl refl)
+place_has_exit accounts fit (got_code account sent) opened = inr (inr (inl (account, sent, refl)))
+place_has_exit accounts fit leaving opened =
     inl (refused_place_is_closable accounts leaving [] bare_refusal_is_writable refl (refl, refl))
-place_has_exit laws accounts fit over opened = inl (over_is_closable accounts)
-place_has_exit laws accounts fit halted opened = inr (inr (inr refl))
+place_has_exit accounts fit over opened = inl (over_is_closable accounts)
+place_has_exit accounts fit halted opened = inr (inr (inr refl))

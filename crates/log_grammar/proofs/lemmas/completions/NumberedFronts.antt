@@ -13,7 +13,6 @@ use Rattle.log_grammar.specs.NumberedLines.{IsSessionNumber, IsNumberedLine}
 use Rattle.log_grammar.specs.state_machine.NumberedSteps.{put}
 use Rattle.log_grammar.specs.LogKinds.{BeginsCleanOf}
 use Rattle.log_grammar.specs.VersionTwo.{version_two}
-use Rattle.log_grammar.proofs.lemmas.completions.Verdicts.{CompletionLaws}
 use Rattle.log_grammar.proofs.lemmas.lines.Written.{end_is_writable}
 use Rattle.log_grammar.proofs.lemmas.lines.Cuts.{joined_lines_are_split}
 use Rattle.log_grammar.specs.laws.KindLaws.{FrontsBeginCleanOf}
@@ -67,13 +66,13 @@ empty_front_begins_clean limit accounts bytes cut =
       ),
     )
 
-module _ (laws : CompletionLaws) (limit : ℕ) (accounts : Accounts) (fit : AllCanBeChallenged accounts) where
+module _ (limit : ℕ) (accounts : Accounts) (fit : AllCanBeChallenged accounts) where
   -- a log after whose last line any line may follow can be completed by closing the open numbers
   free_log_is_completable : (log : List (Numbered LogLine)) (places : ℕ → Place) (told : List LoggedAttempt)
       → IsNumberedLogUpTo limit (demands accounts) log places told → Free log → OpenInRange places
       → IsNumberedCompletable limit accounts log
   free_log_is_completable log places told s free ranged =
-      closing_all_completes_log laws limit accounts fit (given_in log + 1) log places told s free ranged
+      closing_all_completes_log limit accounts fit (given_in log + 1) log places told s free ranged
       (λ n most. ungiven_number_is_between limit (demands accounts) log places told s n (omega (arith, most)))
 
   -- a log whose last line is BUSY can be completed, beginning with the `E` of that number

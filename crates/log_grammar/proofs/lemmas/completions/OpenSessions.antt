@@ -16,7 +16,6 @@ use Rattle.log_grammar.specs.Numbered.{Numbered, numbered, MayFollow, IsNumbered
 use Rattle.log_grammar.specs.NumberedLines.{IsSessionNumber, IsNoFirstLine, numbered_text, IsNumberedLine}
 use Rattle.log_grammar.specs.state_machine.NumberedSteps.{IsVisitTransition, put}
 use Rattle.log_grammar.proofs.lemmas.completions.Closings.{Closes, place_has_exit}
-use Rattle.log_grammar.proofs.lemmas.completions.Verdicts.{CompletionLaws}
 use Rattle.log_grammar.proofs.lemmas.lines.Written.{halt_is_writable}
 use Rattle.log_grammar.proofs.lemmas.many_sessions.WithoutLast.{numbered_log_has_last_transition}
 use Rattle.log_grammar.proofs.lemmas.lines.NumberedReadBack.{numbered_line_lacks_lf, numbered_line_is_writable}
@@ -167,7 +166,7 @@ module _ (limit : ℕ) (accounts : Accounts) where
       (ended_numbered_log_is_completable (log ++ numbered n (said halt) ∷ []) (put n halted places)
       (told ++ told_at (places n) (said halt)) s' (inr (n, put_sets_own n halted places)))
 
-module _ (laws : CompletionLaws) (limit : ℕ) (accounts : Accounts) (fit : AllCanBeChallenged accounts) where
+module _ (limit : ℕ) (accounts : Accounts) (fit : AllCanBeChallenged accounts) where
   -- if all numbers from k on are closed, the log is completed by closing those below k
   pub closing_all_completes_log : (k : ℕ) (log : List (Numbered LogLine)) (places : ℕ → Place) (told : List LoggedAttempt)
       → IsNumberedLogUpTo limit (demands accounts) log places told → Free log → OpenInRange places → ((n : ℕ) → k ≤ n → places n ≡ between)
@@ -193,7 +192,7 @@ module _ (laws : CompletionLaws) (limit : ℕ) (accounts : Accounts) (fit : AllC
         | inr opens ↦
             let number = ranged k opens in
             let opened = number_challenge_meets_demand limit (demands accounts) log places told s k in
-            elim (place_has_exit laws accounts fit (places k) opened) [
+            elim (place_has_exit accounts fit (places k) opened) [
               | inl closable ↦
                   closing_number_completes_log limit accounts k number closable.0 log places told s free closable.1
                   (λ longer after all r free' at others. closing_all_completes_log k longer after all r free'

@@ -4,14 +4,12 @@ use Rattle.std.proofs.lemmas.Bool.{cases_lt}
 use Rattle.mac_core.specs.Mechanism.{length_by}
 use Rattle.mac_core.specs.declared.mechanism.Mechanism.{Mechanism}
 use Rattle.scram_text.specs.Limits.{max_message_len, max_tag_len}
-use Rattle.scram_text.specs.Laws.{HasOneClientFirst, ClientFirstIsDecided, NameIsDecided}
 use Rattle.scram_text.specs.Messages.{verifier, server_error, IsServerFinal}
 use Rattle.scram_text.proofs.lemmas.Base64.{bytes_are_field}
 use Rattle.scram_text.proofs.lemmas.messages_composed.ServerFinal.{signature_is_text, error_is_text, written_is_server_final}
 use Rattle.scram_ends.specs.Stages.{challenged_login}
 use Rattle.scram_ends.specs.Verdict.{Due, accept, refuse, due_text, final_due, error_value}
 use Rattle.scram_ends.specs.Login.{IsAuthentic}
-use Rattle.scram_ends.specs.Laws.{SomeVerdictIsDue}
 use Rattle.scram_ends.specs.declared.verdict.Refusal.{Refusal}
 use Rattle.mac_core.proofs.lemmas.Lengths.{length-hmac_by}
 use Rattle.scram_ends.proofs.lemmas.Digests.{AreBytes, mac_is_bytes}
@@ -22,24 +20,14 @@ use Rattle.log_grammar.specs.Lines.{said, accepts, refuses, IsWritable}
 use Rattle.log_grammar.specs.Demands.{Accounts, IsChallenged, IsVerdictDue}
 use Rattle.log_grammar.proofs.lemmas.lines.Written.{refusal_is_writable, ok_is_writable}
 use Rattle.log_grammar.proofs.lemmas.lines.TextBytes.{utf8_is_message}
-
--- laws of the crates below, by which a log can be completed
-pub record CompletionLaws : Type 0 where
-  -- a text is client-first in at most one way
-  pub one_first : HasOneClientFirst
-  -- it is decidable whether a text is client-first
-  pub first_decided : ClientFirstIsDecided
-  -- it is decidable whether a text spells a plain name
-  pub name_decided : NameIsDecided
-  -- after an opening, some verdict is due to every text
-  pub some_verdict : SomeVerdictIsDue
+use Rattle.scram_ends.proofs.lemmas.Decided.{some_verdict_is_due}
 
 -- some verdict is due to any client-final message, if the texts before it open a login
-pub some_verdict : SomeVerdictIsDue → (accounts : Accounts) (mechanism account first challenge last : List ℕ)
+pub some_verdict : (accounts : Accounts) (mechanism account first challenge last : List ℕ)
     → IsChallenged accounts mechanism account first challenge
     → (due : Due) × IsVerdictDue accounts mechanism account first challenge last due
-some_verdict verdicts accounts mechanism account first challenge last is =
-    let due = verdicts (challenged_login (accounts.entry is.m account) is.m first challenge) last is.opening is.opens in
+some_verdict accounts mechanism account first challenge last is =
+    let due = some_verdict_is_due (challenged_login (accounts.entry is.m account) is.m first challenge) last is.opening is.opens in
     (due.0, (is.m, is.offered, due.1))
 
 -- the message that accepts with a signature is a server-final message

@@ -2,10 +2,8 @@
 use Rattle.std.proofs.Common.{◌≡◌, inl, inr, ℕ, List, [], ◌∷◌, ◌++◌, reverse, refl, sym, ◌∙◌, ap, subst, append_assoc, append-nil}
 use Rattle.std.specs.declared.option.Option.{Option}
 use Rattle.mac_core.specs.declared.mechanism.Mechanism.{Mechanism}
-use Rattle.scram_text.specs.Laws.{SpellsOneName, HasOneClientFirst}
 use Rattle.scram_ends.specs.Stages.{challenged_login}
 use Rattle.scram_ends.specs.Verdict.{accept, refuse, IsDue}
-use Rattle.scram_ends.specs.Laws.{AtMostOneVerdictIsDue, AcceptsExactlyValid}
 use Rattle.scram_ends.specs.declared.verdict.Refusal.{Refusal}
 use Rattle.otp_core.specs.Attempt.{CodeTexts}
 use Rattle.otp_core.specs.declared.token.reply.Reply.{Reply}
@@ -26,6 +24,7 @@ use Rattle.log_grammar.proofs.lemmas.login_laws.ValidLogins.{login_is_to_challen
 use Rattle.log_grammar.proofs.lemmas.outcome_laws.LeadingLines.{LeadByLast, logs_lead}
 use Rattle.log_grammar.proofs.lemmas.outcome_laws.QuietLines.{quiet_line_keeps_told, log_goes_on_quietly}
 use Rattle.log_grammar.proofs.lemmas.outcome_laws.PlaceMessages.{lines_have_their_messages, three_messages_lead}
+use Rattle.scram_ends.proofs.lemmas.Verdicts.{at_most_one_verdict_is_due, accepts_exactly_valid}
 
 -- replies that come first still do when more are added at the end
 told_first_stays_first : (told before rest tells : List LoggedAttempt) → before ≡ told ++ rest → before ++ tells ≡ told ++ (rest ++ tells)
@@ -107,16 +106,16 @@ each_challenge_is_due accounts log text next told = (
 )
 
 -- messages whose verdict is a refusal are not those of a valid login
-refused_login_is_invalid : AtMostOneVerdictIsDue → AcceptsExactlyValid
-    → (accounts : Accounts) (mechanism name client_first server_first client_final : List ℕ) (why : Refusal)
+refused_login_is_invalid : (accounts : Accounts) (mechanism name client_first server_first client_final : List ℕ) (why : Refusal)
     → IsVerdictDue accounts mechanism name client_first server_first client_final (refuse why) → (server_final : List ℕ)
     → IsLoginTo accounts mechanism name (exchange_of client_first server_first client_final server_final) → ⊥
-refused_login_is_invalid once valid accounts mechanism name client_first server_first client_final why (m, named, due) server_final l =
+refused_login_is_invalid accounts mechanism name client_first server_first client_final why (m, named, due) server_final l =
     let same = one_mechanism l.m m (sym l.offered ∙ named) in
-    let accepted = (valid (challenged_login (accounts.entry l.m name) l.m client_first server_first) client_final server_final).1 l.login in
+    let login = challenged_login (accounts.entry l.m name) l.m client_first server_first in
+    let accepted = (accepts_exactly_valid login client_final server_final).1 l.login in
     let here = subst (λ (k : Mechanism). IsDue (challenged_login (accounts.entry k name) k client_first server_first) client_final
     (accept accepted.0)) same accepted.1 in
-    let wrong = once (challenged_login (accounts.entry m name) m client_first server_first) client_final (refuse why)
+    let wrong = at_most_one_verdict_is_due (challenged_login (accounts.entry m name) m client_first server_first) client_final (refuse why)
     (accept accepted.0) due here in cc wrong
 
 -- a refusal that is due at a place may stand there
@@ -129,8 +128,7 @@ due_refusal_may_stand accounts text leaving due = (due, refl)
 due_refusal_may_stand accounts text at due = absurd due
 
 -- lines that lead to places, in a log of either version
-module _ (one_first : HasOneClientFirst) (names : SpellsOneName) (once : AtMostOneVerdictIsDue) (valid : AcceptsExactlyValid)
-    (accounts : Accounts) {Leads : List LogLine → Place → Type 0} (l : LeadByLast (demands accounts) Leads) where
+module _ (accounts : Accounts) {Leads : List LogLine → Place → Type 0} (l : LeadByLast (demands accounts) Leads) where
   -- three messages whose verdict is a refusal are a login to no account
   refused_messages_are_no_login : (lines : List LogLine) (m name first challenge last : List ℕ) (why : Refusal)
       → Leads lines (got_final m name first challenge last) → IsVerdictDue accounts m name first challenge last (refuse why)
@@ -140,8 +138,8 @@ module _ (one_first : HasOneClientFirst) (names : SpellsOneName) (once : AtMostO
       let three = three_messages_lead l m first challenge last lines at (lines_have_their_messages accounts l lines at leads) leads in
       let same : three.account ≡ name = cc three.at in
       let exchange = exchange_of first challenge last server_final in
-      let here = login_is_to_challenged_account one_first names accounts m claimed three.account exchange login three.due ∙ same in
-      refused_login_is_invalid once valid accounts m name first challenge last why is server_final
+      let here = login_is_to_challenged_account accounts m claimed three.account exchange login three.due ∙ same in
+      refused_login_is_invalid accounts m name first challenge last why is server_final
       (subst (λ (n : List ℕ). IsLoginTo accounts m n exchange) here login)
 
   -- `S NO` may stand only if it is the refusal that is due at its place
@@ -156,15 +154,14 @@ module _ (one_first : HasOneClientFirst) (names : SpellsOneName) (once : AtMostO
   refusal_is_due lines text leaving next leads (inl goes) = (goes.0, goes.1)
   refusal_is_due lines text at next leads (inl goes) = absurd goes
 
--- the law: `S NO` may stand if and only if it is the refusal that is due, which no valid login gets. This needs that at most one verdict is
--- due to a text, that acceptance is due only to valid logins, and that a client-first message names only one account
-pub each_refusal_is_due : HasOneClientFirst → SpellsOneName → AtMostOneVerdictIsDue → AcceptsExactlyValid → EachRefusalIsDue
-each_refusal_is_due one_first names once valid accounts log text next told =
+-- the law: `S NO` may stand if and only if it is the refusal that is due, which no valid login gets
+pub each_refusal_is_due : EachRefusalIsDue
+each_refusal_is_due accounts log text next told =
     let d = demands accounts in
     let line = said (refuses text) in (
       λ begins.
           let s = log_has_last_transition d log line next told begins in
-          let due = refusal_is_due one_first names once valid accounts (logs_lead d) log text s.place next
+          let due = refusal_is_due accounts (logs_lead d) log text s.place next
           (record { told = s.told; begins = s.begins }) (inl s.goes) in
           (s.place, quiet_line_keeps_told accounts log s.place line told s.told refl s.tells s.begins, due.0, due.1),
       λ is.

@@ -10,7 +10,6 @@ use Rattle.log_grammar.specs.state_machine.Steps.{IsTransition, told_at}
 use Rattle.log_grammar.specs.state_machine.DueClasses.{IsDueAt}
 use Rattle.log_grammar.specs.Why.{Why, is_cut, no_line, out_of_order, other_mechs, other_challenge, other_outcome, other_reply, accepted}
 use Rattle.log_grammar.specs.Why.{refused_with, IsReasonForAnswer, IsReasonForReply, IsReasonForLine, class_of}
-use Rattle.log_grammar.specs.laws.LogLaws.{FrontsAreWhatBeginsCleanLogs}
 use Rattle.log_grammar.specs.laws.Reasons.{SaysWhatIsDue, NamesWhatIsDue, EachLineThatIsDueMayStand}
 use Rattle.log_grammar.proofs.lemmas.kinds.ShownByLines.{fault_follows_read_lines}
 use Rattle.log_grammar.proofs.lemmas.reason_laws.Mended.{some_line_mends_line, named_reason_is_of_line, following_line_begins_clean}
@@ -113,9 +112,9 @@ each_due_line_follows accounts fit place told text x (other_reply moment reply) 
 
 -- the law: if fronts are what begins clean logs, each line that can be written and says what is due, except a challenge, may replace
 -- the line at fault in a log of version 1
-pub each_line_that_is_due_may_stand : FrontsAreWhatBeginsCleanLogs → EachLineThatIsDueMayStand
-each_line_that_is_due_may_stand completes accounts fit bytes before text after rest why line cut w other says writable =
+pub each_line_that_is_due_may_stand : EachLineThatIsDueMayStand
+each_line_that_is_due_may_stand accounts fit bytes before text after rest why line cut w other says writable =
     let f = fault_follows_read_lines accounts bytes before text after rest why cut w in
     let x = named_reason_is_of_line accounts f.lines text why (said_due_is_named why line says writable) f.wrong in
     let l = each_due_line_follows accounts fit x.place x.told text x.line why line x.is x.due x.wrong other says writable in
-    following_line_begins_clean completes accounts fit before f.lines f.place f.told x.place x.told line f.lead x.begins writable l
+    following_line_begins_clean accounts fit before f.lines f.place f.told x.place x.told line f.lead x.begins writable l

@@ -17,7 +17,6 @@ use Rattle.log_grammar.specs.VersionTwo.{MayBeginVersionTwo, IsReasonAfterFirst,
 use Rattle.log_grammar.specs.Numbered.{Numbered, numbered, IsNumberedLogUpTo}
 use Rattle.log_grammar.specs.state_machine.NumberedDueClasses.{ClassMayBeNumbered, ClassMayFollow, IsNumberDueAt}
 use Rattle.log_grammar.specs.NumberedLines.{IsNoFirstLine, numbered_text, IsNumberedLine, IsNumberedWritable}
-use Rattle.log_grammar.specs.laws.NumberedLogLaws.{NumberedFrontsBeginClean}
 use Rattle.log_grammar.specs.state_machine.NumberedSteps.{put, IsNumberedTransition}
 use Rattle.log_grammar.specs.laws.Reasons.{SaysWhatIsDue, NamesWhatIsDue}
 use Rattle.log_grammar.specs.laws.NumberedReasons.{HasNumberedLineThatMayStand, WhatIsDueMayStandUnderItsNumber, EachNumberedLineThatIsDueMayStand}
@@ -31,6 +30,7 @@ use Rattle.log_grammar.proofs.lemmas.many_sessions.LogSteps.{numbered_log_goes_o
 use Rattle.log_grammar.proofs.lemmas.many_sessions.Standings.{only_busy_has_busy_class}
 use Rattle.log_grammar.proofs.lemmas.state_machine.Standings.{Follows}
 use Rattle.log_grammar.proofs.lemmas.ListEnds.{appended_lists_keep_all, front_keeps_all}
+use Rattle.log_grammar.proofs.lemmas.completions.NumberedFronts.{version_two_fronts_begin_clean}
 
 -- a numbered line is at fault after lines of version 2, for this reason, where a line of its class is due
 record IsNumberedFault (limit : ℕ) (accounts : Accounts) (before : List (List ℕ)) (x : Numbered LogLine) (why : Why) : Type 0 where
@@ -189,7 +189,7 @@ due_line_may_have_number (other_outcome (accepted signature)) line says = subst 
 due_line_may_have_number (other_outcome (refused_with message)) line says = subst IsNoFirstLine (sym says) tt
 due_line_may_have_number (other_reply moment due) line says = subst IsNoFirstLine (sym says) tt
 
-module _ (completes : NumberedFrontsBeginClean) (limit : ℕ) (accounts : Accounts) (fit : AllCanBeChallenged accounts) where
+module _ (limit : ℕ) (accounts : Accounts) (fit : AllCanBeChallenged accounts) where
   -- the lines before a numbered line at fault, with a line that says what is due and may stand at its place, begin a clean log
   due_numbered_begins_clean : (before : List (List ℕ)) (x : Numbered LogLine) (why : Why)
       (f : IsNumberedFault limit accounts before x why) (line : LogLine)
@@ -219,7 +219,7 @@ module _ (completes : NumberedFrontsBeginClean) (limit : ℕ) (accounts : Accoun
       let all = before ++ numbered_text y ∷ [] in
       let lacks = appended_lists_keep_all LacksLf before (numbered_text y ∷ []) lack
       (numbered_line_lacks_lf (numbered_text y) y writable, tt) in
-      completes limit accounts fit (ended_by_lf all)
+      version_two_fronts_begin_clean limit accounts fit (ended_by_lf all)
       (standing_lines_are_front (version_two limit accounts) all lacks
       (subst (λ (ts : List (List ℕ)). MayBeginVersionTwo limit accounts (ts ++ numbered_text y ∷ [])) (sym f.same) stands))
 
@@ -252,20 +252,20 @@ module _ (completes : NumberedFrontsBeginClean) (limit : ℕ) (accounts : Accoun
       }
 
 -- the law: if fronts of version 2 begin clean logs, what a reason names as due may replace the line at fault, under its number
-pub what_is_due_may_stand_under_its_number : NumberedFrontsBeginClean → WhatIsDueMayStandUnderItsNumber
-what_is_due_may_stand_under_its_number completes limit accounts fit bytes texts rest k why cut w names =
+pub what_is_due_may_stand_under_its_number : WhatIsDueMayStandUnderItsNumber
+what_is_due_may_stand_under_its_number limit accounts fit bytes texts rest k why cut w names =
     named_fault_keeps (version_two limit accounts) (λ ts i. HasNumberedLineThatMayStand limit accounts ts i why) bytes texts rest k why cut
     w names
     (λ before text more here fault.
-    numbered_fault_has_due_line completes limit accounts fit bytes before text more rest why here fault names)
+    numbered_fault_has_due_line limit accounts fit bytes before text more rest why here fault names)
 
 -- the law: if fronts of version 2 begin clean logs, each line that can be written and says what is due, except a challenge, may replace the
 -- line at fault, under its number
-pub each_numbered_line_that_is_due_may_stand : NumberedFrontsBeginClean → EachNumberedLineThatIsDueMayStand
-each_numbered_line_that_is_due_may_stand completes limit accounts fit bytes before text more rest why x line cut w other is says writable =
+pub each_numbered_line_that_is_due_may_stand : EachNumberedLineThatIsDueMayStand
+each_numbered_line_that_is_due_may_stand limit accounts fit bytes before text more rest why x line cut w other is says writable =
     let f = fault_text_shows_fault limit accounts before text x why is (said_due_is_named why line says writable.line)
     (reason_shows_fault_text (version_two limit accounts) bytes before text more rest why cut w) in
     let l = each_due_line_follows accounts fit (f.places x.number) f.told (log_line_text x.value) x.value why line is.line
     (fault_class_is_due limit accounts before x why f) f.wrong other says writable.line in
-    due_numbered_begins_clean completes limit accounts fit before x why f line
+    due_numbered_begins_clean limit accounts fit before x why f line
     (front_keeps_all LacksLf before (text ∷ more) cut.lines) says writable l

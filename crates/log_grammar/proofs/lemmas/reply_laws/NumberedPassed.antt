@@ -1,8 +1,6 @@
 -- Codes that passed in a log of version 2.
 use Rattle.std.proofs.Common.{◌≡◌, inl, inr, ℕ, List, [], ◌∷◌, ◌++◌, reverse, refl, sym, ◌∙◌, ap, subst, append-nil, append_assoc}
-use Rattle.scram_text.specs.Laws.{SpellsOneName, HasOneClientFirst}
 use Rattle.otp_core.specs.Attempt.{CodeTexts, used_in}
-use Rattle.otp_core.specs.Laws.{CandidatesAreNew}
 use Rattle.log_grammar.specs.Lines.{LogLine}
 use Rattle.log_grammar.specs.LoggedAttempt.{LoggedAttempt}
 use Rattle.log_grammar.specs.Places.{Place, waits_code, got_code}
@@ -48,10 +46,9 @@ each_numbered_pass_is_a_code limit accounts log n moment counter places told s =
       is_next = next;
     }
 
--- the law: of two passes of one account in a log of version 2, under any numbers, the later has the greater counter. This needs that a
--- client-first message has one list of parts, that a saslname has one name, and that a counter that can pass is above those that passed
-pub numbered_counters_rise : HasOneClientFirst → SpellsOneName → CandidatesAreNew → NumberedCountersRise
-numbered_counters_rise one_first names new limit accounts log more account n moment counter m at greater places after told all s at_n longer
+-- the law: of two passes of one account in a log of version 2, under any numbers, the later has the greater counter
+pub numbered_counters_rise : NumberedCountersRise
+numbered_counters_rise limit accounts log more account n moment counter m at greater places after told all s at_n longer
     at_m =
     let line = pass_line moment counter in
     let first = log ++ numbered n line ∷ [] in
@@ -61,17 +58,16 @@ numbered_counters_rise one_first names new limit accounts log more account n mom
     let two = each_numbered_pass_is_a_code limit accounts (first ++ more) m at greater after all
     (subst (λ (l : List (Numbered LogLine)). IsNumberedLogUpTo limit (demands accounts) l after all) split longer) in
     let f = front_told_comes_first limit (demands accounts) first more two.places two.told two.after in
-    let same = (numbered_lines_have_one_reading limit (demands accounts) (challenge_has_one_account one_first names accounts)
+    let same = (numbered_lines_have_one_reading limit (demands accounts) (challenge_has_one_account accounts)
     first f.places places f.earlier told f.spells s).1 in
     let told_here = one.tells ∙ ap (λ (p : Place). one.told ++ told_at p line) was in
     let tells = f.tells ∙ ap (λ (l : List LoggedAttempt). l ++ f.rest) (same ∙ told_here) in
     let whose : mine ≡ two.account = cc (sym next ∙ at_n ∙ sym at_m ∙ two.is_next) in
-    later_pass_is_greater new two.token two.account two.sent two.told at greater two.fits mine moment counter sent one.told f.rest whose
+    later_pass_is_greater two.token two.account two.sent two.told at greater two.fits mine moment counter sent one.told f.rest whose
     tells
 
--- the law: the counters that an account's codes use in a log of version 2 rise, so that none is used twice, if a counter that can pass is
--- above those that passed
-pub no_numbered_counter_is_used_twice : CandidatesAreNew → NoNumberedCounterIsUsedTwice
-no_numbered_counter_is_used_twice new limit accounts log places told account s =
+-- the law: the counters that an account's codes use in a log of version 2 rise, so that none is used twice
+pub no_numbered_counter_is_used_twice : NoNumberedCounterIsUsedTwice
+no_numbered_counter_is_used_twice limit accounts log places told account s =
     subst (λ (l : List LoggedAttempt). AreRising (used_in (attempts_of account l))) (append-nil (reverse told))
-    (replies_keep_counters_rising new accounts account [] told s.replies tt)
+    (replies_keep_counters_rising accounts account [] told s.replies tt)

@@ -14,28 +14,27 @@ use Rattle.otp_core.specs.Code.{IsCodeText}
 use Rattle.otp_core.proofs.lemmas.Digits.{IsCodeText-last_digits}
 use Rattle.otp_core.specs.declared.token.kinds.TokenFields.TheVariants.{Hotp}
 use Rattle.otp_core.specs.declared.token.kinds.HotpFields.{HotpFields}
-use Rattle.log_grammar.specs.Words.{is_code_char, IsCodeWord, IsCounter}
-use Rattle.log_grammar.specs.Upgrades.{original_bytes}
-use Rattle.log_grammar.specs.laws.Logins.{LoginsAreAnswered}
+use Rattle.scram_text.specs.Class.{is_vchar}
+use Rattle.log_grammar.specs.Words.{IsCodeWord, IsCounter}
 use Rattle.otp_core.specs.Attempt.{Attempt, CodeTexts, one_text, two_texts, counters_of, used_in}
 use Rattle.otp_core.specs.Window.{IsAbove, IsInHotpWindow}
 use Rattle.otp_core.specs.Reply.{IsDueReply, IsFitting, code_text}
-use Rattle.otp_core.specs.Laws.{CandidatesAreNew}
 use Rattle.otp_core.specs.declared.token.reply.Reply.{Reply}
 use Rattle.otp_core.specs.declared.token.reply.Reply.TheVariants.{Pass, Fail, Locked}
 use Rattle.otp_core.specs.declared.token.kinds.TokenFields.{TokenFields}
-use Rattle.scram_text.specs.Laws.{SpellsOneName, HasOneClientFirst}
 use Rattle.log_grammar.specs.Lines.{LogLine}
 use Rattle.log_grammar.specs.LoggedAttempt.{LoggedAttempt, logged_attempt_of}
 use Rattle.log_grammar.specs.Places.{Place, waits_code, got_code}
 use Rattle.log_grammar.specs.Demands.{Accounts, attempts_by, attempts_of, IsReplyDueBy, demands}
 use Rattle.log_grammar.specs.Begins.{Begins}
-use Rattle.log_grammar.specs.laws.Outcomes.{IsReplied, EachReplyIsDue}
+use Rattle.log_grammar.specs.laws.Outcomes.{IsReplied}
 use Rattle.log_grammar.specs.laws.Replies.{pass_line, IsCodeOf, EachPassIsACode, CountersRise, NextHotpCodePasses, NextTwoHotpCodesPass}
 use Rattle.log_grammar.proofs.lemmas.demands.RepliesDue.{first_reply_stands_last}
-use Rattle.log_grammar.proofs.lemmas.outcome_laws.ServerLines.{first_lines_begin_logs}
+use Rattle.log_grammar.proofs.lemmas.outcome_laws.ServerLines.{first_lines_begin_logs, each_reply_is_due}
 use Rattle.log_grammar.proofs.lemmas.state_machine.PlaceBefore.{logs_have_one_reading}
 use Rattle.log_grammar.proofs.lemmas.demands.EachAccount.{account_is_same_or_other}
+use Rattle.otp_core.proofs.lemmas.Used.{candidates_are_new}
+use Rattle.log_grammar.proofs.lemmas.login_laws.CleanLogins.{logins_are_answered}
 
 -- if a PASS is due, there is a token, which a code of its counter fits
 pub due_pass_fits_token : (o : Option TokenFields) (attempts : List Attempt) (moment counter : ℕ) (sent : CodeTexts)
@@ -63,11 +62,12 @@ replied_pass_is_code accounts log moment counter next told r =
       is_next = r.is_next;
     }
 
--- the law: if replies may stand exactly when they are due, PASS stands only after the code of its counter, which could pass then, or after
--- two codes in a row of which the second is its counter's
-pub each_pass_is_a_code : EachReplyIsDue → EachPassIsACode
-each_pass_is_a_code replied accounts log moment counter next told begins =
-    replied_pass_is_code accounts log moment counter next told ((replied accounts log moment (Some (Pass counter)) next told).0 begins)
+-- the law: PASS stands only after the code of its counter, which could pass then, or after two codes in a row of which the second is its
+-- counter's
+pub each_pass_is_a_code : EachPassIsACode
+each_pass_is_a_code accounts log moment counter next told begins =
+    replied_pass_is_code accounts log moment counter next told
+    ((each_reply_is_due accounts log moment (Some (Pass counter)) next told).0 begins)
 
 -- if a number is above these counters, so is the next number
 next_number_is_above : (counters : List ℕ) (w c : ℕ) → c ≡ w + 1 → IsAbove counters w → IsAbove counters c
@@ -75,11 +75,11 @@ next_number_is_above [] w c next above = tt
 next_number_is_above (p ∷ counters) w c next above = (omega (arith, next, above.0), next_number_is_above counters w c next above.1)
 
 -- a counter that fits one code, or the second of two, is above all that passed
-pub fitting_counter_is_above : CandidatesAreNew → (token : TokenFields) (attempts : List Attempt) (moment : ℕ) (sent : CodeTexts) (c : ℕ)
+pub fitting_counter_is_above : (token : TokenFields) (attempts : List Attempt) (moment : ℕ) (sent : CodeTexts) (c : ℕ)
     → IsFitting token attempts moment sent c → IsAbove (used_in attempts) c
-fitting_counter_is_above new token attempts moment (one_text text) c fits = new token attempts moment c (inl fits.0)
-fitting_counter_is_above new token attempts moment (two_texts first second) c fits =
-    next_number_is_above (used_in attempts) fits.0 c fits.1 (new token attempts moment fits.0 (inr fits.2))
+fitting_counter_is_above token attempts moment (one_text text) c fits = candidates_are_new token attempts moment c (inl fits.0)
+fitting_counter_is_above token attempts moment (two_texts first second) c fits =
+    next_number_is_above (used_in attempts) fits.0 c fits.1 (candidates_are_new token attempts moment fits.0 (inr fits.2))
 
 -- a number above the counters that a pass uses and those that passed before is above the pass's own counter and above those before
 number_is_above_used : (sent : CodeTexts) (c : ℕ) (counters : List ℕ) (d : ℕ) → IsAbove (counters_of sent c ++ counters) d → (c < d)
@@ -127,14 +127,14 @@ reverse-append_element : (front middle : List LoggedAttempt) (t : LoggedAttempt)
 reverse-append_element front middle t = reverse-append front (t ∷ middle) ∙ first_reply_stands_last t middle (reverse front)
 
 -- of two passes of one account the later has the greater counter
-pub later_pass_is_greater : CandidatesAreNew → (token : TokenFields) (account : List ℕ) (last : CodeTexts) (told : List LoggedAttempt)
+pub later_pass_is_greater : (token : TokenFields) (account : List ℕ) (last : CodeTexts) (told : List LoggedAttempt)
     (at d : ℕ)
     → IsFitting token (attempts_of account (reverse told)) at last d
     → (mine : List ℕ) (moment counter : ℕ) (sent : CodeTexts) (before rest : List LoggedAttempt)
     → mine ≡ account → told ≡ (before ++ logged_attempt_of mine moment sent (Some (Pass counter)) ∷ []) ++ rest → counter < d
-later_pass_is_greater new token account last told at d fits mine moment counter sent before rest same tells =
+later_pass_is_greater token account last told at d fits mine moment counter sent before rest same tells =
     let t = logged_attempt_of mine moment sent (Some (Pass counter)) in
-    let above = fitting_counter_is_above new token (attempts_of account (reverse told)) at last d fits in
+    let above = fitting_counter_is_above token (attempts_of account (reverse told)) at last d fits in
     let split = tells ∙ append_assoc before (t ∷ []) rest in
     let turned = subst (λ (l : List LoggedAttempt). IsAbove (used_in (attempts_of account (reverse l))) d) split above in
     let here = subst (λ (l : List LoggedAttempt). IsAbove (used_in (attempts_of account l)) d) (reverse-append_element before rest t)
@@ -142,38 +142,36 @@ later_pass_is_greater new token account last told at d fits mine moment counter 
     number_is_above_pass account t (reverse before) counter d same refl (number_is_above_earlier account (reverse rest) (t ∷ reverse before)
     d here)
 
--- the law: of two passes of one account in a log, in any sessions, the later has the greater counter. This needs that replies may stand
--- exactly when due, that a client-first message has one list of parts, that a saslname has one name, and that a counter that can pass is
--- above those that passed
-pub counters_rise : HasOneClientFirst → SpellsOneName → CandidatesAreNew → EachReplyIsDue → CountersRise
-counters_rise one_first names new replied accounts log more account moment counter at greater told all begins both =
+-- the law: of two passes of one account in a log, in any sessions, the later has the greater counter
+pub counters_rise : CountersRise
+counters_rise accounts log more account moment counter at greater told all begins both =
     let first = log ++ pass_line moment counter ∷ [] in
-    let one = (replied accounts log moment (Some (Pass counter)) (waits_code account) told).0 begins in
+    let one = (each_reply_is_due accounts log moment (Some (Pass counter)) (waits_code account) told).0 begins in
     let split = sym (append_assoc first more (pass_line at greater ∷ [])) in
-    let two = each_pass_is_a_code replied accounts (first ++ more) at greater (waits_code account) all
+    let two = each_pass_is_a_code accounts (first ++ more) at greater (waits_code account) all
     (subst (λ (l : List LogLine). Begins (demands accounts) l (waits_code account) all) split both) in
     let front = first_lines_begin_logs accounts first more (got_code two.account two.sent) two.told two.after in
-    let same = (logs_have_one_reading one_first names accounts first front.0 (waits_code account) front.1 told front.3 begins).1 in
+    let same = (logs_have_one_reading accounts first front.0 (waits_code account) front.1 told front.3 begins).1 in
     let tells = front.4 ∙ ap (λ (l : List LoggedAttempt). l ++ front.2) (same ∙ one.tells) in
     let mine : one.account ≡ two.account = cc (sym one.is_next ∙ two.is_next) in
-    later_pass_is_greater new two.token two.account two.sent two.told at greater two.fits one.account moment counter one.sent one.told
+    later_pass_is_greater two.token two.account two.sent two.told at greater two.fits one.account moment counter one.sent one.told
     front.2 mine tells
 
 -- a digit can be a character of a code
-digit_is_code_char : (c : ℕ) → IsAsciiDigit c → is_code_char c ≡ true
-digit_is_code_char c is = rw (le-leb (byte "!") c (omega (arith, is)), le-leb c (byte "~") (omega (arith, is))) refl
+digit_is_vchar : (c : ℕ) → IsAsciiDigit c → is_vchar c ≡ true
+digit_is_vchar c is = rw (le-leb (byte "!") c (omega (arith, is)), le-leb c (byte "~") (omega (arith, is))) refl
 
 -- each digit of a text of digits can be a character of a code
-digits_are_code_chars : (text : List ℕ) → All IsAsciiDigit text → list_all is_code_char text ≡ true
-digits_are_code_chars text all = list_all-from_AllPass is_code_char text
-    (λ k d within. digit_is_code_char (get_or text k d) (All-get_or IsAsciiDigit text k d within all))
+digits_are_vchars : (text : List ℕ) → All IsAsciiDigit text → list_all is_vchar text ≡ true
+digits_are_vchars text all = list_all-from_AllPass is_vchar text
+    (λ k d within. digit_is_vchar (get_or text k d) (All-get_or IsAsciiDigit text k d within all))
 
 -- the text of a code can be sent by a client
 code_text_is_code_word : (text : List ℕ) → IsCodeText text → IsCodeWord text
 code_text_is_code_word text is = record {
   at_least = omega (arith, is.count.0);
   at_most = omega (arith, is.count.1);
-  each = digits_are_code_chars text is.digits;
+  each = digits_are_vchars text is.digits;
 }
 
 -- the code of a HOTP token's next counter passes, if failures do not lock the token and the counter can pass
@@ -185,14 +183,14 @@ pass_is_due_to_next t moment unlocked counter =
     (unlocked, (due, refl), λ k fits. fits.0.not_before)
 
 -- the law: after a valid login, the code of a HOTP token's next counter passes, if failures do not lock the token and the counter is not
--- used up. This needs that a log of version 1 is clean if a code after a valid login gets the reply due
-pub next_hotp_code_passes : LoginsAreAnswered original_bytes → NextHotpCodePasses
-next_hotp_code_passes answered accounts mechanism name exchange moment t login at has unlocked digits counter =
+-- used up
+pub next_hotp_code_passes : NextHotpCodePasses
+next_hotp_code_passes accounts mechanism name exchange moment t login at has unlocked digits counter =
     let text = code_text (Hotp t) t.next in
     let due = pass_is_due_to_next t moment unlocked counter in
     let by = subst (λ (o : Option TokenFields). IsReplyDueBy o [] moment (one_text text) (Some (Pass t.next))) (sym has)
     (Pass t.next, refl, due) in
-    answered accounts mechanism name exchange (one_text text) moment (Some (Pass t.next)) login
+    logins_are_answered accounts mechanism name exchange (one_text text) moment (Some (Pass t.next)) login
     (code_text_is_code_word text (IsCodeText-last_digits t.digits _ digits)) at counter by
 
 -- the codes of a HOTP token's next two counters, sent in a row, pass if failures do not lock the token and the counters can pass
@@ -212,10 +210,11 @@ next_two_are_code_words t digits = (
 )
 
 -- the law: after a valid login, the codes of a HOTP token's next two counters, sent in a row, pass with the second counter, if failures do
--- not lock the token and neither is used up. This needs that a log of version 1 is clean if codes after a valid login get the reply due
-pub next_two_hotp_codes_pass : LoginsAreAnswered original_bytes → NextTwoHotpCodesPass
-next_two_hotp_codes_pass answered accounts mechanism name exchange moment t login at has unlocked digits counter =
+-- not lock the token and neither is used up
+pub next_two_hotp_codes_pass : NextTwoHotpCodesPass
+next_two_hotp_codes_pass accounts mechanism name exchange moment t login at has unlocked digits counter =
     let sent = two_texts (code_text (Hotp t) t.next) (code_text (Hotp t) (t.next + 1)) in
     let by = subst (λ (o : Option TokenFields). IsReplyDueBy o [] moment sent (Some (Pass (t.next + 1)))) (sym has)
     (Pass (t.next + 1), refl, pass_is_due_to_two t moment unlocked counter) in
-    answered accounts mechanism name exchange sent moment (Some (Pass (t.next + 1))) login (next_two_are_code_words t digits) at counter by
+    logins_are_answered accounts mechanism name exchange sent moment (Some (Pass (t.next + 1))) login (next_two_are_code_words t digits) at
+    counter by

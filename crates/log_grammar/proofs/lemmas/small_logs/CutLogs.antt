@@ -1,7 +1,6 @@
 -- The small logs of version 1 that are cut: the line at fault is the one after their last.
 use Rattle.std.proofs.Common.{ℕ, ◌+◌, List, [], ◌∷◌, length, refl}
 use Rattle.std.specs.Prelude.{codes}
-use Rattle.scram_text.specs.Laws.{SpellsOneName, HasOneClientFirst}
 use Rattle.log_grammar.specs.Lines.{LogLine}
 use Rattle.log_grammar.specs.Bytes.{ended_by_lf}
 use Rattle.log_grammar.specs.LoggedAttempt.{LoggedAttempt}
@@ -16,12 +15,12 @@ use Rattle.log_grammar.proofs.lemmas.small_logs.SmallLines.{offer_was_read, plai
 use Rattle.log_grammar.proofs.lemmas.kinds.ShownByLines.{LinesWereRead, no_lines_were_read, unended_is_cut}
 use Rattle.log_grammar.proofs.lemmas.lines.Cuts.{whole_lines_are_split}
 
-module _ (one_first : HasOneClientFirst) (names : SpellsOneName) (accounts : Accounts) where
+module _ (accounts : Accounts) where
   -- whole lines that lead to a place where no log may end are cut after the last line
   unended_lines_are_cut : (texts : List (List ℕ)) (lines : List LogLine) (place : Place) (told : List LoggedAttempt)
       → LinesWereRead accounts texts lines place told → (MayEnd place → ⊥) → IsWhy accounts (ended_by_lf texts) (length texts + 1) is_cut
   unended_lines_are_cut texts lines place told l unended =
-      unended_is_cut l one_first names (ended_by_lf texts) (whole_lines_are_split texts l.lack) unended
+      unended_is_cut l (ended_by_lf texts) (whole_lines_are_split texts l.lack) unended
 
   -- no bytes at all are a cut log: line 1 is at fault
   pub empty_is_cut : IsWhy accounts [] 1 is_cut

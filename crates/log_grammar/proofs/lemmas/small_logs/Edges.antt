@@ -2,7 +2,6 @@
 use Rattle.std.proofs.Common.{◌≤◌, ◌<◌, ◌+◌, inl, inr, ℕ, List, [], ◌∷◌, ◌++◌, length, refl, sym, subst}
 use Rattle.std.specs.List.{AllByRecursion, AllZip}
 use Rattle.std.proofs.lemmas.List.{same_from_push}
-use Rattle.scram_text.specs.Laws.{SpellsOneName, HasOneClientFirst}
 use Rattle.log_grammar.specs.Lines.{LogLine, IsLogLine, max_log_line_len, header}
 use Rattle.log_grammar.specs.Bytes.{LacksLf, ended_by_lf, IsSplit}
 use Rattle.log_grammar.specs.LoggedAttempt.{LoggedAttempt}
@@ -10,7 +9,6 @@ use Rattle.log_grammar.specs.Places.{Place, halted, between}
 use Rattle.log_grammar.specs.Demands.{Accounts, demands}
 use Rattle.log_grammar.specs.Begins.{Begins}
 use Rattle.log_grammar.specs.Why.{is_cut, no_line, out_of_order, class_of, LineClass, IsClassDue}
-use Rattle.log_grammar.specs.laws.LogLaws.{ClassesFollowThePlace}
 use Rattle.log_grammar.specs.laws.Examples.{AreWhole, first_alone, header_one_text}
 use Rattle.log_grammar.proofs.lemmas.lines.Cuts.{one_split, whole_lines_are_split}
 use Rattle.log_grammar.proofs.lemmas.lines.Written.{header_is_writable}
@@ -20,6 +18,7 @@ use Rattle.log_grammar.specs.Versions.{any_version, IsClean, IsWhy}
 use Rattle.log_grammar.proofs.lemmas.ListEnds.{related_list_has_last, appended_lists_keep_all, front_keeps_all, all_includes_element}
 use Rattle.log_grammar.proofs.lemmas.kinds.AllVersions.{any_version_empty_is_unclean}
 use Rattle.log_grammar.proofs.lemmas.small_logs.SmallLines.{header_was_read}
+use Rattle.log_grammar.proofs.lemmas.state_machine.DueClasses.{classes_follow_the_place}
 
 -- whole lines that lead to the place after `S HALT` are a clean log
 pub halted_is_clean : (accounts : Accounts) (texts : List (List ℕ)) (log : List LogLine) (told : List LoggedAttempt) → AreWhole texts log
@@ -34,27 +33,25 @@ empty_log_is_not_halted accounts told (inl none) = cc none.1
 empty_log_is_not_halted accounts told (inr s) = cc s.lines
 
 -- no class of lines is due after `S HALT`
-pub no_class_is_due_after_halt : ClassesFollowThePlace
-    → (accounts : Accounts) (log : List LogLine) (told : List LoggedAttempt) (class : LineClass)
+pub no_class_is_due_after_halt : (accounts : Accounts) (log : List LogLine) (told : List LoggedAttempt) (class : LineClass)
     → Begins (demands accounts) log halted told → IsClassDue log class → ⊥
-no_class_is_due_after_halt classes accounts log told class begins due = (classes accounts log halted told class begins).0 due
+no_class_is_due_after_halt accounts log told class begins due = (classes_follow_the_place accounts log halted told class begins).0 due
 
 -- any line of a log after `S HALT` is out of order, and is the line at fault
-pub line_after_halt_is_at_fault : HasOneClientFirst → SpellsOneName → ClassesFollowThePlace
-    → (accounts : Accounts) (texts : List (List ℕ)) (log : List LogLine) (told : List LoggedAttempt)
+pub line_after_halt_is_at_fault : (accounts : Accounts) (texts : List (List ℕ)) (log : List LogLine) (told : List LoggedAttempt)
     (text : List ℕ) (line : LogLine) → AreWhole (texts ++ text ∷ []) (log ++ line ∷ []) → Begins (demands accounts) log halted told
     → IsWhy accounts (ended_by_lf (texts ++ text ∷ [])) (length texts + 1) out_of_order
-line_after_halt_is_at_fault once names classes accounts texts [] told text line whole begins =
+line_after_halt_is_at_fault accounts texts [] told text line whole begins =
     absurd (empty_log_is_not_halted accounts told begins)
-line_after_halt_is_at_fault once names classes accounts texts (first ∷ log) told text line whole begins =
+line_after_halt_is_at_fault accounts texts (first ∷ log) told text line whole begins =
     let (front, last, same, those, this) = related_list_has_last IsLogLine texts text ((first ∷ log) ++ line ∷ []) whole.0 in
     let own = same_from_push (first ∷ log) front line last same in
     let are = subst (λ (ls : List LogLine). AllZip IsLogLine texts ls) (sym own.0) those in
     let is = subst (λ (l : LogLine). IsLogLine text l) (sym own.1) this in
-    last_line_is_at_fault once names accounts texts first log halted told text line out_of_order
+    last_line_is_at_fault accounts texts first log halted told text line out_of_order
     (record { are = are; lack = front_keeps_all LacksLf texts (text ∷ []) whole.1; begins = begins })
     is (all_includes_element LacksLf texts text [] whole.1) (λ f. f.goes)
-    (inl (no_class_is_due_after_halt classes accounts (first ∷ log) told (class_of line) begins, refl))
+    (inl (no_class_is_due_after_halt accounts (first ∷ log) told (class_of line) begins, refl))
 
 -- bytes without an LF are cut into no lines, and all of them are left
 rest_alone_is_split : (rest : List ℕ) → LacksLf rest → IsSplit rest [] rest

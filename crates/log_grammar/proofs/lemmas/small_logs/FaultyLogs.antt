@@ -3,7 +3,6 @@ use Rattle.std.proofs.Common.{◌≡◌, inl, inr, ℕ, List, [], ◌∷◌, get
 use Rattle.std.specs.Prelude.{codes}
 use Rattle.std.specs.Str.{byte}
 use Rattle.mac_core.specs.declared.mechanism.Mechanism.TheVariants.{ScramSha1}
-use Rattle.scram_text.specs.Laws.{SpellsOneName, HasOneClientFirst}
 use Rattle.log_grammar.specs.Lines.{LogLine, header, said, heard, mechs, cont, accepts, refuses, halt, abort}
 use Rattle.log_grammar.specs.Bytes.{ended_by_lf}
 use Rattle.log_grammar.specs.Places.{Place, between, offered, asks_bare, got_first, leaving, over}
@@ -50,12 +49,12 @@ end_is_no_line accounts =
 error_is_not_empty : codes "e=other-error" ≡ [] → ⊥
 error_is_not_empty e = cc e
 
-module _ (one_first : HasOneClientFirst) (names : SpellsOneName) (accounts : Accounts) where
+module _ (accounts : Accounts) where
   -- `C ABORT` right after the first line, where no session is open, is out of order: line 2 is at fault
   pub abort_is_early : IsWhy accounts (ended_by_lf (header_one_text ∷ codes "C ABORT" ∷ [])) 2 out_of_order
   abort_is_early =
       let l = header_was_read accounts in
-      last_line_is_at_fault one_first names accounts (header_one_text ∷ []) header [] between [] (codes "C ABORT")
+      last_line_is_at_fault accounts (header_one_text ∷ []) header [] between [] (codes "C ABORT")
       (heard abort) out_of_order l
       abort_is_writable
       refl
@@ -66,7 +65,7 @@ module _ (one_first : HasOneClientFirst) (names : SpellsOneName) (accounts : Acc
   pub halt_is_early : IsWhy accounts (one_session (codes "S HALT" ∷ [])) 3 out_of_order
   halt_is_early =
       let l = offer_was_read accounts in
-      last_line_is_at_fault one_first names accounts (header_one_text ∷ offer_text ∷ []) header _ offered [] (codes "S HALT")
+      last_line_is_at_fault accounts (header_one_text ∷ offer_text ∷ []) header _ offered [] (codes "S HALT")
       (said halt) out_of_order l halt_is_writable refl (λ f. f.goes)
       (inl (
         class_is_not_due accounts _ offered _ l.begins (λ is. elim is [
@@ -80,7 +79,7 @@ module _ (one_first : HasOneClientFirst) (names : SpellsOneName) (accounts : Acc
   pub end_is_missing : IsWhy accounts (one_session (codes "C GONE" ∷ offer_text ∷ [])) 4 out_of_order
   end_is_missing =
       let l = gone_was_read accounts in
-      last_line_is_at_fault one_first names accounts (header_one_text ∷ offer_text ∷ codes "C GONE"
+      last_line_is_at_fault accounts (header_one_text ∷ offer_text ∷ codes "C GONE"
       ∷ []) header _ over [] offer_text _ out_of_order l offer_is_writable refl (λ f. f.goes)
       (inl (class_is_not_due accounts _ over _ l.begins (λ is. cc is), refl))
 
@@ -88,7 +87,7 @@ module _ (one_first : HasOneClientFirst) (names : SpellsOneName) (accounts : Acc
   pub other_offer_is_at_fault : IsWhy accounts (ended_by_lf (header_one_text ∷ codes "S MECHS SCRAM-SHA-1" ∷ [])) 2 other_mechs
   other_offer_is_at_fault =
       let l = header_was_read accounts in
-      last_line_is_at_fault one_first names accounts (header_one_text ∷ []) header [] between [] (codes "S MECHS SCRAM-SHA-1")
+      last_line_is_at_fault accounts (header_one_text ∷ []) header [] between [] (codes "S MECHS SCRAM-SHA-1")
       (said (mechs (codes "SCRAM-SHA-1"))) other_mechs
       l other_offer_is_line refl (λ f. one_name_is_not_both f.goes.0)
       (inr (class_is_due accounts (header ∷ []) between _ l.begins refl, between, [], l.begins, refl))
@@ -99,7 +98,7 @@ module _ (one_first : HasOneClientFirst) (names : SpellsOneName) (accounts : Acc
   invited_plain_is_at_fault =
       let l = plain_auth_was_read accounts in
       let at = asks_bare (codes "PLAIN") in
-      last_line_is_at_fault one_first names accounts (header_one_text ∷ offer_text ∷ codes "C AUTH PLAIN" ∷ []) header _ at []
+      last_line_is_at_fault accounts (header_one_text ∷ offer_text ∷ codes "C AUTH PLAIN" ∷ []) header _ at []
       (codes "S CONT :")
       (said (cont [])) (other_outcome (refused_with []))
       l bare_cont_is_writable refl (λ f. plain_is_not_offered f.goes.0.0.0 f.goes.0.0.1)
@@ -110,7 +109,7 @@ module _ (one_first : HasOneClientFirst) (names : SpellsOneName) (accounts : Acc
   refused_auth_is_at_fault =
       let l = auth_was_read accounts in
       let at = asks_bare (codes "SCRAM-SHA-1") in
-      last_line_is_at_fault one_first names accounts (header_one_text ∷ offer_text ∷ codes "C AUTH SCRAM-SHA-1" ∷ []) header _ at []
+      last_line_is_at_fault accounts (header_one_text ∷ offer_text ∷ codes "C AUTH SCRAM-SHA-1" ∷ []) header _ at []
       (codes "S NO :")
       (said (refuses [])) other_challenge
       l bare_refusal_is_writable refl (λ f. f.goes.0.0 ScramSha1 refl)
@@ -120,7 +119,7 @@ module _ (one_first : HasOneClientFirst) (names : SpellsOneName) (accounts : Acc
   pub header_again_is_early : IsWhy accounts (ended_by_lf (header_one_text ∷ header_one_text ∷ [])) 2 out_of_order
   header_again_is_early =
       let l = header_was_read accounts in
-      last_line_is_at_fault one_first names accounts (header_one_text ∷ []) header [] between [] header_one_text header out_of_order l
+      last_line_is_at_fault accounts (header_one_text ∷ []) header [] between [] header_one_text header out_of_order l
       header_is_writable refl
       (λ f. f.goes)
       (inl (class_is_not_due accounts (header ∷ []) between _ l.begins (λ is. cc is), refl))
@@ -129,7 +128,7 @@ module _ (one_first : HasOneClientFirst) (names : SpellsOneName) (accounts : Acc
   pub accepted_abort_is_at_fault : IsWhy accounts (one_session (codes "C ABORT" ∷ codes "S OK :" ∷ [])) 4 (other_outcome (refused_with []))
   accepted_abort_is_at_fault =
       let l = abort_was_read accounts in
-      last_line_is_at_fault one_first names accounts (header_one_text ∷ offer_text ∷ codes "C ABORT" ∷ []) header _ leaving []
+      last_line_is_at_fault accounts (header_one_text ∷ offer_text ∷ codes "C ABORT" ∷ []) header _ leaving []
       (codes "S OK :")
       (said (accepts [])) (other_outcome (refused_with []))
       l ok_is_line refl (λ f. f.goes) (inr (class_is_due accounts _ leaving _ l.begins refl, leaving, [], l.begins, refl))
@@ -139,7 +138,7 @@ module _ (one_first : HasOneClientFirst) (names : SpellsOneName) (accounts : Acc
       (other_outcome (refused_with []))
   refusal_message_is_at_fault =
       let l = bad_was_read accounts in
-      last_line_is_at_fault one_first names accounts (header_one_text ∷ offer_text ∷ codes "C BAD" ∷ []) header _ leaving []
+      last_line_is_at_fault accounts (header_one_text ∷ offer_text ∷ codes "C BAD" ∷ []) header _ leaving []
       (codes "S NO :e=other-error")
       (said (refuses (codes "e=other-error")))
       (other_outcome (refused_with [])) l error_is_line refl (λ f. error_is_not_empty f.goes.0)
@@ -151,7 +150,7 @@ module _ (one_first : HasOneClientFirst) (names : SpellsOneName) (accounts : Acc
   challenged_empty_is_at_fault =
       let l = empty_first_was_read accounts in
       let at = got_first (codes "SCRAM-SHA-1") [] in
-      last_line_is_at_fault one_first names accounts (header_one_text ∷ offer_text ∷ codes "C AUTH SCRAM-SHA-1 :" ∷ []) header _ at []
+      last_line_is_at_fault accounts (header_one_text ∷ offer_text ∷ codes "C AUTH SCRAM-SHA-1 :" ∷ []) header _ at []
       (codes "S CONT :")
       (said (cont [])) (other_outcome (refused_with []))
       l bare_cont_is_writable refl (λ f. empty_is_no_client_first f.goes.1.opening.first f.goes.1.opens.is_first.spelled)

@@ -1,6 +1,5 @@
 -- A log that meets the demands of some accounts has only one reading.
 use Rattle.std.proofs.Common.{◌≡◌, List}
-use Rattle.scram_text.specs.Laws.{SpellsOneName, HasOneClientFirst}
 use Rattle.log_grammar.specs.Lines.{LogLine}
 use Rattle.log_grammar.specs.LoggedAttempt.{LoggedAttempt}
 use Rattle.log_grammar.specs.Places.{Place}
@@ -10,15 +9,13 @@ use Rattle.log_grammar.proofs.lemmas.state_machine.OneReading.{OneAccount, lines
 use Rattle.log_grammar.proofs.lemmas.demands.Challenges.{one_name, challenged_first_is_of_name}
 
 -- a challenge is for only one account: the client-first message has only one name
-pub challenge_has_one_account : HasOneClientFirst → SpellsOneName → (accounts : Accounts) → OneAccount (demands accounts)
-challenge_has_one_account one_first names accounts m first account other text a b =
-    one_name one_first names m first account other (challenged_first_is_of_name accounts m first account text a)
+pub challenge_has_one_account : (accounts : Accounts) → OneAccount (demands accounts)
+challenge_has_one_account accounts m first account other text a b =
+    one_name m first account other (challenged_first_is_of_name accounts m first account text a)
     (challenged_first_is_of_name accounts m first other text b)
 
--- the law: if client-first messages and names have only one reading, the place after a log's lines and the replies that it records follow
--- from the lines
-pub logs_have_one_reading : HasOneClientFirst → SpellsOneName
-    → (accounts : Accounts) (log : List LogLine) (place other : Place) (told also : List LoggedAttempt)
+-- the law: the place after a log's lines and the replies that it records follow from the lines
+pub logs_have_one_reading : (accounts : Accounts) (log : List LogLine) (place other : Place) (told also : List LoggedAttempt)
     → Begins (demands accounts) log place told → Begins (demands accounts) log other also → (place ≡ other) × (told ≡ also)
-logs_have_one_reading one_first names accounts log place other told also begins begins' =
-    lines_have_one_reading (demands accounts) (challenge_has_one_account one_first names accounts) log place other told also begins begins'
+logs_have_one_reading accounts log place other told also begins begins' =
+    lines_have_one_reading (demands accounts) (challenge_has_one_account accounts) log place other told also begins begins'

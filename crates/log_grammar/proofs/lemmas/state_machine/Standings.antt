@@ -17,7 +17,7 @@ use Rattle.log_grammar.specs.state_machine.DueClasses.{IsQuitting, IsDueAt}
 use Rattle.log_grammar.proofs.lemmas.demands.Challenges.{decided_offered, decided_first_message}
 use Rattle.log_grammar.proofs.lemmas.demands.StillChallenged.{ChallengeMeetsDemand}
 use Rattle.log_grammar.proofs.lemmas.completions.Verdicts.{some_verdict}
-use Rattle.log_grammar.proofs.lemmas.demands.DemandsDecided.{DecisionLaws, decided_challenged, decided_denied, decided_granted, some_reply}
+use Rattle.log_grammar.proofs.lemmas.demands.DemandsDecided.{decided_challenged, decided_denied, decided_granted, some_reply}
 use Rattle.log_grammar.proofs.lemmas.demands.DemandsDecided.{decided_reply_due}
 
 -- a line may stand at a place; if it is a reply to a code, it is the one due
@@ -87,18 +87,18 @@ some_why_after_auth accounts m = elim (decided_offered m) [
 ]
 
 -- after a client-first message there is a reason for which an answer is wrong
-some_why_after_first : DecisionLaws → (accounts : Accounts) (m first : List ℕ)
+some_why_after_first : (accounts : Accounts) (m first : List ℕ)
     → (why : Why) × IsReasonForAnswer accounts (got_first m first) why
-some_why_after_first laws accounts m first = elim (decided_first_message laws.completion m first) [
+some_why_after_first accounts m first = elim (decided_first_message m first) [
   | inl is ↦ (other_challenge, inl (is, refl))
   | inr none ↦ (other_outcome (refused_with []), inr (none, refl))
 ]
 
 -- after a code there is a reason for which a reply is wrong
-some_why_after_code : DecisionLaws → (accounts : Accounts) (account : List ℕ) (sent : CodeTexts) (told : List LoggedAttempt) (moment : ℕ)
+some_why_after_code : (accounts : Accounts) (account : List ℕ) (sent : CodeTexts) (told : List LoggedAttempt) (moment : ℕ)
     → (why : Why) × IsReasonForReply accounts (got_code account sent) told moment why
-some_why_after_code laws accounts account sent told moment =
-    let due = some_reply laws.some_reply (accounts.token account) (attempts_of account (reverse told)) moment sent in
+some_why_after_code accounts account sent told moment =
+    let due = some_reply (accounts.token account) (attempts_of account (reverse told)) moment sent in
     (other_reply moment due.0, (due.0, due.1, refl))
 
 module _ (accounts : Accounts) (told : List LoggedAttempt) where
@@ -200,20 +200,20 @@ module _ (accounts : Accounts) (told : List LoggedAttempt) where
   over_gives_standing (heard abort) = inr (inl (λ is. cc is))
   over_gives_standing line = inr (inl (λ is. cc is))
 
-module _ (laws : DecisionLaws) (accounts : Accounts) (told : List LoggedAttempt) where
+module _ (accounts : Accounts) (told : List LoggedAttempt) where
   -- after a client-first message, a line stands in one of the three ways
   got_first_gives_standing : (m first : List ℕ) (line : LogLine) → Standing accounts (got_first m first) told line
   got_first_gives_standing m first (said (refuses text)) =
-      demand_gives_standing accounts (got_first m first) told (said (refuses text)) _ refl (some_why_after_first laws accounts m first)
+      demand_gives_standing accounts (got_first m first) told (said (refuses text)) _ refl (some_why_after_first accounts m first)
       (λ is. record { next = over; goes = (is, refl); due = tt }) (λ f. f.goes.0)
-      (decided_both _ _ (decided_none (decided_first_message laws.completion m first))
+      (decided_both _ _ (decided_none (decided_first_message m first))
       (decided_same_text text []))
   got_first_gives_standing m first (said (cont text)) =
-      demand_gives_standing accounts (got_first m first) told (said (cont text)) _ refl (some_why_after_first laws accounts m first)
+      demand_gives_standing accounts (got_first m first) told (said (cont text)) _ refl (some_why_after_first accounts m first)
       (λ is. record { next = waits_final m is.0 first text; goes = (is.0, is.1, refl); due = tt }) (λ f. (f.goes.0, f.goes.1))
-      (decided_challenged laws accounts m first text)
+      (decided_challenged accounts m first text)
   got_first_gives_standing m first (said (accepts text)) =
-      stuck_line_fails accounts (got_first m first) told (said (accepts text)) refl (some_why_after_first laws accounts m first)
+      stuck_line_fails accounts (got_first m first) told (said (accepts text)) refl (some_why_after_first accounts m first)
       (λ f. f.goes)
   got_first_gives_standing m first (heard abort) = inr (inl (λ is. cc is))
   got_first_gives_standing m first line = inr (inl (λ is. cc is))
@@ -226,12 +226,12 @@ module _ (laws : DecisionLaws) (accounts : Accounts) (told : List LoggedAttempt)
       demand_gives_standing accounts (got_final m account first challenge last) told (said (refuses text)) _ refl
       (other_outcome (outcome_of due), (due, is, refl))
       (λ denied. record { next = over; goes = (denied, refl); due = tt }) (λ f. f.goes.0)
-      (decided_denied laws accounts m account first challenge last text due is)
+      (decided_denied accounts m account first challenge last text due is)
   got_final_gives_standing m account first challenge last (due, is) (said (accepts text)) =
       demand_gives_standing accounts (got_final m account first challenge last) told (said (accepts text)) _ refl
       (other_outcome (outcome_of due), (due, is, refl))
       (λ granted. record { next = waits_code account; goes = (granted, refl); due = tt }) (λ f. f.goes.0)
-      (decided_granted laws accounts m account first challenge last text due is)
+      (decided_granted accounts m account first challenge last text due is)
   got_final_gives_standing m account first challenge last (due, is) (said (cont text)) =
       stuck_line_fails accounts (got_final m account first challenge last) told (said (cont text)) refl
       (other_outcome (outcome_of due), (due, is, refl))
@@ -244,30 +244,30 @@ module _ (laws : DecisionLaws) (accounts : Accounts) (told : List LoggedAttempt)
   got_code_gives_standing account sent (said (replies moment reply)) =
       demand_gives_standing accounts (got_code account sent) told (said (replies moment reply))
       (HasDueReply accounts (reverse told) (logged_attempt_of account moment sent reply))
-      refl (some_why_after_code laws accounts account sent told moment)
+      refl (some_why_after_code accounts account sent told moment)
       (λ is. record { next = waits_code account; goes = refl; due = (is, tt) }) (λ f. f.due.0)
-      (decided_reply_due laws (accounts.token account) (attempts_of account (reverse told)) moment sent reply)
+      (decided_reply_due (accounts.token account) (attempts_of account (reverse told)) moment sent reply)
   got_code_gives_standing account sent (said halt) = inl (record { next = halted; goes = refl; due = tt })
   got_code_gives_standing account sent (heard abort) = inr (inl (λ is. cc is))
   got_code_gives_standing account sent line = inr (inl (λ is. cc is))
 
 -- at each place to which lines of a log lead, a line stands in one of the three ways
-pub line_has_standing : DecisionLaws → (accounts : Accounts) (place : Place) (told : List LoggedAttempt) (line : LogLine)
+pub line_has_standing : (accounts : Accounts) (place : Place) (told : List LoggedAttempt) (line : LogLine)
     → ChallengeMeetsDemand (demands accounts) place → Standing accounts place told line
-line_has_standing laws accounts before_all told line opened = before_all_gives_standing accounts told line
-line_has_standing laws accounts between told line opened = between_gives_standing accounts told line
-line_has_standing laws accounts offered told line opened = offered_gives_standing accounts told line
-line_has_standing laws accounts (asks_bare m) told line opened = asks_bare_gives_standing accounts told m line
-line_has_standing laws accounts (waits_first m) told line opened = waits_first_gives_standing accounts told m line
-line_has_standing laws accounts (got_first m first) told line opened = got_first_gives_standing laws accounts told m first line
-line_has_standing laws accounts (waits_final m account first challenge) told line opened =
+line_has_standing accounts before_all told line opened = before_all_gives_standing accounts told line
+line_has_standing accounts between told line opened = between_gives_standing accounts told line
+line_has_standing accounts offered told line opened = offered_gives_standing accounts told line
+line_has_standing accounts (asks_bare m) told line opened = asks_bare_gives_standing accounts told m line
+line_has_standing accounts (waits_first m) told line opened = waits_first_gives_standing accounts told m line
+line_has_standing accounts (got_first m first) told line opened = got_first_gives_standing accounts told m first line
+line_has_standing accounts (waits_final m account first challenge) told line opened =
     waits_final_gives_standing accounts told m account first challenge
     line
-line_has_standing laws accounts (got_final m account first challenge last) told line opened =
-    got_final_gives_standing laws accounts told m account first challenge last
-    (some_verdict laws.completion.some_verdict accounts m account first challenge last opened) line
-line_has_standing laws accounts (waits_code account) told line opened = waits_code_gives_standing accounts told account line
-line_has_standing laws accounts (got_code account sent) told line opened = got_code_gives_standing laws accounts told account sent line
-line_has_standing laws accounts leaving told line opened = leaving_gives_standing accounts told line
-line_has_standing laws accounts over told line opened = over_gives_standing accounts told line
-line_has_standing laws accounts halted told line opened = inr (inl (λ none. none))
+line_has_standing accounts (got_final m account first challenge last) told line opened =
+    got_final_gives_standing accounts told m account first challenge last
+    (some_verdict accounts m account first challenge last opened) line
+line_has_standing accounts (waits_code account) told line opened = waits_code_gives_standing accounts told account line
+line_has_standing accounts (got_code account sent) told line opened = got_code_gives_standing accounts told account sent line
+line_has_standing accounts leaving told line opened = leaving_gives_standing accounts told line
+line_has_standing accounts over told line opened = over_gives_standing accounts told line
+line_has_standing accounts halted told line opened = inr (inl (λ none. none))

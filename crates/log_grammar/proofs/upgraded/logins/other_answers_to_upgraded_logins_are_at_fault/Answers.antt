@@ -7,5 +7,5 @@ returns-clause-refused c =
 
 pub returns-clause-answered : goal.returns-clause-answered
 returns-clause-answered c =
-    upgraded_replies_are_at_fault c.accepts_exactly_valid.ensures c.upgraded_logs_have_the_same_fault.ensures
+    upgraded_replies_are_at_fault c.upgraded_logs_have_the_same_fault.ensures
     c.other_answers_to_logins_are_at_fault.ensures.answered

@@ -7,31 +7,31 @@ pub returns-clause-first : goal.returns-clause-first
 returns-clause-first c = end_is_no_line
 
 pub returns-clause-order : goal.returns-clause-order
-returns-clause-order c = abort_is_early c.has_one_client_first.ensures c.spells_one_name.ensures
+returns-clause-order c = abort_is_early
 
 pub returns-clause-halt : goal.returns-clause-halt
-returns-clause-halt c = halt_is_early c.has_one_client_first.ensures c.spells_one_name.ensures
+returns-clause-halt c = halt_is_early
 
 pub returns-clause-mechs : goal.returns-clause-mechs
-returns-clause-mechs c = other_offer_is_at_fault c.has_one_client_first.ensures c.spells_one_name.ensures
+returns-clause-mechs c = other_offer_is_at_fault
 
 pub returns-clause-outcome : goal.returns-clause-outcome
-returns-clause-outcome c = invited_plain_is_at_fault c.has_one_client_first.ensures c.spells_one_name.ensures
+returns-clause-outcome c = invited_plain_is_at_fault
 
 pub returns-clause-challenge : goal.returns-clause-challenge
-returns-clause-challenge c = refused_auth_is_at_fault c.has_one_client_first.ensures c.spells_one_name.ensures
+returns-clause-challenge c = refused_auth_is_at_fault
 
 pub returns-clause-end : goal.returns-clause-end
-returns-clause-end c = end_is_missing c.has_one_client_first.ensures c.spells_one_name.ensures
+returns-clause-end c = end_is_missing
 
 pub returns-clause-first_again : goal.returns-clause-first_again
-returns-clause-first_again c = header_again_is_early c.has_one_client_first.ensures c.spells_one_name.ensures
+returns-clause-first_again c = header_again_is_early
 
 pub returns-clause-accepted : goal.returns-clause-accepted
-returns-clause-accepted c = accepted_abort_is_at_fault c.has_one_client_first.ensures c.spells_one_name.ensures
+returns-clause-accepted c = accepted_abort_is_at_fault
 
 pub returns-clause-message : goal.returns-clause-message
-returns-clause-message c = refusal_message_is_at_fault c.has_one_client_first.ensures c.spells_one_name.ensures
+returns-clause-message c = refusal_message_is_at_fault
 
 pub returns-clause-not_first : goal.returns-clause-not_first
-returns-clause-not_first c = challenged_empty_is_at_fault c.has_one_client_first.ensures c.spells_one_name.ensures
+returns-clause-not_first c = challenged_empty_is_at_fault

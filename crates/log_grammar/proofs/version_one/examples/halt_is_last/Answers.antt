@@ -5,8 +5,7 @@ pub returns-clause-clean : goal.returns-clause-clean
 returns-clause-clean c = halted_is_clean
 
 pub returns-clause-none : goal.returns-clause-none
-returns-clause-none c = no_class_is_due_after_halt c.classes_follow_the_place.ensures
+returns-clause-none c = no_class_is_due_after_halt
 
 pub returns-clause-more : goal.returns-clause-more
-returns-clause-more c =
-    line_after_halt_is_at_fault c.has_one_client_first.ensures c.spells_one_name.ensures c.classes_follow_the_place.ensures
+returns-clause-more c = line_after_halt_is_at_fault

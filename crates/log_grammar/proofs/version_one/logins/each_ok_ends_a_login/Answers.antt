@@ -2,4 +2,4 @@ use Rattle.log_grammar.proofs.lemmas.login_laws.ValidLogins.{each_ok_ends_a_logi
 use Rattle.log_grammar.proofs.version_one.logins.each_ok_ends_a_login.Goals as goal
 
 pub returns : goal.returns
-returns c = each_ok_ends_a_login c.has_one_client_first.ensures c.spells_one_name.ensures c.accepts_exactly_valid.ensures
+returns c = each_ok_ends_a_login

@@ -2,10 +2,10 @@ use Rattle.log_grammar.proofs.lemmas.login_laws.CleanLogins.{logins_are_clean, l
 use Rattle.log_grammar.proofs.version_one.logins.logins_are_clean.Goals as goal
 
 pub returns-clause-gone : goal.returns-clause-gone
-returns-clause-gone c = logins_are_clean c.accepts_exactly_valid.ensures
+returns-clause-gone c = logins_are_clean
 
 pub returns-clause-halted : goal.returns-clause-halted
-returns-clause-halted c = logins_may_halt c.accepts_exactly_valid.ensures
+returns-clause-halted c = logins_may_halt
 
 pub returns-clause-answered : goal.returns-clause-answered
-returns-clause-answered c = logins_are_answered c.accepts_exactly_valid.ensures
+returns-clause-answered c = logins_are_answered

@@ -2,5 +2,4 @@ use Rattle.log_grammar.proofs.lemmas.outcome_laws.ServerLines.{each_refusal_is_d
 use Rattle.log_grammar.proofs.version_one.outcomes.each_refusal_is_due.Goals as goal
 
 pub returns : goal.returns
-returns c = each_refusal_is_due c.has_one_client_first.ensures c.spells_one_name.ensures c.at_most_one_verdict_is_due.ensures
-    c.accepts_exactly_valid.ensures
+returns c = each_refusal_is_due

@@ -3,7 +3,7 @@ use Rattle.log_grammar.proofs.lemmas.reason_laws.Mended.{what_is_due_may_stand}
 use Rattle.log_grammar.proofs.version_one.reasons.what_is_due_may_stand.Goals as goal
 
 pub returns-clause-some : goal.returns-clause-some
-returns-clause-some c = what_is_due_may_stand c.fronts_are_what_begins_clean_logs.ensures
+returns-clause-some c = what_is_due_may_stand
 
 pub returns-clause-each : goal.returns-clause-each
-returns-clause-each c = each_line_that_is_due_may_stand c.fronts_are_what_begins_clean_logs.ensures
+returns-clause-each c = each_line_that_is_due_may_stand

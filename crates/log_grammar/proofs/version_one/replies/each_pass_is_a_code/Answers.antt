@@ -2,4 +2,4 @@ use Rattle.log_grammar.proofs.lemmas.reply_laws.Passed.{each_pass_is_a_code}
 use Rattle.log_grammar.proofs.version_one.replies.each_pass_is_a_code.Goals as goal
 
 pub returns : goal.returns
-returns c = each_pass_is_a_code c.each_reply_is_due.ensures
+returns c = each_pass_is_a_code

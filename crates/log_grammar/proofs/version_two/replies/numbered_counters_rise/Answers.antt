@@ -2,4 +2,4 @@ use Rattle.log_grammar.proofs.lemmas.reply_laws.NumberedPassed.{numbered_counter
 use Rattle.log_grammar.proofs.version_two.replies.numbered_counters_rise.Goals as goal
 
 pub returns : goal.returns
-returns c = numbered_counters_rise c.has_one_client_first.ensures c.spells_one_name.ensures c.candidates_are_new.ensures
+returns c = numbered_counters_rise

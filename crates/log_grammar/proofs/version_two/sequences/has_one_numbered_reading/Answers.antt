@@ -5,5 +5,5 @@ use Rattle.log_grammar.proofs.version_two.sequences.has_one_numbered_reading.Goa
 
 pub returns : goal.returns
 returns c = λ limit accounts log places others told also s r.
-    let one = challenge_has_one_account c.has_one_client_first.ensures c.spells_one_name.ensures accounts in
+    let one = challenge_has_one_account accounts in
     numbered_lines_have_one_reading limit (demands accounts) one log places others told also s r

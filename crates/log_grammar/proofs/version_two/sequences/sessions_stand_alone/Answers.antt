@@ -5,5 +5,5 @@ use Rattle.log_grammar.proofs.version_two.sequences.sessions_stand_alone.Goals a
 
 pub returns : goal.returns
 returns c = λ limit accounts log other places others told also s r n m same.
-    let one = challenge_has_one_account c.has_one_client_first.ensures c.spells_one_name.ensures accounts in
+    let one = challenge_has_one_account accounts in
     numbers_share_place limit (demands accounts) one log other places others told also s r n m same
