@@ -8,8 +8,9 @@ use Rattle.scram_text.proofs.lemmas.Decided.{decided_run}
 use Rattle.otp_core.specs.Ranges.{max_moment, max_counter}
 use Rattle.otp_core.specs.declared.token.reply.Reply.{Reply}
 use Rattle.otp_core.specs.declared.token.reply.Reply.TheVariants.{Pass, Fail, Locked}
+use Rattle.scram_text.specs.Class.{is_vchar}
 use Rattle.log_grammar.specs.Payload.{IsMessage}
-use Rattle.log_grammar.specs.Words.{is_mech_char, is_code_char, is_space, max_mech_name_len, max_code_len, IsMechName}
+use Rattle.log_grammar.specs.Words.{is_mech_char, is_space, max_mech_name_len, max_code_len, IsMechName}
 use Rattle.log_grammar.specs.Lines.{ServerLine, mechs, cont, accepts, refuses, replies, halt, busy, ClientLine, auth, auth_with, resp, abort, code}
 use Rattle.log_grammar.specs.Lines.{sync, Line, from_server, from_client, LogLine, header, header_two, said, heard, bad, gone, ended, line_text}
 use Rattle.log_grammar.specs.Lines.{log_line_text, IsReplyInRange, IsServerLineInRange, IsClientLineInRange, IsLineInRange, IsLogLineInRange, IsLine}
@@ -48,9 +49,9 @@ decided_client_range (auth mechanism) = decided_mech_name mechanism
 decided_client_range (auth_with mechanism message) = decided_both _ _ (decided_mech_name mechanism) (decided_message message)
 decided_client_range (resp message) = decided_message message
 decided_client_range abort = inl tt
-decided_client_range (code text) = decided_run is_code_char max_code_len text
-decided_client_range (sync first second) = decided_both _ _ (decided_run is_code_char max_code_len first)
-    (decided_run is_code_char max_code_len second)
+decided_client_range (code text) = decided_run is_vchar max_code_len text
+decided_client_range (sync first second) = decided_both _ _ (decided_run is_vchar max_code_len first)
+    (decided_run is_vchar max_code_len second)
 
 -- it is decidable whether a line of the protocol is in its ranges
 decided_line_range : (line : Line) → Decided (IsLineInRange line)
