@@ -1,8 +1,12 @@
 -- The bounds of a desk, a hall and a service.
 use Rattle.std.specs.Prelude.{ℕ, ◌+◌, ◌*◌, ◌<◌, Vec, vec_len, vec_capacity}
-use Rattle.log_grammar.specs.Lines.{max_log_line_len}
+use Rattle.log_grammar.specs.Lines.{max_line_len, max_log_line_len}
 
--- the most bytes of a line of a log with its LF: no line that is sent has more
+-- the most bytes that a call sends its client: one line with its LF
+abbrev pub max_sent_bytes : ℕ
+max_sent_bytes = max_line_len + 1
+
+-- the most bytes of a line of a log with its LF
 abbrev pub max_log_line_and_lf_len : ℕ
 max_log_line_and_lf_len = max_log_line_len + 1
 
@@ -10,7 +14,7 @@ max_log_line_and_lf_len = max_log_line_len + 1
 abbrev pub max_call_lines : ℕ
 max_call_lines = 3
 
--- no call of a desk adds more bytes than this to its log. Each call asks for as much room for what it sends, which is at most one line
+-- no call of a desk adds more bytes than this to its log
 abbrev pub max_call_bytes : ℕ
 max_call_bytes = max_call_lines * max_log_line_and_lf_len
 

@@ -50,4 +50,4 @@ pub use hall::Hall;
 pub use otp_core::{Moment, Reply, SentCodes};
 pub use serving::{log_then_send, serve, serve_turn};
 pub use session::{Event, Phase};
-pub use write::{MAX_CALL_BYTES, MAX_HALL_CALL_BYTES};
+pub use write::{MAX_CALL_BYTES, MAX_HALL_CALL_BYTES, MAX_SENT_BYTES};
