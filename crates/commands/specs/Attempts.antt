@@ -11,7 +11,7 @@ use Rattle.book_format.specs.Book.{BookFields}
 use Rattle.book_format.specs.Trees.{IsBookText}
 use Rattle.log_grammar.specs.Lines.{reply_text}
 use Rattle.log_grammar.specs.LoggedAttempt.{LoggedAttempt, logged_attempt_of}
-use Rattle.sasl_desk.specs.Keeper.{IsAttemptJudged}
+use Rattle.sasl_desk.specs.JudgedAttempts.{IsAttemptJudged}
 use Rattle.sasl_desk.specs.Changes.{Change, judged}
 use Rattle.sasl_desk.specs.Desks.{HoldsBook, IsBookAfterReplies}
 use Rattle.command_line.specs.declared.fault.Fault.{Fault}

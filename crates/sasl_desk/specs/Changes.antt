@@ -7,7 +7,7 @@ use Rattle.account_book.specs.Store.{StoreFacts}
 use Rattle.account_book.specs.Tokens.{IsUnlocked}
 use Rattle.log_grammar.specs.LoggedAttempt.{LoggedAttempt}
 use Rattle.log_grammar.specs.Numbered.{Numbered}
-use Rattle.sasl_desk.specs.Keeper.{IsAttemptJudged}
+use Rattle.sasl_desk.specs.JudgedAttempts.{IsAttemptJudged}
 use Rattle.sasl_desk.specs.Runs.{Call}
 use Rattle.sasl_desk.specs.Desks.{IsDeskAfter, spent_by_all}
 use Rattle.sasl_desk.specs.Halls.{HallFields, IsHallAfter}

@@ -1,5 +1,8 @@
--- The faults of a desk, and their numbers.
-use Rattle.std.specs.Prelude.{ℕ}
+-- The faults of a desk and a hall, their numbers, and why a desk or a hall does not begin.
+use Rattle.std.specs.Prelude.{ℕ, ◌≡◌}
+use Rattle.book_format.specs.Book.{BookFields}
+use Rattle.account_book.specs.Store.{StoreFacts}
+use Rattle.book_keeper.specs.Keeper.{FailsToSave}
 use Rattle.book_keeper.specs.declared.keeper.SaveFault.{SaveFault}
 use Rattle.book_keeper.specs.declared.keeper.SaveFault.TheVariants as save
 use Rattle.sasl_desk.specs.declared.fault.DeskFault.{DeskFault}
@@ -26,3 +29,10 @@ serve_number serve.LogFault = 75
 abbrev pub fault_of_save : SaveFault → DeskFault
 fault_of_save save.NotSaved = Halted
 fault_of_save save.NoMemory = NoMemory
+
+-- why a desk or a hall has not begun: memory ran out, and the store was not asked; or its first save failed
+abbrev pub IsNotBegun : (old_store : StoreFacts) → BookFields → DeskFault → (new_store : StoreFacts) → Type 0
+IsNotBegun old_store book NoMemory new_store = new_store ≡ old_store
+IsNotBegun old_store book Halted new_store = FailsToSave old_store book new_store
+IsNotBegun old_store book Unwritable new_store = ⊥
+IsNotBegun old_store book NoNumber new_store = ⊥

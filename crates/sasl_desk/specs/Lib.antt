@@ -1,5 +1,5 @@
--- What a desk and a hall do, in the order in which to read it: what a client does, which of its lines are due, a session, a keeper,
--- the runs of a desk and of a hall, what is true of all runs, and how a client is served.
+-- What a desk and a hall do, in the order in which to read it: what a client does, which of its lines are due, a session, attempts that were
+-- judged, the runs of a desk and of a hall, what is true of all runs, and how a client is served.
 pub mod Events
 pub mod DueLines
 pub mod ChallengedLogin
@@ -7,7 +7,7 @@ pub mod Sessions
 pub mod SessionTurns
 pub mod Bounds
 pub mod Prefix
-pub mod Keeper
+pub mod JudgedAttempts
 pub mod Runs
 pub mod TurnResults
 pub mod Spent

@@ -8,7 +8,7 @@ use Rattle.log_grammar.specs.Lines.{LogLine, said, heard, replies, halt, code_li
 use Rattle.log_grammar.specs.LoggedAttempt.{LoggedAttempt}
 use Rattle.log_grammar.specs.Places.{Place, waits_code}
 use Rattle.sasl_desk.specs.Events.{ClientEvent}
-use Rattle.sasl_desk.specs.Keeper.{IsAttemptJudged}
+use Rattle.sasl_desk.specs.JudgedAttempts.{IsAttemptJudged}
 use Rattle.sasl_desk.specs.Runs.{Request, hears}
 use Rattle.book_keeper.specs.declared.keeper.Keeper.{Keeper}
 

@@ -11,7 +11,7 @@ use Rattle.otp_core.specs.declared.token.kinds.TokenFields.{TokenFields}
 use Rattle.book_format.specs.Book.{BookFields}
 use Rattle.account_book.specs.Tokens.{token_at}
 use Rattle.log_grammar.specs.LoggedAttempt.{LoggedAttempt}
-use Rattle.sasl_desk.specs.Keeper.{IsAttemptJudged}
+use Rattle.sasl_desk.specs.JudgedAttempts.{IsAttemptJudged}
 
 -- a counter can pass at a moment after a history, by itself or as the first of a pair
 abbrev pub CanPass : TokenFields → List Attempt → (moment counter : ℕ) → Type 0

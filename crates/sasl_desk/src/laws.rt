@@ -10,7 +10,7 @@ ghost use Rattle.log_grammar.specs.Places.{Place};
 ghost use Rattle.log_grammar.specs.Demands.{Accounts};
 ghost use Rattle.sasl_desk.specs.AcceptedLogins.{LinesAcceptExactlyValid};
 ghost use Rattle.sasl_desk.specs.Desks.{MayHold, MayHoldWithinSave, IsDeskAfter, IsBookAfterReplies, desk_phase, spent_by_all};
-ghost use Rattle.sasl_desk.specs.Keeper.{IsAttemptJudged};
+ghost use Rattle.sasl_desk.specs.JudgedAttempts.{IsAttemptJudged};
 ghost use Rattle.sasl_desk.specs.Records.{HasItsRecords};
 ghost use Rattle.sasl_desk.specs.Changes.{IsDeskRunLeaving, Change, AreChanges, spent_by_changes};
 ghost use Rattle.sasl_desk.specs.Halls.{IsSessionRun};

@@ -18,7 +18,7 @@ use Rattle.book_keeper.specs.Keeper.{IsAttemptAtMoment, IsChangeUnsaved, IsSavin
 use Rattle.book_keeper.specs.declared.keeper.SaveFault.TheVariants.{NotSaved}
 use Rattle.log_grammar.specs.LoggedAttempt.{LoggedAttempt, logged_attempt_of}
 use Rattle.sasl_desk.specs.Desks.{spent_by_all, IsBookAfterReplies, MayHold, MayHoldWithinSave}
-use Rattle.sasl_desk.specs.Keeper.{IsAttemptJudged}
+use Rattle.sasl_desk.specs.JudgedAttempts.{IsAttemptJudged}
 use Rattle.sasl_desk.specs.Changes.{Change, judged, AreChanges}
 use Rattle.sasl_desk.specs.Spent.{AreSpent, spent_by}
 use Rattle.sasl_desk.proofs.lemmas.runs.BooksAfterReplies.{reply_adds_to_book}

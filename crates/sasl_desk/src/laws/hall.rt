@@ -11,7 +11,7 @@ ghost use Rattle.sasl_desk.specs.AcceptedLogins.{LinesAcceptExactlyValid};
 ghost use Rattle.sasl_desk.specs.Alone.{HaveSameRequests, HaveSameEntries, up_to_acceptance};
 ghost use Rattle.sasl_desk.specs.Desks.{MayHold, MayHoldWithinSave, spent_by_all};
 ghost use Rattle.sasl_desk.specs.Halls.{HallFields, busy_lines, hall_lines, hall_bytes, numbered_bytes, phase_in, IsPhaseIn, IsHallAfter};
-ghost use Rattle.sasl_desk.specs.Keeper.{IsAttemptJudged};
+ghost use Rattle.sasl_desk.specs.JudgedAttempts.{IsAttemptJudged};
 ghost use Rattle.sasl_desk.specs.Records.{HasSessionRecords};
 ghost use Rattle.sasl_desk.specs.Changes.{IsHallRunLeaving};
 ghost use Rattle.sasl_desk.specs.Runs.{Call, wire_bytes};

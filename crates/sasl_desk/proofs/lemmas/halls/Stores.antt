@@ -12,7 +12,7 @@ use Rattle.log_grammar.specs.Numbered.{Numbered, of_number}
 use Rattle.sasl_desk.specs.Desks.{MayHold, MayHoldWithinSave, spent_by_all}
 use Rattle.sasl_desk.specs.Saved.{AreLinesSaved}
 use Rattle.sasl_desk.specs.Halls.{HallFields, hall_lines, IsStoredAfter, IsHallAfter}
-use Rattle.sasl_desk.specs.Keeper.{IsAttemptJudged}
+use Rattle.sasl_desk.specs.JudgedAttempts.{IsAttemptJudged}
 use Rattle.sasl_desk.specs.Changes.{MayLeave, IsHallRunLeaving}
 use Rattle.sasl_desk.specs.Runs.{Call}
 use Rattle.sasl_desk.specs.Spent.{AreSpent, spent_by, SpentStaysSpent}

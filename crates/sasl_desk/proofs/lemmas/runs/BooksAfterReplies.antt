@@ -9,7 +9,7 @@ use Rattle.log_grammar.specs.LoggedAttempt.{LoggedAttempt}
 use Rattle.sasl_log.specs.Tokens.{IsBookAfter}
 use Rattle.sasl_log.proofs.lemmas.audits.AuditedLineByLine.{book_follows_no_replies}
 use Rattle.sasl_desk.specs.Desks.{IsBookAfterReplies, spent_by_all}
-use Rattle.sasl_desk.specs.Keeper.{IsAttemptJudged}
+use Rattle.sasl_desk.specs.JudgedAttempts.{IsAttemptJudged}
 use Rattle.sasl_desk.specs.Spent.{AreSpent, spent_by, SpentStaysSpent}
 use Rattle.sasl_desk.proofs.lemmas.turns.Keepers.{judged_book_is_after}
 

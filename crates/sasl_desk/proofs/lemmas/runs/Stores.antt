@@ -10,7 +10,7 @@ use Rattle.log_grammar.specs.Lines.{log_bytes}
 use Rattle.log_grammar.specs.LoggedAttempt.{LoggedAttempt}
 use Rattle.log_grammar.specs.Places.{Place, halted}
 use Rattle.log_grammar.specs.Demands.{Accounts}
-use Rattle.sasl_desk.specs.Keeper.{IsAttemptJudged}
+use Rattle.sasl_desk.specs.JudgedAttempts.{IsAttemptJudged}
 use Rattle.sasl_desk.specs.Runs.{Call, run_lines}
 use Rattle.sasl_desk.specs.Saved.{IsLogSaved}
 use Rattle.sasl_desk.specs.Spent.{AreSpent, spent_by, SpentStaysSpent}

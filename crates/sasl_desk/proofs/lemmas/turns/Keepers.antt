@@ -18,7 +18,7 @@ use Rattle.log_grammar.specs.LoggedAttempt.{LoggedAttempt}
 use Rattle.log_grammar.specs.Demands.{Accounts, HasDueReply}
 use Rattle.sasl_log.proofs.lemmas.steps.Tokens.{book_reply_is_due, book_follows_attempt}
 use Rattle.sasl_log.specs.Tokens.{IsBookAfter}
-use Rattle.sasl_desk.specs.Keeper.{IsAttemptJudged}
+use Rattle.sasl_desk.specs.JudgedAttempts.{IsAttemptJudged}
 
 -- the reply of an attempt that was judged is the one that is due after the replies before it
 pub judged_reply_is_due : (old new : BookFields) (t : LoggedAttempt) → IsAttemptJudged old t new
