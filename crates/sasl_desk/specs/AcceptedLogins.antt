@@ -15,7 +15,7 @@ BeginWithOutcome accounts mechanism client_first server_first client_final lines
 
 -- in these lines, of one session or of sessions one after another, a login is answered by `S OK` if and only if it is valid
 pub record LinesAcceptExactlyValid (accounts : Accounts) (lines : List LogLine) : Type 0 where
-  -- directly before each `S OK` stand the first three messages of a login, which its own makes valid
+  -- directly before each `S OK` stand the first three messages of a login, which the message in this `S OK` makes valid
   pub accepted : (before : List LogLine) (server_final : List ℕ) (more : List LogLine)
       → lines ≡ before ++ said (accepts server_final) ∷ more → (name : List ℕ) × CompletesLogin accounts before server_final name
   -- directly after the first three messages of a login stands its outcome

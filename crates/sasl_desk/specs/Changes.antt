@@ -1,5 +1,5 @@
 -- What happens to a book over its life: runs of desks and of halls, one after another, and what is done with it between them.
-use Rattle.std.specs.Prelude.{ℕ, ◌≡◌, ◌⊎◌, List, [], ◌∷◌, ◌++◌, reverse}
+use Rattle.std.specs.Prelude.{ℕ, ◌≡◌, ◌⊎◌, List, [], ◌∷◌, flat_map, reverse}
 use Rattle.book_format.specs.Account.{AccountFields}
 use Rattle.book_format.specs.Book.{BookFields}
 use Rattle.account_book.specs.Accounts.{IsAdded}
@@ -48,8 +48,7 @@ spent_by_change (added name account) = []
 
 -- the counters that the replies of all changes use, with their accounts
 abbrev pub spent_by_changes : List Change → List (List ℕ × ℕ)
-spent_by_changes [] = []
-spent_by_changes (change ∷ before) = spent_by_change change ++ spent_by_changes before
+spent_by_changes changes = flat_map spent_by_change changes
 
 -- this is a run of a desk or of a hall: `IsAfter` says that one that began with a book has answered calls; `replies` are then those in
 -- its log, and `book` is the book that it has

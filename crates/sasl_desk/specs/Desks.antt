@@ -1,5 +1,5 @@
 -- What a desk stands for: the book with which it began, and the run since.
-use Rattle.std.specs.Prelude.{ℕ, ◌≡◌, ◌⊎◌, true, false, List, [], ◌∷◌, ◌++◌, reverse}
+use Rattle.std.specs.Prelude.{ℕ, ◌≡◌, ◌⊎◌, true, false, List, [], ◌∷◌, ◌++◌, flat_map, reverse}
 use Rattle.book_format.specs.Book.{BookFields}
 use Rattle.book_format.specs.Trees.{IsBookText}
 use Rattle.account_book.specs.SavedBooks.{HasStoredText}
@@ -101,8 +101,7 @@ IsBookAfterReplies start (attempt ∷ before) book =
 
 -- the counters that replies use, with their accounts, the latest first
 abbrev pub spent_by_all : List LoggedAttempt → List (List ℕ × ℕ)
-spent_by_all [] = []
-spent_by_all (attempt ∷ before) = spent_by attempt ++ spent_by_all before
+spent_by_all attempts = flat_map spent_by attempts
 
 -- the desk of this keeper, in this state
 abbrev pub desk_of : {S : Type 0} → Keeper S → State → Desk S

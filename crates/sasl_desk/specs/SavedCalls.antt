@@ -18,7 +18,8 @@ is_saving (said (replies moment reply)) = needs_save reply
 is_saving (said halt) = true
 is_saving line = false
 
--- the attempt of a call: by the account whose client may send a code at this place, at the moment of the call, with what the client sent
+-- the attempt of a call: by the account whose client may send a code at this place, at the moment of the call, with what the client sent;
+-- and its reply needs a save
 pub record IsAttemptOf (request : Request) (at : Place) (lines : List LogLine) (attempt : LoggedAttempt) : Type 0 where
   pub event : ClientEvent
   pub answer : LogLine

@@ -1,5 +1,5 @@
 -- Counters of accounts that are spent: no code passes with one of them again, whatever is attempted later.
-use Rattle.std.specs.Prelude.{ℕ, ◌≡◌, ◌≢◌, ◌<◌, ◌⊎◌, List, [], ◌∷◌, ◌++◌, Option}
+use Rattle.std.specs.Prelude.{ℕ, ◌≡◌, ◌≢◌, ◌<◌, ◌⊎◌, List, [], ◌∷◌, ◌++◌, map, Option}
 use Rattle.std.specs.List.{AllByRecursion}
 use Rattle.std.specs.declared.option.Option.TheVariants.{None, Some}
 use Rattle.otp_core.specs.Attempt.{Attempt, CodeTexts, used_in_reply}
@@ -45,8 +45,7 @@ used_by_reply sent (Some reply) = used_in_reply sent reply
 
 -- counters, each with this account
 abbrev pub of_account : (name : List ℕ) → (counters : List ℕ) → List (List ℕ × ℕ)
-of_account name [] = []
-of_account name (counter ∷ counters) = (name, counter) ∷ of_account name counters
+of_account name counters = map (λ counter. (name, counter)) counters
 
 -- the counters that a reply uses, each with its account
 abbrev pub spent_by : LoggedAttempt → List (List ℕ × ℕ)
