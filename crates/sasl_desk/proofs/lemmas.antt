@@ -1,5 +1,6 @@
 -- Lemmas: what the proofs of this crate and of those above it cite.
 pub mod Lists
+pub mod LawsBelow
 pub mod turns
 pub mod runs
 pub mod halls

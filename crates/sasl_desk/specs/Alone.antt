@@ -1,5 +1,5 @@
--- What a session's client is sent up to the outcome depends only on what the session was asked, the server's part of its nonce and
--- the entries of the accounts. So it depends on no other session.
+-- What a session's client is sent up to the outcome depends only on what the session was asked up to there, the server's part of its
+-- nonce and the entries of the accounts. So it depends on no other session.
 use Rattle.std.specs.Prelude.{ℕ, ◌≡◌, List, [], ◌∷◌}
 use Rattle.mac_core.specs.declared.mechanism.Mechanism.{Mechanism}
 use Rattle.log_grammar.specs.Lines.{LogLine, said, accepts}

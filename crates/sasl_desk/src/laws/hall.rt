@@ -1,5 +1,5 @@
 //! Laws of halls. Each is the contract of a function that does nothing.
-ghost use Rattle.std.specs.Prelude.{◌≡◌, ◌≢◌, true, None, ℕ, List, [], ◌∷◌, ◌++◌, map, reverse};
+ghost use Rattle.std.specs.Prelude.{◌≡◌, true, None, ℕ, List, [], ◌∷◌, ◌++◌, map, reverse};
 ghost use Rattle.book_format.specs.Book.{BookFields};
 ghost use Rattle.book_format.specs.Trees.{IsBookText};
 ghost use Rattle.log_grammar.specs.Books.{accounts_in};
@@ -10,7 +10,7 @@ ghost use Rattle.log_grammar.specs.Versions.{IsLogFront, IsClean};
 ghost use Rattle.sasl_desk.specs.AcceptedLogins.{LinesAcceptExactlyValid};
 ghost use Rattle.sasl_desk.specs.Alone.{HaveSameRequests, HaveSameEntries, up_to_acceptance};
 ghost use Rattle.sasl_desk.specs.Desks.{MayHold, MayHoldWithinSave, spent_by_all};
-ghost use Rattle.sasl_desk.specs.Halls.{HallFields, busy_lines, hall_lines, hall_bytes, numbered_bytes, phase_in, IsPhaseIn, IsHallAfter};
+ghost use Rattle.sasl_desk.specs.Halls.{HallFields, IsTurnedAway, hall_lines, hall_bytes, numbered_bytes, phase_in, IsPhaseIn, IsHallAfter};
 ghost use Rattle.sasl_desk.specs.JudgedAttempts.{IsAttemptJudged};
 ghost use Rattle.sasl_desk.specs.Records.{HasSessionRecords};
 ghost use Rattle.sasl_desk.specs.Changes.{IsHallRunLeaving};
@@ -21,9 +21,6 @@ ghost use Rattle.sasl_desk.specs.Spent.{AreSpent, spent_by};
 
 use crate::laws::{runs_accept_exactly_valid, spent_stays_spent};
 use account_book::BookStore;
-use log_grammar::laws::each_text_is_at_most_one_line;
-use scram_ends::laws::at_most_one_verdict_is_due;
-use scram_text::laws::{has_one_client_first, has_one_server_final, spells_one_name};
 
 /// Whatever a hall was asked, its log is a front of version 2 for the book with which it began: a clean log may begin with it.
 pub fn log_is_a_front<S: BookStore>()
@@ -128,21 +125,17 @@ pub fn told_counters_are_saved<S: BookStore>()
     spent_stays_spent();
 }
 
-/// Up to its outcome, what a session sends its client follows from what it was asked, the server's part of its nonce and the
-/// entries of the book's accounts. Two sessions, of one hall or of two, that agree in these and were not turned away have the same
-/// lines up to there. So these do not depend on the lines of other sessions, their order, the moments or a token.
+/// Up to its outcome, what a session sends its client follows from what it was asked up to there, the server's part of its nonce and
+/// the entries of the book's accounts. Take two sessions, of one hall or of two, that were not turned away. If their first calls,
+/// however many, agree in these, then the lines of these calls are the same up to the outcome. So the lines do not depend on what
+/// the sessions are asked later, the lines of other sessions, their order, the moments or a token.
 pub fn logins_depend_on_no_other_session<S: BookStore>()
     ensures { (start other_start : BookFields) (calls others : List (Numbered Call)) (hall other : HallFields S)
-        (number other_number : ℕ)
+        (number other_number : ℕ) (later first other_later other_first : List Call)
         → IsHallAfter S.facts S.IsStored start calls hall → IsHallAfter S.facts S.IsStored other_start others other
         → HaveSameEntries (accounts_in start) (accounts_in other_start)
-        → of_number number (hall_lines calls) ≢ busy_lines → of_number other_number (hall_lines others) ≢ busy_lines
-        → HaveSameRequests (of_number number calls) (of_number other_number others)
-        → up_to_acceptance (of_number number (hall_lines calls)) ≡ up_to_acceptance (of_number other_number (hall_lines others)) }
-{
-    has_one_client_first();
-    has_one_server_final();
-    spells_one_name();
-    at_most_one_verdict_is_due();
-    each_text_is_at_most_one_line();
-}
+        → of_number number calls ≡ later ++ first → of_number other_number others ≡ other_later ++ other_first
+        → (IsTurnedAway (of_number number calls) → ⊥) → (IsTurnedAway (of_number other_number others) → ⊥)
+        → HaveSameRequests first other_first
+        → up_to_acceptance (call_lines first) ≡ up_to_acceptance (call_lines other_first) }
+{}

@@ -1,10 +1,10 @@
 -- There is one record of an event: one line, one place to which it leads, and at that place an answer is due.
 use Rattle.std.proofs.Common.{◌≡◌, true, ℕ, List, refl, sym, ap, subst}
-use Rattle.log_grammar.specs.laws.LineLaws.{EachTextIsAtMostOneLine}
 use Rattle.log_grammar.specs.Lines.{LogLine, heard, bad, gone, ClientLine, auth, auth_with, resp, abort, code, sync, from_client}
 use Rattle.log_grammar.specs.Places.{Place, waits_first, waits_final, waits_code}
 use Rattle.log_grammar.specs.Demands.{Demands}
 use Rattle.log_grammar.specs.state_machine.Steps.{IsTransition}
+use Rattle.log_grammar.proofs.lemmas.lines.ReadBack.{one_line}
 use Rattle.sasl_desk.specs.Events.{ClientEvent, sends, goes_away}
 use Rattle.sasl_desk.specs.Sessions.{IsRecord}
 use Rattle.sasl_desk.specs.DueLines.{is_due, place_after_line, place_after_record}
@@ -13,19 +13,19 @@ use Rattle.sasl_desk.proofs.lemmas.turns.DueRecords.{standing_client_line_is_due
 use Rattle.sasl_desk.proofs.lemmas.runs.AnswerShapes.{IsAnswerDue}
 
 -- what is recorded of an event at a place is one line
-pub one_record : EachTextIsAtMostOneLine → (event : ClientEvent) (at : Place) (one other : LogLine) → IsRecord event at one
+pub one_record : (event : ClientEvent) (at : Place) (one other : LogLine) → IsRecord event at one
     → IsRecord event at other → one ≡ other
-one_record law (sends text) at (heard line) (heard other) a b = ap heard
-    (from_client_is_injective line other (law text (from_client line) (from_client other) a.0 b.0))
-one_record law (sends text) at (heard line) bad a b = absurd (b line a.0 a.1)
-one_record law (sends text) at bad (heard line) a b = absurd (a line b.0 b.1)
-one_record law (sends text) at bad bad a b = refl
-one_record law goes_away at gone gone a b = refl
-one_record law (sends text) at (heard line) other a b = absurd b
-one_record law (sends text) at bad other a b = absurd b
-one_record law (sends text) at one other a b = absurd a
-one_record law goes_away at gone other a b = absurd b
-one_record law goes_away at one other a b = absurd a
+one_record (sends text) at (heard line) (heard other) a b = ap heard
+    (from_client_is_injective line other (one_line text (from_client line) (from_client other) a.0 b.0))
+one_record (sends text) at (heard line) bad a b = absurd (b line a.0 a.1)
+one_record (sends text) at bad (heard line) a b = absurd (a line b.0 b.1)
+one_record (sends text) at bad bad a b = refl
+one_record goes_away at gone gone a b = refl
+one_record (sends text) at (heard line) other a b = absurd b
+one_record (sends text) at bad other a b = absurd b
+one_record (sends text) at one other a b = absurd a
+one_record goes_away at gone other a b = absurd b
+one_record goes_away at one other a b = absurd a
 
 -- after a line of the client that was due, but for a code, an answer is due
 heard_line_awaits_answer : (at : Place) (line : ClientLine) → is_due at line ≡ true → ((account : List ℕ) → at ≡ waits_code account → ⊥)

@@ -14,7 +14,7 @@ use Rattle.sasl_desk.specs.Runs.{Request, greets, hears, Call, server_nonce_afte
 use Rattle.sasl_desk.specs.Serves.{call_lines}
 use Rattle.sasl_desk.specs.Sessions.{IsPath, IsChallengeWith}
 use Rattle.sasl_desk.proofs.lemmas.runs.Acceptances.{has_acceptance, front_brings_acceptance, rest_brings_acceptance, acceptance_cuts_rest}
-use Rattle.sasl_desk.proofs.lemmas.runs.OneAnswer.{AnswerUniquenessLaws, one_answer_to_call}
+use Rattle.sasl_desk.proofs.lemmas.runs.OneAnswer.{one_answer_to_call}
 
 -- if two sessions have the same part of the nonce, they still do after calls that asked the same
 same_request_has_same_nonce : (request other : Request) (server_nonce theirs : List ℕ) → IsSameRequest request other → server_nonce ≡ theirs
@@ -39,20 +39,20 @@ AreSameOrAccepted calls others at also =
     ⊎ ((call_lines calls ≡ call_lines others) × (at ≡ also) × ((account : List ℕ) → at ≡ waits_code account → ⊥))
 
 -- two runs of a session that were asked the same are the same so far, or have both come to the same acceptance
-runs_are_same_or_accepted : AnswerUniquenessLaws → (accounts : Accounts) (calls others : List Call) (at also : Place)
+runs_are_same_or_accepted : (accounts : Accounts) (calls others : List Call) (at also : Place)
     → IsRun accounts calls at
     → IsRun accounts others also → HaveSameRequests calls others → AreSameOrAccepted calls others at also
-runs_are_same_or_accepted t accounts [] [] at also run runs same =
+runs_are_same_or_accepted accounts [] [] at also run runs same =
     inr (refl, run ∙ sym runs, λ account is. let wrong : between ≡ waits_code account = sym run ∙ is in cc wrong)
-runs_are_same_or_accepted t accounts (c ∷ calls) (d ∷ others) at also (place, run, answered) (other, runs, answers) same =
-    elim (runs_are_same_or_accepted t accounts calls others place other run runs same.1) [
+runs_are_same_or_accepted accounts (c ∷ calls) (d ∷ others) at also (place, run, answered) (other, runs, answers) same =
+    elim (runs_are_same_or_accepted accounts calls others place other run runs same.1) [
       | inl (one, two, told) ↦ inl (
         front_brings_acceptance (call_lines calls) c.lines one,
         front_brings_acceptance (call_lines others) d.lines two,
         acceptance_cuts_rest (call_lines calls) c.lines one ∙ told ∙ sym (acceptance_cuts_rest (call_lines others) d.lines two),
       )
       | inr (lines, here, apart) ↦
-          let once = one_answer_to_call t accounts place apart c.lines d.lines at also (server_nonce_of calls) (server_nonce_of others)
+          let once = one_answer_to_call accounts place apart c.lines d.lines at also (server_nonce_of calls) (server_nonce_of others)
           c.request d.request (same_requests_have_same_nonce calls others same.1) same.0
           answered (subst (λ (p : Place). IsAnsweredBy accounts (server_nonce_of others) d.request p d.lines also) (sym here) answers) in
           let whole = ap (λ (l : List LogLine). l ++ c.lines) lines ∙ ap (λ (l : List LogLine). call_lines others ++ l) once.0 in
@@ -63,7 +63,7 @@ runs_are_same_or_accepted t accounts (c ∷ calls) (d ∷ others) at also (place
             | inr apart_too ↦ inr (whole, once.1, apart_too)
           ]
     ]
-runs_are_same_or_accepted t accounts calls others at also run runs same = absurd same
+runs_are_same_or_accepted accounts calls others at also run runs same = absurd same
 
 -- two sets of accounts, `one` and `other`, with the same entries
 module _ (one other : Accounts) (same : HaveSameEntries other one) where
@@ -137,12 +137,12 @@ module _ (one other : Accounts) (same : HaveSameEntries other one) where
   )
 
 -- two runs that were asked the same, over books with the same entries, tell the same up to the acceptance
-pub same_requests_bring_same_lines : AnswerUniquenessLaws → (one other : Accounts) (calls others : List Call) (at also : Place)
+pub same_requests_bring_same_lines : (one other : Accounts) (calls others : List Call) (at also : Place)
     → HaveSameEntries one other
     → IsRun one calls at
     → IsRun other others also → HaveSameRequests calls others → up_to_acceptance (call_lines calls) ≡ up_to_acceptance (call_lines others)
-same_requests_bring_same_lines t one other calls others at also entries run runs same =
-    elim (runs_are_same_or_accepted t one calls others at also run
+same_requests_bring_same_lines one other calls others at also entries run runs same =
+    elim (runs_are_same_or_accepted one calls others at also run
     (entries_fix_run one other (λ m name. sym (entries m name)) others also runs)
     same) [
       | inl (accepted, too, told) ↦ told
