@@ -1,7 +1,9 @@
--- What was saved of a log's replies: the text of the book to which they lead.
-use Rattle.std.specs.Prelude.{ℕ, ◌≡◌, List, reverse}
+-- What was saved of a log's replies: the text of the book to which they lead, and in each text the counters that they used.
+use Rattle.std.specs.Prelude.{ℕ, ◌≡◌, List, ◌++◌, reverse}
 use Rattle.book_format.specs.Book.{BookFields}
+use Rattle.book_format.specs.Trees.{IsBookText}
 use Rattle.account_book.specs.SavedBooks.{HasStoredText}
+use Rattle.account_book.specs.Store.{StoreFacts}
 use Rattle.log_grammar.specs.Books.{accounts_in}
 use Rattle.log_grammar.specs.Begins.{Begins}
 use Rattle.log_grammar.specs.Demands.{demands}
@@ -10,7 +12,9 @@ use Rattle.log_grammar.specs.Numbered.{Numbered, IsNumberedLogUpTo}
 use Rattle.log_grammar.specs.Places.{Place}
 use Rattle.log_grammar.specs.LoggedAttempt.{LoggedAttempt}
 use Rattle.log_grammar.specs.Versions.{max_open_sessions}
-use Rattle.sasl_desk.specs.Desks.{IsBookAfterReplies}
+use Rattle.sasl_desk.specs.Desks.{MayHold, MayHoldWithinSave, IsBookAfterReplies, spent_by_all}
+use Rattle.sasl_desk.specs.JudgedAttempts.{IsAttemptJudged}
+use Rattle.sasl_desk.specs.Spent.{AreSpent, spent_by}
 
 -- `IsStored` is true of some text of the book to which these replies lead
 pub record IsToldSaved (IsStored : List ℕ → Type 0) (start : BookFields) (told : List LoggedAttempt) : Type 0 where
@@ -33,3 +37,21 @@ pub record AreLinesSaved (IsStored : List ℕ → Type 0) (start : BookFields) (
   pub told : List LoggedAttempt
   pub spelled : IsNumberedLogUpTo max_open_sessions (demands (accounts_in start)) lines places told
   pub saved : IsToldSaved IsStored start told
+
+-- the text is that of a book in which these counters are spent
+abbrev pub IsTextOfSpent : List (List ℕ × ℕ) → (text : List ℕ) → Type 0
+IsTextOfSpent counters text = (saved : BookFields) × IsBookText text saved × AreSpent counters saved
+
+-- a desk or a hall began with the book `start`, has told these replies, and has the book `kept` in this store. Whichever text the store
+-- may hold is that of a book in which each counter is spent that the replies have used, and each that was spent before the run.
+pub record AreToldCountersSaved (start : BookFields) (told : List LoggedAttempt) (kept : BookFields) (store : StoreFacts) : Type 0 where
+  -- it is so at the end of a call, also of the text that a failed save was given
+  pub ended : (spent : List (List ℕ × ℕ)) (text : List ℕ) → AreSpent spent start → MayHold store text
+      → IsTextOfSpent (spent_by_all (reverse told) ++ spent) text
+  -- it is so within a call that is saving a text of `next`, the book with the attempt that is judged
+  pub within : (spent : List (List ℕ × ℕ)) (attempt : LoggedAttempt) (next : BookFields) (asked text : List ℕ) → AreSpent spent start
+      → IsAttemptJudged kept attempt next → IsBookText asked next → MayHoldWithinSave store asked text
+      → IsTextOfSpent (spent_by_all (reverse told) ++ spent) text
+  -- in the book with the attempt, the counters that the attempt uses are spent as well
+  pub next : (spent : List (List ℕ × ℕ)) (attempt : LoggedAttempt) (next : BookFields) → AreSpent spent start
+      → IsAttemptJudged kept attempt next → AreSpent (spent_by attempt ++ (spent_by_all (reverse told) ++ spent)) next

@@ -1,5 +1,5 @@
 //! Laws of sessions, of a keeper of books and of desks. Each is the contract of a function that does nothing.
-ghost use Rattle.std.specs.Prelude.{◌≡◌, ◌⊎◌, true, ℕ, List, [], ◌∷◌, ◌++◌, reverse};
+ghost use Rattle.std.specs.Prelude.{◌≡◌, ◌⊎◌, true, ℕ, List, [], ◌∷◌, ◌++◌};
 ghost use Rattle.book_format.specs.Book.{BookFields};
 ghost use Rattle.book_format.specs.Trees.{IsBookText};
 ghost use Rattle.log_grammar.specs.Books.{accounts_in};
@@ -9,16 +9,16 @@ ghost use Rattle.log_grammar.specs.LoggedAttempt.{LoggedAttempt};
 ghost use Rattle.log_grammar.specs.Places.{Place};
 ghost use Rattle.log_grammar.specs.Demands.{Accounts};
 ghost use Rattle.sasl_desk.specs.AcceptedLogins.{LinesAcceptExactlyValid};
-ghost use Rattle.sasl_desk.specs.Desks.{MayHold, MayHoldWithinSave, IsDeskAfter, IsBookAfterReplies, desk_phase, spent_by_all};
+ghost use Rattle.sasl_desk.specs.Desks.{MayHold, IsDeskAfter, IsBookAfterReplies, desk_phase, spent_by_all};
 ghost use Rattle.sasl_desk.specs.JudgedAttempts.{IsAttemptJudged};
 ghost use Rattle.sasl_desk.specs.Records.{HasItsRecords};
 ghost use Rattle.sasl_desk.specs.Changes.{IsDeskRunLeaving, Change, AreChanges, spent_by_changes};
 ghost use Rattle.sasl_desk.specs.Halls.{IsSessionRun};
 ghost use Rattle.sasl_desk.specs.Runs.{Call, run_lines, wire_bytes, IsRun};
-ghost use Rattle.sasl_desk.specs.Saved.{IsLogSaved};
+ghost use Rattle.sasl_desk.specs.Saved.{IsLogSaved, AreToldCountersSaved};
 ghost use Rattle.sasl_desk.specs.Serves.{call_lines};
 ghost use Rattle.sasl_desk.specs.Sessions.{LongTextsAreBad};
-ghost use Rattle.sasl_desk.specs.Spent.{SpentStaysSpent, AreSpent, spent_by};
+ghost use Rattle.sasl_desk.specs.Spent.{SpentStaysSpent, AreSpent};
 ghost use Rattle.sasl_desk.specs.declared.desk.Desk.{Desk};
 ghost use Rattle.sasl_desk.specs.declared.session.phase.Phase.TheVariants as phase;
 ghost use Rattle.sasl_desk.specs.DueLines.{DueLinesStand, BadLinesStand, GoneClientsStand};
@@ -26,30 +26,19 @@ ghost use Rattle.sasl_desk.specs.DueLines.{DueLinesStand, BadLinesStand, GoneCli
 pub mod hall;
 
 use account_book::BookStore;
-use account_book::laws::{added_is_apart, tokens_are_apart};
-use log_grammar::laws::goes_on_by_no_other;
-use otp_core::laws::{begins_with_itself, candidates_are_new, legal_histories_join};
-use scram_ends::laws::{accepts_exactly_valid, at_most_one_verdict_is_due};
-use scram_text::laws::{has_one_client_first, spells_one_name};
 
 /// A spent counter is one at which no code passes again. It stays spent, whatever the reply. The counters that a reply uses were
 /// not spent before it, and are spent after it.
 pub fn spent_stays_spent()
     ensures { SpentStaysSpent }
-{
-    begins_with_itself();
-    legal_histories_join();
-    candidates_are_new();
-}
+{}
 
 /// Over any number of replies, the counters that they use differ from each other and from those that were spent before. All of them
 /// are spent in the book after the replies.
 pub fn replies_spend_counters()
     ensures { (start : BookFields) (latest_first : List LoggedAttempt) (last : BookFields) (spent : List (List ℕ × ℕ))
         → IsBookAfterReplies start latest_first last → AreSpent spent start → AreSpent (spent_by_all latest_first ++ spent) last }
-{
-    spent_stays_spent();
-}
+{}
 
 /// What a session records of its client may stand in a log: a line of the client if and only if it is due, `C BAD` and `C GONE` if
 /// and only if it is the client's turn.
@@ -72,9 +61,7 @@ pub fn log_is_clean<S: BookStore>()
         → IsClean (accounts_in start) (log_bytes (run_lines calls)) }
     ensures halted { (start : BookFields) (calls : List Call) (desk : Desk S) → IsDeskAfter S.facts S.IsStored start calls desk
         → (lines : List LogLine) → run_lines calls ≡ lines ++ said halt ∷ [] → IsClean (accounts_in start) (log_bytes (run_lines calls)) }
-{
-    goes_on_by_no_other();
-}
+{}
 
 /// A login is answered by `S OK` if it is valid (RFC 5802, sections 3 and 5), and else by `S NO`: in the log of a run, and in the lines of
 /// each session of a hall, each `S OK` directly follows the other messages of a valid login, and the first three of a login are
@@ -84,21 +71,14 @@ pub fn runs_accept_exactly_valid()
         → LinesAcceptExactlyValid accounts (run_lines calls) }
     ensures session { (accounts : Accounts) (calls : List Call) (place : Place) → IsSessionRun accounts calls place
         → LinesAcceptExactlyValid accounts (call_lines calls) }
-{
-    accepts_exactly_valid();
-    at_most_one_verdict_is_due();
-    has_one_client_first();
-    spells_one_name();
-}
+{}
 
 /// Whatever a desk was asked, in its log a login is answered by `S OK` if and only if it is valid for an account of the book with which
 /// the desk began.
 pub fn log_accepts_exactly_valid<S: BookStore>()
     ensures { (start : BookFields) (calls : List Call) (desk : Desk S) → IsDeskAfter S.facts S.IsStored start calls desk
         → LinesAcceptExactlyValid (accounts_in start) (run_lines calls) }
-{
-    runs_accept_exactly_valid();
-}
+{}
 
 /// A desk's log offers mechanisms once for each client that was greeted. It records all that its clients did, in order, each act as
 /// is due at the place that the log had then reached: nothing is left out, and nothing is invented.
@@ -140,27 +120,12 @@ pub fn stops_leave_runs<S: BookStore>()
 {}
 
 /// At every moment of a run, whichever text the store may hold is that of a book in which each counter is spent that replies to
-/// clients have used, and each that was spent before the run. `ended` says this of the end of a call, also of the text that a failed
-/// save was given. `within` says it of a call that is saving a text of `next`, the desk's book with the attempt that is judged.
-/// `next` says that in this book the counters that the attempt uses are spent as well.
+/// clients have used, and each that was spent before the run: at the end of a call, and within a call that is saving the book with
+/// the attempt that is judged. In this book the counters that the attempt uses are spent as well.
 pub fn told_counters_are_saved<S: BookStore>()
-    ensures ended { (start : BookFields) (calls : List Call) (desk : Desk S) (stands : IsDeskAfter S.facts S.IsStored start calls desk)
-        (spent : List (List ℕ × ℕ)) (text : List ℕ) → AreSpent spent start → MayHold (S.facts desk.keeper.store) text
-        → (saved : BookFields) × IsBookText text saved
-        × AreSpent (spent_by_all (reverse stands.told) ++ spent) saved }
-    ensures within { (start : BookFields) (calls : List Call) (desk : Desk S) (stands : IsDeskAfter S.facts S.IsStored start calls desk)
-        (spent : List (List ℕ × ℕ)) (attempt : LoggedAttempt) (next : BookFields) (asked text : List ℕ) → AreSpent spent start
-        → IsAttemptJudged desk.keeper.book attempt next → IsBookText asked next
-        → MayHoldWithinSave (S.facts desk.keeper.store) asked text
-        → (saved : BookFields) × IsBookText text saved
-        × AreSpent (spent_by_all (reverse stands.told) ++ spent) saved }
-    ensures next { (start : BookFields) (calls : List Call) (desk : Desk S) (stands : IsDeskAfter S.facts S.IsStored start calls desk)
-        (spent : List (List ℕ × ℕ)) (attempt : LoggedAttempt) (next : BookFields) → AreSpent spent start
-        → IsAttemptJudged desk.keeper.book attempt next
-        → AreSpent (spent_by attempt ++ (spent_by_all (reverse stands.told) ++ spent)) next }
-{
-    spent_stays_spent();
-}
+    ensures { (start : BookFields) (calls : List Call) (desk : Desk S) (stands : IsDeskAfter S.facts S.IsStored start calls desk)
+        → AreToldCountersSaved start stands.told desk.keeper.book (S.facts desk.keeper.store) }
+{}
 
 /// No counter of an account passes twice over all that happens to a book: runs of desks and halls, wherever each of them stopped,
 /// and between them attempts that are judged without a desk, unlocked tokens and added accounts. The counters that the replies use
@@ -169,12 +134,7 @@ pub fn no_counter_passes_twice<S: BookStore>()
     ensures { (first : BookFields) (changes : List Change) (last : BookFields) (spent : List (List ℕ × ℕ))
         → AreChanges S.facts S.IsStored first changes last → AreSpent spent first
         → AreSpent (spent_by_changes changes ++ spent) last }
-{
-    candidates_are_new();
-    spent_stays_spent();
-    tokens_are_apart();
-    added_is_apart();
-}
+{}
 
 /// A text of more than 6200 bytes is recorded as `C BAD`. So is a line of a client that is too long, which `serve_turn` cuts after
 /// 6201 bytes.

@@ -5,8 +5,6 @@
 //! keeper and at most one open session, and `Hall` a keeper and up to 64. Each call appends the lines of the log to a vector that it
 //! is given. `serve` reads the lines of one client, hands them to a desk, and writes its answers.
 //!
-//! A call of a law, in the modules below, does nothing at run time: it lets the proof use the law.
-//!
 //! A server calls `greet` when a client comes, and `client` for each thing that the client does. After each call it first writes
 //! what was appended to the log, and then sends what was appended to the wire: `log_then_send` does both, and `serve` all of this.
 //! Tests call `greet` and `client` by `Service` of the crate `desk_in_memory`, which keeps both texts in memory.

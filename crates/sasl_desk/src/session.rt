@@ -29,7 +29,6 @@ pub use event::Event;
 pub(crate) use event::{Answer, HearResult, Recorded, Saying, Turn};
 use hear::{bad_turn, gone_turn, hear_auth, hear_code, hear_final, hear_first};
 use line::client_line;
-use log_grammar::laws::each_text_is_at_most_one_line;
 use mac_core::Mechanism;
 pub use phase::Phase;
 use sasl_log::ClientLine;
@@ -78,7 +77,6 @@ impl Session {
         ensures err { IfErr result (λ session. (session ≡ self) × (message.new.items ≡ [])) }
         ensures no_memory { OnErr result ((line : grammar.ClientLine) × IsLineOf (event_shown event.entry) line × BearsMessage line) }
     {
-        each_text_is_at_most_one_line();
         match event {
             Event::Gone => Ok(HearResult::Answered(gone_turn())),
             Event::Line(text) => match client_line(text) {

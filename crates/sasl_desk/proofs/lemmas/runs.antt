@@ -1,5 +1,6 @@
 -- What a desk stands for after each call, and over runs: its log, its book, what is spent; in the order in which to read it.
 pub mod HeldBooks
+pub mod Spent
 pub mod BooksAfterReplies
 pub mod IsDeskAfter
 pub mod Calls
@@ -10,7 +11,6 @@ pub mod AnswerShapes
 pub mod OneRecord
 pub mod OneAnswer
 pub mod SameRequests
-pub mod Spent
 pub mod Unlocks
 pub mod Logs
 pub mod PathLines

@@ -1,5 +1,5 @@
 //! Laws of halls. Each is the contract of a function that does nothing.
-ghost use Rattle.std.specs.Prelude.{◌≡◌, true, None, ℕ, List, [], ◌∷◌, ◌++◌, map, reverse};
+ghost use Rattle.std.specs.Prelude.{◌≡◌, true, None, ℕ, List, [], ◌∷◌, ◌++◌, map};
 ghost use Rattle.book_format.specs.Book.{BookFields};
 ghost use Rattle.book_format.specs.Trees.{IsBookText};
 ghost use Rattle.log_grammar.specs.Books.{accounts_in};
@@ -9,17 +9,15 @@ ghost use Rattle.log_grammar.specs.LoggedAttempt.{LoggedAttempt};
 ghost use Rattle.log_grammar.specs.Versions.{IsLogFront, IsClean};
 ghost use Rattle.sasl_desk.specs.AcceptedLogins.{LinesAcceptExactlyValid};
 ghost use Rattle.sasl_desk.specs.Alone.{HaveSameRequests, HaveSameEntries, up_to_acceptance};
-ghost use Rattle.sasl_desk.specs.Desks.{MayHold, MayHoldWithinSave, spent_by_all};
+ghost use Rattle.sasl_desk.specs.Desks.{MayHold};
 ghost use Rattle.sasl_desk.specs.Halls.{HallFields, IsTurnedAway, hall_lines, hall_bytes, numbered_bytes, phase_in, IsPhaseIn, IsHallAfter};
 ghost use Rattle.sasl_desk.specs.JudgedAttempts.{IsAttemptJudged};
 ghost use Rattle.sasl_desk.specs.Records.{HasSessionRecords};
 ghost use Rattle.sasl_desk.specs.Changes.{IsHallRunLeaving};
 ghost use Rattle.sasl_desk.specs.Runs.{Call, wire_bytes};
-ghost use Rattle.sasl_desk.specs.Saved.{AreLinesSaved};
+ghost use Rattle.sasl_desk.specs.Saved.{AreLinesSaved, AreToldCountersSaved};
 ghost use Rattle.sasl_desk.specs.Serves.{call_lines};
-ghost use Rattle.sasl_desk.specs.Spent.{AreSpent, spent_by};
 
-use crate::laws::{runs_accept_exactly_valid, spent_stays_spent};
 use account_book::BookStore;
 
 /// Whatever a hall was asked, its log is a front of version 2 for the book with which it began: a clean log may begin with it.
@@ -47,9 +45,7 @@ pub fn log_is_clean<S: BookStore>()
 pub fn log_accepts_exactly_valid<S: BookStore>()
     ensures { (start : BookFields) (calls : List (Numbered Call)) (hall : HallFields S) → IsHallAfter S.facts S.IsStored start calls hall
         → (number : ℕ) → LinesAcceptExactlyValid (accounts_in start) (of_number number (hall_lines calls)) }
-{
-    runs_accept_exactly_valid();
-}
+{}
 
 /// The phase of a session is that of the place to which its lines have led. There is none if and only if no session of the number
 /// is open.
@@ -100,30 +96,13 @@ pub fn stops_leave_runs<S: BookStore>()
         → IsHallRunLeaving S.facts S.IsStored start calls next }
 {}
 
-/// At every moment of a run, whichever text the store may hold is that of a book in which each counter is spent that replies to
-/// clients have used, and each that was spent before the run. `ended` says this of the end of a call, also of the text that a failed
-/// save was given. `within` says it of a call that is saving a text of `next`, the hall's book with the attempt that is judged.
-/// `next` says that in this book the counters that the attempt uses are spent as well.
+/// As at a desk: at every moment of a run, whichever text the store may hold is that of a book in which each counter is spent that
+/// replies to clients have used, and each that was spent before the run.
 pub fn told_counters_are_saved<S: BookStore>()
-    ensures ended { (start : BookFields) (calls : List (Numbered Call)) (hall : HallFields S)
-        (stands : IsHallAfter S.facts S.IsStored start calls hall) (spent : List (List ℕ × ℕ)) (text : List ℕ)
-        → AreSpent spent start → MayHold (S.facts hall.keeper.store) text
-        → (saved : BookFields) × IsBookText text saved
-        × AreSpent (spent_by_all (reverse stands.told) ++ spent) saved }
-    ensures within { (start : BookFields) (calls : List (Numbered Call)) (hall : HallFields S)
-        (stands : IsHallAfter S.facts S.IsStored start calls hall) (spent : List (List ℕ × ℕ)) (attempt : LoggedAttempt) (next : BookFields)
-        (asked text : List ℕ) → AreSpent spent start
-        → IsAttemptJudged hall.keeper.book attempt next → IsBookText asked next
-        → MayHoldWithinSave (S.facts hall.keeper.store) asked text
-        → (saved : BookFields) × IsBookText text saved
-        × AreSpent (spent_by_all (reverse stands.told) ++ spent) saved }
-    ensures next { (start : BookFields) (calls : List (Numbered Call)) (hall : HallFields S)
-        (stands : IsHallAfter S.facts S.IsStored start calls hall) (spent : List (List ℕ × ℕ)) (attempt : LoggedAttempt) (next : BookFields)
-        → AreSpent spent start → IsAttemptJudged hall.keeper.book attempt next
-        → AreSpent (spent_by attempt ++ (spent_by_all (reverse stands.told) ++ spent)) next }
-{
-    spent_stays_spent();
-}
+    ensures { (start : BookFields) (calls : List (Numbered Call)) (hall : HallFields S)
+        (stands : IsHallAfter S.facts S.IsStored start calls hall)
+        → AreToldCountersSaved start stands.told hall.keeper.book (S.facts hall.keeper.store) }
+{}
 
 /// Up to its outcome, what a session sends its client follows from what it was asked up to there, the server's part of its nonce and
 /// the entries of the book's accounts. Take two sessions, of one hall or of two, that were not turned away. If their first calls,

@@ -16,9 +16,7 @@ use crate::session::event::{Answer, Saying};
 use account_book::Book;
 use mac_core::Mechanism;
 use sasl_log::{NoMemory, Payload};
-use scram_ends::laws::refused_is_not_taken_up;
 use scram_ends::{FirstRefused, first_name, server_first};
-use scram_text::laws::{has_one_client_first, spells_one_name};
 use scram_text::{NoncePart, PlainName, WriteFault};
 use std::alloc::{Allocator, Global};
 
@@ -69,7 +67,6 @@ pub(crate) fn answer_to_client_first<A: Allocator>(
     ensures lines { IfOk result (λ answer. CanBeWritten (lines_of_answer answer message.new.items)) }
     ensures err { OnErr result (message.new.items ≡ []) }
 {
-    refused_is_not_taken_up();
     let bytes = client_first.bytes(alloc)?;
     let text = bytes.as_slice();
     match first_name(text) {
@@ -96,9 +93,6 @@ fn challenge<A: Allocator>(
     ensures lines { IfOk result (λ answer. CanBeWritten (lines_of_answer answer message.new.items)) }
     ensures err { OnErr result (message.new.items ≡ []) }
 {
-    has_one_client_first();
-    spells_one_name();
-    refused_is_not_taken_up();
     let view = book.view(&name, mechanism);
     match server_first(mechanism, &view, client_first, server_nonce, message) {
         Ok(wait) => Ok(Answer {

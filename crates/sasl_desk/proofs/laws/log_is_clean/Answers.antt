@@ -5,4 +5,4 @@ pub returns-clause-closed : goal.returns-clause-closed
 returns-clause-closed g c = λ start calls desk s. log_is_clean_closed s
 
 pub returns-clause-halted : goal.returns-clause-halted
-returns-clause-halted g c = λ start calls desk s. log_is_clean_halted s c.goes_on_by_no_other.ensures
+returns-clause-halted g c = λ start calls desk s. log_is_clean_halted s

@@ -2,6 +2,4 @@ use Rattle.sasl_desk.proofs.lemmas.runs.Changes.{no_counter_passes_twice}
 use Rattle.sasl_desk.proofs.laws.no_counter_passes_twice.Goals as goal
 
 pub returns : goal.returns
-returns g c =
-    no_counter_passes_twice c.spent_stays_spent.ensures g.S.BookStore.facts g.S.BookStore.IsStored
-    c.tokens_are_apart.ensures c.candidates_are_new.ensures c.added_is_apart.ensures
+returns g c = no_counter_passes_twice g.S.BookStore.facts g.S.BookStore.IsStored

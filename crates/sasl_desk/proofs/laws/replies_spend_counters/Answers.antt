@@ -2,4 +2,4 @@ use Rattle.sasl_desk.proofs.lemmas.runs.BooksAfterReplies.{replies_spend_counter
 use Rattle.sasl_desk.proofs.laws.replies_spend_counters.Goals as goal
 
 pub returns : goal.returns
-returns c = replies_spend_counters c.spent_stays_spent.ensures
+returns c = replies_spend_counters

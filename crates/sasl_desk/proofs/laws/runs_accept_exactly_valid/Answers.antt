@@ -1,22 +1,8 @@
-use Rattle.sasl_desk.proofs.lemmas.runs.AcceptedLogins.{LoginLaws, desk_runs_accept_exactly_valid, session_runs_accept_exactly_valid}
+use Rattle.sasl_desk.proofs.lemmas.runs.AcceptedLogins.{desk_runs_accept_exactly_valid, session_runs_accept_exactly_valid}
 use Rattle.sasl_desk.proofs.laws.runs_accept_exactly_valid.Goals as goal
 
 pub returns-clause-desk : goal.returns-clause-desk
-returns-clause-desk c =
-    let laws : LoginLaws = record {
-      one_first = c.has_one_client_first.ensures;
-      names = c.spells_one_name.ensures;
-      once = c.at_most_one_verdict_is_due.ensures;
-      valid = c.accepts_exactly_valid.ensures;
-    } in
-    desk_runs_accept_exactly_valid laws
+returns-clause-desk c = desk_runs_accept_exactly_valid
 
 pub returns-clause-session : goal.returns-clause-session
-returns-clause-session c =
-    let laws : LoginLaws = record {
-      one_first = c.has_one_client_first.ensures;
-      names = c.spells_one_name.ensures;
-      once = c.at_most_one_verdict_is_due.ensures;
-      valid = c.accepts_exactly_valid.ensures;
-    } in
-    session_runs_accept_exactly_valid laws
+returns-clause-session c = session_runs_accept_exactly_valid

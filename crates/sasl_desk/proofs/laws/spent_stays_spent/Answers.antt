@@ -2,4 +2,4 @@ use Rattle.sasl_desk.proofs.lemmas.runs.Spent.{spent_stays_spent}
 use Rattle.sasl_desk.proofs.laws.spent_stays_spent.Goals as goal
 
 pub returns : goal.returns
-returns c = spent_stays_spent c.begins_with_itself.ensures c.legal_histories_join.ensures c.candidates_are_new.ensures
+returns c = spent_stays_spent

@@ -1,5 +1,6 @@
-use Rattle.sasl_desk.proofs.lemmas.runs.Stores.{stops_leave_runs}
+use Rattle.std.proofs.Common.{inr}
+use Rattle.sasl_desk.proofs.lemmas.runs.Stores.{desk_run_may_leave}
 use Rattle.sasl_desk.proofs.laws.stops_leave_runs.Goals as goal
 
 pub returns : goal.returns
-returns g c = λ start calls desk t next s. stops_leave_runs s t next
+returns g c = λ start calls desk attempt next s judged. desk_run_may_leave s next (inr (attempt, judged))

@@ -4,7 +4,6 @@ use Rattle.std.specs.Prelude.{decimal}
 use Rattle.std.specs.List.Sorted.{IsPermutation}
 use Rattle.std.proofs.lemmas.List.Sorted.{IsPermutation-trans}
 use Rattle.std.specs.declared.option.Option.TheVariants.{Some}
-use Rattle.otp_core.specs.Laws.{BeginsWithItself}
 use Rattle.account_book.specs.Store.{StoreFacts}
 use Rattle.log_grammar.specs.Books.{accounts_in}
 use Rattle.log_grammar.specs.Bytes.{ended_by_lf}
@@ -76,8 +75,7 @@ halted_phase_iff_halted Over = (λ is. absurd (cc is), λ is. absurd (cc is))
 halted_phase_iff_halted (Halted session) = (λ is. refl, λ is. refl)
 
 -- a hall in which the open session of this number takes a turn
-module _ (itself : BeginsWithItself) {S : Type 0} {facts : S → StoreFacts} {IsStored : List ℕ → Type 0}
-    {old new : Keeper S} {n : ℕ} {session : Session} {server_nonce : List ℕ} (others : List OpenSession) (given : ℕ) {event : ClientEvent}
+module _ {S : Type 0} {facts : S → StoreFacts} {IsStored : List ℕ → Type 0} {old new : Keeper S} {n : ℕ} {session : Session} {server_nonce : List ℕ} (others : List OpenSession) (given : ℕ) {event : ClientEvent}
     {moment : ℕ} {left : AfterTurn} {wire wire' log log' : List ℕ} where
   -- a hall has answered a call when the session's turn was taken and its lines were written
   pub turn_answers_hall_call : IsTurnWritten facts IsStored old session server_nonce event moment (Some n) wire wire' log log' left new
@@ -89,7 +87,7 @@ module _ (itself : BeginsWithItself) {S : Type 0} {facts : S → StoreFacts} {Is
     logged = written.logged ∙ ap (λ (b : List ℕ). log ++ b) (prefixed_bytes_are_numbered n lines);
     sent = written.sent;
     stands = λ start calls s.
-        let step = turn_is_hall_step itself s event moment lines left new t in
+        let step = turn_is_hall_step s event moment lines left new t in
         let after = step_adds_hall_call s event moment lines left new step in (
           after.0,
           subst (λ (p : Place). IsPhaseOf p (phase_left left)) (sym after.1)

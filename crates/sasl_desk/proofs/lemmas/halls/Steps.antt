@@ -3,7 +3,6 @@ use Rattle.std.proofs.Common.{◌≡◌, inl, inr, false, ℕ, List, [], ◌∷�
 use Rattle.std.specs.declared.option.Option.{Option}
 use Rattle.std.specs.declared.option.Option.TheVariants.{None, Some}
 use Rattle.otp_core.specs.Attempt.{CodeTexts}
-use Rattle.otp_core.specs.Laws.{BeginsWithItself}
 use Rattle.book_format.specs.Book.{BookFields}
 use Rattle.account_book.specs.SavedBooks.{needs_save}
 use Rattle.account_book.specs.Store.{StoreFacts}
@@ -49,7 +48,7 @@ left_session_leaves_place accounts next ends (Some session) is same = (is, same)
 left_session_leaves_place accounts next ends None is same = (is, same)
 
 -- a hall in which the open session of this number takes a turn, on this event and at this moment
-module _ (itself : BeginsWithItself) {S : Type 0} {facts : S → StoreFacts} {IsStored : List ℕ → Type 0} {start : BookFields}
+module _ {S : Type 0} {facts : S → StoreFacts} {IsStored : List ℕ → Type 0} {start : BookFields}
     {calls : List (Numbered Call)} {old : Keeper S} {n : ℕ} {session : Session} {server_nonce : List ℕ} {others : List OpenSession}
     {given : ℕ}
     (s : IsHallAfter facts IsStored start calls (hall_of old (open_session_of n session server_nonce ∷ others) given false))
@@ -61,7 +60,7 @@ module _ (itself : BeginsWithItself) {S : Type 0} {facts : S → StoreFacts} {Is
   answer_is_hall_step lines left new t =
       let accounts = accounts_in start in
       let (is, same) = (s.standing refl).0 in
-      let turn = t.hears accounts (s.places n) (book_after_told itself start s.told old.book s.is_book).entries is in
+      let turn = t.hears accounts (s.places n) (book_after_told start s.told old.book s.is_book).entries is in
       let next = turn.is_answer.next in
       let lines = turn_lines t.turn t.message in
       let taken = session_turn_is_taken accounts (server_nonce_of (of_number n calls)) event moment (s.places n) server_nonce session t.turn
@@ -97,7 +96,7 @@ module _ (itself : BeginsWithItself) {S : Type 0} {facts : S → StoreFacts} {Is
         told = s.told ++ t ∷ [];
         taken = reply_turn_is_taken accounts (server_nonce_of (of_number n calls)) event moment (s.places n) name sent reply due;
         spelled = numbered_goes_on_by_reply s.spelled n name sent moment reply (any_line_follows_log s refl n) due.place
-            (judged_reply_is_due old.book new.book t one accounts s.told (book_after_told itself start s.told old.book s.is_book));
+            (judged_reply_is_due old.book new.book t one accounts s.told (book_after_told start s.told old.book s.is_book));
         turns = (tt, (tt, tt));
         writable = (written, (reply_is_writable moment reply one.is_moment (judged_reply_is_in_range old.book name moment sent reply new.book one), tt));
         leaves = (refl, refl);
@@ -130,6 +129,6 @@ module _ (itself : BeginsWithItself) {S : Type 0} {facts : S → StoreFacts} {Is
       → IsTurnOf facts IsStored old session server_nonce event moment lines left new → IsHallStep s event moment lines left new
   turn_is_hall_step lines left new (inl t) = answer_is_hall_step lines left new t
   turn_is_hall_step lines left new (inr (name, sent, asked, t)) =
-      let after = book_after_told itself start s.told old.book s.is_book in
+      let after = book_after_told start s.told old.book s.is_book in
       let due = asked.asks (accounts_in start) (s.places n) after.entries (s.standing refl).0.0 in
       rw (t.lines_are, t.is_left) (code_is_hall_step name sent new due asked.writable t.judged t.is_judged)

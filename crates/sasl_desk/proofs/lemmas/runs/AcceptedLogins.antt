@@ -1,8 +1,8 @@
 -- In the log of a run, and in the lines of a session of a hall, a login is answered by `S OK` if and only if it is valid.
 use Rattle.std.proofs.Common.{inl, inr, true, ℕ, List, [], ◌∷◌, ◌++◌, refl, sym, ◌∙◌, subst, append_assoc, append-nil}
 use Rattle.std.specs.declared.option.Option.TheVariants.{Some}
-use Rattle.scram_text.specs.Laws.{SpellsOneName, HasOneClientFirst}
-use Rattle.scram_ends.specs.Laws.{AtMostOneVerdictIsDue, AcceptsExactlyValid}
+use Rattle.scram_text.proofs.lemmas.ClientFirst.{has_one_client_first}
+use Rattle.scram_ends.proofs.lemmas.Verdicts.{at_most_one_verdict_is_due, accepts_exactly_valid}
 use Rattle.log_grammar.specs.Lines.{LogLine, said, accepts, refuses}
 use Rattle.log_grammar.specs.Places.{Place, before_all, between, got_final}
 use Rattle.log_grammar.specs.Demands.{Accounts, demands}
@@ -17,18 +17,12 @@ use Rattle.sasl_desk.specs.AcceptedLogins.{BeginWithOutcome, LinesAcceptExactlyV
 use Rattle.sasl_desk.specs.Halls.{busy_lines, IsSessionRun}
 use Rattle.sasl_desk.specs.Runs.{Call, run_lines, IsAtRest, IsRun}
 use Rattle.sasl_desk.specs.Serves.{call_lines}
+use Rattle.sasl_desk.proofs.lemmas.LawsBelow.{spells_one_name}
 use Rattle.sasl_desk.proofs.lemmas.runs.RestingRuns.{run_rests}
 use Rattle.sasl_desk.proofs.lemmas.runs.PathLines.{paths_lead, run_is_path, log_is_path}
 
--- the laws of messages and of logins that are needed here
-pub record LoginLaws : Type 0 where
-  pub one_first : HasOneClientFirst
-  pub names : SpellsOneName
-  pub once : AtMostOneVerdictIsDue
-  pub valid : AcceptsExactlyValid
-
 -- lines that lead to places
-module _ (t : LoginLaws) (accounts : Accounts) {Leads : List LogLine → Place → Type 0} (l : LeadByLast (demands accounts) Leads) where
+module _ (accounts : Accounts) {Leads : List LogLine → Place → Type 0} (l : LeadByLast (demands accounts) Leads) where
   -- a line that may stand where the place has three messages is the outcome of their login
   line_is_outcome : (before : List LogLine) (m account first challenge last : List ℕ) (line : LogLine) (more : List LogLine) (next : Place)
       → Leads before (got_final m account first challenge last)
@@ -37,10 +31,10 @@ module _ (t : LoginLaws) (accounts : Accounts) {Leads : List LogLine → Place �
   line_is_outcome before m account first challenge last line more next leads (inr busy) = absurd (cc busy.0)
   line_is_outcome before m account first challenge last (said (accepts server_final)) more next leads (inl goes) = (
     account,
-    granted_messages_are_login t.one_first t.names t.valid accounts l before m account first challenge last server_final leads goes.0,
+    granted_messages_are_login has_one_client_first spells_one_name accepts_exactly_valid accounts l before m account first challenge last server_final leads goes.0,
   )
   line_is_outcome before m account first challenge last (said (refuses text)) more next leads (inl goes) =
-      (refusal_is_due t.one_first t.names t.once t.valid accounts l before text (got_final m account first challenge last) next leads
+      (refusal_is_due has_one_client_first spells_one_name at_most_one_verdict_is_due accepts_exactly_valid accounts l before text (got_final m account first challenge last) next leads
       (inl goes)).0.1
   line_is_outcome before m account first challenge last line more next leads (inl goes) = absurd goes
 
@@ -68,26 +62,26 @@ module _ (t : LoginLaws) (accounts : Accounts) {Leads : List LogLine → Place �
         let (next, front) = front_leads l (before ++ line ∷ []) more place
         (subst (λ (x : List LogLine). Leads x place) (same ∙ sym (append_assoc before (line ∷ []) more)) leads) in
         let (at, earlier, goes) = l.last before line next front in
-        let (name, login, is_next) = ok_completes_login t.one_first t.names t.valid accounts l before server_final at next earlier goes in
+        let (name, login, is_next) = ok_completes_login has_one_client_first spells_one_name accepts_exactly_valid accounts l before server_final at next earlier goes in
         (name, login);
     answered = λ before more m first challenge last same ends.
         outcome_follows before more m first challenge last place (subst (λ (x : List LogLine). Leads x place) same leads) rests ends;
   }
 
-module _ (t : LoginLaws) (accounts : Accounts) (calls : List Call) (place : Place) where
+module _ (accounts : Accounts) (calls : List Call) (place : Place) where
   -- the law: in the log of a run, a login is answered by `S OK` if and only if it is valid
   pub desk_runs_accept_exactly_valid : IsRun accounts calls place → LinesAcceptExactlyValid accounts (run_lines calls)
   desk_runs_accept_exactly_valid run =
-      lines_accept_exactly_valid t accounts (paths_lead (demands accounts) before_all (inl refl)) (run_lines calls) place
+      lines_accept_exactly_valid accounts (paths_lead (demands accounts) before_all (inl refl)) (run_lines calls) place
       (log_is_path accounts calls place run) (run_rests accounts calls place run)
 
   -- the law: so it does in the lines of each session of a hall; in those of one that was turned away nobody logs in
   pub session_runs_accept_exactly_valid : IsSessionRun accounts calls place → LinesAcceptExactlyValid accounts (call_lines calls)
   session_runs_accept_exactly_valid (inl run) =
-      lines_accept_exactly_valid t accounts (paths_lead (demands accounts) between (inr refl)) (call_lines calls) place
+      lines_accept_exactly_valid accounts (paths_lead (demands accounts) between (inr refl)) (call_lines calls) place
       (run_is_path accounts calls place run) (run_rests accounts calls place run)
   session_runs_accept_exactly_valid (inr (turned, is)) =
       let away : NumberLeads (demands accounts) busy_lines between =
       record { visit = Some (turned_away true); good = tt; same = refl; at = refl } in
       subst (λ (c : List Call). LinesAcceptExactlyValid accounts (call_lines c)) (sym turned.1)
-      (lines_accept_exactly_valid t accounts (numbers_lead (demands accounts)) busy_lines between away tt)
+      (lines_accept_exactly_valid accounts (numbers_lead (demands accounts)) busy_lines between away tt)

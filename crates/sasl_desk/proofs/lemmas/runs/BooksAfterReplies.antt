@@ -2,7 +2,6 @@
 use Rattle.std.proofs.Common.{ℕ, List, [], ◌∷◌, ◌++◌, reverse, sym, subst, append_assoc}
 use Rattle.std.proofs.lemmas.Grind.{reverse_onto}
 use Rattle.std.proofs.lemmas.List.{reverse-append, reverse-reverse}
-use Rattle.otp_core.specs.Laws.{BeginsWithItself}
 use Rattle.book_format.specs.Book.{BookFields}
 use Rattle.log_grammar.specs.Books.{accounts_in}
 use Rattle.log_grammar.specs.LoggedAttempt.{LoggedAttempt}
@@ -10,15 +9,17 @@ use Rattle.sasl_log.specs.Tokens.{IsBookAfter}
 use Rattle.sasl_log.proofs.lemmas.audits.AuditedLineByLine.{book_follows_no_replies}
 use Rattle.sasl_desk.specs.Desks.{IsBookAfterReplies, spent_by_all}
 use Rattle.sasl_desk.specs.JudgedAttempts.{IsAttemptJudged}
-use Rattle.sasl_desk.specs.Spent.{AreSpent, spent_by, SpentStaysSpent}
+use Rattle.sasl_desk.specs.Spent.{AreSpent, spent_by}
+use Rattle.sasl_desk.proofs.lemmas.LawsBelow.{begins_with_itself}
 use Rattle.sasl_desk.proofs.lemmas.turns.Keepers.{judged_book_is_after}
+use Rattle.sasl_desk.proofs.lemmas.runs.Spent.{spent_stays_spent}
 
-module _ (itself : BeginsWithItself) (start : BookFields) where
+module _ (start : BookFields) where
   -- the book after replies, of which the latest is given first, is the one that is due after them
   book_with_is_book_after : (before : List LoggedAttempt) (book : BookFields) → IsBookAfterReplies start before book
       → IsBookAfter (accounts_in start) (reverse before) book
   book_with_is_book_after [] book is = subst (λ (b : BookFields). IsBookAfter (accounts_in start) [] b) (sym is)
-      (book_follows_no_replies itself start)
+      (book_follows_no_replies begins_with_itself start)
   book_with_is_book_after (t ∷ before) book (old, with_old, one) =
       subst (λ (l : List LoggedAttempt). IsBookAfter (accounts_in start) l book) (sym (reverse_onto before t []))
       (judged_book_is_after old book t one (accounts_in start) (reverse before) (book_with_is_book_after before old with_old))
@@ -37,10 +38,10 @@ reply_adds_to_book start old new told t before one =
     subst (λ (l : List LoggedAttempt). IsBookAfterReplies start l new) (sym (reverse-append told (t ∷ []))) (old, before, one)
 
 -- the law: what was spent, and what replies used, is spent in the book after them
-pub replies_spend_counters : SpentStaysSpent → (start : BookFields) (latest_first : List LoggedAttempt) (last : BookFields)
+pub replies_spend_counters : (start : BookFields) (latest_first : List LoggedAttempt) (last : BookFields)
     (ps : List (List ℕ × ℕ))
     → IsBookAfterReplies start latest_first last → AreSpent ps start → AreSpent (spent_by_all latest_first ++ ps) last
-replies_spend_counters stays start [] last ps same spent = subst (λ (b : BookFields). AreSpent ps b) (sym same) spent
-replies_spend_counters stays start (t ∷ before) last ps (old, earlier, one) spent =
+replies_spend_counters start [] last ps same spent = subst (λ (b : BookFields). AreSpent ps b) (sym same) spent
+replies_spend_counters start (t ∷ before) last ps (old, earlier, one) spent =
     subst (λ (l : List (List ℕ × ℕ)). AreSpent l last) (sym (append_assoc (spent_by t) (spent_by_all before) ps))
-    (stays old last t (spent_by_all before ++ ps) one (replies_spend_counters stays start before old ps earlier spent))
+    (spent_stays_spent old last t (spent_by_all before ++ ps) one (replies_spend_counters start before old ps earlier spent))

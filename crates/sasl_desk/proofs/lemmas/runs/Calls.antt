@@ -1,10 +1,8 @@
 -- A desk whose session took a turn, or which greeted a client, has answered the call.
 use Rattle.std.proofs.Common.{◌≡◌, true, ℕ, List, [], ◌∷◌, ◌++◌, refl, subst, arith}
 use Rattle.std.specs.declared.option.Option.TheVariants.{None}
-use Rattle.otp_core.specs.Laws.{BeginsWithItself}
 use Rattle.account_book.specs.Store.{StoreFacts}
 use Rattle.log_grammar.specs.Books.{accounts_in}
-use Rattle.log_grammar.specs.laws.LogLaws.{GoesOnByALine}
 use Rattle.log_grammar.specs.Lines.{said, mechs, log_bytes}
 use Rattle.log_grammar.specs.Words.{offered_names}
 use Rattle.sasl_desk.specs.Events.{ClientEvent}
@@ -38,8 +36,7 @@ halted_phase_shows_halting_turn Over server_nonce is = absurd (cc is)
 halted_phase_shows_halting_turn (Halted session) server_nonce is = refl
 
 -- a desk with an open session, and what a turn makes of it
-module _ (itself : BeginsWithItself) (law : GoesOnByALine) {S : Type 0} {facts : S → StoreFacts}
-    {IsStored : List ℕ → Type 0} {old : Keeper S} {session : Session} {server_nonce : List ℕ} {event : ClientEvent} {moment : ℕ}
+module _ {S : Type 0} {facts : S → StoreFacts} {IsStored : List ℕ → Type 0} {old : Keeper S} {session : Session} {server_nonce : List ℕ} {event : ClientEvent} {moment : ℕ}
     {left : AfterTurn} {wire wire' log log' : List ℕ} {new : Desk S} where
   -- when the turn was taken and its lines were written, the desk has answered the call
   pub turn_answers_desk_call : IsTurnWritten facts IsStored old session server_nonce event moment None wire wire' log log' left new.keeper
@@ -49,7 +46,7 @@ module _ (itself : BeginsWithItself) (law : GoesOnByALine) {S : Type 0} {facts :
     lines = lines;
     logged = written.logged;
     sent = written.sent;
-    stands = λ start calls s. rw is_state (turn_adds_desk_call s itself law event moment lines left new.keeper t);
+    stands = λ start calls s. rw is_state (turn_adds_desk_call s event moment lines left new.keeper t);
     saves = λ start calls s. turn_counts_saves t (open_desk_holds_book s);
     asks = λ start calls s. turn_asks_for_save (accounts_in start) s.place s.is_state.0 t (open_desk_holds_book s);
     quiet = turn_is_quiet t;
@@ -57,18 +54,17 @@ module _ (itself : BeginsWithItself) (law : GoesOnByALine) {S : Type 0} {facts :
   }
 
 -- a closed desk that has written its offer has answered the greeting
-pub greeting_answers_desk_call : GoesOnByALine
-    → {S : Type 0} (facts : S → StoreFacts) (IsStored : List ℕ → Type 0) (keeper : Keeper S) (state : State)
+pub greeting_answers_desk_call : {S : Type 0} (facts : S → StoreFacts) (IsStored : List ℕ → Type 0) (keeper : Keeper S) (state : State)
     (server_nonce wire wire' log log' : List ℕ)
     → state ≡ Closed → log' ≡ log ++ log_bytes (said (mechs offered_names) ∷ [])
     → wire' ≡ wire ++ wire_bytes (said (mechs offered_names) ∷ [])
     → Answers facts IsStored (desk_of keeper state) (greets server_nonce) wire wire' log log' (desk_of keeper (Open WaitAuth server_nonce))
-greeting_answers_desk_call law facts IsStored keeper state server_nonce wire wire' log log' closed logged sent = record {
+greeting_answers_desk_call facts IsStored keeper state server_nonce wire wire' log log' closed logged sent = record {
   lines = said (mechs offered_names) ∷ [];
   logged = logged;
   sent = sent;
   stands = λ start calls s.
-      greeting_adds_desk_call law server_nonce
+      greeting_adds_desk_call server_nonce
       (subst (λ (st : State). IsDeskAfter facts IsStored start calls (desk_of keeper st)) closed s);
   saves = λ start calls s. omega arith;
   asks = λ start calls s some. absurd (some refl);

@@ -3,12 +3,10 @@ use Rattle.std.proofs.Common.{◌≡◌, inl, inr, ℕ, List, [], ◌∷◌, ◌
 use Rattle.std.specs.declared.option.Option.{Option}
 use Rattle.std.specs.declared.option.Option.TheVariants.{None, Some}
 use Rattle.otp_core.specs.Attempt.{CodeTexts}
-use Rattle.otp_core.specs.Laws.{BeginsWithItself}
 use Rattle.book_format.specs.Book.{BookFields}
 use Rattle.account_book.specs.SavedBooks.{needs_save, SavesBook}
 use Rattle.account_book.specs.Store.{StoreFacts}
 use Rattle.log_grammar.specs.Books.{accounts_in}
-use Rattle.log_grammar.specs.laws.LogLaws.{GoesOnByALine}
 use Rattle.log_grammar.specs.Lines.{LogLine, header, said, heard, mechs, code_line, IsWritable}
 use Rattle.log_grammar.specs.Words.{offered_names}
 use Rattle.log_grammar.specs.LoggedAttempt.{LoggedAttempt, logged_attempt_of}
@@ -17,6 +15,7 @@ use Rattle.log_grammar.specs.Demands.{Accounts, demands}
 use Rattle.log_grammar.specs.Begins.{Begins}
 use Rattle.log_grammar.proofs.lemmas.lines.LackLf.{reply_is_writable}
 use Rattle.log_grammar.proofs.lemmas.ListEnds.{appended_lists_keep_all}
+use Rattle.log_grammar.proofs.lemmas.state_machine.LogSteps.{log_goes_on}
 use Rattle.log_grammar.proofs.lemmas.lines.Written.{offer_is_writable, header_is_writable, halt_is_writable}
 use Rattle.sasl_desk.specs.Events.{ClientEvent}
 use Rattle.book_keeper.specs.Keeper.{IsCodeOutcome}
@@ -48,14 +47,13 @@ left_desk_fits_place accounts server_nonce kept at (Some session) same is = (is,
 left_desk_fits_place accounts server_nonce kept at None same is = is
 
 -- a desk that begins stands for a book that is its keeper's, and for no call
-pub new_desk_stands_for_book : GoesOnByALine
-    → {S : Type 0} (facts : S → StoreFacts) (IsStored : List ℕ → Type 0) (book : BookFields) (keeper : Keeper S) (was : StoreFacts)
+pub new_desk_stands_for_book : {S : Type 0} (facts : S → StoreFacts) (IsStored : List ℕ → Type 0) (book : BookFields) (keeper : Keeper S) (was : StoreFacts)
     → keeper.book ≡ book → SavesBook IsStored was book (facts keeper.store) → IsDeskAfter facts IsStored book [] (desk_of keeper Closed)
-new_desk_stands_for_book law facts IsStored book keeper was same holds = record {
+new_desk_stands_for_book facts IsStored book keeper was same holds = record {
   place = between;
   told = [];
   is_run = refl;
-  begins = law (accounts_in book) [] before_all [] header between (inl (refl, refl, refl)) refl tt;
+  begins = log_goes_on (demands (accounts_in book)) [] before_all [] header between (inl (refl, refl, refl)) refl tt;
   writable = (header_is_writable, tt);
   is_state = refl;
   is_book = same;
@@ -64,7 +62,7 @@ new_desk_stands_for_book law facts IsStored book keeper was same holds = record 
 }
 
 -- a closed desk
-module _ (law : GoesOnByALine) {S : Type 0} {facts : S → StoreFacts} {IsStored : List ℕ → Type 0} {start : BookFields} {calls : List Call}
+module _ {S : Type 0} {facts : S → StoreFacts} {IsStored : List ℕ → Type 0} {start : BookFields} {calls : List Call}
     {keeper : Keeper S} (server_nonce : List ℕ) (s : IsDeskAfter facts IsStored start calls (desk_of keeper Closed)) where
   -- a closed desk that greets a client stands for one call more, and its session is offered the mechanisms
   pub greeting_adds_desk_call : IsDeskAfter facts IsStored start (call_of (greets server_nonce) (said (mechs offered_names) ∷ []) ∷ calls)
@@ -73,7 +71,7 @@ module _ (law : GoesOnByALine) {S : Type 0} {facts : S → StoreFacts} {IsStored
       let accounts = accounts_in start in
       let line = said (mechs offered_names) in
       let begins = subst (λ (p : Place). Begins (demands accounts) (run_lines calls) p s.told) s.is_state s.begins in
-      let on = law accounts (run_lines calls) between s.told line offered begins (refl, refl) tt in
+      let on = log_goes_on (demands accounts) (run_lines calls) between s.told line offered begins (refl, refl) tt in
       record {
         place = offered;
         told = s.told;
@@ -96,7 +94,7 @@ module _ {S : Type 0} {facts : S → StoreFacts} {IsStored : List ℕ → Type 0
       (session_has_client_turn (accounts_in start) s.place session s.is_state.0) s.is_stored
 
   -- an event on which its session takes a turn
-  module _ (itself : BeginsWithItself) (law : GoesOnByALine) (event : ClientEvent) (moment : ℕ) where
+  module _ (event : ClientEvent) (moment : ℕ) where
     -- when the session has answered, the desk stands for one call more
     answer_adds_desk_call : (lines : List LogLine) (left : AfterTurn) (new : Keeper S)
         → SessionAnswers old session server_nonce event lines left new
@@ -104,7 +102,7 @@ module _ {S : Type 0} {facts : S → StoreFacts} {IsStored : List ℕ → Type 0
     answer_adds_desk_call lines left new t =
         let accounts = accounts_in start in
         let (is, same) = s.is_state in
-        let turn = t.hears accounts s.place (book_after_told itself start s.told old.book s.is_book).entries is in
+        let turn = t.hears accounts s.place (book_after_told start s.told old.book s.is_book).entries is in
         let next = turn.is_answer.next in
         let lines = turn_lines t.turn t.message in
         let taken = session_turn_is_taken accounts (server_nonce_of calls) event moment s.place server_nonce session t.turn t.message same is
@@ -113,7 +111,7 @@ module _ {S : Type 0} {facts : S → StoreFacts} {IsStored : List ℕ → Type 0
           place = next;
           told = s.told;
           is_run = (s.place, s.is_run, taken);
-          begins = log_goes_on_by_path law accounts (run_lines calls) s.place s.told lines next s.begins taken.path
+          begins = log_goes_on_by_path accounts (run_lines calls) s.place s.told lines next s.begins taken.path
               (turn_has_no_reply accounts server_nonce event s.place t.turn t.message turn);
           writable = appended_lists_keep_all IsWritable (run_lines calls) lines s.writable (rw t.lines_are at t.writable);
           is_state = left_desk_fits_place accounts (server_nonce_of calls) server_nonce next t.turn.answer.session same
@@ -136,9 +134,9 @@ module _ {S : Type 0} {facts : S → StoreFacts} {IsStored : List ℕ → Type 0
           place = waits_code name;
           told = s.told ++ t ∷ [];
           is_run = (s.place, s.is_run, reply_turn_is_taken accounts (server_nonce_of calls) event moment s.place name sent reply due);
-          begins = log_goes_on_by_reply law accounts (run_lines calls) name s.told moment sent reply
+          begins = log_goes_on_by_reply accounts (run_lines calls) name s.told moment sent reply
               (subst (λ (p : Place). Begins (demands accounts) (run_lines calls) p s.told) due.place s.begins)
-              (judged_reply_is_due old.book new.book t one accounts s.told (book_after_told itself start s.told old.book s.is_book));
+              (judged_reply_is_due old.book new.book t one accounts s.told (book_after_told start s.told old.book s.is_book));
           writable = appended_lists_keep_all IsWritable (run_lines calls) (judged_lines moment sent (Replied reply)) s.writable
               (written, (reply_is_writable moment reply one.is_moment (judged_reply_is_in_range old.book name moment sent reply new.book one), tt));
           is_state = (refl, s.is_state.1);
@@ -154,7 +152,7 @@ module _ {S : Type 0} {facts : S → StoreFacts} {IsStored : List ℕ → Type 0
           place = halted;
           told = s.told;
           is_run = (s.place, s.is_run, taken);
-          begins = log_goes_on_by_path law accounts (run_lines calls) s.place s.told lines halted s.begins taken.path (tt, (tt, tt));
+          begins = log_goes_on_by_path accounts (run_lines calls) s.place s.told lines halted s.begins taken.path (tt, (tt, tt));
           writable = appended_lists_keep_all IsWritable (run_lines calls) lines s.writable (written, (halt_is_writable, tt));
           is_state = tt;
           is_book = subst (λ (b : BookFields). IsBookAfterReplies start (reverse s.told) b) (sym judged.0) s.is_book;
@@ -168,7 +166,7 @@ module _ {S : Type 0} {facts : S → StoreFacts} {IsStored : List ℕ → Type 0
         → IsDeskAfter facts IsStored start (call_of (hears event moment) lines ∷ calls) (desk_of new (state_after left server_nonce))
     turn_adds_desk_call lines left new (inl t) = answer_adds_desk_call lines left new t
     turn_adds_desk_call lines left new (inr (name, sent, asked, t)) =
-        let after = book_after_told itself start s.told old.book s.is_book in
+        let after = book_after_told start s.told old.book s.is_book in
         let due = asked.asks (accounts_in start) s.place after.entries s.is_state.0 in
         rw (t.is_left, t.lines_are)
         (code_adds_desk_call name sent new due asked.writable t.judged t.is_judged)

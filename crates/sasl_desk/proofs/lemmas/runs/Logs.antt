@@ -3,12 +3,12 @@ use Rattle.std.proofs.Common.{◌≡◌, inl, inr, ◌⊎◌, true, ℕ, List, [
 use Rattle.book_format.specs.Book.{BookFields}
 use Rattle.account_book.specs.Store.{StoreFacts}
 use Rattle.log_grammar.specs.Books.{accounts_in}
-use Rattle.log_grammar.specs.laws.LogLaws.{GoesOnByNoOther}
 use Rattle.log_grammar.specs.Lines.{LogLine, said, halt, log_line_text, IsLogLine, log_bytes}
 use Rattle.log_grammar.specs.Places.{Place, MayEnd}
 use Rattle.log_grammar.specs.Demands.{demands}
 use Rattle.log_grammar.specs.Begins.{Begins, AreLines}
 use Rattle.log_grammar.specs.Versions.{IsLogFront, IsClean}
+use Rattle.log_grammar.proofs.lemmas.state_machine.LogSteps.{log_has_last_transition}
 use Rattle.log_grammar.proofs.lemmas.many_sessions.HaltAndBusy.{halt_leads_to_halted}
 use Rattle.log_grammar.proofs.lemmas.kinds.ShownByLines.{log_lines_are_front, log_lines_are_clean}
 use Rattle.log_grammar.proofs.lemmas.lines.LackLf.{lines_lack_lf}
@@ -76,9 +76,9 @@ module _ {S : Type 0} {facts : S → StoreFacts} {IsStored : List ℕ → Type 0
       (facts desk.keeper.store) s.place s.is_stored failed)) tt)
 
   -- the law: the log of a desk is clean when its last line is `S HALT`
-  pub log_is_clean_halted : GoesOnByNoOther → (lines : List LogLine) → run_lines calls ≡ lines ++ said halt ∷ []
+  pub log_is_clean_halted : (lines : List LogLine) → run_lines calls ≡ lines ++ said halt ∷ []
       → IsClean (accounts_in start) (log_bytes (run_lines calls))
-  log_is_clean_halted law lines last =
-      let before = law (accounts_in start) lines (said halt) s.place s.told
+  log_is_clean_halted lines last =
+      let before = log_has_last_transition (demands (accounts_in start)) lines (said halt) s.place s.told
       (subst (λ (l : List LogLine). Begins (demands (accounts_in start)) l s.place s.told) last s.begins) in
       ended_desk_log_is_clean (subst MayEnd (sym (halt_leads_to_halted (demands (accounts_in start)) before.place s.place before.goes)) tt)

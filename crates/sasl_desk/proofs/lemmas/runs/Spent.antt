@@ -9,10 +9,11 @@ use Rattle.otp_core.specs.Ranges.{IsMoment}
 use Rattle.otp_core.specs.Window.{IsAbove}
 use Rattle.otp_core.specs.Reply.{IsFitting, IsDueReply}
 use Rattle.otp_core.specs.History.{IsAfter, IsLegal}
-use Rattle.otp_core.specs.Laws.{BeginsWithItself, CandidatesAreNew, LegalHistoriesJoin}
 use Rattle.otp_core.specs.declared.token.reply.Reply.{Reply}
 use Rattle.otp_core.specs.declared.token.reply.Reply.TheVariants.{Pass, Fail, Locked}
 use Rattle.otp_core.specs.declared.token.kinds.TokenFields.{TokenFields}
+use Rattle.otp_core.proofs.lemmas.Joins.{legal_histories_join}
+use Rattle.otp_core.proofs.lemmas.Used.{candidates_are_new}
 use Rattle.book_format.specs.Book.{BookFields}
 use Rattle.account_book.specs.Tokens.{token_at}
 use Rattle.log_grammar.specs.Books.{accounts_in}
@@ -22,6 +23,7 @@ use Rattle.sasl_log.specs.Tokens.{LeadsTo, IsBookAfter}
 use Rattle.log_grammar.proofs.lemmas.ListEnds.{front_keeps_all, back_keeps_all}
 use Rattle.sasl_log.proofs.lemmas.audits.AuditedLineByLine.{book_follows_no_replies}
 use Rattle.sasl_desk.proofs.lemmas.Lists.{each_follows}
+use Rattle.sasl_desk.proofs.lemmas.LawsBelow.{begins_with_itself}
 use Rattle.sasl_desk.proofs.lemmas.turns.Keepers.{judged_reply_is_due, judged_book_is_after}
 use Rattle.sasl_desk.specs.Spent.{CanPass, IsBelow, IsCounterSpent, AreSpent, used_by_reply, of_account, SpentStaysSpent}
 
@@ -32,13 +34,13 @@ attempts_lead_to_token start attempts None leads = absurd leads
 attempts_lead_to_token start attempts (Some token) leads = (token, refl, leads)
 
 -- a token after attempts
-module _ (join : LegalHistoriesJoin) (start : TokenFields) (attempts : List Attempt) (token : TokenFields)
+module _ (start : TokenFields) (attempts : List Attempt) (token : TokenFields)
     (after : IsAfter start attempts token) where
   -- a counter that can pass after a legal history of it can pass after that history and the attempts before it of the first token
   later_candidate_was_candidate : (history : List Attempt) (moment c : ℕ) → IsMoment moment → IsLegal token history
       → CanPass token history moment c → IsLegal start (history ++ attempts) × CanPass start (history ++ attempts) moment c
   later_candidate_was_candidate history moment c is legal can =
-      let joined = join start attempts token history after legal in
+      let joined = legal_histories_join start attempts token history after legal in
       (joined.0, elim can [ inl h ↦ inl ((joined.1.candidates moment c is).1 h) | inr h ↦ inr ((joined.1.pairs c).1 h) ])
 
   -- a counter that was below each that could pass is below each that can pass after attempts
@@ -55,14 +57,14 @@ above_all_is_above_earlier (a ∷ later) earlier c above =
     (used_in (later ++ earlier)) above)
 
 -- what can pass after an attempt is above each counter that the attempt used
-candidate_is_above_used : LegalHistoriesJoin → CandidatesAreNew → (start : TokenFields) (a : Attempt) (token : TokenFields)
+candidate_is_above_used : (start : TokenFields) (a : Attempt) (token : TokenFields)
     → IsAfter start (a ∷ []) token
     → (history : List Attempt) (moment c : ℕ) → IsMoment moment → IsLegal token history
     → CanPass token history moment c → IsAbove (used_in_reply a.sent a.reply) c
-candidate_is_above_used join fresh start a token after history moment c is legal can =
-    let before = later_candidate_was_candidate join start (a ∷ []) token after history moment c is legal can in
+candidate_is_above_used start a token after history moment c is legal can =
+    let before = later_candidate_was_candidate start (a ∷ []) token after history moment c is legal can in
     front_keeps_all (λ (used : ℕ). used < c) (used_in_reply a.sent a.reply) []
-    (above_all_is_above_earlier history (a ∷ []) c (fresh start (history ++ a ∷ []) moment c before.1))
+    (above_all_is_above_earlier history (a ∷ []) c (candidates_are_new start (history ++ a ∷ []) moment c before.1))
 
 -- the attempts that an account's own reply adds are that one
 reply_is_one_attempt : (t : LoggedAttempt) (r : Reply) → t.reply ≡ Some r
@@ -84,14 +86,14 @@ counter_above_candidate_is_not_spent old name start counter c moment has is can 
     omega (arith, apart, at, counters)
 
 -- a book before and after one more reply
-module _ (join : LegalHistoriesJoin) (old new : BookFields) (t : LoggedAttempt) (after : IsBookAfter (accounts_in old) (t ∷ []) new) where
+module _ (old new : BookFields) (t : LoggedAttempt) (after : IsBookAfter (accounts_in old) (t ∷ []) new) where
   -- a counter that is spent stays so when one more reply is given
   reply_keeps_spent_counter : (name : List ℕ) (counter : ℕ) → IsCounterSpent old name counter → IsCounterSpent new name counter
   reply_keeps_spent_counter name counter used =
       let leads = subst (λ (o : Option TokenFields). LeadsTo o (attempts_of name (t ∷ [])) (token_at new name)) used.has
       (after.tokens name) in
       let later = attempts_lead_to_token used.token (attempts_of name (t ∷ [])) (token_at new name) leads in
-      record { token = later.0; has = later.1; below = attempts_keep_below join used.token _ later.0 later.2 counter used.below }
+      record { token = later.0; has = later.1; below = attempts_keep_below used.token _ later.0 later.2 counter used.below }
 
   -- counters that are spent stay so when one more reply is given
   reply_keeps_spent_counters : (ps : List (List ℕ × ℕ)) → AreSpent ps old → AreSpent ps new
@@ -102,7 +104,7 @@ module _ (join : LegalHistoriesJoin) (old new : BookFields) (t : LoggedAttempt) 
   }
 
 -- a pass of an account that has a token: what was spent before it, and the counter
-module _ (join : LegalHistoriesJoin) (fresh : CandidatesAreNew) (old new : BookFields) (name : List ℕ) (moment : ℕ) (start : TokenFields)
+module _ (old new : BookFields) (name : List ℕ) (moment : ℕ) (start : TokenFields)
     (has : token_at old name ≡ Some start) (is : IsMoment moment) (ps : List (List ℕ × ℕ)) (spent : AreSpent ps old) (c : ℕ) where
   -- after a pass the account still has a token, and what can pass with it is above the counters that the pass used
   pass_leaves_higher_candidates : (sent : CodeTexts)
@@ -117,7 +119,7 @@ module _ (join : LegalHistoriesJoin) (fresh : CandidatesAreNew) (old new : BookF
       let by_attempt = subst (λ (attempts : List Attempt). LeadsTo (Some start) attempts (token_at new name))
       (reply_is_one_attempt t (Pass c) refl) leads in
       let later = attempts_lead_to_token start (a ∷ []) (token_at new name) by_attempt in
-      (later.0, later.1, candidate_is_above_used join fresh start a later.0 later.2)
+      (later.0, later.1, candidate_is_above_used start a later.0 later.2)
 
   -- before a pass, no counter that is at least one that could pass was spent
   counter_above_candidate_was_not_spent : (counter passed : ℕ) → CanPass start [] moment passed → passed ≤ counter
@@ -132,7 +134,7 @@ module _ (join : LegalHistoriesJoin) (fresh : CandidatesAreNew) (old new : BookF
       → AreSpent ((name, c) ∷ ps) new
   code_pass_spends_counter text fits after =
       let token = pass_leaves_higher_candidates (one_text text) after in
-      let stays = reply_keeps_spent_counters join old new _ after ps spent in
+      let stays = reply_keeps_spent_counters old new _ after ps spent in
       record {
         different = (counter_above_candidate_was_not_spent c c (inl fits.0) (omega arith), spent.different);
         spent = (
@@ -147,7 +149,7 @@ module _ (join : LegalHistoriesJoin) (fresh : CandidatesAreNew) (old new : BookF
       → AreSpent ((name, c) ∷ (name, c - 1) ∷ ps) new
   pair_pass_spends_counters first second (w, next, can, one, two) after =
       let token = pass_leaves_higher_candidates (two_texts first second) after in
-      let stays = reply_keeps_spent_counters join old new _ after ps spent in
+      let stays = reply_keeps_spent_counters old new _ after ps spent in
       let greater = counter_above_candidate_was_not_spent c w (inr can) (omega (arith, next)) in
       let lesser = counter_above_candidate_was_not_spent (c - 1) w (inr can) (omega (arith, next)) in
       let apart : (name, c) ≢ (name, c - 1) = λ same. let counters : c
@@ -178,27 +180,27 @@ reply_by_token_is_due start moment sent r (reply, same, due) = subst (λ (x : Re
 no_reply_without_token : (moment : ℕ) (sent : CodeTexts) (r : Reply) → IsReplyDueBy None [] moment sent (Some r) → ⊥
 no_reply_without_token moment sent r same = cc
 
-module _ (join : LegalHistoriesJoin) (fresh : CandidatesAreNew) (old new : BookFields) (name : List ℕ) (moment : ℕ) (is : IsMoment moment)
+module _ (old new : BookFields) (name : List ℕ) (moment : ℕ) (is : IsMoment moment)
     (ps : List (List ℕ × ℕ)) (spent : AreSpent ps old) where
   -- after a reply that is due, what it used is spent, and what was spent before
   due_reply_spends_counters : (sent : CodeTexts) (reply : Option Reply) (o : Option TokenFields) → token_at old name ≡ o
       → IsReplyDueBy o [] moment sent reply → IsBookAfter (accounts_in old) (logged_attempt_of name moment sent reply ∷ []) new
       → AreSpent (of_account name (used_by_reply sent reply) ++ ps) new
-  due_reply_spends_counters sent None o has due after = reply_keeps_spent_counters join old new _ after ps spent
-  due_reply_spends_counters sent (Some Fail) o has due after = reply_keeps_spent_counters join old new _ after ps spent
-  due_reply_spends_counters sent (Some Locked) o has due after = reply_keeps_spent_counters join old new _ after ps spent
+  due_reply_spends_counters sent None o has due after = reply_keeps_spent_counters old new _ after ps spent
+  due_reply_spends_counters sent (Some Fail) o has due after = reply_keeps_spent_counters old new _ after ps spent
+  due_reply_spends_counters sent (Some Locked) o has due after = reply_keeps_spent_counters old new _ after ps spent
   due_reply_spends_counters sent (Some (Pass c)) None has due after = absurd (no_reply_without_token moment sent (Pass c) due)
   due_reply_spends_counters (one_text text) (Some (Pass c)) (Some start) has due after =
-      code_pass_spends_counter join fresh old new name moment start has is ps spent c text
+      code_pass_spends_counter old new name moment start has is ps spent c text
       (reply_by_token_is_due start moment (one_text text) (Pass c) due).1 after
   due_reply_spends_counters (two_texts first second) (Some (Pass c)) (Some start) has due after =
-      pair_pass_spends_counters join fresh old new name moment start has is ps spent c first second
+      pair_pass_spends_counters old new name moment start has is ps spent c first second
       (reply_by_token_is_due start moment (two_texts first second) (Pass c) due).1 after
 
 -- the law: what was spent stays spent over each attempt that was judged
-pub spent_stays_spent : BeginsWithItself → LegalHistoriesJoin → CandidatesAreNew → SpentStaysSpent
-spent_stays_spent itself join fresh old new t ps one spent =
+pub spent_stays_spent : SpentStaysSpent
+spent_stays_spent old new t ps one spent =
     let accounts = accounts_in old in
-    let self = book_follows_no_replies itself old in
-    due_reply_spends_counters join fresh old new t.account t.moment one.is_moment ps spent t.sent t.reply (token_at old t.account) refl
+    let self = book_follows_no_replies begins_with_itself old in
+    due_reply_spends_counters old new t.account t.moment one.is_moment ps spent t.sent t.reply (token_at old t.account) refl
     (judged_reply_is_due old new t one accounts [] self) (judged_book_is_after old new t one accounts [] self)

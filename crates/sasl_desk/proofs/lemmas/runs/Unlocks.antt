@@ -10,7 +10,7 @@ use Rattle.otp_core.specs.Attempt.{Attempt, CodeTexts, one_text, two_texts, atte
 use Rattle.otp_core.specs.Ranges.{IsMoment}
 use Rattle.otp_core.specs.Reply.{IsDueReply}
 use Rattle.otp_core.specs.History.{IsLegal}
-use Rattle.otp_core.specs.Laws.{CandidatesAreNew}
+use Rattle.otp_core.proofs.lemmas.Used.{candidates_are_new}
 use Rattle.otp_core.specs.State.{unlocked}
 use Rattle.otp_core.specs.declared.token.reply.Reply.{Reply}
 use Rattle.otp_core.specs.declared.token.reply.Reply.TheVariants.{Pass, Fail, Locked}
@@ -19,7 +19,8 @@ use Rattle.otp_core.specs.declared.token.kinds.TokenFields.TheVariants.{Hotp, To
 use Rattle.book_format.specs.Account.{AccountFields}
 use Rattle.book_format.specs.Book.{BookFields}
 use Rattle.account_book.specs.Accounts.{account_at, with_account, with_changed, IsAdded}
-use Rattle.account_book.specs.Laws.{TokensAreApart, AddedIsApart}
+use Rattle.account_book.proofs.lemmas.Maps.{added_is_apart}
+use Rattle.account_book.proofs.lemmas.Tokens.{tokens_are_apart}
 use Rattle.account_book.specs.Tokens.{token_at, with_token, IsUnlocked}
 use Rattle.sasl_desk.specs.Spent.{CanPass, IsBelow, IsCounterSpent, AreSpent}
 use Rattle.sasl_desk.proofs.lemmas.Lists.{each_follows}
@@ -41,31 +42,31 @@ locked_admits_no_more (Hotp t) before at sent moment c can = can
 locked_admits_no_more (Totp t) before at sent moment c can = can
 
 -- a counter below each that can pass before an attempt is below each that can pass after it
-attempt_keeps_below : CandidatesAreNew → (token : TokenFields) (counter : ℕ) (before : List Attempt) (at : ℕ) (sent : CodeTexts)
+attempt_keeps_below : (token : TokenFields) (counter : ℕ) (before : List Attempt) (at : ℕ) (sent : CodeTexts)
     (reply : Reply)
     → IsMoment at → IsDueReply token before at sent reply → IsBelowAfter token before counter
     → IsBelowAfter token (attempt_of at sent reply ∷ before) counter
-attempt_keeps_below fresh token counter before at sent Fail is due below moment c later can = below moment c later
+attempt_keeps_below token counter before at sent Fail is due below moment c later can = below moment c later
     (fail_admits_no_more token before at sent moment c can)
-attempt_keeps_below fresh token counter before at sent Locked is due below moment c later can = below moment c later
+attempt_keeps_below token counter before at sent Locked is due below moment c later can = below moment c later
     (locked_admits_no_more token before at sent moment c can)
-attempt_keeps_below fresh token counter before at (one_text text) (Pass w) is due below moment c later can =
+attempt_keeps_below token counter before at (one_text text) (Pass w) is due below moment c later can =
     let passed : counter < w = below at w is (inl due.1.0) in
-    let apart = (fresh token (attempt_of at (one_text text) (Pass w) ∷ before) moment c can).0 in omega (arith, passed, apart)
-attempt_keeps_below fresh token counter before at (two_texts first second) (Pass w) is due below moment c later can =
+    let apart = (candidates_are_new token (attempt_of at (one_text text) (Pass w) ∷ before) moment c can).0 in omega (arith, passed, apart)
+attempt_keeps_below token counter before at (two_texts first second) (Pass w) is due below moment c later can =
     let (first_one, next, can_pair, one, other) = due.1 in
     let passed : counter < first_one = below at first_one is (inr can_pair) in
-    let apart = (fresh token (attempt_of at (two_texts first second) (Pass w) ∷ before) moment c can).0 in
+    let apart = (candidates_are_new token (attempt_of at (two_texts first second) (Pass w) ∷ before) moment c can).0 in
     omega (arith, passed, next, apart)
 
 -- a counter below each that can pass now is below each that can pass ever
-history_keeps_below : CandidatesAreNew → (token : TokenFields) (counter : ℕ) → IsBelowAfter token [] counter → (history : List Attempt)
+history_keeps_below : (token : TokenFields) (counter : ℕ) → IsBelowAfter token [] counter → (history : List Attempt)
     → IsLegal token history
     → IsBelowAfter token history counter
-history_keeps_below fresh token counter below [] legal = below
-history_keeps_below fresh token counter below (a ∷ before) legal =
-    attempt_keeps_below fresh token counter before a.moment a.sent a.reply legal.0 legal.1
-    (history_keeps_below fresh token counter below before legal.2)
+history_keeps_below token counter below [] legal = below
+history_keeps_below token counter below (a ∷ before) legal =
+    attempt_keeps_below token counter before a.moment a.sent a.reply legal.0 legal.1
+    (history_keeps_below token counter below before legal.2)
 
 -- what can pass in an unlocked token could pass before: failures have no part in it
 unlocked_admits_no_more : (token : TokenFields) (moment c : ℕ) → CanPass (unlocked token) [] moment c → CanPass token [] moment c
@@ -73,19 +74,19 @@ unlocked_admits_no_more (Hotp t) moment c can = can
 unlocked_admits_no_more (Totp t) moment c can = can
 
 -- a counter below each that can pass is so after the token is unlocked
-unlocked_token_keeps_below : CandidatesAreNew → (token : TokenFields) (counter : ℕ) → IsBelow token counter
+unlocked_token_keeps_below : (token : TokenFields) (counter : ℕ) → IsBelow token counter
     → IsBelow (unlocked token) counter
-unlocked_token_keeps_below fresh token counter below history moment c is legal can =
-    history_keeps_below fresh (unlocked token) counter (λ m k at now. below [] m k at tt (unlocked_admits_no_more token m k now))
+unlocked_token_keeps_below token counter below history moment c is legal can =
+    history_keeps_below (unlocked token) counter (λ m k at now. below [] m k at tt (unlocked_admits_no_more token m k now))
     history legal moment c is can
 
 -- when the token of one account is unlocked, a counter that is spent stays so
-unlocked_token_keeps_spent_counter : TokensAreApart → CandidatesAreNew → (old : BookFields) (name : List ℕ) (token : TokenFields)
+unlocked_token_keeps_spent_counter : (old : BookFields) (name : List ℕ) (token : TokenFields)
     → token_at old name ≡ Some token
     → (other : List ℕ) (counter : ℕ) → IsCounterSpent old other counter
     → IsCounterSpent (with_changed old name (with_token (unlocked token))) other counter
-unlocked_token_keeps_spent_counter apart fresh old name token has other counter used =
-    let now = apart old name token (unlocked token) has other in
+unlocked_token_keeps_spent_counter old name token has other counter used =
+    let now = tokens_are_apart old name token (unlocked token) has other in
     elim (cases_Bool (bytes_eq name other)) [
       | inl is ↦
           let names : name ≡ other = (bytes_eq-Decides name other).0 is in
@@ -93,7 +94,7 @@ unlocked_token_keeps_spent_counter apart fresh old name token has other counter 
           record {
             token = unlocked token;
             has = rw is at now;
-            below = unlocked_token_keeps_below fresh token counter (subst (λ (t : TokenFields). IsBelow t counter) same used.below);
+            below = unlocked_token_keeps_below token counter (subst (λ (t : TokenFields). IsBelow t counter) same used.below);
           }
       | inr not ↦
           let same : token_at (with_changed old name (with_token (unlocked token))) other ≡ token_at old other = rw not at now in
@@ -101,25 +102,25 @@ unlocked_token_keeps_spent_counter apart fresh old name token has other counter 
     ]
 
 -- a counter that is spent stays so after the book's account is unlocked, if it has a token
-unlock_keeps_spent_counter : TokensAreApart → CandidatesAreNew → (old new : BookFields) (name : List ℕ) (o : Option TokenFields)
+unlock_keeps_spent_counter : (old new : BookFields) (name : List ℕ) (o : Option TokenFields)
     → token_at old name ≡ o
     → IsUnlocked old name new
     → (other : List ℕ) (counter : ℕ) → IsCounterSpent old other counter → IsCounterSpent new other counter
-unlock_keeps_spent_counter apart fresh old new name None has changed other counter used =
+unlock_keeps_spent_counter old new name None has changed other counter used =
     let same : new ≡ old = rw has at changed in subst (λ (b : BookFields). IsCounterSpent b other counter) (sym same) used
-unlock_keeps_spent_counter apart fresh old new name (Some token) has changed other counter used =
+unlock_keeps_spent_counter old new name (Some token) has changed other counter used =
     let is = rw has at changed in
     subst (λ (b : BookFields). IsCounterSpent b other counter) (sym is)
-    (unlocked_token_keeps_spent_counter apart fresh old name token has other counter used)
+    (unlocked_token_keeps_spent_counter old name token has other counter used)
 
 -- what was spent stays spent when a token is unlocked
-pub unlock_keeps_spent_counters : TokensAreApart → CandidatesAreNew → (old new : BookFields) (name : List ℕ) (ps : List (List ℕ × ℕ))
+pub unlock_keeps_spent_counters : (old new : BookFields) (name : List ℕ) (ps : List (List ℕ × ℕ))
     → IsUnlocked old name new
     → AreSpent ps old → AreSpent ps new
-unlock_keeps_spent_counters apart fresh old new name ps changed spent = record {
+unlock_keeps_spent_counters old new name ps changed spent = record {
   different = spent.different;
   spent = each_follows (λ p. IsCounterSpent old p.0 p.1) (λ p. IsCounterSpent new p.0 p.1)
-      (λ p used. unlock_keeps_spent_counter apart fresh old new name (token_at old name) refl changed p.0 p.1 used) ps spent.spent;
+      (λ p used. unlock_keeps_spent_counter old new name (token_at old name) refl changed p.0 p.1 used) ps spent.spent;
 }
 
 -- an account that has a token is not free
@@ -129,10 +130,10 @@ token_is_not_free None token free has = cc has
 token_is_not_free (Some account) token free has = cc free
 
 -- when an account is added, a counter that is spent stays so
-addition_keeps_spent_counter : AddedIsApart → (old : BookFields) (name : List ℕ) (account : AccountFields) → account_at old name ≡ None
+addition_keeps_spent_counter : (old : BookFields) (name : List ℕ) (account : AccountFields) → account_at old name ≡ None
     → (other : List ℕ) (counter : ℕ) → IsCounterSpent old other counter → IsCounterSpent (with_account old name account) other counter
-addition_keeps_spent_counter apart old name account free other counter used =
-    let now = apart old name account other in
+addition_keeps_spent_counter old name account free other counter used =
+    let now = added_is_apart old name account other in
     elim (cases_Bool (bytes_eq name other)) [
       | inl is ↦
           let names : name ≡ other = (bytes_eq-Decides name other).0 is in
@@ -143,11 +144,11 @@ addition_keeps_spent_counter apart old name account free other counter used =
     ]
 
 -- when an account is added, counters that are spent stay so
-pub addition_keeps_spent_counters : AddedIsApart → (old new : BookFields) (name : List ℕ) (account : AccountFields) (ps : List (List ℕ × ℕ))
+pub addition_keeps_spent_counters : (old new : BookFields) (name : List ℕ) (account : AccountFields) (ps : List (List ℕ × ℕ))
     → IsAdded old name account new → AreSpent ps old → AreSpent ps new
-addition_keeps_spent_counters apart old new name account ps is spent = record {
+addition_keeps_spent_counters old new name account ps is spent = record {
   different = spent.different;
   spent = each_follows (λ p. IsCounterSpent old p.0 p.1) (λ p. IsCounterSpent new p.0 p.1)
       (λ p used. subst (λ (b : BookFields). IsCounterSpent b p.0 p.1) (sym is.added)
-      (addition_keeps_spent_counter apart old name account is.free p.0 p.1 used)) ps spent.spent;
+      (addition_keeps_spent_counter old name account is.free p.0 p.1 used)) ps spent.spent;
 }

@@ -4,7 +4,7 @@ use Rattle.std.specs.declared.option.Option.{Option}
 use Rattle.std.specs.declared.option.Option.TheVariants.{None, Some}
 use Rattle.mac_core.specs.Mechanism.{name_of}
 use Rattle.mac_core.specs.declared.mechanism.Mechanism.{Mechanism}
-use Rattle.scram_text.specs.Laws.{SpellsOneName, HasOneClientFirst}
+use Rattle.scram_text.proofs.lemmas.ClientFirst.{has_one_client_first}
 use Rattle.scram_text.specs.Messages.{ClientFirstParts, IsClientFirst, IsServerFinal}
 use Rattle.scram_ends.specs.Entry.{Entry}
 use Rattle.scram_ends.specs.Stages.{challenged_login}
@@ -12,7 +12,7 @@ use Rattle.scram_ends.specs.Opening.{IsTakenUp}
 use Rattle.scram_ends.specs.First.{IsRefusedWith, IsChallengeTo}
 use Rattle.scram_ends.specs.Standing.{StandsForChallenged}
 use Rattle.scram_ends.specs.Verdict.{Due, accept, refuse, IsDue, due_text, final_due, verdict_of}
-use Rattle.scram_ends.specs.Laws.{RefusedIsNotTakenUp}
+use Rattle.scram_ends.proofs.lemmas.Opening.{refused_is_not_taken_up}
 use Rattle.scram_ends.specs.declared.server.ServerWait.{ServerWait}
 use Rattle.scram_ends.specs.declared.first.FirstFault.{FirstFault}
 use Rattle.scram_ends.specs.declared.verdict.Verdict.{Verdict}
@@ -23,6 +23,7 @@ use Rattle.sasl_desk.specs.ChallengedLogin.{challenged_login_of}
 use Rattle.sasl_desk.specs.SessionTurns.{answer_of, verdict_answer, IsBareNoDue, IsAnswer}
 use Rattle.sasl_desk.specs.declared.session.Session.TheVariants.{WaitFirst, WaitFinal}
 use Rattle.sasl_desk.specs.declared.session.event.Saying.TheVariants.{Nothing, Continues, Refuses}
+use Rattle.sasl_desk.proofs.lemmas.LawsBelow.{spells_one_name}
 
 -- a bare `S NO` is due to a client that is turned away
 pub bare_refusal_is_due : (accounts : Accounts) (server_nonce : List ℕ) (at : Place) → IsBareNoDue at
@@ -64,11 +65,11 @@ pub unoffered_opens_no_login : (mechanism first : List ℕ) → ((m : Mechanism)
 unoffered_opens_no_login mechanism first unknown name is = unknown is.m is.offered
 
 -- a message that is refused opens no login
-pub refused_first_opens_no_login : RefusedIsNotTakenUp → (mechanism first : List ℕ) (fault : FirstFault) → IsRefusedWith first fault
+pub refused_first_opens_no_login : (mechanism first : List ℕ) (fault : FirstFault) → IsRefusedWith first fault
     → (name : List ℕ)
     → IsTakenUpFor mechanism first name → ⊥
-refused_first_opens_no_login law mechanism first fault refusal name is =
-    law first fault is.parts name is.authzid refusal is.is_first is.taken_up
+refused_first_opens_no_login mechanism first fault refusal name is =
+    refused_is_not_taken_up first fault is.parts name is.authzid refusal is.is_first is.taken_up
 
 -- a message that is taken up opens a login by a mechanism that is offered
 pub taken_first_opens_login : (mechanism first name : List ℕ) (m : Mechanism) (p : ClientFirstParts) (authzid : Option (List ℕ))
@@ -89,8 +90,7 @@ invitation_is_due accounts server_nonce mechanism m named = record {
 }
 
 -- the server's challenge after a client-first message
-module _ (once : HasOneClientFirst) (names : SpellsOneName) (accounts : Accounts) (server_nonce : List ℕ) (wait : ServerWait)
-    (m : Mechanism)
+module _ (accounts : Accounts) (server_nonce : List ℕ) (wait : ServerWait) (m : Mechanism)
     (mechanism name client_first server_first : List ℕ) where
   -- the challenge that a server writes is due, and the server stands for its login
   account_challenge_is_due : NamesMechanism mechanism m → IsTakenUpFor mechanism client_first name
@@ -102,7 +102,7 @@ module _ (once : HasOneClientFirst) (names : SpellsOneName) (accounts : Accounts
     next = waits_final mechanism name client_first server_first;
     path = (
       waits_final mechanism name client_first server_first,
-      (name, login_is_challenged once names accounts wait m mechanism name client_first server_first named first stands, refl),
+      (name, login_is_challenged has_one_client_first spells_one_name accounts wait m mechanism name client_first server_first named first stands, refl),
       refl,
     );
     left = (client_first, server_first, ap (λ (t : List ℕ). waits_final t name client_first server_first) named, stands);

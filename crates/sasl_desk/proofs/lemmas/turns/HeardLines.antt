@@ -1,11 +1,11 @@
 -- What is recorded of a line, and what came of it, is recorded of the event by which the line was sent, and came of that event.
 use Rattle.std.proofs.Common.{◌≡◌, true, false, ℕ, List, refl, sym, ◌∙◌, subst, arith}
 use Rattle.std.proofs.lemmas.Bool.{false≢true}
-use Rattle.log_grammar.specs.laws.LineLaws.{EachTextIsAtMostOneLine}
 use Rattle.otp_core.specs.Attempt.{CodeTexts, one_text, two_texts}
 use Rattle.log_grammar.specs.Lines.{LogLine, heard, bad, ClientLine, code_line, from_client, IsLine}
 use Rattle.log_grammar.specs.Places.{Place}
 use Rattle.log_grammar.specs.Demands.{Accounts}
+use Rattle.log_grammar.proofs.lemmas.lines.ReadBack.{one_line}
 use Rattle.sasl_desk.specs.Events.{ClientEvent, sends, goes_away}
 use Rattle.otp_core.specs.SentCodes.{texts_of}
 use Rattle.sasl_desk.specs.DueLines.{is_due}
@@ -22,29 +22,28 @@ pub from_client_is_injective : (one other : ClientLine) → from_client one ≡ 
 from_client_is_injective one other same = cc
 
 -- the record of a line is that of an event which is this line and, since a text is one line, no other
-pub line_record_is_event_record : EachTextIsAtMostOneLine → (event : ClientEvent) (line : ClientLine) (at : Place) (recorded : LogLine)
+pub line_record_is_event_record : (event : ClientEvent) (line : ClientLine) (at : Place) (recorded : LogLine)
     → IsLineOf event line → IsRecordOfLine line at recorded
     → IsRecord event at recorded
-line_record_is_event_record once goes_away line at recorded is kept = absurd is
-line_record_is_event_record once (sends text) line at (heard recorded) is kept = (
+line_record_is_event_record goes_away line at recorded is kept = absurd is
+line_record_is_event_record (sends text) line at (heard recorded) is kept = (
   subst (λ (l : ClientLine). IsLine text (from_client l)) (sym kept.0) is,
   due_line_may_be_heard at recorded (subst (λ (l : ClientLine). is_due at l ≡ true) (sym kept.0) kept.1),
 )
-line_record_is_event_record once (sends text) line at bad is kept = λ other also may_be_heard.
-    let same = from_client_is_injective line other (once text (from_client line) (from_client other) is also) in
+line_record_is_event_record (sends text) line at bad is kept = λ other also may_be_heard.
+    let same = from_client_is_injective line other (one_line text (from_client line) (from_client other) is also) in
     false≢true (sym (subst (λ (l : ClientLine). is_due at l ≡ false) same kept) ∙ heard_line_is_due at other may_be_heard)
-line_record_is_event_record once (sends text) line at recorded is kept = absurd kept
+line_record_is_event_record (sends text) line at recorded is kept = absurd kept
 
 -- what came of a line of the client came of the event that was this line
-pub line_result_is_event_result : EachTextIsAtMostOneLine
-    → (accounts : Accounts) (server_nonce : List ℕ) (event : ClientEvent) (line : ClientLine)
+pub line_result_is_event_result : (accounts : Accounts) (server_nonce : List ℕ) (event : ClientEvent) (line : ClientLine)
     (at : Place)
     (h : HearResult) (message : List ℕ)
     → IsLineOf event line → ComesOfLine accounts server_nonce line at h message → ComesOfEvent accounts server_nonce event at h message
-line_result_is_event_result once accounts server_nonce event line at (Answered turn) message is came =
-    record { is_record = line_record_is_event_record once event line at _ is came.is_record; is_answer = came.is_answer }
-line_result_is_event_result once accounts server_nonce event line at (ToJudge name sent) message is came =
-    record { place = came.0; is_record = line_record_is_event_record once event line at (heard (code_line (texts_of sent))) is came.1 }
+line_result_is_event_result accounts server_nonce event line at (Answered turn) message is came =
+    record { is_record = line_record_is_event_record event line at _ is came.is_record; is_answer = came.is_answer }
+line_result_is_event_result accounts server_nonce event line at (ToJudge name sent) message is came =
+    record { place = came.0; is_record = line_record_is_event_record event line at (heard (code_line (texts_of sent))) is came.1 }
 
 -- a text that is not a line of a client is recorded as `C BAD`
 pub text_of_no_line_is_recorded_bad : (event : ClientEvent) (at : Place) → ((line : ClientLine) → IsLineOf event line → ⊥)

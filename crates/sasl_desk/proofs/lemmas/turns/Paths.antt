@@ -2,7 +2,6 @@
 use Rattle.std.proofs.Common.{◌≡◌, true, ℕ, List, [], ◌∷◌, ◌++◌, reverse, refl, sym, subst, append_assoc, append-nil}
 use Rattle.std.specs.List.{AllByRecursion}
 use Rattle.std.proofs.lemmas.Bool.{false≢true}
-use Rattle.log_grammar.specs.laws.LogLaws.{GoesOnByALine}
 use Rattle.otp_core.specs.Attempt.{CodeTexts}
 use Rattle.otp_core.specs.declared.token.reply.Reply.{Reply}
 use Rattle.log_grammar.specs.Lines.{LogLine, said, heard, bad, gone, replies, code_line}
@@ -11,6 +10,7 @@ use Rattle.log_grammar.specs.Places.{Place, got_code, between, offered, waits_fi
 use Rattle.log_grammar.specs.Demands.{Accounts, Demands, demands, HaveDueReplies, HasDueReply}
 use Rattle.log_grammar.specs.state_machine.Steps.{IsTransition, told_at}
 use Rattle.log_grammar.specs.Begins.{Begins}
+use Rattle.log_grammar.proofs.lemmas.state_machine.LogSteps.{log_goes_on}
 use Rattle.log_grammar.proofs.lemmas.state_machine.Shortening.{code_may_stand}
 use Rattle.sasl_desk.specs.Events.{ClientEvent, sends, goes_away}
 use Rattle.sasl_desk.specs.DueLines.{is_client_turn, place_after_record}
@@ -103,35 +103,35 @@ no_reply_tells_nothing (got_code account sent) line no_reply = refl
 no_reply_tells_nothing at line no_reply = refl
 
 -- a log goes on by a path without replies, and tells nothing new
-pub log_goes_on_by_path : GoesOnByALine → (accounts : Accounts) (log : List LogLine) (at : Place) (told : List LoggedAttempt)
+pub log_goes_on_by_path : (accounts : Accounts) (log : List LogLine) (at : Place) (told : List LoggedAttempt)
     (lines : List LogLine) (next : Place)
     → Begins (demands accounts) log at told → IsPath (demands accounts) at lines next → AllByRecursion IsNoReply lines
     → Begins (demands accounts) (log ++ lines) next told
-log_goes_on_by_path law accounts log at told [] next begins path no_replies =
+log_goes_on_by_path accounts log at told [] next begins path no_replies =
     let here = subst (λ (p : Place). Begins (demands accounts) log p told) (sym path) begins in
     subst (λ (l : List LogLine). Begins (demands accounts) l next told) (sym (append-nil log)) here
-log_goes_on_by_path law accounts log at told (line ∷ lines) next begins (middle, goes, path) no_replies =
+log_goes_on_by_path accounts log at told (line ∷ lines) next begins (middle, goes, path) no_replies =
     let quiet = no_reply_tells_nothing at line no_replies.0 in
     let due = subst (λ (t : List LoggedAttempt). HaveDueReplies (demands accounts) (reverse told) t) (sym quiet) tt in
-    let step = law accounts log at told line middle begins goes due in
+    let step = log_goes_on (demands accounts) log at told line middle begins goes due in
     let told_here = subst (λ (t : List LoggedAttempt). Begins (demands accounts) (log ++ line ∷ []) middle (told ++ t)) quiet step in
     let here = subst (λ (t : List LoggedAttempt). Begins (demands accounts) (log ++ line ∷ []) middle t) (append-nil told) told_here in
     subst (λ (l : List LogLine). Begins (demands accounts) l next told) (append_assoc log (line ∷ []) lines)
-    (log_goes_on_by_path law accounts (log ++ line ∷ []) middle told lines next here path no_replies.1)
+    (log_goes_on_by_path accounts (log ++ line ∷ []) middle told lines next here path no_replies.1)
 
 -- a log goes on by a code, or two in a row, and its reply
-pub log_goes_on_by_reply : GoesOnByALine → (accounts : Accounts) (log : List LogLine) (name : List ℕ) (told : List LoggedAttempt)
+pub log_goes_on_by_reply : (accounts : Accounts) (log : List LogLine) (name : List ℕ) (told : List LoggedAttempt)
     (moment : ℕ) (sent : CodeTexts) (reply : Option Reply)
     → Begins (demands accounts) log (waits_code name) told
     → HasDueReply accounts (reverse told) (logged_attempt_of name moment sent reply)
     → Begins (demands accounts) (log ++ heard (code_line sent) ∷ said (replies moment reply) ∷ []) (waits_code name)
     (told ++ logged_attempt_of name moment sent reply ∷ [])
-log_goes_on_by_reply law accounts log name told moment sent reply begins due =
+log_goes_on_by_reply accounts log name told moment sent reply begins due =
     let line = heard (code_line sent) in
-    let first = law accounts log (waits_code name) told line (got_code name sent) begins (code_may_stand name sent) tt in
+    let first = log_goes_on (demands accounts) log (waits_code name) told line (got_code name sent) begins (code_may_stand name sent) tt in
     let quiet = subst (λ (t : List LoggedAttempt). Begins (demands accounts) (log ++ line ∷ []) (got_code name sent) t)
     (append-nil told) first in
-    let second = law accounts (log ++ line ∷ []) (got_code name sent) told (said (replies moment reply)) (waits_code name) quiet refl
+    let second = log_goes_on (demands accounts) (log ++ line ∷ []) (got_code name sent) told (said (replies moment reply)) (waits_code name) quiet refl
     (due, tt) in
     subst (λ (l : List LogLine). Begins (demands accounts) l (waits_code name) (told ++ logged_attempt_of name moment sent reply ∷ []))
     (append_assoc log (line ∷ []) (said (replies moment reply) ∷ [])) second

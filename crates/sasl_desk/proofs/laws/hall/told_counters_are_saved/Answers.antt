@@ -1,15 +1,6 @@
-use Rattle.sasl_desk.proofs.lemmas.halls.Stores.{told_counters_are_saved_ended, told_counters_are_saved_within}
-use Rattle.sasl_desk.proofs.lemmas.halls.Stores.{told_counters_are_saved_next}
+use Rattle.sasl_desk.proofs.lemmas.runs.Stores.{told_counters_are_saved}
+use Rattle.sasl_desk.proofs.lemmas.halls.Stores.{hall_holds_told}
 use Rattle.sasl_desk.proofs.laws.hall.told_counters_are_saved.Goals as goal
 
-pub returns-clause-ended : goal.returns-clause-ended
-returns-clause-ended g c = λ start calls hall s.
-    told_counters_are_saved_ended s c.spent_stays_spent.ensures
-
-pub returns-clause-within : goal.returns-clause-within
-returns-clause-within g c = λ start calls hall s.
-    told_counters_are_saved_within s c.spent_stays_spent.ensures
-
-pub returns-clause-next : goal.returns-clause-next
-returns-clause-next g c = λ start calls hall s.
-    told_counters_are_saved_next s c.spent_stays_spent.ensures
+pub returns : goal.returns
+returns g c = λ start calls hall s. told_counters_are_saved (hall_holds_told s)

@@ -12,7 +12,7 @@ pub returns-in-Some-clause-heard : goal.returns-in-Some-clause-heard
 returns-in-Some-clause-heard g c = λ accounts at keeps is.
     rw c.in-Line.is
     (IfOk-weaker c.hear_line.result _ _
-    (λ heard came. line_result_is_event_result c.each_text_is_at_most_one_line.ensures accounts c.args.server_nonce.now
+    (λ heard came. line_result_is_event_result accounts c.args.server_nonce.now
     (sends c.in-Line.text.now) (client_shown c.in-Some.line) at heard c.hear_line.new.message.items c.in-Some.ensures.some came)
     (c.hear_line.ensures.heard accounts at keeps is))
 

@@ -10,5 +10,5 @@ returns-clause-due g c = λ accounts name keeps named.
     let first = c.args.client_first.now in
     rw c.requires
     (c.bare_no.ensures.due accounts c.args.server_nonce.now (got_first name first)
-    (refused_first_opens_no_login c.refused_is_not_taken_up.ensures name first c.in-Err.field-0
+    (refused_first_opens_no_login name first c.in-Err.field-0
     (rw (c.as_slice-text.ensures.value, c.in_ok-bytes.ensures.ok) at c.in-Err.ensures.err)))

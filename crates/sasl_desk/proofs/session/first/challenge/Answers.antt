@@ -22,7 +22,7 @@ returns-in-Ok-clause-due g c = λ accounts name keeps named.
     let entry = c.view-view.ensures.entry ∙ keeps m user in
     let message : c.server_first.new.out.items ≡ server_first = written ∙ ap (λ (t : List ℕ). t ++ server_first) c.requires.empty in
     rw c.new.ensures
-    (challenge_is_due c.has_one_client_first.ensures c.spells_one_name.ensures accounts c.args.server_nonce.now c.in-Ok.wait m name user
+    (challenge_is_due accounts c.args.server_nonce.now c.in-Ok.wait m name user
     first server_first
     c.server_first.new.out.items (entry_of c.view-view.result) entry message named
     (taken_first_opens_login name first user m parts authzid named is taken) shows stands)
@@ -39,4 +39,4 @@ returns-in-Err-First-clause-due g c = λ accounts name keeps named.
     let refused = c.in-Err-First.ensures.first _ c.in-Err-First.field-0-is in
     rw (c.in-Err-First.ensures.unchanged, c.requires.empty)
     (c.bare_no.ensures.due accounts c.args.server_nonce.now (got_first name first)
-    (refused_first_opens_no_login c.refused_is_not_taken_up.ensures name first _ refused))
+    (refused_first_opens_no_login name first _ refused))
