@@ -21,7 +21,7 @@ import suite
 from audit_cases import TABLE, cases
 from checks import equal
 from expected import AUDITS, SESSION_LEFT, login_keys, proved
-from processes import LIMIT, Running
+from processes import Running, until
 from suite import MOST_BYTES, PROGRAM, SALT, audit_says, each, prints
 
 KEYS = AUDITS / "keys.toml"
@@ -94,7 +94,7 @@ def logs_from_pipes(folder):
     words = [PROGRAM, "audit", "--book", KEYS, "--log", "/dev/stdin"]
     audit_says(KEYS, "/dev/stdin", CLEAN, "a pipe", text=LOGIN.read_bytes())
     running = Running(words, HEADER + b"S MECHS SCRAM-SHA-1\n")
-    equal(running.process.wait(LIMIT), 1, "the status of an audit of a pipe that stays open")
+    until(lambda: running.process.poll() is not None, "an audit should end at a line at fault, although the pipe stays open")
     running.ends(1, "line 2: mechs\n")
     fifo = pathlib.Path(folder, "fifo")
     os.mkfifo(fifo)

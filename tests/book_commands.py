@@ -292,7 +292,7 @@ def unsaved(folder):
     says("no input", run("verify", user), 0, "")
     says("no token", run("unlock", bare), 1, "", "no token")
     says("a name that is taken", run("enrol", bare, "pencil"), 1, "", "name is taken")
-    equal(seen(book), before, "the book")
+    equal(seen(book), before, "the book after runs that have nothing to save")
 
 
 def unlocked(folder):

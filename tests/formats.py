@@ -106,9 +106,9 @@ def many_logs(folder):
     [at] = [at for at, line in enumerate(lines) if line.startswith("parallel ")]
     each_log, zipped = "".join(lines[:at]), "".join(lines[at + 1:])
     environment = with_files(folder, a=LOG, b=NUMBERED)
-    equal(ran(folder, each_log, environment), (0, [f"a.log: {LOGIN}", f"b.log: {TWO_SESSIONS}"], ""), each_log)
+    equal(ran(folder, each_log, environment), (0, [f"a.log: {LOGIN}", f"b.log: {TWO_SESSIONS}"], ""), each_log, "each log is clean")
     Path(folder, "b.log").write_text(NUMBERED.removesuffix("1 E\n"))
-    equal(ran(folder, each_log, environment), (123, [f"a.log: {LOGIN}", "b.log: line 8: cut"], ""), each_log)
+    equal(ran(folder, each_log, environment), (123, [f"a.log: {LOGIN}", "b.log: line 8: cut"], ""), each_log, "a log is cut")
     Path(folder, "old.toml").write_text(BOOK)
     Path(folder, "old.log.gz").write_bytes(gzip.compress(LOG.encode()))
     equal(ran(folder, zipped, environment), (0, [LOGIN], ""), zipped)

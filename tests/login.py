@@ -36,7 +36,7 @@ class Login(suite.BookFolder):
     def log_of(self, words, text, status):
         """Runs a login, compares its status, checks that it reports no fault, and returns its log."""
         answer = ran(words, text)
-        equal((answer.status, answer.faults), (status, ""), "the status and the faults", answer.output)
+        equal((answer.status, answer.faults), (status, ""), "the status and the faults of a login", answer.output.splitlines())
         return answer.output
 
     def starts(self, *more):
@@ -155,6 +155,7 @@ def codes(folder):
         (with_codes(), ["755224"], 0, ["CODE 755224", "PASS 5 0"], 1),
         (with_codes(), ["755224", "755224"], 1, ["CODE 755224", "PASS 5 0", "CODE 755224", "FAIL 5"], 1),
         (with_codes(), ["338314"], 1, ["CODE 338314", "FAIL 5"], 0),
+        (with_codes(), ["338314", "755224"], 1, ["CODE 338314", "FAIL 5", "CODE 755224", "PASS 5 0"], 1),
         (with_codes(limit=1), ["0", "755224"], 1, ["CODE 0", "FAIL 5", "CODE 755224", "LOCKED 5"], 0),
         (KEYS, ["755224"], 1, ["CODE 755224", "NOCODE 5"], 0),
         (with_codes(sync_ahead=8), [far], 0, [far, "PASS 5 9"], 1),

@@ -164,11 +164,12 @@ def whole(words: list, text: str | bytes, **how: Any) -> Running:
 def until(is_so: Callable[[], bool], *about: Any) -> None:
     """Waits at least a minute for this to be true, and otherwise fails with what the caller says about it: what is awaited, as in "the run
     should hold"."""
-    for _ in range(100 * LIMIT_OF_LINES):
-        if is_so():
-            return
+    deadline, is_late = time.monotonic() + LIMIT_OF_LINES, False
+    while not is_so():
+        if is_late:
+            fail(about, [f"it does not come to be so in {LIMIT_OF_LINES} seconds"])
         time.sleep(0.01)
-    fail(about, [f"it does not come to be so in {LIMIT_OF_LINES} seconds"])
+        is_late = time.monotonic() > deadline
 
 
 def _stat(process: int) -> list[str]:

@@ -48,11 +48,11 @@ RENAMED = "button@example.org"
 # Prints nothing if the block before it has forgotten the password.
 FORGOTTEN = 'printf %s "$password"\n'
 
-# Runs a block, and prints each variable that it leaves in the shell, and the umask if that has changed.
+# Runs a block, and prints each variable that it leaves in the shell, and the umask if that has changed, each in a line after `left: `.
 LEAVES_NOTHING = """umask 022
 before= status=; before=$(compgen -v)
 {}status=$?
-compgen -v | grep -vxF "$before"; [ "$(umask)" = 0022 ] || umask
+compgen -v | grep -vxF "$before" | sed 's/^/left: /'; [ "$(umask)" = 0022 ] || echo "left: umask $(umask)"
 exit $status
 """
 
@@ -263,9 +263,9 @@ def many_at_once(folder):
     enrols = [f"scramotp enrol --book book.toml --name b{number} --count 1" for number in range(8)]
     with ThreadPoolExecutor(17) as pool:
         found = list(pool.map(lambda block: ran(folder, block, "pencil\n"), [*edits, *enrols, verify("user", *CODES[:6])]))
-    equal([status for status, _, _ in found], [0] * 17, found)
-    accounts = book_of(folder)["accounts"]
-    equal(set(accounts), {"user", *(f"{kind}{number}" for kind in "ab" for number in range(8))}, sorted(accounts))
+    equal([answer for answer in found if answer.status], [], "the edits and runs that fail because of the others")
+    accounts, due = book_of(folder)["accounts"], {"user", *(f"{kind}{number}" for kind in "ab" for number in range(8))}
+    equal(due - set(accounts), set(), "the accounts that were added and are not in the book")
     equal(accounts["user"]["token"]["next"], 6, "the next counter of the token")
 
 
@@ -340,7 +340,7 @@ def a_fob_that_ran_ahead(folder):
     equal(ran(folder, verify(FOB, code(8)))[:2], (1, "FAIL 5\n"), "the answer to a code that is too far ahead")
     [sync] = blocks("Resynchronise a HOTP fob")
     status, output, faults = ran(folder, sync)
-    equal((status, faults), (0, ""), output)
+    equal((status, faults), (0, ""), "the status and the faults of two codes in a row", output)
     holds(re.fullmatch(r"PASS \d+ 9\n", output), "the pair does not pass", output, faults)
     equal(ran(folder, sync)[0], 1, "the status of a pair that has passed before")
     does(folder, verify(FOB, code(10)), printed="PASS 5 10\n")
@@ -799,6 +799,7 @@ def all_in_order(folder):
     for title, block in found:
         status, output, faults = ran(folder, LEAVES_NOTHING.format(block.replace(INSTALLED, str(TOOLS))), inputs.get(title, ""))
         equal((status, faults), (0, ""), title, output)
+        equal(re.findall("^left: (.*)", output, re.M), [], "what a block leaves in the shell", title)
         printed += output.splitlines()
     added, secret, ahead, freed, *told, of_postgresql, of_dovecot = printed
     equal((added, freed), (f"enrolled {NAME}", f"unlocked {FOB}"), printed)

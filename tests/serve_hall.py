@@ -26,6 +26,8 @@ from processes import until
 from suite import BOOK_OF_USER, blocks_of, each, seen
 from tool_runs import TOOLS, book_of, does, ran, start, with_tools
 
+# What `line_of` returns for a client that waits in vain.
+NOTHING = "nothing in 20 seconds"
 OPERATING = TOOLS.parent / "docs" / "OPERATING.md"
 [SERVE] = [block for title, _, block in blocks_of(OPERATING) if title == "Serve logins with `serve-hall`"]
 # Its commands without the parentheses, and with the tool replacing the shell, so that signals reach it.
@@ -33,13 +35,16 @@ START = SERVE.removeprefix("(\n").removesuffix(")\n").replace("tools/", "exec to
 
 
 def line_of(client):
-    """The next line that a client receives, without its LF; an empty text at the end of what it is sent."""
+    """The next line that a client receives, without its LF; an empty text at the end of what it is sent; or, if neither comes, NOTHING."""
     text = b""
-    while not text.endswith(b"\n"):
-        byte = client.recv(1)
-        if not byte:
-            return text.decode()
-        text += byte
+    try:
+        while not text.endswith(b"\n"):
+            byte = client.recv(1)
+            if not byte:
+                return text.decode()
+            text += byte
+    except TimeoutError:
+        return NOTHING
     return text[:-1].decode()
 
 
@@ -247,10 +252,10 @@ def a_client_that_does_not_read(folder):
         except OSError:
             return True
         sent += 1
-        try:
-            answers(other, "CODE 755224", r"NOCODE \d+")
-        except TimeoutError as fault:
-            holds(False, "another client gets no answer while one does not read", sent, fault)
+        other.sendall(b"CODE 755224\n")
+        told = line_of(other)
+        holds(told != NOTHING, "another client gets no answer while one does not read", sent)
+        holds(told.startswith("NOCODE "), "another client gets another answer while one does not read", sent, told)
         return False
 
     until(is_cut_off, "a client that does not read should be cut off")

@@ -95,7 +95,11 @@ fn modes(rt: HostRuntime) -> Result<(), Fail> {
         file.replace("second")?;
         let read = file.read()?.ok_or("a text")?;
         assert_eq!(rt; str::from_utf8(read.as_slice())?, "second");
-        assert_eq!(rt; mode(&rt, book.as_str())?, after);
+        assert_eq!(rt;
+            mode(&rt, book.as_str())?,
+            after,
+            "the mode after a save, which was {before:o} before"
+        );
     }
     assert_eq!(rt; fs::read_dir(&rt, folder.as_str())?.count(), 1);
     Ok(fs::remove_dir_all(&rt, folder.as_str())?)
@@ -186,7 +190,7 @@ fn a_book_is_held(rt: HostRuntime) -> Result<(), Fail> {
         let second = BookFile::hold(&hasty, book.as_str()).err();
         assert!(rt;
             matches!(second, Some(HoldFault::HeldByOthers)),
-            "{second:?}"
+            "the fault of a second run while the first holds the book: {second:?}"
         );
         first.replace("new")?;
     }

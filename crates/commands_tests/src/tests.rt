@@ -117,13 +117,14 @@ where
     let mut faults = Faults::new(rt.alloc(), are_terminals.1);
     let (status, _) = run(rt, words, &mut input, &mut output, &mut faults);
     let (want_status, want_output, want_faults) = want;
-    assert_eq!(rt; status, want_status, "status of {words:?}");
-    assert_eq!(rt; text_of(&output), Some(want_output), "output of {words:?}");
+    let said = text_of(&faults.bytes);
     assert_eq!(rt;
-        text_of(&faults.bytes),
-        Some(want_faults),
-        "faults of {words:?}"
+        status,
+        want_status,
+        "status of {words:?}, whose faults are {said:?}"
     );
+    assert_eq!(rt; text_of(&output), Some(want_output), "output of {words:?}");
+    assert_eq!(rt; said, Some(want_faults), "faults of {words:?}");
 }
 
 // These bytes as a text, or None if they are no UTF-8.
