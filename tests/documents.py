@@ -50,6 +50,9 @@ NOT_OF_THE_REPOSITORY |= {"i32", "self-test", "df"}
 # What docs/PROMISES.md says that no source has: raw pointers, a C function, whose contract is trusted, and a statement without proof.
 UNPROVED = re.compile(r"\b(?:unsafe|extern|axiom)\b")
 
+# The fewest characters that a row of planted.csv has of what a test says: fewer might stand in the output for another reason.
+LEAST_SAID = 12
+
 # How a page gives a name together with the file in which it stands: the name first, or the file and then some names.
 FILE = r"`([\w/.-]+\.(?:rt|antt|py))`"
 NAME_FIRST = re.compile(rf"((?:`[^`\n]+`,\s+)*`[^`\n]+`)\s+(?:in|of)\s+{FILE}")
@@ -350,8 +353,8 @@ def taken_unproved():
 
 
 def stale_bugs():
-    """The rows of planted.csv that have no edit, no test or not what the test says, and the edits in a folder planted/ that have no row or
-    do not apply."""
+    """The rows of planted.csv that have no edit, no test or too little of what the test says, and the edits in a folder planted/ that have
+    no row or do not apply."""
     rows = planted_rows(TOP)
     yield from (f"no row for {of}/{bug}" for of, bug in planted_edits(TOP).keys() - {(row.of, row.bug) for row in rows})
     for row in rows:
@@ -363,8 +366,8 @@ def stale_bugs():
         files = [TOP / "tests" / row.by] if row.by.endswith(".py") else [*(TOP / "crates" / row.by / "src").rglob("*.rt")]
         if not any(re.search(rf"\b(?:def|fn) {row.test}\(", file.read_text(encoding="utf-8")) for file in files if file.exists()):
             yield f"{name}: {row.by} has no test {row.test}"
-        if not row.says:
-            yield f"{name}: {row.test} of {row.by}: the row does not have what the test says"
+        if len(row.says) < LEAST_SAID:
+            yield f"{name}: {row.test} of {row.by}: the row has under {LEAST_SAID} characters of what the test says: {row.says!r}"
 
 
 def untimed_crates():
