@@ -80,28 +80,27 @@ pub(crate) fn hear_auth<'a, A: Allocator>(
     ensures err { IfErr result (λ session. (session ≡ Session.WaitAuth) × (message.new.items ≡ [])) }
     ensures no_memory { OnErr result (BearsMessage (client_shown line.entry)) }
 {
-    match line {
+    match &line {
         ClientLine::Auth(mechanism_name) => {
             let answer = answer_to_auth(mechanism_name);
-            let recorded = Recorded::Line(ClientLine::Auth(mechanism_name));
-            Ok(Turn { recorded, answer })
+            Ok(Turn {
+                recorded: Recorded::Line(line),
+                answer,
+            })
         }
         ClientLine::AuthWith(mechanism_name, client_first) => {
             match answer_to_auth_with_message(
                 alloc,
                 mechanism_name,
-                &client_first,
+                client_first,
                 book,
                 server_nonce,
                 message,
             ) {
-                Ok(answer) => {
-                    let recorded = Recorded::Line(ClientLine::AuthWith(
-                        mechanism_name,
-                        client_first,
-                    ));
-                    Ok(Turn { recorded, answer })
-                }
+                Ok(answer) => Ok(Turn {
+                    recorded: Recorded::Line(line),
+                    answer,
+                }),
                 Err(_) => Err(Session::WaitAuth),
             }
         }
@@ -128,20 +127,20 @@ pub(crate) fn hear_first<'a, A: Allocator>(
     ensures err { IfErr result (λ session. (session ≡ Session.WaitFirst mechanism) × (message.new.items ≡ [])) }
     ensures no_memory { OnErr result (BearsMessage (client_shown line.entry)) }
 {
-    match line {
+    match &line {
         ClientLine::Resp(client_first) => {
             match answer_to_client_first(
                 alloc,
                 mechanism,
-                &client_first,
+                client_first,
                 book,
                 server_nonce,
                 message,
             ) {
-                Ok(answer) => {
-                    let recorded = Recorded::Line(ClientLine::Resp(client_first));
-                    Ok(Turn { recorded, answer })
-                }
+                Ok(answer) => Ok(Turn {
+                    recorded: Recorded::Line(line),
+                    answer,
+                }),
                 Err(_) => Err(Session::WaitFirst(mechanism)),
             }
         }
@@ -165,13 +164,13 @@ pub(crate) fn hear_final<'a, A: Allocator>(
     ensures err { IfErr result (λ session. (session ≡ Session.WaitFinal waiting) × (message.new.items ≡ [])) }
     ensures no_memory { OnErr result (BearsMessage (client_shown line.entry)) }
 {
-    match line {
+    match &line {
         ClientLine::Resp(client_final) => {
-            match waiting.final_answer(alloc, &client_final, message) {
-                Ok(answer) => {
-                    let recorded = Recorded::Line(ClientLine::Resp(client_final));
-                    Ok(Turn { recorded, answer })
-                }
+            match waiting.final_answer(alloc, client_final, message) {
+                Ok(answer) => Ok(Turn {
+                    recorded: Recorded::Line(line),
+                    answer,
+                }),
                 Err(back) => Err(Session::WaitFinal(back)),
             }
         }

@@ -11,12 +11,12 @@ returns-in-Abort-clause-turn g c = λ accounts keeps. rw (c.in-Abort.is, c.requi
 pub returns-in-Auth-clause-lines : goal.returns-in-Auth-clause-lines
 returns-in-Auth-clause-lines g c = (
   heard_line_is_writable _
-      (rw c.in-Auth.is at c.requires.line),
+      c.requires.line,
   rw c.requires.empty c.answer_to_auth-answer.ensures.lines,
 )
 
 pub returns-in-Ok-clause-lines : goal.returns-in-Ok-clause-lines
-returns-in-Ok-clause-lines g c = (heard_line_is_writable _ (rw c.in-AuthWith.is at c.requires.line), c.in-Ok.ensures.lines)
+returns-in-Ok-clause-lines g c = (heard_line_is_writable _ c.requires.line, c.in-Ok.ensures.lines)
 
 pub returns-in-Abort-clause-lines : goal.returns-in-Abort-clause-lines
 returns-in-Abort-clause-lines g c = rw c.requires.empty c.abort_turn.ensures.lines

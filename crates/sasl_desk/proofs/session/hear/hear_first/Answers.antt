@@ -11,7 +11,7 @@ returns-in-Abort-clause-turn g c = λ accounts keeps.
     (waits_first (name_of c.args.mechanism)) refl)
 
 pub returns-in-Ok-clause-lines : goal.returns-in-Ok-clause-lines
-returns-in-Ok-clause-lines g c = (heard_line_is_writable _ (rw c.in-Resp.is at c.requires.line), c.in-Ok.ensures.lines)
+returns-in-Ok-clause-lines g c = (heard_line_is_writable _ c.requires.line, c.in-Ok.ensures.lines)
 
 pub returns-in-Abort-clause-lines : goal.returns-in-Abort-clause-lines
 returns-in-Abort-clause-lines g c = rw c.requires.empty c.abort_turn.ensures.lines
