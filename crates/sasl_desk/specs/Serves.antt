@@ -1,5 +1,5 @@
 -- How a client is served: its lines are read, the desk answers them, and what the desk writes goes to the log and to the client.
-use Rattle.std.specs.Prelude.{ℕ, ◌≡◌, ◌≢◌, ◌⊎◌, ◌<◌, ◌≤◌, true, List, [], ◌∷◌, ◌++◌, length}
+use Rattle.std.specs.Prelude.{ℕ, ◌≡◌, ◌≢◌, ◌⊎◌, ◌<◌, ◌≤◌, true, List, [], ◌∷◌, ◌++◌, length, map}
 use Rattle.std.specs.Io.KnownBytes.{Appends}
 use Rattle.std.specs.List.{AllByRecursion}
 use Rattle.book_format.specs.Book.{BookFields}
@@ -51,8 +51,7 @@ call_in turn = call_of (hears (event_read turn.read) turn.moment) turn.lines
 
 -- what was read in these turns
 abbrev pub reads_in : List ServedTurn → List LineRead
-reads_in [] = []
-reads_in (turn ∷ before) = turn.read ∷ reads_in before
+reads_in turns = map (λ turn. turn.read) turns
 
 -- the calls of a session: its greeting, with this server's part of the nonce, and its turns
 abbrev pub session_calls : (server_nonce : List ℕ) → (greeting : List LogLine) → List ServedTurn → List Call
