@@ -1,8 +1,6 @@
 -- In the log of a run, and in the lines of a session of a hall, a login is answered by `S OK` if and only if it is valid.
 use Rattle.std.proofs.Common.{inl, inr, true, ℕ, List, [], ◌∷◌, ◌++◌, refl, sym, ◌∙◌, subst, append_assoc, append-nil}
 use Rattle.std.specs.declared.option.Option.TheVariants.{Some}
-use Rattle.scram_text.proofs.lemmas.ClientFirst.{has_one_client_first}
-use Rattle.scram_ends.proofs.lemmas.Verdicts.{at_most_one_verdict_is_due, accepts_exactly_valid}
 use Rattle.log_grammar.specs.Lines.{LogLine, said, accepts, refuses}
 use Rattle.log_grammar.specs.Places.{Place, before_all, between, got_final}
 use Rattle.log_grammar.specs.Demands.{Accounts, demands}
@@ -17,7 +15,6 @@ use Rattle.sasl_desk.specs.AcceptedLogins.{BeginWithOutcome, LinesAcceptExactlyV
 use Rattle.sasl_desk.specs.Halls.{busy_lines, IsSessionRun}
 use Rattle.sasl_desk.specs.Runs.{Call, run_lines, IsAtRest, IsRun}
 use Rattle.sasl_desk.specs.Serves.{call_lines}
-use Rattle.sasl_desk.proofs.lemmas.LawsBelow.{spells_one_name}
 use Rattle.sasl_desk.proofs.lemmas.runs.RestingRuns.{run_rests}
 use Rattle.sasl_desk.proofs.lemmas.runs.PathLines.{paths_lead, run_is_path, log_is_path}
 
@@ -31,10 +28,10 @@ module _ (accounts : Accounts) {Leads : List LogLine → Place → Type 0} (l : 
   line_is_outcome before m account first challenge last line more next leads (inr busy) = absurd (cc busy.0)
   line_is_outcome before m account first challenge last (said (accepts server_final)) more next leads (inl goes) = (
     account,
-    granted_messages_are_login has_one_client_first spells_one_name accepts_exactly_valid accounts l before m account first challenge last server_final leads goes.0,
+    granted_messages_are_login accounts l before m account first challenge last server_final leads goes.0,
   )
   line_is_outcome before m account first challenge last (said (refuses text)) more next leads (inl goes) =
-      (refusal_is_due has_one_client_first spells_one_name at_most_one_verdict_is_due accepts_exactly_valid accounts l before text (got_final m account first challenge last) next leads
+      (refusal_is_due accounts l before text (got_final m account first challenge last) next leads
       (inl goes)).0.1
   line_is_outcome before m account first challenge last line more next leads (inl goes) = absurd goes
 
@@ -62,7 +59,7 @@ module _ (accounts : Accounts) {Leads : List LogLine → Place → Type 0} (l : 
         let (next, front) = front_leads l (before ++ line ∷ []) more place
         (subst (λ (x : List LogLine). Leads x place) (same ∙ sym (append_assoc before (line ∷ []) more)) leads) in
         let (at, earlier, goes) = l.last before line next front in
-        let (name, login, is_next) = ok_completes_login has_one_client_first spells_one_name accepts_exactly_valid accounts l before server_final at next earlier goes in
+        let (name, login, is_next) = ok_completes_login accounts l before server_final at next earlier goes in
         (name, login);
     answered = λ before more m first challenge last same ends.
         outcome_follows before more m first challenge last place (subst (λ (x : List LogLine). Leads x place) same leads) rests ends;

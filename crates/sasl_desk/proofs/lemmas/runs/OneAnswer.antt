@@ -10,7 +10,6 @@ use Rattle.scram_ends.specs.Entry.{Entry}
 use Rattle.scram_ends.specs.First.{IsChallengeTo}
 use Rattle.scram_ends.specs.Login.{IsAuthentic}
 use Rattle.scram_ends.specs.Verdict.{Due, accept, refuse, due_text, final_due}
-use Rattle.scram_ends.proofs.lemmas.Verdicts.{at_most_one_verdict_is_due}
 use Rattle.log_grammar.specs.Lines.{LogLine, said, ended, cont, accepts, refuses}
 use Rattle.log_grammar.specs.Places.{Place, offered, asks_bare, got_first, waits_final, got_final, waits_code, leaving, over}
 use Rattle.log_grammar.specs.Demands.{Accounts, demands}
@@ -21,7 +20,6 @@ use Rattle.sasl_desk.specs.Events.{ClientEvent}
 use Rattle.sasl_desk.specs.Runs.{Request, greets, hears, IsTurnTaken, IsAnsweredBy}
 use Rattle.sasl_desk.specs.Sessions.{IsPath, IsChallengeWith, LacksExtensions}
 use Rattle.sasl_desk.specs.DueLines.{place_after_record}
-use Rattle.sasl_desk.proofs.lemmas.LawsBelow.{spells_one_name}
 use Rattle.sasl_desk.proofs.lemmas.runs.Acceptances.{has_acceptance, rest_brings_acceptance}
 use Rattle.sasl_desk.proofs.lemmas.runs.AnswerShapes.{IsAnswerDue, HasShapeAt, answer_has_shape, acceptance_or_no_code}
 use Rattle.sasl_desk.proofs.lemmas.runs.OneRecord.{one_record, record_awaits_answer, record_leads_to_place}
@@ -78,7 +76,7 @@ module _ (accounts : Accounts) (server_nonce : List ℕ) (lines others : List Lo
   one_due_answer (got_first m first) due (inr (account, text, opens, a)) (inl b) =
       absurd (b.0 account (challenged_first_is_of_name accounts m first account text opens))
   one_due_answer (got_first m first) due (inr (account, text, opens, a)) (inr (name, other, begins, b)) =
-      let names = one_name has_one_client_first spells_one_name m first account name (challenged_first_is_of_name accounts m first account text opens)
+      let names = one_name m first account name (challenged_first_is_of_name accounts m first account text opens)
       (challenged_first_is_of_name accounts m first name other begins) in
       let here = subst (λ (p : Place). IsChallengeWith accounts server_nonce p) a.1 mine in
       let there = subst (λ (n : List ℕ). IsChallengeWith accounts server_nonce (waits_final m n first other)) (sym names)
@@ -89,19 +87,19 @@ module _ (accounts : Accounts) (server_nonce : List ℕ) (lines others : List Lo
             (λ (x : List ℕ). waits_final m name first x) texts),
       )
   one_due_answer (got_final m account first challenge last) due (inl (why, a, (lines_are, at))) (inl (reason, b, (others_are, too))) =
-      let same = one_due_verdict at_most_one_verdict_is_due accounts m account first challenge last (refuse why) (refuse reason) a b in (
+      let same = one_due_verdict accounts m account first challenge last (refuse why) (refuse reason) a b in (
         both_same lines_are others_are (ap (λ (d : Due). said (refuses (due_text d)) ∷ ended ∷ []) same),
         at ∙ sym too,
       )
   one_due_answer (got_final m account first challenge last) due
       (inl (why, a, (lines_are, at))) (inr (signature, text, b, authentic, rest)) =
-      let same = one_due_verdict at_most_one_verdict_is_due accounts m account first challenge last (refuse why) (accept signature) a b in absurd (cc same)
+      let same = one_due_verdict accounts m account first challenge last (refuse why) (accept signature) a b in absurd (cc same)
   one_due_answer (got_final m account first challenge last) due
       (inr (signature, text, a, authentic, rest)) (inl (why, b, (others_are, too))) =
-      let same = one_due_verdict at_most_one_verdict_is_due accounts m account first challenge last (refuse why) (accept signature) b a in absurd (cc same)
+      let same = one_due_verdict accounts m account first challenge last (refuse why) (accept signature) b a in absurd (cc same)
   one_due_answer (got_final m account first challenge last) due
       (inr (signature, text, a, authentic, (lines_are, at))) (inr (other, word, b, genuine, (others_are, too))) =
-      let same = one_due_verdict at_most_one_verdict_is_due accounts m account first challenge last (accept signature) (accept other) a b in
+      let same = one_due_verdict accounts m account first challenge last (accept signature) (accept other) a b in
       let mine_plain = subst (AllByRecursion LacksExtensions) lines_are plain in
       let yours_plain = subst (AllByRecursion LacksExtensions) others_are bare in
       let texts = one_plain_acceptance text signature authentic mine_plain.0 ∙ ap due_text same ∙ sym

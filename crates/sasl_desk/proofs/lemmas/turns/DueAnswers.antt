@@ -4,7 +4,6 @@ use Rattle.std.specs.declared.option.Option.{Option}
 use Rattle.std.specs.declared.option.Option.TheVariants.{None, Some}
 use Rattle.mac_core.specs.Mechanism.{name_of}
 use Rattle.mac_core.specs.declared.mechanism.Mechanism.{Mechanism}
-use Rattle.scram_text.proofs.lemmas.ClientFirst.{has_one_client_first}
 use Rattle.scram_text.specs.Messages.{ClientFirstParts, IsClientFirst, IsServerFinal}
 use Rattle.scram_ends.specs.Entry.{Entry}
 use Rattle.scram_ends.specs.Stages.{challenged_login}
@@ -23,7 +22,6 @@ use Rattle.sasl_desk.specs.ChallengedLogin.{challenged_login_of}
 use Rattle.sasl_desk.specs.SessionTurns.{answer_of, verdict_answer, IsBareNoDue, IsAnswer}
 use Rattle.sasl_desk.specs.declared.session.Session.TheVariants.{WaitFirst, WaitFinal}
 use Rattle.sasl_desk.specs.declared.session.event.Saying.TheVariants.{Nothing, Continues, Refuses}
-use Rattle.sasl_desk.proofs.lemmas.LawsBelow.{spells_one_name}
 
 -- a bare `S NO` is due to a client that is turned away
 pub bare_refusal_is_due : (accounts : Accounts) (server_nonce : List ℕ) (at : Place) → IsBareNoDue at
@@ -102,7 +100,7 @@ module _ (accounts : Accounts) (server_nonce : List ℕ) (wait : ServerWait) (m 
     next = waits_final mechanism name client_first server_first;
     path = (
       waits_final mechanism name client_first server_first,
-      (name, login_is_challenged has_one_client_first spells_one_name accounts wait m mechanism name client_first server_first named first stands, refl),
+      (name, login_is_challenged accounts wait m mechanism name client_first server_first named first stands, refl),
       refl,
     );
     left = (client_first, server_first, ap (λ (t : List ℕ). waits_final t name client_first server_first) named, stands);
