@@ -142,7 +142,7 @@ class Steps(NamedTuple):
 
 
 # What a new file may have to which `ab` was written, if it is not synced, and the device has the bytes `old`.
-PARTS = {b"", b"a", b"ab", b"\0\0", b"a\0", b"ol", b"al"}
+PARTS = {b"", b"a", b"ab", b"\0\0", b"a\0", b"\0b", b"ol", b"al", b"ob"}
 
 
 def steps_of(folder, book):
@@ -154,7 +154,7 @@ def steps_of(folder, book):
     renamed = [Note("name", new, 0, path), Note("gone", 0, 0, following)]
     return [
         Steps("nothing", [], {b"old"}, {None}),
-        Steps("in place", [Note("data", book, 0, b"ab")], {b"old", b"ald", b"abd", b"\0\0d", b"a\0d"}, {None}),
+        Steps("in place", [Note("data", book, 0, b"ab")], {b"old", b"ald", b"obd", b"abd", b"\0\0d", b"a\0d", b"\0bd"}, {None}),
         Steps("in place, synced", [Note("data", book, 0, b"ab"), Note("sync", book)], {b"abd"}, {None}),
         Steps("cut", [Note("size", book, 1)], {b"old", b"o"}, {None}),
         Steps("removed", [Note("gone", 0, 0, path)], {b"old", None}, {None}),

@@ -2,17 +2,17 @@
 
 It works as the tool ALICE does (Pillai and others, "All File Systems Are Not Created Equal", OSDI 2014). The calls of a run, which
 note_files.c notes, are split into small changes, the paper's micro-operations. An abstract persistence model says which of these a device
-may have kept when the power goes, and from it come all states of the folder that a program may find afterwards. The rules here are as weak
-as POSIX and the manual pages of Linux allow, so they are those of no one file system:
+may have kept when the power goes, and from it come all states of the folder that a program may find afterwards. The rules here are those of
+no one file system. A device keeps only what POSIX and the manual pages of Linux say of a sync, except for rule 4:
 
 1. A sync of a file makes durable what was done to the bytes and the length of the file before, and nothing else: no name that leads to it.
 2. A sync of a folder makes durable what was done to its names before, and nothing else: not what is in the files.
 3. Changes that no sync has made durable have no order. Each of them may have been kept without any other, of the same file or folder too.
 4. A change of one name is kept whole or not at all: the name leads to the old file or to the new one. But a rename is two changes, one of
    each name, and either may be kept without the other.
-5. A write may have been kept in part: its first bytes, with the file ending there, or with zeros after them up to the length that it
-   should have, or with bytes that were on the device before. As such bytes the model takes those of the book's first text, by which a file
-   that was never written could look like a book. Tried are no first byte, one, each multiple of STEP, all but one, and all.
+5. A write may have been kept in part: its first bytes, with the file ending there; or either its first or its last bytes, with zeros in
+   place of the others, or with bytes that were on the device before. As such bytes the model takes those of the book's first text, by which
+   a file that was never written could look like a book. The first bytes are none, one, a multiple of STEP, all but one, or all.
 6. What is printed, or sent through a socket, can't be taken back.
 
 So a loss in the middle of a call leaves nothing that one before the call or after it could not leave.
@@ -93,8 +93,10 @@ def kept(note: Note, text: bytes, older: bytes) -> Iterator[bytes]:
     length = len(note.data)
     found = resized(older[note.number:], length)
     for first in cuts(length):
-        for rest in (b"", bytes(length - first), found[first:]):
-            yield put(text, note.number, note.data[:first] + rest)
+        yield put(text, note.number, note.data[:first])
+        for other in (bytes(length), found):
+            yield put(text, note.number, note.data[:first] + other[first:])
+            yield put(text, note.number, other[:first] + note.data[first:])
 
 
 class Folder:
