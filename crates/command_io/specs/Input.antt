@@ -38,6 +38,10 @@ pub record AreLinesOf (bytes : List ℕ) (lines : List (List ℕ)) : Type 0 wher
   pub cut : IsSplit bytes texts rest
   pub are : lines ≡ texts ++ last_line rest
 
+-- these are the lines of an input, if its bytes are known, except these last ones
+abbrev pub AreFirstLines : (input : Option (List ℕ)) → (lines last : List (List ℕ)) → Type 0
+AreFirstLines input lines last = IfSome input (λ bytes. AreLinesOf bytes (lines ++ last))
+
 -- each of these lines is worked on in turn, by a step that says whether the line passed; `all_passed` says whether every line did
 abbrev pub EachInTurn : {State : Type 0} → (Step : List ℕ → State → (passed : Bool) → State → Type 0) → List (List ℕ) → State
     → (all_passed : Bool) → State → Type 0
@@ -46,9 +50,9 @@ EachInTurn {State} Step (line ∷ lines) old all_passed new =
     (passed : Bool) × (next : State) × (others : Bool) × Step line old passed next × EachInTurn Step lines next others new
     × (all_passed ≡ (passed && others))
 
--- the lines of an input, if its bytes are known, except these last ones: each is worked on in turn
+-- the first lines of an input, all but these last ones: each is worked on in turn
 pub record LinesInTurn {State : Type 0} (Step : List ℕ → State → (passed : Bool) → State → Type 0) (input : Option (List ℕ))
     (last : List (List ℕ)) (old : State) (all_passed : Bool) (new : State) : Type 0 where
   pub lines : List (List ℕ)
-  pub are : IfSome input (λ bytes. AreLinesOf bytes (lines ++ last))
+  pub are : AreFirstLines input lines last
   pub in_turn : EachInTurn Step lines old all_passed new

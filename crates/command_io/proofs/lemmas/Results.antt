@@ -1,5 +1,5 @@
 -- Facts about a result, combined or passed on.
-use Rattle.std.proofs.Common.{◌≡◌, Bool, true, ap, subst, sym}
+use Rattle.std.proofs.Common.{◌≡◌, ap, subst, sym}
 use Rattle.std.specs.Prelude.{IfErr, IfOk, IsErrAnd, OnOk}
 use Rattle.std.specs.declared.result.Result.{Result}
 use Rattle.std.specs.declared.result.Result.TheVariants.{Ok, Err}
@@ -14,12 +14,6 @@ pub if_ok_from_both : {T E : Type 0} (result : Result T E) (fact more : T → Ty
     → ((x : T) → fact x → done → more x) → IfOk result more
 if_ok_from_both (Ok x) fact more done is did follows = follows x is did
 if_ok_from_both (Err e) fact more done is did follows = tt
-
--- what is true on each `Ok` and what is true only on `Ok true` are combined
-pub if_ok_and_if_true : {R E : Type 0} (P : Type 0) (result : Result Bool E) → OnOk result P → (result ≡ Ok true → R)
-    → IfOk result (λ answer. P × (answer ≡ true → R))
-if_ok_and_if_true P (Ok answer) always true_alone = (always, λ is. true_alone (ap (λ (b : Bool). Ok b) is))
-if_ok_and_if_true P (Err e) always true_alone = tt
 
 -- two facts that are true of each error are combined
 pub if_err_both : {T E : Type 0} (P S : E → Type 0) (result : Result T E) → IfErr result P → IfErr result S
