@@ -27,14 +27,14 @@ abbrev pub new_book : (decoy_key : List ℕ) → BookFields
 new_book decoy_key = record { decoy_key = decoy_key; decoy_count = 4096; accounts = [] }
 
 -- the book was read from a file
-abbrev pub IsBookRead : {File : Type 0} → (bytes_of : File → Option (List ℕ)) → BookFields → Type 0
-IsBookRead bytes_of book = (text : List ℕ) × IsReadBook bytes_of text book
+abbrev pub IsOfFile : {File : Type 0} → (bytes_of : File → Option (List ℕ)) → BookFields → Type 0
+IsOfFile bytes_of book = (text : List ℕ) × IsReadBook bytes_of text book
 
 -- the book was read from a file, and no bytes are taken from the source of random bytes; or it is a new one, whose key is the next 32
 -- bytes of the source
 abbrev pub IsReadOrMade : {File : Type 0} → (bytes_of : File → Option (List ℕ)) → (old new : Option (List ℕ)) → BookFields → Type 0
 IsReadOrMade bytes_of old new book =
-    (IsBookRead bytes_of book × (new ≡ old))
+    (IsOfFile bytes_of book × (new ≡ old))
     ⊎ ((decoy_key : List ℕ) × (length decoy_key ≡ 32) × Consumes old new decoy_key × (book ≡ new_book decoy_key))
 
 -- a source of random bytes gives two salts, each of 16 bytes as a decoy's, one after the other: no byte is in both
@@ -45,7 +45,7 @@ pub record TakesSalts (old : Option (List ℕ)) (salts : Salts) (new : Option (L
 
 -- the book is this one, or was read from a file since
 abbrev pub IsThisOrReadBook : {File : Type 0} → (bytes_of : File → Option (List ℕ)) → (this book : BookFields) → Type 0
-IsThisOrReadBook bytes_of this book = (book ≡ this) ⊎ IsBookRead bytes_of book
+IsThisOrReadBook bytes_of this book = (book ≡ this) ⊎ IsOfFile bytes_of book
 
 -- an account with the keys of a password is added to a book, which is this one or was read from a file since, and the text of the
 -- resulting book is written to a file
@@ -99,11 +99,11 @@ IsNameTaken Is name fault = (fault ≡ NameTaken) × (book : BookFields) × Is b
 abbrev pub CannotBeChanged : {File : Type 0} → (bytes_of : File → Option (List ℕ)) → (path : List ℕ) → Fault → Type 0
 CannotBeChanged bytes_of path fault = CannotOpenBook bytes_of path fault ⊎ IsFileUnwrittenOrNoMemory path fault
 
--- the fault that ends `enrol`: no account is described, the name is taken in a book that was read, the book can't be held, read or saved, the file of random
--- bytes can't be read, the output can't be written, or memory ran out
+-- the fault that ends `enrol`: no account is described, the name is taken in a book that was read, the book can't be held, read or saved,
+-- the file of random bytes can't be read, the output can't be written, or memory ran out
 abbrev pub CannotEnrol : {File : Type 0} → (bytes_of : File → Option (List ℕ)) → ArgMatches → (input : Option (List ℕ)) → Fault → Type 0
 CannotEnrol bytes_of words input fault =
     DescribesNoAccount words input fault
-    ⊎ (IsNameTaken (IsBookRead bytes_of) (given_value words option.Name) fault
+    ⊎ (IsNameTaken (IsOfFile bytes_of) (given_value words option.Name) fault
     ⊎ (CannotBeChanged bytes_of (given_value words option.Book) fault
     ⊎ (IsFileUnreadOrNoMemory (given_value words option.Random) fault ⊎ (fault ≡ CannotWriteOutput))))

@@ -10,7 +10,7 @@ use Rattle.command_line.specs.declared.fault.Fault.{Fault}
 use Rattle.command_line.specs.declared.fault.Fault.TheVariants.{NameTaken, NoMemory}
 use Rattle.command_line.specs.declared.option_name.OptionName.TheVariants as option
 use Rattle.command_words.specs.Values.{given_value}
-use Rattle.account_commands.specs.Enrol.{CannotBeChanged, CannotEnrol, IsBookRead, IsNameTaken, IsReadOrMade, IsThisOrReadBook}
+use Rattle.account_commands.specs.Enrol.{CannotBeChanged, CannotEnrol, IsOfFile, IsNameTaken, IsReadOrMade, IsThisOrReadBook}
 use Rattle.command_io.specs.HeldBook.{IsReadBook}
 
 -- if an account was not added and saved, the fault is that its name is taken, or that the book can't be changed
@@ -45,9 +45,9 @@ failed_saving_has_reason bytes_of path name text this book fault read other =
 book_with_name_was_read : {File : Type 0} (bytes_of : File → Option (List ℕ)) (old new : Option (List ℕ)) (name : List ℕ)
     (this book : BookFields)
     → IsReadOrMade bytes_of old new this → IsThisOrReadBook bytes_of this book → is_some (account_at book name) ≡ true
-    → IsBookRead bytes_of book
+    → IsOfFile bytes_of book
 book_with_name_was_read bytes_of old new name this book known (inr read) taken = read
-book_with_name_was_read bytes_of old new name this book (inl (read, same)) (inl is) taken = subst (IsBookRead bytes_of) (sym is) read
+book_with_name_was_read bytes_of old new name this book (inl (read, same)) (inl is) taken = subst (IsOfFile bytes_of) (sym is) read
 book_with_name_was_read bytes_of old new name this book (inr (key, long, lost, made)) (inl is) taken =
     let none : false ≡ true = sym (ap (λ (b : BookFields). is_some (account_at b name)) (is ∙ made)) ∙ taken in absurd (cc none)
 
