@@ -1,5 +1,5 @@
 -- What a run of `verify` does to its book: each line that it answers is an attempt, and so a change of the book.
-use Rattle.std.specs.Prelude.{ℕ, ◌≡◌, ◌⊎◌, Bool, List, [], ◌∷◌, ◌++◌, map, reverse, IfSome}
+use Rattle.std.specs.Prelude.{ℕ, ◌≡◌, ◌⊎◌, Bool, List, [], ◌∷◌, ◌++◌, map, reverse}
 use Rattle.std.specs.List.{AllZip, flat_map}
 use Rattle.std.specs.Str.{byte}
 use Rattle.std.specs.Io.KnownBytes.{Appends}
@@ -17,7 +17,7 @@ use Rattle.sasl_desk.specs.Desks.{HoldsBook, IsBookAfterReplies}
 use Rattle.command_line.specs.declared.fault.Fault.{Fault}
 use Rattle.command_line.specs.declared.fault.Fault.TheVariants.{CannotWriteOutput}
 use Rattle.command_io.specs.HeldBook.{HeldFacts}
-use Rattle.command_io.specs.Input.{AreLinesOf, LinesInTurn}
+use Rattle.command_io.specs.Input.{AreFirstLines, LinesInTurn}
 use Rattle.commands.specs.SentCodes.{SaysCodes}
 use Rattle.commands.specs.Verify.{VerifyRun, AnswersLine}
 
@@ -47,12 +47,12 @@ judged_changes attempts = map judged (reverse attempts)
 abbrev pub HoldsItsBook : HeldFacts → Type 0
 HoldsItsBook held = HoldsBook (λ text. Unit {0}) held.book held.store
 
--- the lines of an input, if its bytes are known, except these last ones: each made one of these attempts, in order, and the attempts made
--- the old book the new one
+-- the first lines of an input, all but these last ones: each made one of these attempts, in order, and the attempts made the old book the
+-- new one
 pub record MakesAttempts (name : List ℕ) (moment : ℕ) (input : Option (List ℕ)) (last : List (List ℕ)) (attempts : List LoggedAttempt)
     (old new : BookFields) : Type 0 where
   pub lines : List (List ℕ)
-  pub are : IfSome input (λ bytes. AreLinesOf bytes (lines ++ last))
+  pub are : AreFirstLines input lines last
   pub made : AllZip (MakesAttempt name moment) lines attempts
   pub leads : IsBookAfterReplies old (reverse attempts) new
 

@@ -1,14 +1,12 @@
 -- The input of the command `hall`, the log that it prints, and which faults end it.
-use Rattle.std.specs.Prelude.{ℕ, ◌≡◌, ◌⊎◌, List, [], ◌∷◌, ◌++◌, reverse, codes, decimal, IfSome}
+use Rattle.std.specs.Prelude.{ℕ, ◌≡◌, ◌⊎◌, List, ◌∷◌, ◌++◌, reverse, codes, decimal}
 use Rattle.std.specs.List.{AllZip}
 use Rattle.std.specs.Str.{byte}
 use Rattle.std.specs.Io.KnownBytes.{Appends}
 use Rattle.std.specs.declared.option.Option.{Option}
-use Rattle.std.specs.declared.option.Option.TheVariants.{None}
 use Rattle.otp_core.specs.Ranges.{IsMoment}
 use Rattle.scram_text.specs.Class.{IsNoncePart}
 use Rattle.book_format.specs.Book.{BookFields}
-use Rattle.account_book.specs.Store.{StoreFacts}
 use Rattle.book_file.specs.Saved.{IsSavedText}
 use Rattle.clap.specs.declared.parser.matches.ArgMatches.{ArgMatches}
 use Rattle.command_line.specs.Fault.{IsFileUnwrittenOrNoMemory}
@@ -19,18 +17,16 @@ use Rattle.command_words.specs.Values.{given_value}
 use Rattle.log_grammar.specs.Demands.{Accounts}
 use Rattle.log_grammar.specs.Numbered.{Numbered, of_number}
 use Rattle.log_grammar.specs.NumberedLines.{IsSessionNumber}
-use Rattle.sasl_log.specs.Sink.{SinkFacts}
 use Rattle.sasl_desk.specs.Events.{ClientEvent, sends, goes_away}
 use Rattle.log_grammar.specs.Books.{accounts_in}
 use Rattle.log_grammar.specs.Places.{Place, between}
 use Rattle.log_grammar.specs.Versions.{IsLogFront}
-use Rattle.sasl_desk.specs.Halls.{HallFields, hall_shown, hall_lines, hall_bytes, phase_in, IsSessionRun, IsHallAfter}
+use Rattle.sasl_desk.specs.Halls.{hall_lines, hall_bytes, IsSessionRun}
 use Rattle.sasl_desk.specs.Runs.{greets, hears, Call}
 use Rattle.sasl_desk.specs.Saved.{AreLinesSaved}
-use Rattle.sasl_desk.specs.declared.hall.Hall.{Hall}
 use Rattle.command_io.specs.HeldBook.{IsReadBook, CannotOpenBook}
-use Rattle.command_io.specs.Input.{AreLinesOf, IsInputUnreadOrNoMemory}
-use Rattle.commands.specs.PrintedLog.{IsLogFault, StopsAfter}
+use Rattle.command_io.specs.Input.{AreFirstLines, IsInputUnreadOrNoMemory}
+use Rattle.commands.specs.PrintedLog.{StopsAfter}
 
 -- an event of a hall: a client arrives, and this is the server's part of its nonce; or the client of the session of this number
 -- does this at this moment
@@ -54,11 +50,6 @@ pub record SaysEvent (line : List ℕ) (event : InputEvent) : Type 0 where
   pub spelled : line ≡ event_text event
   pub ranges : IsEventInRange event
 
--- the event is that of a session that is not open
-abbrev pub IsOfClosedSession : {S : Type 0} → HallFields S → InputEvent → Type 0
-IsOfClosedSession hall (opens server_nonce) = ⊥
-IsOfClosedSession hall (does_at session event moment) = phase_in hall session ≡ None
-
 -- after these calls of a hall the event is that of a session that is not open: it has not begun, or it is over
 abbrev pub IsOfClosedSessionAfter : Accounts → List (Numbered Call) → InputEvent → Type 0
 IsOfClosedSessionAfter accounts calls (opens server_nonce) = ⊥
@@ -67,10 +58,6 @@ IsOfClosedSessionAfter accounts calls (does_at session event moment) = IsSession
 -- an input line says no event
 abbrev pub SaysNoEvent : List ℕ → Type 0
 SaysNoEvent line = (event : InputEvent) → SaysEvent line event → ⊥
-
--- an input line says no event, or one of a session that is not open
-abbrev pub IsBadEvent : {S : Type 0} → List ℕ → HallFields S → Type 0
-IsBadEvent line hall = SaysNoEvent line ⊎ ((event : InputEvent) × SaysEvent line event × IsOfClosedSession hall event)
 
 -- the call with which a hall hears an event: a greeting, or one of the session of its number
 abbrev pub IsCallFor : InputEvent → Numbered Call → Type 0
@@ -85,54 +72,8 @@ AreCallsFor events calls = AllZip IsCallFor events calls
 pub record SaysEvents (input : Option (List ℕ)) (last : List (List ℕ)) : Type 0 where
   pub lines : List (List ℕ)
   pub events : List InputEvent
-  pub are : IfSome input (λ bytes. AreLinesOf bytes (lines ++ last))
+  pub are : AreFirstLines input lines last
   pub said : AllZip SaysEvent lines events
-
--- what a hall hears: `facts` are those of its store, and `IsStored` is true of each text that is stored
-module _ {S : Type 0} (facts : S → StoreFacts) (IsStored : List ℕ → Type 0) where
-  -- a hall that began with this book has heard these events, the latest of which comes first, and the log took its lines after
-  -- what it had before
-  pub record IsHallLogOf (start : BookFields) (before : Option (List ℕ)) (events : List InputEvent) (hall : Hall S)
-      (log : SinkFacts) : Type 0 where
-    pub calls : List (Numbered Call)
-    pub heard : AreCallsFor events calls
-    pub stands : IsHallAfter facts IsStored start calls (hall_shown hall)
-    pub logged : Appends before log.given (hall_bytes calls)
-
-  -- the hall has heard these events as well: if the log was the hall's, it still is
-  abbrev pub Hears : List InputEvent → (old : Hall S) → (log : SinkFacts) → (new : Hall S) → (log' : SinkFacts) → Type 0
-  Hears events old log new log' =
-      (start : BookFields) (before : Option (List ℕ)) (earlier : List InputEvent)
-      → IsHallLogOf start before earlier old log → IsHallLogOf start before (events ++ earlier) new log'
-
-  -- the hall has heard what the line says
-  abbrev pub HearsLine : (line : List ℕ) → (old : Hall S) → (log : SinkFacts) → (new : Hall S) → (log' : SinkFacts) → Type 0
-  HearsLine line old log new log' = (event : InputEvent) × SaysEvent line event × Hears (event ∷ []) old log new log'
-
-  -- after a fault at what the hall was to hear: the log has failed, and that is the fault; or the hall has heard nothing, or this
-  abbrev pub MayHaveHeard : (This : Hall S → SinkFacts → Hall S → SinkFacts → Type 0) → (old : Hall S) → (log : SinkFacts) → (new : Hall S)
-      → (log' : SinkFacts) → Fault → Type 0
-  MayHaveHeard This old log new log' fault = IsLogFault log' fault ⊎ (Hears [] old log new log' ⊎ This old log new log')
-
-  -- the hall has heard what the lines of an input say, in order; `last` are its last lines, which are left out
-  pub record HearsUpTo (input : Option (List ℕ)) (last : List (List ℕ)) (old : Hall S) (log : SinkFacts) (new : Hall S)
-      (log' : SinkFacts) : Type 0 where
-    pub says : SaysEvents input last
-    pub heard : Hears (reverse says.events) old log new log'
-
-  -- the hall has heard what each line of the input says, in order
-  abbrev pub HearsAllLines : Option (List ℕ) → (old : Hall S) → (log : SinkFacts) → (new : Hall S) → (log' : SinkFacts) → Type 0
-  HearsAllLines input old log new log' = HearsUpTo input [] old log new log'
-
-  -- after a fault: the fault is that the log has failed, or the hall has heard what the first lines of the input say, and its log has that
-  abbrev pub HearsFirstLines : Option (List ℕ) → (old : Hall S) → (log : SinkFacts) → (new : Hall S) → (log' : SinkFacts) → Fault → Type 0
-  HearsFirstLines input old log new log' fault =
-      IsLogFault log' fault ⊎ ((last : List (List ℕ)) × HearsUpTo input last old log new log')
-
-  -- the next line of the input says no event, or one of a session that is not open in the hall after the lines before it
-  abbrev pub MeetsBadEvent : Option (List ℕ) → (old : Hall S) → (log : SinkFacts) → (new : Hall S) → (log' : SinkFacts) → Type 0
-  MeetsBadEvent input old log new log' =
-      (line : List ℕ) × (last : List (List ℕ)) × HearsUpTo input (line ∷ last) old log new log' × IsBadEvent line (hall_shown new)
 
 -- a hall that began with this book heard the lines of an input; `last` are its last lines, which are left out
 pub record PrintsHallLog (IsStored : List ℕ → Type 0) (book : BookFields) (input : Option (List ℕ)) (last : List (List ℕ))
@@ -153,12 +94,6 @@ pub record PrintsHallLog (IsStored : List ℕ → Type 0) (book : BookFields) (i
 abbrev pub IsBadEventAfter : Accounts → List (Numbered Call) → (line : List ℕ) → Type 0
 IsBadEventAfter accounts calls line =
     SaysNoEvent line ⊎ ((event : InputEvent) × SaysEvent line event × IsOfClosedSessionAfter accounts calls event)
-
--- `PrintsHallLog`, and the next line is bad after it
-abbrev pub PrintsToBadEvent : (IsStored : List ℕ → Type 0) → BookFields → (input old new : Option (List ℕ)) → Type 0
-PrintsToBadEvent IsStored book input old new =
-    (line : List ℕ) × (last : List (List ℕ)) × (log : PrintsHallLog IsStored book input (line ∷ last) old new)
-    × IsBadEventAfter (accounts_in book) log.calls line
 
 -- `PrintsHallLog`, with a book that was read from a file, and saved by being written to one
 pub record RunsHall {File : Type 0} (bytes_of written_to : File → Option (List ℕ)) (input : Option (List ℕ)) (last : List (List ℕ))

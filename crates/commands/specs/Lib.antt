@@ -2,8 +2,11 @@
 pub mod Attempts
 pub mod Audit
 pub mod ClientEnd
+pub mod ClientSteps
 pub mod DeskLog
+pub mod DeskLogSteps
 pub mod Hall
+pub mod HallSteps
 pub mod Login
 pub mod LoginFaults
 pub mod Nonces
@@ -11,5 +14,6 @@ pub mod PrintedLog
 pub mod Program
 pub mod SentCodes
 pub mod Talked
+pub mod TurnFaults
 pub mod Upgrade
 pub mod Verify

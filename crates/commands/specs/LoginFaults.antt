@@ -1,44 +1,18 @@
 -- Which faults end the command `login`, what is known of each, and what is printed before it.
-use Rattle.std.specs.Prelude.{ℕ, ◌≡◌, ◌≤◌, length, ◌⊎◌, true, List, [], ◌∷◌}
-use Rattle.std.specs.Io.KnownBytes.{Consumes, IsAtEnd}
+use Rattle.std.specs.Prelude.{ℕ, ◌≡◌, ◌⊎◌, List, [], ◌∷◌}
 use Rattle.std.specs.declared.option.Option.{Option}
 use Rattle.clap.specs.declared.parser.matches.ArgMatches.{ArgMatches}
 use Rattle.command_line.specs.Fault.{IsFileUnwrittenOrNoMemory}
 use Rattle.command_line.specs.declared.option_name.OptionName.TheVariants as option
 use Rattle.command_line.specs.declared.fault.Fault.{Fault}
-use Rattle.command_line.specs.declared.fault.Fault.TheVariants.{Socket, CannotWriteOutput, NoMemory}
-use Rattle.log_grammar.specs.Bytes.{LacksLf}
-use Rattle.sasl_log.specs.Sink.{SinkFacts}
-use Rattle.sasl_log.specs.Source.{SourceFacts}
-use Rattle.sasl_desk.specs.declared.fault.ServeFault.{ServeFault}
-use Rattle.sasl_desk.specs.declared.fault.ServeFault.TheVariants as serve
+use Rattle.command_line.specs.declared.fault.Fault.TheVariants.{Socket, CannotWriteOutput}
 use Rattle.command_io.specs.BadValues.{GivesBadValue, HasBadPassword, HasBadValue}
 use Rattle.command_io.specs.File.{IsFileUnreadOrNoMemory}
 use Rattle.command_io.specs.HeldBook.{CannotOpenBook}
 use Rattle.command_io.specs.Input.{IsInputUnreadOrNoMemory}
 use Rattle.command_words.specs.Values.{given_value}
 use Rattle.commands.specs.Login.{PrintsLoginFront}
-use Rattle.commands.specs.PrintedLog.{IsUnsavedOrUnlogged, StopsAfter}
-
--- a source gives no line of at most `most` bytes with its LF: it has failed, or it has ended, or these bytes have no LF
-pub record GivesNoLine (most : ℕ) (old new : SourceFacts) : Type 0 where
-  pub begun : List ℕ
-  pub taken : Consumes old.left new.left begun
-  pub lacks : LacksLf begun
-  pub why : (new.failed ≡ true) ⊎ (IsAtEnd new.left ⊎ (most ≤ length begun))
-
--- why a client is not served, as the command reports it: the book, whose file has this path, can't be saved, the log has failed, or
--- memory ran out. `WriteFault` is that memory ran out: what the desk says is first kept in memory.
-abbrev pub IsFaultOfServing : (path : List ℕ) → ServeFault → Fault → Type 0
-IsFaultOfServing path serve.Halted fault = IsFileUnwrittenOrNoMemory path fault
-IsFaultOfServing path serve.Unwritable fault = ⊥
-IsFaultOfServing path serve.NoMemory fault = fault ≡ NoMemory
-IsFaultOfServing path serve.WriteFault fault = fault ≡ NoMemory
-IsFaultOfServing path serve.LogFault fault = fault ≡ CannotWriteOutput
-
--- the fault of a turn: the socket fails; the book, whose file has this path, can't be saved; memory ran out; or the log has failed
-abbrev pub IsFaultInTurn : (path : List ℕ) → (log : SinkFacts) → Fault → Type 0
-IsFaultInTurn path log fault = (fault ≡ Socket) ⊎ IsUnsavedOrUnlogged path log fault
+use Rattle.commands.specs.PrintedLog.{StopsAfter}
 
 -- an option of `login` refuses the value that the words give, and the fault names it
 abbrev pub HasBadLoginValue : ArgMatches → Fault → Type 0

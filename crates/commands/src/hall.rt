@@ -1,6 +1,7 @@
 //! The command `hall`: judges up to 64 logins at a time, over one book, from the events in its input, and prints the log.
 ghost use Rattle.std.specs.Prelude.{ℕ, List, [], IfErr, IsErrOf, OnOk};
-ghost use Rattle.commands.specs.Hall.{PrintsHallLog, PrintsToBadEvent, RunsHall, StopsHall, StopsHearing};
+ghost use Rattle.commands.specs.Hall.{PrintsHallLog, RunsHall, StopsHall, StopsHearing};
+ghost use Rattle.commands.specs.HallSteps.{PrintsToBadEvent};
 ghost use Rattle.commands.specs.PrintedLog.{StopsAfter};
 
 mod event;

@@ -9,7 +9,6 @@
 
 mod audit;
 mod audit_lines;
-mod desk_fault;
 mod hall;
 pub mod laws;
 mod login;
@@ -17,6 +16,7 @@ mod printed_log;
 mod program;
 mod progress;
 mod sent_codes;
+mod service_fault;
 mod upgrade;
 mod verify;
 

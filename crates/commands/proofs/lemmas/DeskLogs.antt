@@ -18,8 +18,9 @@ use Rattle.sasl_desk.specs.declared.fault.ServeFault.{ServeFault}
 use Rattle.sasl_desk.specs.declared.fault.ServeFault.TheVariants.{Halted, Unwritable, NoMemory, WriteFault, LogFault}
 use Rattle.sasl_desk.proofs.lemmas.turns.TurnBytes.{log_bytes-append}
 use Rattle.command_line.specs.declared.fault.Fault.{Fault}
-use Rattle.commands.specs.DeskLog.{IsRequestWith, IsDeskLog, StaysItsLog, StaysItsLogWith, IsLogAfterFault}
-use Rattle.commands.specs.LoginFaults.{IsFaultOfServing}
+use Rattle.commands.specs.DeskLog.{IsRequestWith}
+use Rattle.commands.specs.DeskLogSteps.{IsDeskLog, StaysItsLog, StaysItsLogWith, IsLogAfterFault}
+use Rattle.commands.specs.TurnFaults.{IsFaultOfServing}
 
 -- a desk with this book, store and state
 abbrev desk_with : {S : Type 0} → (book : BookFields) → (store : S) → State → Desk S

@@ -15,8 +15,9 @@ use Rattle.sasl_desk.specs.Runs.{Call}
 use Rattle.sasl_desk.specs.Saved.{AreLinesSaved}
 use Rattle.sasl_desk.specs.declared.session.phase.Phase.{Phase}
 use Rattle.sasl_desk.specs.declared.hall.Hall.{Hall}
-use Rattle.commands.specs.Hall.{InputEvent, opens, does_at, IsBadEvent, IsBadEventAfter, AreCallsFor, IsHallLogOf, Hears, HearsLine, HearsUpTo}
-use Rattle.commands.specs.Hall.{HearsFirstLines, MayHaveHeard, MeetsBadEvent, PrintsHallLog, PrintsToBadEvent}
+use Rattle.commands.specs.Hall.{InputEvent, opens, does_at, IsBadEventAfter, AreCallsFor}
+use Rattle.commands.specs.HallSteps.{IsBadEvent, IsHallLogOf, Hears, HearsLine, HearsUpTo, HearsFirstLines, MayHaveHeard, MeetsBadEvent, PrintsToBadEvent}
+use Rattle.commands.specs.Hall.{PrintsHallLog}
 use Rattle.command_io.specs.Input.{line_bytes, TakesLine}
 use Rattle.commands.specs.PrintedLog.{StopsAfter}
 use Rattle.commands.proofs.lemmas.HallLogs.{hearings_join}

@@ -17,8 +17,10 @@ use Rattle.sasl_desk.specs.declared.fault.ServeFault.TheVariants.{Halted, Unwrit
 use Rattle.command_line.specs.Fault.{IsFileUnwrittenOrNoMemory}
 use Rattle.command_line.specs.declared.fault.Fault.{Fault}
 use Rattle.command_line.specs.declared.fault.Fault.TheVariants.{NoMemory as OutOfMemory}
-use Rattle.commands.specs.DeskLog.{HasSavedLog, IsDeskLog, IsLogAfterFaultWith}
-use Rattle.commands.specs.LoginFaults.{IsFaultOfServing, IsFaultInTurn, StopsTalking}
+use Rattle.commands.specs.DeskLog.{HasSavedLog}
+use Rattle.commands.specs.DeskLogSteps.{IsDeskLog, IsLogAfterFaultWith}
+use Rattle.commands.specs.LoginFaults.{StopsTalking}
+use Rattle.commands.specs.TurnFaults.{IsFaultOfServing, IsFaultInTurn}
 use Rattle.commands.specs.Login.{EndsTalk, PrintsTalk}
 use Rattle.commands.specs.PrintedLog.{StopsAfter}
 use Rattle.commands.specs.Talked.{Talked}

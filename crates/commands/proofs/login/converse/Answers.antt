@@ -1,5 +1,5 @@
 use Rattle.std.proofs.Common.{inl, refl}
-use Rattle.commands.specs.DeskLog.{IsLogAfterFaultWith}
+use Rattle.commands.specs.DeskLogSteps.{IsLogAfterFaultWith}
 use Rattle.commands.specs.Talked.{talked_in}
 use Rattle.command_io.proofs.lemmas.Results.{handed_fault_keeps_fact}
 use Rattle.commands.proofs.lemmas.Cases.{second_case_weakens}

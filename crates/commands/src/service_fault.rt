@@ -1,7 +1,7 @@
 //! The fault of a command whose desk or hall can't go on.
 ghost use Rattle.std.specs.Prelude.{◌≡◌, ◌≢◌};
 ghost use Rattle.command_line.specs.Fault.{IsFileUnwrittenOrNoMemory};
-ghost use Rattle.commands.specs.LoginFaults.{IsFaultOfServing};
+ghost use Rattle.commands.specs.TurnFaults.{IsFaultOfServing};
 
 use command_line::Fault;
 use sasl_desk::{DeskFault, ServeFault};
@@ -17,7 +17,7 @@ pub(crate) fn desk_fault(alloc: Global, path: &str, fault: DeskFault) -> Fault
 {
     match fault {
         DeskFault::NoMemory => Fault::NoMemory,
-        DeskFault::Halted | DeskFault::NoNumber => save_fault(alloc, path),
+        DeskFault::Halted | DeskFault::NoNumber => unwritten_fault(alloc, path),
         DeskFault::Unwritable => unreachable!(),
     }
 }
@@ -29,7 +29,7 @@ pub(crate) fn serve_fault(alloc: Global, path: &str, fault: ServeFault) -> Fault
     ensures { IsFaultOfServing path.now fault result }
 {
     match fault {
-        ServeFault::Halted => save_fault(alloc, path),
+        ServeFault::Halted => unwritten_fault(alloc, path),
         ServeFault::Unwritable => unreachable!(),
         ServeFault::NoMemory | ServeFault::WriteFault => Fault::NoMemory,
         ServeFault::LogFault => Fault::CannotWriteOutput,
@@ -38,7 +38,7 @@ pub(crate) fn serve_fault(alloc: Global, path: &str, fault: ServeFault) -> Fault
 
 /// The fault of a book that can't be saved to the file at `path`: CannotWrite, or NoMemory if memory runs out for a copy of the
 /// path.
-pub(crate) fn save_fault(alloc: Global, path: &str) -> Fault
+pub(crate) fn unwritten_fault(alloc: Global, path: &str) -> Fault
     ensures { IsFileUnwrittenOrNoMemory path.now result }
 {
     match String::from_str(alloc, path) {
