@@ -300,7 +300,8 @@ def definitions_under(files):
 
 
 def stale_readings():
-    """The lines of definitions to be read for a promise of docs/PROMISES.md, which it states wrongly by more than one in fifty, or not."""
+    """The lines of definitions to be read for a promise of docs/PROMISES.md, which it states wrongly by more than one in fifty, or not; and
+    those for all of them, in README.md."""
     text = (TOP / "docs" / "PROMISES.md").read_text(encoding="utf-8")
     told = re.search(
         r"some (\d+) lines for promise 1, (\d+) for 2 \((\d+) for the library alone\), (\d+) for 3 \((\d+) for the library alone\) and "
@@ -319,7 +320,9 @@ def stale_readings():
                 crate = word[0]
         sizes += [definitions_under(files)] + [of_library] * bool(of_library)
         named += files
-    for number, size in zip(told.groups() if told else [0] * 7, [*sizes, definitions_under(named)], strict=True):
+    [of_all] = re.findall(r"(\d+) of some \d+ lines of definitions", " ".join((TOP / "README.md").read_text(encoding="utf-8").split())) or [0]
+    together = definitions_under(named)
+    for number, size in zip([*(told.groups() if told else [0] * 7), of_all], [*sizes, together, together], strict=True):
         if abs(int(number) - size) > size // 50:
             yield f"{number}, and not {size}"
 
