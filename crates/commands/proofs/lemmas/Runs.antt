@@ -15,7 +15,26 @@ use Rattle.command_line.specs.declared.fault.Fault.{Fault}
 use Rattle.command_words.specs.Commands.CommandName.{Keys, Enrol, Code, Verify, Unlock, Login, Hall, Audit, Upgrade}
 use Rattle.command_words.specs.Commands.{CommandName, NamesCommand, program, word_of}
 use Rattle.command_words.proofs.lemmas.Naming.{faultless_line_names_command}
-use Rattle.commands.specs.Program.{EndsBeforeFlush, EndsCommand, EndsRun, HasDone, IsWordsError, Names, StopsAt, exit_status, found_in}
+use Rattle.commands.specs.Program.{EndsCommand, EndsRun, HasDone, IsWordsError, Names, RunsCommand, RunsUntil, StopsAt, exit_status, found_in}
+
+-- what follows from the facts known about a command's answer and about its fault is true when the command ends
+pub command_ends_as_known : {T : Type 0} {P : T → Type 0} {S : Fault → Type 0} (Q : T → Type 0) (R : Fault → Type 0)
+    (ended : Result T Fault)
+    → IfOk ended P → IfErr ended S
+    → ((x : T) → P x → Q x) → ((fault : Fault) → S fault → R fault) → MatchResult ended Q R
+command_ends_as_known Q R (Ok x) did stopped runs stops = runs x did
+command_ends_as_known Q R (Err fault) did stopped runs stops = stops fault stopped
+
+-- what follows from the facts known about a command's answer, and about its fault, is true of a result computed from the answer
+pub computed_status_ends_as_known : {T : Type 0} {P : T → Type 0} {S : Fault → Type 0} (Q : ℕ → Type 0) (R : Fault → Type 0) (value : T → ℕ)
+    (ended : Result T Fault)
+    (result : Result ℕ Fault) → MatchResult ended (λ x. result ≡ Ok (value x)) (λ fault. result ≡ Err fault) → IfOk ended P → IfErr ended S
+    → ((x : T) → P x → Q (value x)) → ((fault : Fault) → S fault → R fault) → MatchResult result Q R
+computed_status_ends_as_known Q R value (Ok x) result is did stopped runs stops =
+    subst (λ (r : Result ℕ Fault). MatchResult r Q R) (sym is) (runs x did)
+computed_status_ends_as_known Q R value (Err fault) result is did stopped runs stops =
+    subst (λ (r : Result ℕ Fault). MatchResult r Q R) (sym is)
+    (stops fault stopped)
 
 -- the subcommand that a parse has entered has this name and these values of its options
 entered_subcommand_has_rows : {Z : Type 0} (o : Option (Box SubCommand Z)) (name word : Text) (rows : List Row)
@@ -31,27 +50,20 @@ pub parse_finds_named_command : (matches words : ArgMatches) (name word : Text) 
 parse_finds_named_command matches words name word is are known =
     entered_subcommand_has_rows (out-ArgMatches matches).subcommand name word (rows_of (found_of words)) is are known
 
--- a command that the words name has ended: with a status that is computed from its answer, or with a fault
-pub named_command_ends : {T File : Type 0} {bytes_of written_to : File → Option (List ℕ)} {found : Option (Text × List Row)}
-    {input old new : Option (List ℕ)} {P : T → Type 0} (name : CommandName) (words : ArgMatches) → Names found name words
-    → (value : T → ℕ) (ended : Result T Fault) (result : Result ℕ Fault)
-    → MatchResult ended (λ x. result ≡ Ok (value x)) (λ fault. result ≡ Err fault) → IfOk ended P
-    → IfErr ended (λ fault. StopsAt bytes_of written_to name words fault input old new)
-    → ((x : T) → P x → HasDone bytes_of written_to name words (value x) input old new)
-    → EndsBeforeFlush bytes_of written_to found result input old new
-named_command_ends {bytes_of = bytes_of} {written_to = written_to} {found = found} {input = input} {old = old} {new = new} name words is
-    value (Ok x) result computed did stopped has_done =
-    subst (λ (r : Result ℕ Fault). EndsBeforeFlush bytes_of written_to found r input old new) (sym computed)
-    (record { name = name; words = words; is_named = is; printed = new; has_done = has_done x did; kept = Keeps-refl new })
-named_command_ends {bytes_of = bytes_of} {written_to = written_to} {found = found} {input = input} {old = old} {new = new} name words is
-    value (Err fault) result computed did stopped has_done =
-    subst (λ (r : Result ℕ Fault). EndsBeforeFlush bytes_of written_to found r input old new) (sym computed)
-    (record { name = name; words = words; is_named = is; stops = stopped })
+-- a named command that has done its work is a run of a named command
+pub done_command_has_run : {File : Type 0} {bytes_of written_to : File
+    → Option (List ℕ)} {found : Option (Text × List Row)} {status : ℕ} {input old new : Option (List ℕ)}
+    (name : CommandName) (words : ArgMatches) → Names found name words → HasDone bytes_of written_to name words status input old new
+    → RunsCommand bytes_of written_to found status input old new
+done_command_has_run name words is done =
+    record { name = name; words = words; is_named = is; printed = _; has_done = done; kept = Keeps-refl _ }
 
--- a result is what is in it
-pub result_is_what_is_in_it : {T E : Type 0} (result : Result T E) → MatchResult result (λ x. result ≡ Ok x) (λ e. result ≡ Err e)
-result_is_what_is_in_it (Ok x) = refl
-result_is_what_is_in_it (Err e) = refl
+-- a named command that stops with a fault is a run until the fault
+pub stopped_command_has_run : {File : Type 0} {bytes_of written_to : File
+    → Option (List ℕ)} {found : Option (Text × List Row)} {fault : Fault} {input old new : Option (List ℕ)}
+    (name : CommandName) (words : ArgMatches) → Names found name words → StopsAt bytes_of written_to name words fault input old new
+    → RunsUntil bytes_of written_to found fault input old new
+stopped_command_has_run name words is stopped = record { name = name; words = words; is_named = is; stops = stopped }
 
 -- if no subcommand was entered, no command is found
 unentered_finds_no_command : {Z : Type 0} (o : Option (Box SubCommand Z)) (word : Text) (rows : List Row)
