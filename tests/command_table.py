@@ -86,7 +86,7 @@ class Command(NamedTuple):
         """How many saves the printed text implies."""
         if self.name in ("login", "hall"):
             return printed.startswith("SCRAMLOG") + printed.count(" PASS ")
-        return len(re.findall(r"^(?:PASS .*|enrolled new|unlocked user)\n", printed, re.M)) if len(self.books) > 1 else 0
+        return len(re.findall(r"^(?:(?:PASS|FAIL) .*|enrolled new|unlocked user)\n", printed, re.M)) if len(self.books) > 1 else 0
 
 
 def events(count):

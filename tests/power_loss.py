@@ -6,8 +6,9 @@ Usage: power_loss.py PROGRAM [TEST ..]
 
 Runs of `verify`, `login`, `hall`, `unlock` and `enrol`, also of a new book. In each state that a loss may leave before their first call or
 after any, the book is whole: it has each save that was reported by then, and at most one more. It still is if the power goes again in the
-next run. The program goes on from there: a code that was reported as passed fails when it is sent again, a name that was reported as
-enrolled is taken, a token that was reported as unlocked takes a code, and no other file is left. Needs `cc`.
+next run. The program goes on from there: a code that was reported as passed fails when it is sent again, one that was reported as failed is
+counted, a name that was reported as enrolled is taken, a token that was reported as unlocked takes a code, and no other file is left.
+Needs `cc`.
 """
 import os
 import pathlib
@@ -17,7 +18,7 @@ from typing import NamedTuple
 import shims
 import suite
 from checks import equal, holds
-from command_table import BOOK, after_codes, book_of, command_of, left, new_book, parsed_book, prepare, run, with_token
+from command_table import BOOK, LIMIT_100, after_codes, book_of, command_of, left, new_book, parsed_book, prepare, run, with_token
 from power_model import Folder, Note, read_notes
 from suite import CODES, each, fault_text
 
@@ -51,7 +52,8 @@ class Losses:
         """Runs a command that does all its work, and returns what it did to files and told."""
         self.noted.unlink(missing_ok=True)
         more = {"LD_PRELOAD": shims.built("note_files"), "NOTED": str(self.noted)}
-        equal(run(command, self.folder, env={**os.environ, **more}), (0, command.printed, ""), command.name)
+        status = 1 if "FAIL" in command.printed else 0
+        equal(run(command, self.folder, env={**os.environ, **more}), (status, command.printed, ""), command.name)
         return read_notes(self.noted)
 
     def of(self, command, book=BOOK):
@@ -189,6 +191,20 @@ def verify(folder):
     print(f"power_loss.py: {here.count} states after verify")
 
 
+def failed_codes(folder):
+    """A code for which `verify` has printed FAIL is counted."""
+    here, book = Losses(folder), parsed_book(LIMIT_100)
+    books = [with_token(book, failures=2 + at) for at in range(3)]
+    command = command_of("verify")._replace(text="000000\n" * 2, printed="FAIL 5\n" * 2, books=books)
+    losses = here.of(command, LIMIT_100)
+    for trial, loss in each(losses):
+        with trial:
+            here.put(loss)
+            place_of(here, command, loss)
+    is_shown(command, losses)
+    print(f"power_loss.py: {here.count} states after verify with codes that fail")
+
+
 def two_losses(folder):
     """The power goes once more, in a run that finds what the first loss has left, and is sent the code that is due then."""
     here, first, books = Losses(folder), command_of("verify"), after_codes(parsed_book(BOOK), 3)
@@ -244,4 +260,4 @@ def unlock(folder):
     print(f"power_loss.py: {here.count} states after unlock")
 
 
-suite.run_all([rules, verify, two_losses, servers, enrol, unlock])
+suite.run_all([rules, verify, failed_codes, two_losses, servers, enrol, unlock])
