@@ -19,7 +19,7 @@ import shims
 import suite
 from checks import equal, holds
 from command_table import BOOK, LIMIT_100, after_codes, book_of, command_of, left, new_book, parsed_book, prepare, run, with_token
-from power_model import Folder, Note, read_notes
+from power_model import Folder, Note, cuts, read_notes
 from suite import CODES, each, fault_text
 
 # BOOK with a token that is locked.
@@ -135,16 +135,24 @@ def codes_are_sent_again(here, command):
 
 
 class Steps(NamedTuple):
-    """Changes of a folder, and which texts the book and the next file may then have, None for a file that is not there."""
+    """Changes of a folder, and which texts the book and the next file may then have together, None for a file that is not there."""
 
     name: str
     notes: list
-    books: set
-    nexts: set
+    pairs: set
 
 
 # What a new file may have to which `ab` was written, if it is not synced, and the device has the bytes `old`.
 PARTS = {b"", b"a", b"ab", b"\0\0", b"a\0", b"\0b", b"ol", b"al", b"ob"}
+# What `old` may be when `ab` was written to its place, if that is not synced.
+WRITTEN_OVER = {b"old", b"ald", b"obd", b"abd", b"\0\0d", b"a\0d", b"\0bd"}
+# The texts of the book and the next file after a rename of which either change may be lost, if the next file was synced.
+RENAMED = {(b"old", None), (b"old", b"ab"), (b"ab", b"ab"), (b"ab", None)}
+
+
+def alone(books):
+    """Each of these texts of the book, without a next file."""
+    return {(book, None) for book in books}
 
 
 def steps_of(folder, book):
@@ -153,25 +161,29 @@ def steps_of(folder, book):
     new = book + 1
     made = [Note("made", new), Note("name", new, 0, following)]
     data, sync, of_folder = Note("data", new, 0, b"ab"), Note("sync", new), Note("sync", os.stat(folder).st_ino)
+    removed = Note("gone", 0, 0, path)
     renamed = [Note("name", new, 0, path), Note("gone", 0, 0, following)]
+    unsynced = alone({b"old", *PARTS}) | {(text, part) for part in PARTS for text in (b"old", part)}
     return [
-        Steps("nothing", [], {b"old"}, {None}),
-        Steps("in place", [Note("data", book, 0, b"ab")], {b"old", b"ald", b"obd", b"abd", b"\0\0d", b"a\0d", b"\0bd"}, {None}),
-        Steps("in place, synced", [Note("data", book, 0, b"ab"), Note("sync", book)], {b"abd"}, {None}),
-        Steps("cut", [Note("size", book, 1)], {b"old", b"o"}, {None}),
-        Steps("removed", [Note("gone", 0, 0, path)], {b"old", None}, {None}),
-        Steps("not renamed", [*made, data, sync], {b"old"}, {None, b"ab"}),
-        Steps("not synced", [*made, data, *renamed], {b"old", *PARTS}, {None, *PARTS}),
-        Steps("synced before it is written", [*made, sync, data, *renamed, of_folder], PARTS, {None}),
-        Steps("only the folder is synced", [*made, data, *renamed, of_folder], PARTS, {None}),
-        Steps("the folder is not synced", [*made, data, sync, *renamed], {b"old", b"ab"}, {None, b"ab"}),
-        Steps("the folder is synced before", [*made, data, sync, of_folder, *renamed], {b"old", b"ab"}, {None, b"ab"}),
-        Steps("all is synced", [*made, data, sync, *renamed, of_folder], {b"ab"}, {None}),
+        Steps("nothing", [], alone({b"old"})),
+        Steps("in place", [Note("data", book, 0, b"ab")], alone(WRITTEN_OVER)),
+        Steps("in place, synced", [Note("data", book, 0, b"ab"), Note("sync", book)], alone({b"abd"})),
+        Steps("cut", [Note("size", book, 1)], alone({b"old", b"o"})),
+        Steps("removed", [removed], alone({b"old", None})),
+        Steps("removed, and another made", [removed, *made, data, sync], alone({b"old", None}) | {(None, b"ab"), (b"old", b"ab")}),
+        Steps("not renamed", [*made, data, sync], {(b"old", None), (b"old", b"ab")}),
+        Steps("not synced", [*made, data, *renamed], unsynced),
+        Steps("synced before it is written", [*made, sync, data, *renamed, of_folder], alone(PARTS)),
+        Steps("only the folder is synced", [*made, data, *renamed, of_folder], alone(PARTS)),
+        Steps("the folder is not synced", [*made, data, sync, *renamed], RENAMED),
+        Steps("the folder is synced before", [*made, data, sync, of_folder, *renamed], RENAMED),
+        Steps("all is synced", [*made, data, sync, *renamed, of_folder], alone({b"ab"})),
     ]
 
 
 def rules(folder):
     """The model leaves what its rules say, of saves that are written down here: all of it, and nothing else."""
+    equal(cuts(130), [0, 1, 64, 128, 129, 130], "the parts of a write")
     path = pathlib.Path(folder, "book")
     path.write_bytes(b"old")
     for trial, steps in each(steps_of(folder, path.stat().st_ino)):
@@ -180,8 +192,7 @@ def rules(folder):
             for note in steps.notes:
                 device.take(note)
             states = [dict(state) for state in device.states()]
-            equal({state.get("book") for state in states}, steps.books, "the book")
-            equal({state.get("book.new") for state in states}, steps.nexts, "the next file")
+            equal({(state.get("book"), state.get("book.new")) for state in states}, steps.pairs, "the book and the next file")
 
 
 def verify(folder):
