@@ -263,10 +263,10 @@ def many_at_once(folder):
     enrols = [f"scramotp enrol --book book.toml --name b{number} --count 1" for number in range(8)]
     with ThreadPoolExecutor(17) as pool:
         found = list(pool.map(lambda block: ran(folder, block, "pencil\n"), [*edits, *enrols, verify("user", *CODES[:6])]))
-    equal([answer for answer in found if answer.status], [], "the edits and runs that fail because of the others")
+    failed = [answer for answer in found if answer.status]
     accounts, due = book_of(folder)["accounts"], {"user", *(f"{kind}{number}" for kind in "ab" for number in range(8))}
-    equal(due - set(accounts), set(), "the accounts that were added and are not in the book")
-    equal(accounts["user"]["token"]["next"], 6, "the next counter of the token")
+    lost = due - set(accounts)
+    equal((failed, lost, accounts["user"]["token"]["next"]), ([], set(), 6), "what fails, which accounts are lost, and the next counter")
 
 
 def an_edit_gives_up(folder):
