@@ -73,6 +73,10 @@ class Losses:
             device.take(note)
             saved = saves_told(command, *device.told)
             losses |= dict.fromkeys(Loss(files, saved) for files in sorted(device.states(), key=sorted))
+        sent, printed = device.told
+        equal(printed.decode(), command.printed, command.name, "what was noted as printed")
+        due = command.printed.count(" PASS ") if command.name == "login" else 0
+        equal(replies_in(sent), due, command.name, "how many replies were noted as sent")
         holds(now(self.folder) in device.states(), command.name, "what the run has left is none of the states that a loss may leave")
         self.count += len(losses)
         return [*losses]
@@ -92,9 +96,14 @@ def now(folder):
     return frozenset((path.name, path.read_bytes()) for path in pathlib.Path(folder).iterdir())
 
 
+def replies_in(sent):
+    """How many codes passed by what a run has sent."""
+    return len(re.findall(rb"^PASS .*\n", sent, re.M))
+
+
 def saves_told(command, sent, printed):
     """How many saves a run has reported by what it has sent and printed. A reply that `login` has sent counts like a printed one."""
-    replies = len(re.findall(rb"^PASS .*\n", sent, re.M))
+    replies = replies_in(sent)
     return max(command.saves_told(printed.decode()), replies + 1 if replies else 0)
 
 
