@@ -33,7 +33,11 @@ pub record IsFailedSave (old : StoreFacts) (text : List ℕ) (new : StoreFacts) 
   pub saved : (new.saved ≡ old.saved) ⊎ (new.saved ≡ text)
   pub failed : new.failed ≡ true
 
--- one save and its result. A store that had failed returns Err, and stays as it is.
+-- a save that is not done: the store had failed before, and stays as it is; or it fails in this save
+abbrev pub IsNotSaved : (old : StoreFacts) → (text : List ℕ) → (new : StoreFacts) → Type 0
+IsNotSaved old text new = ((old.failed ≡ true) × (new ≡ old)) ⊎ IsFailedSave old text new
+
+-- one save and its result
 abbrev pub IsSaveAnswered : StoreFacts → List ℕ → Result (Unit {0}) StoreFault → StoreFacts → Type 0
 IsSaveAnswered old text (Ok done) new = IsSaved old text new
-IsSaveAnswered old text (Err fault) new = ((old.failed ≡ true) × (new ≡ old)) ⊎ IsFailedSave old text new
+IsSaveAnswered old text (Err fault) new = IsNotSaved old text new

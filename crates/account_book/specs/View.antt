@@ -20,10 +20,14 @@ mech_keys ScramSha256 account = account.sha256
 abbrev pub keys_entry : List (List ℕ) → MechKeys → Entry
 keys_entry act_as keys = record { salt = keys.salt; count = keys.count; keys = Some (keys_of keys.keys); act_as = act_as }
 
--- the salt of a decoy: the first 16 bytes of HMAC-SHA-256 with the book's decoy key over the mechanism's name, a NUL and the
+-- the length of a decoy's salt in bytes
+abbrev pub decoy_salt_len : ℕ
+decoy_salt_len = 16
+
+-- the salt of a decoy: the first bytes of HMAC-SHA-256 with the book's decoy key over the mechanism's name, a NUL and the
 -- name. So a name without keys has one salt for each mechanism, as an account has.
 abbrev pub decoy_salt : BookFields → Mechanism → List ℕ → List ℕ
-decoy_salt book m name = take 16 (hmac_by ScramSha256 book.decoy_key (name_of m ++ byte "\0" ∷ name))
+decoy_salt book m name = take decoy_salt_len (hmac_by ScramSha256 book.decoy_key (name_of m ++ byte "\0" ∷ name))
 
 -- a decoy, with the book's count for decoys and no keys
 abbrev pub decoy_entry : BookFields → Mechanism → List ℕ → Entry

@@ -8,7 +8,7 @@ use Rattle.hex.specs.Hex.{decode_of}
 use Rattle.clap.specs.declared.parser.matches.ArgMatches.{ArgMatches}
 use Rattle.otp_core.specs.Code.{steps_from}
 use Rattle.otp_core.specs.Hash.{hash_name, hotp_text_by}
-use Rattle.otp_core.specs.Ranges.{max_step, max_counter, IsDigitCount, IsMoment, IsSecretLength}
+use Rattle.otp_core.specs.Ranges.{IsCounter, IsStepLength, IsDigitCount, IsMoment, IsSecretLength}
 use Rattle.otp_core.specs.declared.hash.OtpHash.TheVariants.{Sha1}
 use Rattle.command_line.specs.declared.fault.Fault.{Fault}
 use Rattle.command_line.specs.declared.fault.Fault.TheVariants.{NoCounterOrMoment, BeforeFirstStep, CannotWriteOutput, NoMemory}
@@ -32,8 +32,8 @@ IsTooEarly (Time t) = t.moment < t.t0
 
 -- the moving factor has its numbers in the ranges of the options that give them
 abbrev pub IsFactorInRange : MovingFactor → Type 0
-IsFactorInRange (Counter counter) = counter ≤ max_counter
-IsFactorInRange (Time t) = IsMoment t.moment × IsMoment t.t0 × (1 ≤ t.step) × (t.step ≤ max_step)
+IsFactorInRange (Counter counter) = IsCounter counter
+IsFactorInRange (Time t) = IsMoment t.moment × IsMoment t.t0 × IsStepLength t.step
 
 -- what the words ask a code for: a counter, or else a moment, with the hash function and the steps that they give
 abbrev pub IsFactorAsked : ArgMatches → MovingFactor → Type 0

@@ -3,11 +3,14 @@ use Rattle.std.specs.Prelude.{ℕ, ◌≡◌, ◌⊎◌, List, [], ◌∷◌, �
 use Rattle.std.specs.Fmt.{decimal}
 use Rattle.std.specs.Io.KnownBytes.{Appends, Consumes}
 use Rattle.std.specs.Str.{byte}
+use Rattle.mac_core.specs.Mechanism.{digest_len_by}
+use Rattle.mac_core.specs.declared.mechanism.Mechanism.TheVariants.{ScramSha256}
 use Rattle.scram_text.specs.Class.{IsPassword, IsPlainName}
 use Rattle.scram_text.specs.Parts.{IsCount}
 use Rattle.book_format.specs.Book.{BookFields}
 use Rattle.account_book.specs.Accounts.{account_at}
 use Rattle.account_book.specs.SavedBooks.{HasStoredText}
+use Rattle.account_book.specs.View.{decoy_salt_len}
 use Rattle.book_file.specs.Saved.{IsSavedText}
 use Rattle.clap.specs.declared.parser.matches.ArgMatches.{ArgMatches}
 use Rattle.command_line.specs.Fault.{IsFileUnwrittenOrNoMemory}
@@ -22,25 +25,29 @@ use Rattle.command_words.specs.Values.{given_value}
 use Rattle.command_io.specs.declared.new_account.NewAccount.{NewAccount}
 use Rattle.command_io.specs.declared.new_account.Salts.{Salts}
 
--- a new book: it has no accounts, and its decoys have this key and 4096 iterations
+-- the iterations of the decoys of a new book: as many as `enrol` makes keys with if no `--count` is given (`enrol_options`)
+abbrev pub default_count : ℕ
+default_count = 4096
+
+-- a new book: it has no accounts, and its decoys have this key
 abbrev pub new_book : (decoy_key : List ℕ) → BookFields
-new_book decoy_key = record { decoy_key = decoy_key; decoy_count = 4096; accounts = [] }
+new_book decoy_key = record { decoy_key = decoy_key; decoy_count = default_count; accounts = [] }
 
 -- the book was read from a file
 abbrev pub IsOfFile : {File : Type 0} → (bytes_of : File → Option (List ℕ)) → BookFields → Type 0
 IsOfFile bytes_of book = (text : List ℕ) × IsReadBook bytes_of text book
 
--- the book was read from a file, and no bytes are taken from the source of random bytes; or it is a new one, whose key is the next 32
--- bytes of the source
+-- the book was read from a file, and no bytes are taken from the source of random bytes; or it is a new one, whose key is the next bytes of the
+-- source, as many as a digest of SHA-256 has
 abbrev pub IsReadOrMade : {File : Type 0} → (bytes_of : File → Option (List ℕ)) → (old new : Option (List ℕ)) → BookFields → Type 0
 IsReadOrMade bytes_of old new book =
     (IsOfFile bytes_of book × (new ≡ old))
-    ⊎ ((decoy_key : List ℕ) × (length decoy_key ≡ 32) × Consumes old new decoy_key × (book ≡ new_book decoy_key))
+    ⊎ ((decoy_key : List ℕ) × (length decoy_key ≡ digest_len_by ScramSha256) × Consumes old new decoy_key × (book ≡ new_book decoy_key))
 
--- a source of random bytes gives two salts, each of 16 bytes as a decoy's, one after the other: no byte is in both
+-- a source of random bytes gives two salts, each as long as a decoy's, one after the other: no byte is in both
 pub record TakesSalts (old : Option (List ℕ)) (salts : Salts) (new : Option (List ℕ)) : Type 0 where
-  pub length_sha1 : length salts.sha1 ≡ 16
-  pub length_sha256 : length salts.sha256 ≡ 16
+  pub length_sha1 : length salts.sha1 ≡ decoy_salt_len
+  pub length_sha256 : length salts.sha256 ≡ decoy_salt_len
   pub taken : Consumes old new (salts.sha1 ++ salts.sha256)
 
 -- the book is this one, or was read from a file since

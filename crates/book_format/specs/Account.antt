@@ -1,7 +1,7 @@
 -- What a book keeps of an account, and its ranges.
 use Rattle.std.specs.Prelude.{ℕ, ◌≤◌, ◌≡◌, List, length, Option}
 use Rattle.std.specs.Option.{ForSome}
-use Rattle.mac_core.specs.Mechanism.{length_by}
+use Rattle.mac_core.specs.Mechanism.{digest_len_by}
 use Rattle.mac_core.specs.declared.mechanism.Mechanism.TheVariants.{ScramSha1, ScramSha256}
 use Rattle.scram_text.specs.Base64Field.{IsField}
 use Rattle.scram_text.specs.Limits.{max_salt_len}
@@ -29,6 +29,6 @@ pub record AreKeys (len : ℕ) (keys : MechKeys) : Type 0 where
 
 -- an account is in its ranges; names and tokens have ranges of their own
 pub record IsAccount (account : AccountFields) : Type 0 where
-  pub sha1 : ForSome account.sha1 (AreKeys (length_by ScramSha1))
-  pub sha256 : ForSome account.sha256 (AreKeys (length_by ScramSha256))
+  pub sha1 : ForSome account.sha1 (AreKeys (digest_len_by ScramSha1))
+  pub sha256 : ForSome account.sha256 (AreKeys (digest_len_by ScramSha256))
   pub names : length account.act_as ≤ max_names

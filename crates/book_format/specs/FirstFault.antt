@@ -49,5 +49,5 @@ book_demands bytes = must (is_utf8 bytes) no_toml ∷ required no_toml document_
     no_toml = record { why = Toml; account = None }
 
 -- the fault is the first of a text: that of the first demand that the text does not meet
-abbrev pub IsFirstFault : List ℕ → BookFault → Type 0
-IsFirstFault bytes fault = HasFirstFault (book_demands bytes) fault
+abbrev pub IsBookFault : List ℕ → BookFault → Type 0
+IsBookFault bytes fault = HasFirstFault (book_demands bytes) fault

@@ -15,4 +15,4 @@ pub mod FirstFault
 pub mod Trees
 pub mod Laws
 pub mod Written
-pub mod reading
+pub mod inner

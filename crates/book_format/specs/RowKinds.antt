@@ -4,7 +4,7 @@ use Prim.Native.String.{String}
 use Rattle.toml.specs.Data.{Data, integer, table, Members, get_member, as_table}
 use Rattle.book_format.specs.Demands.{if_there, required}
 use Rattle.book_format.specs.Rows.{ValueType, Row, Table, IsTableIn, table_demands, written_table}
-use Rattle.book_format.specs.reading.Rows.{read_or, read_at, read_some, table_in}
+use Rattle.book_format.specs.inner.Rows.{read_or, read_at, read_some, table_in}
 use Rattle.book_format.specs.declared.fault.BookWhy.TheVariants.{Key}
 
 -- the table has a value of this type at a key

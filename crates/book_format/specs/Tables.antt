@@ -2,7 +2,7 @@
 -- value is in; rows are in the order in which they are judged.
 use Rattle.std.specs.Prelude.{ℕ, pos, List, [], ◌∷◌, codes, Option}
 use Rattle.toml.specs.Data.{integer, Members}
-use Rattle.mac_core.specs.Mechanism.{length_by}
+use Rattle.mac_core.specs.Mechanism.{digest_len_by}
 use Rattle.mac_core.specs.declared.mechanism.Mechanism.TheVariants.{ScramSha1, ScramSha256}
 use Rattle.scram_text.specs.Limits.{max_salt_len, max_iteration_count}
 use Rattle.otp_core.specs.declared.token.kinds.TokenFields.{TokenFields}
@@ -11,7 +11,7 @@ use Rattle.book_format.specs.ValueTypes.{number_type, bytes_type, name_list_type
 use Rattle.book_format.specs.Rows.{ValueType, Table}
 use Rattle.book_format.specs.RowKinds.{row, row_or_default, optional_row, table_type}
 use Rattle.book_format.specs.Tokens.{IsToken, token_demands, token_tree}
-use Rattle.book_format.specs.reading.Tokens.{token_in}
+use Rattle.book_format.specs.inner.Tokens.{token_in}
 use Rattle.book_format.specs.declared.account.MechKeys.{MechKeys}
 use Rattle.book_format.specs.declared.fault.BookWhy.TheVariants.{Salt, Count, KeyLength}
 
@@ -31,11 +31,11 @@ keys_table len = record {
 
 -- the keys for SCRAM-SHA-1
 abbrev pub sha1_keys_table : Table MechKeys
-sha1_keys_table = keys_table (length_by ScramSha1)
+sha1_keys_table = keys_table (digest_len_by ScramSha1)
 
 -- the keys for SCRAM-SHA-256
 abbrev pub sha256_keys_table : Table MechKeys
-sha256_keys_table = keys_table (length_by ScramSha256)
+sha256_keys_table = keys_table (digest_len_by ScramSha256)
 
 -- tokens of either kind
 abbrev pub token_type : ValueType TokenFields
@@ -65,7 +65,7 @@ abbrev pub document_table : Table TopFields
 document_table = record {
   marks = (codes "format", integer (pos 1)) ∷ [];
   rows =
-      row "decoy_key" (bytes_type KeyLength (length_by ScramSha256) (length_by ScramSha256)) (λ t. t.decoy_key)
+      row "decoy_key" (bytes_type KeyLength (digest_len_by ScramSha256) (digest_len_by ScramSha256)) (λ t. t.decoy_key)
       ∷ row "decoy_count" (number_type Count 1 max_iteration_count) (λ t. t.decoy_count)
       ∷ optional_row "accounts" any_table_type (λ t. t.accounts)
       ∷ [];

@@ -9,7 +9,7 @@ use Rattle.book_format.specs.Account.{max_names}
 use Rattle.book_format.specs.Names.{IsNameList, names_tree, are_texts, item_count, are_names}
 use Rattle.book_format.specs.Demands.{must, required}
 use Rattle.book_format.specs.Rows.{ValueType}
-use Rattle.book_format.specs.reading.Values.{number_in, signed_in, bytes_in, hash_in, name_list_in, table_of}
+use Rattle.book_format.specs.inner.Values.{number_in, signed_in, bytes_in, hash_in, name_list_in, table_of}
 use Rattle.book_format.specs.declared.fault.BookWhy.{BookWhy}
 use Rattle.book_format.specs.declared.fault.BookWhy.TheVariants.{Key, Name, Token}
 

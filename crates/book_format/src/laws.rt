@@ -1,6 +1,6 @@
 //! Laws of books' texts, each the contract of a function that does nothing. A text is that of one book or has one first fault, and
 //! never both.
-ghost use Rattle.book_format.specs.Laws.{IsBookOrAtFault, BookIsNotAtFault, HasOneBook, HasOneFirstFault};
+ghost use Rattle.book_format.specs.Laws.{IsBookOrAtFault, BookIsNotAtFault, HasOneBook, HasOneBookFault};
 
 /// Each text is that of a book or has a first fault.
 pub fn is_book_or_at_fault()
@@ -18,6 +18,6 @@ pub fn has_one_book()
 {}
 
 /// A text has at most one first fault.
-pub fn has_one_first_fault()
-    ensures { HasOneFirstFault }
+pub fn has_one_book_fault()
+    ensures { HasOneBookFault }
 {}

@@ -4,11 +4,11 @@ ghost use Rattle.toml.specs.Data.{get_member, as_integer};
 ghost use Rattle.toml.specs.View.{table_view};
 ghost use Rattle.book_format.specs.Book.{BookFields};
 ghost use Rattle.book_format.specs.Trees.{IsBookText};
-ghost use Rattle.book_format.specs.reading.Steps.{IsReadAs, IsReadOrFault, seen};
-ghost use Rattle.book_format.specs.reading.Books.{at_top, tree_in, top_of, accounts_of_table, book_in};
-ghost use Rattle.book_format.specs.FirstFault.{is_one, IsFirstFault};
+ghost use Rattle.book_format.specs.inner.Steps.{IsReadAs, IsReadOrFault, seen};
+ghost use Rattle.book_format.specs.inner.Books.{at_top, tree_in, top_of, accounts_of_table, book_in};
+ghost use Rattle.book_format.specs.FirstFault.{is_one, IsBookFault};
 ghost use Rattle.book_format.specs.ValueTypes.{any_table_type};
-ghost use Rattle.book_format.specs.reading.Rows.{read_some};
+ghost use Rattle.book_format.specs.inner.Rows.{read_some};
 ghost use Rattle.book_format.specs.declared.fault.BookFault.{BookFault};
 ghost use Rattle.book_format.specs.declared.fault.BookWhy.TheVariants.{NoMemory};
 ghost use Rattle.book_format.specs.declared.read.Top.{Top};
@@ -47,8 +47,8 @@ impl Contents {
         ensures found { IfOk result (λ c. IsBookText bytes.now c) }
         // If the text is that of a book, its contents are returned, or 99 NoMemory.
         ensures every { (c : BookFields) → IsBookText bytes.now c → (result ≡ Ok c) ⊎ IsErrAnd result (λ f. f.why ≡ NoMemory) }
-        ensures first_fault { IfErr result (λ f. (f.why ≡ NoMemory) ⊎ IsFirstFault bytes.now f) }
-        ensures every_fault { (f : BookFault) → IsFirstFault bytes.now f → IsErrAnd result (λ e. (e.why ≡ NoMemory) ⊎ (e ≡ f)) }
+        ensures first_fault { IfErr result (λ f. (f.why ≡ NoMemory) ⊎ IsBookFault bytes.now f) }
+        ensures every_fault { (f : BookFault) → IsBookFault bytes.now f → IsErrAnd result (λ e. (e.why ≡ NoMemory) ⊎ (e ≡ f)) }
     {
         contents_of(alloc, bytes)
     }
@@ -84,7 +84,7 @@ fn at_top(why: BookWhy) -> BookFault
 }
 
 // The TOML document of the bytes. Errors: `Toml` if they are not UTF-8 or not a document; `NoMemory` if memory runs out.
-#[tactic(auto, unfolding(crate::specs::reading::Books::tree_in))]
+#[tactic(auto, unfolding(crate::specs::inner::Books::tree_in))]
 fn document_of(alloc: Global, bytes: &[u8]) -> Result<Table, BookWhy>
     ensures { IsReadAs table_view result (tree_in bytes.now) }
 {
@@ -102,7 +102,7 @@ fn document_of(alloc: Global, bytes: &[u8]) -> Result<Table, BookWhy>
 
 // The keys of the document itself. Errors: `Format` if `format` is missing or not 1; `Key` if a key is unknown; then for the first
 // key at fault: `Key` if it is missing or its value has the wrong type, else `KeyLength` or `Count`.
-#[tactic(auto, unfolding(crate::specs::reading::Books::top_of, crate::specs::reading::Rows::read_table))]
+#[tactic(auto, unfolding(crate::specs::inner::Books::top_of, crate::specs::inner::Rows::read_table))]
 fn top_of(table: &Table) -> Result<Top<'_>, BookWhy>
     ensures { seen (λ t. record {
       decoy_key = t.decoy_key;

@@ -1,13 +1,13 @@
 -- What a keeper of a book does with a change: it is saved before it is reported, and undone if it can't be saved.
-use Rattle.std.specs.Prelude.{ℕ, ◌≡◌, ◌⊎◌, Bool, true, false, List}
+use Rattle.std.specs.Prelude.{ℕ, ◌≡◌, Bool, true, false, List}
 use Rattle.std.specs.declared.option.Option.{Option}
 use Rattle.otp_core.specs.Attempt.{CodeTexts}
-use Rattle.otp_core.specs.Ranges.{IsMoment}
 use Rattle.otp_core.specs.declared.token.reply.Reply.{Reply}
 use Rattle.book_format.specs.Book.{BookFields}
 use Rattle.book_format.specs.Trees.{IsBookText}
+use Rattle.account_book.specs.AccountAttempt.{account_attempt_of}
 use Rattle.account_book.specs.SavedBooks.{needs_save, SavesBook}
-use Rattle.account_book.specs.Store.{StoreFacts, IsFailedSave}
+use Rattle.account_book.specs.Store.{StoreFacts, IsNotSaved}
 use Rattle.account_book.specs.Tokens.{IsBookAttempt}
 use Rattle.book_keeper.specs.declared.keeper.CodeJudged.{CodeJudged}
 use Rattle.book_keeper.specs.declared.keeper.CodeJudged.TheVariants.{Replied, NotSaved}
@@ -18,7 +18,7 @@ use Rattle.book_keeper.specs.declared.keeper.SaveFault.TheVariants as fault
 pub record FailsToSave (old_store : StoreFacts) (book : BookFields) (new_store : StoreFacts) : Type 0 where
   pub text : List ℕ
   pub is_text : IsBookText text book
-  pub lost : ((old_store.failed ≡ true) × (new_store ≡ old_store)) ⊎ IsFailedSave old_store text new_store
+  pub lost : IsNotSaved old_store text new_store
 
 -- why a book is not saved: its save failed; or memory ran out, and the store was not asked
 abbrev pub IsUnsaved : (old_store : StoreFacts) → BookFields → SaveFault → (new_store : StoreFacts) → Type 0
@@ -37,28 +37,21 @@ abbrev pub IsSavedIfChanged : (IsStored : List ℕ → Type 0) → (has_changed 
 IsSavedIfChanged IsStored true old_book old_store new_book new_store = SavesBook IsStored old_store new_book new_store
 IsSavedIfChanged IsStored false old_book old_store new_book new_store = (new_book ≡ old_book) × (new_store ≡ old_store)
 
--- a code, or two in a row, was judged: the reply is the one that is due, and the book is the old one in which the attempt has changed
--- the account's token, and nothing else
-pub record IsAttemptAtMoment (old : BookFields) (name : List ℕ) (moment : ℕ) (sent : CodeTexts) (reply : Option Reply) (new : BookFields)
-    : Type 0 where
-  pub is_moment : IsMoment moment
-  pub answered : IsBookAttempt old name moment sent reply new
-
 -- a reply that needs a save is due to an attempt, which makes the old book the new one
 abbrev pub IsSavingReplyDue : (name : List ℕ) → (moment : ℕ) → CodeTexts → (old new : BookFields) → Type 0
 IsSavingReplyDue name moment sent old new =
-    (reply : Option Reply) × (needs_save reply ≡ true) × IsAttemptAtMoment old name moment sent reply new
+    (reply : Option Reply) × (needs_save reply ≡ true) × IsBookAttempt old (account_attempt_of name moment sent reply) new
 
 -- some reply that is due to this attempt needs a save
 abbrev pub IsToBeSaved : BookFields → (name : List ℕ) → (moment : ℕ) → CodeTexts → Type 0
 IsToBeSaved old name moment sent = (next : BookFields) × IsSavingReplyDue name moment sent old next
 
 -- the outcome of a code: a reply that is due and kept; or the store failed to save the book with the reply that was due
-abbrev pub IsCodeOutcome : (IsStored : List ℕ → Type 0) → (old_book : BookFields) → (old_store : StoreFacts) → (name : List ℕ)
+abbrev pub IsCodeJudged : (IsStored : List ℕ → Type 0) → (old_book : BookFields) → (old_store : StoreFacts) → (name : List ℕ)
     → (moment : ℕ) → CodeTexts → CodeJudged → (new_book : BookFields) → (new_store : StoreFacts) → Type 0
-IsCodeOutcome IsStored old_book old_store name moment sent (Replied reply) new_book new_store =
-    IsAttemptAtMoment old_book name moment sent reply new_book
+IsCodeJudged IsStored old_book old_store name moment sent (Replied reply) new_book new_store =
+    IsBookAttempt old_book (account_attempt_of name moment sent reply) new_book
     × IsSavedIfChanged IsStored (needs_save reply) old_book old_store new_book new_store
-IsCodeOutcome IsStored old_book old_store name moment sent NotSaved new_book new_store =
+IsCodeJudged IsStored old_book old_store name moment sent NotSaved new_book new_store =
     (new_book ≡ old_book)
     × IsChangeUnsaved (IsSavingReplyDue name moment sent) old_book old_store fault.NotSaved new_store

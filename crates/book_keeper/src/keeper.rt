@@ -4,12 +4,11 @@ ghost use Rattle.account_book.specs.Accounts.{account_at, IsAdded, IsChanged};
 ghost use Rattle.account_book.specs.Enrolled.{enrolled};
 ghost use Rattle.account_book.specs.SavedBooks.{SavesBook};
 ghost use Rattle.account_book.specs.Tokens.{token_at, with_token, IsUnlocked};
-ghost use Rattle.otp_core.specs.Ranges.{IsMoment};
-ghost use Rattle.otp_core.specs.SentCodes.{texts_of};
-ghost use Rattle.book_keeper.specs.Keeper.{IsChangeUnsaved, IsCodeOutcome, IsSavedIfChanged, IsToBeSaved, IsUnsaved};
+ghost use Rattle.otp_core.specs.Attempt.{texts_of};
+ghost use Rattle.book_keeper.specs.Keeper.{IsChangeUnsaved, IsCodeJudged, IsSavedIfChanged, IsToBeSaved, IsUnsaved};
 
 use account_book::{Book, BookStore, EnrolFault};
-use otp_core::{Moment, Reply, SentCodes, Token};
+use otp_core::{Moment, Reply, SentCodes, Token, law_of_moments};
 use scram_text::{Password, PlainName, Salt};
 use std::alloc::{AllocError, Global};
 use thiserror::Error;
@@ -173,7 +172,7 @@ impl<S: BookStore> Keeper<S> {
         moment: Moment,
         sent: SentCodes<'_>,
     ) -> Result<CodeJudged, AllocError>
-        ensures ok { IfOk result (λ judged. IsCodeOutcome S.IsStored self.old.book (S.facts self.old.store) name.now moment
+        ensures ok { IfOk result (λ judged. IsCodeJudged S.IsStored self.old.book (S.facts self.old.store) name.now moment
             (texts_of sent.entry) judged self.new.book (S.facts self.new.store)) }
         ensures err { OnErr result ((self.new.book ≡ self.old.book) × (self.new.store ≡ self.old.store)) }
         // If nothing is to be saved, memory does not run out.
@@ -221,11 +220,4 @@ impl<S: BookStore> Keeper<S> {
             }
         }
     }
-}
-
-// A law: a moment is in its range by its type. Only a proof needs it.
-fn law_of_moments(moment: Moment)
-    ensures { IsMoment moment }
-{
-    moment.seconds();
 }

@@ -1,5 +1,5 @@
 -- What can be wrong with the words of a command and with the first line of its input.
-use Rattle.std.specs.Prelude.{ℕ, ◌≡◌, ◌≢◌, ◌≤◌, ◌⊎◌, List, [], ◌∷◌, length, Option, Some, Ok}
+use Rattle.std.specs.Prelude.{ℕ, ◌≡◌, ◌≢◌, ◌⊎◌, List, [], ◌∷◌, length, Option, Some, Ok}
 use Rattle.std.specs.Fmt.{decimal}
 use Rattle.hex.specs.Hex.{decode_of}
 use Rattle.clap.specs.declared.parser.matches.ArgMatches.{ArgMatches}
@@ -8,7 +8,7 @@ use Rattle.mac_core.specs.declared.mechanism.Mechanism.{Mechanism}
 use Rattle.scram_text.specs.Class.{IsNoncePart, IsPassword, IsPlainName, IsSalt}
 use Rattle.scram_text.specs.Parts.{IsCount}
 use Rattle.otp_core.specs.Hash.{hash_name}
-use Rattle.otp_core.specs.Ranges.{max_step, max_counter, IsDigitCount, IsMoment, IsSecretLength}
+use Rattle.otp_core.specs.Ranges.{IsCounter, IsStepLength, IsDigitCount, IsMoment, IsSecretLength}
 use Rattle.otp_core.specs.declared.hash.OtpHash.{OtpHash}
 use Rattle.command_line.specs.declared.fault.Fault.{Fault}
 use Rattle.command_line.specs.declared.fault.Fault.TheVariants.{BadValue, BadPassword}
@@ -25,11 +25,11 @@ Refuses option.Salt text = (salt : List ℕ) → decode_of text ≡ Ok salt → 
 Refuses option.Count text = (n : ℕ) → IsCount n → text ≢ decimal n
 Refuses option.Secret text = (secret : List ℕ) → decode_of text ≡ Ok secret → IsSecretLength (length secret) → ⊥
 Refuses option.Digits text = (n : ℕ) → IsDigitCount n → text ≢ decimal n
-Refuses option.Counter text = (n : ℕ) → n ≤ max_counter → text ≢ decimal n
+Refuses option.Counter text = (n : ℕ) → IsCounter n → text ≢ decimal n
 Refuses option.Moment text = (n : ℕ) → IsMoment n → text ≢ decimal n
 Refuses option.Hash text = (hash : OtpHash) → text ≢ hash_name hash
 Refuses option.T0 text = (n : ℕ) → IsMoment n → text ≢ decimal n
-Refuses option.Step text = (n : ℕ) → 1 ≤ n → n ≤ max_step → text ≢ decimal n
+Refuses option.Step text = (n : ℕ) → IsStepLength n → text ≢ decimal n
 Refuses option.As text = IsPlainName text → ⊥
 Refuses option.ClientNonce text = IsNoncePart text → ⊥
 Refuses option.ServerNonce text = IsNoncePart text → ⊥

@@ -4,16 +4,17 @@ use Rattle.otp_core.specs.Attempt.{CodeTexts}
 use Rattle.otp_core.specs.declared.token.reply.Reply.{Reply}
 use Rattle.book_format.specs.Account.{AccountFields}
 use Rattle.book_format.specs.Book.{BookFields}
-use Rattle.book_format.specs.FirstFault.{IsFirstFault}
+use Rattle.book_format.specs.FirstFault.{IsBookFault}
 use Rattle.book_format.specs.Trees.{IsBookText}
 use Rattle.book_format.specs.declared.fault.BookFault.{BookFault}
+use Rattle.account_book.specs.AccountAttempt.{account_attempt_of}
 use Rattle.account_book.specs.Accounts.{IsAdded}
 use Rattle.account_book.specs.Enrolled.{enrolled}
 use Rattle.account_book.specs.SavedBooks.{needs_save, SavesBook}
 use Rattle.account_book.specs.Store.{StoreFacts}
-use Rattle.account_book.specs.Tokens.{IsUnlocked, token_at}
+use Rattle.account_book.specs.Tokens.{IsUnlocked, IsBookAttempt, token_at}
 use Rattle.book_file.specs.Text.{IsRead}
-use Rattle.book_keeper.specs.Keeper.{IsAttemptAtMoment, IsChangeUnsaved, IsSavedIfChanged, IsSavingReplyDue}
+use Rattle.book_keeper.specs.Keeper.{IsChangeUnsaved, IsSavedIfChanged, IsSavingReplyDue}
 use Rattle.book_keeper.specs.declared.keeper.SaveFault.TheVariants.{NotSaved}
 use Rattle.command_line.specs.Fault.{fault_of_book}
 use Rattle.command_line.specs.declared.fault.Fault.{Fault}
@@ -44,7 +45,7 @@ FailsToChange old Changes fault new = (new.book ≡ old.book) × IsStoreAfterFau
 -- a text was read from a file and is not a book: the fault is that of its first fault
 abbrev pub IsFaultOfText : {File : Type 0} → (bytes_of : File → Option (List ℕ)) → Fault → Type 0
 IsFaultOfText bytes_of fault =
-    (text : List ℕ) × (found : BookFault) × IsRead bytes_of text × IsFirstFault text found × (fault ≡ fault_of_book found)
+    (text : List ℕ) × (found : BookFault) × IsRead bytes_of text × IsBookFault text found × (fault ≡ fault_of_book found)
 
 -- the fault of a book that can't be held: the file of this path can't be read; or a file, whose path is not said here, can't be written;
 -- or memory ran out
@@ -73,7 +74,7 @@ IsEnrolled account salts old new =
 -- the reply is due, and the book after it is saved if the reply needs that; else the book and the store are as they were
 pub record IsReplySaved (IsStored : List ℕ → Type 0) (old : HeldFacts) (name : List ℕ) (moment : ℕ) (sent : CodeTexts) (reply : Reply)
     (new : HeldFacts) : Type 0 where
-  pub due : IsAttemptAtMoment old.book name moment sent (Some reply) new.book
+  pub due : IsBookAttempt old.book (account_attempt_of name moment sent (Some reply)) new.book
   pub kept : IsSavedIfChanged IsStored (needs_save (Some reply)) old.book old.store new.book new.store
 
 -- a reply is not saved, and this is the fault: only a reply that was due can fail to be saved

@@ -7,6 +7,10 @@ use Rattle.command_line.specs.declared.fault.Fault.{Fault}
 use Rattle.command_line.specs.declared.fault.Fault.TheVariants.{CannotReadInput, NoMemory}
 use Rattle.log_grammar.specs.Bytes.{LacksLf, IsSplit}
 
+-- the most bytes of its input that a command reads (16 MiB)
+abbrev pub max_input_len : ℕ
+max_input_len = 16777216
+
 -- a line can't be read: the input failed, or has more bytes than a command reads; or memory ran out
 abbrev pub IsInputUnreadOrNoMemory : Fault → Type 0
 IsInputUnreadOrNoMemory fault = (fault ≡ CannotReadInput) ⊎ (fault ≡ NoMemory)

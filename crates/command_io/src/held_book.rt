@@ -4,7 +4,7 @@ ghost use Rattle.account_book.specs.Accounts.{account_at};
 ghost use Rattle.account_book.specs.SavedBooks.{SavesBook};
 ghost use Rattle.account_book.specs.Tokens.{token_at};
 ghost use Rattle.book_keeper.specs.Keeper.{FailsToSave};
-ghost use Rattle.otp_core.specs.SentCodes.{texts_of};
+ghost use Rattle.otp_core.specs.Attempt.{texts_of};
 ghost use Rattle.command_line.specs.Fault.{IsTokenFault, IsFileUnwrittenOrNoMemory};
 ghost use Rattle.command_io.specs.HeldBook.{held_shown, FailsToChange, IsUnlockSaved};
 ghost use Rattle.command_io.specs.HeldBook.{IsEnrolled, IsReplySaved, IsReplyUnsaved, IsTokenUnlocked, LacksToken};

@@ -1,8 +1,7 @@
 //! Standard input, as lines.
 ghost use Rattle.std.specs.Prelude.{◌≡◌, ◌≤◌, ◌+◌, Bool, [], ◌∷◌, length, IfErr, IfOk, IfSome, IfNone};
 ghost use Rattle.std.specs.Io.KnownBytes.{Consumes, IsAtEnd};
-ghost use Rattle.command_io.specs.Input.{line_bytes, TakesLine, IsFirstLine, IsInputUnreadOrNoMemory};
-ghost use Rattle.command_io.specs.declared.input.TheConstants.{MAX_INPUT_LEN};
+ghost use Rattle.command_io.specs.Input.{max_input_len, line_bytes, TakesLine, IsFirstLine, IsInputUnreadOrNoMemory};
 
 use command_line::Fault;
 use std::alloc::Global;
@@ -17,7 +16,7 @@ const MAX_INPUT_LEN: usize = 16_777_216;
 pub fn first_line<I: BufRead>(alloc: Global, input: &mut I) -> Result<Vec<u8>, Fault>
     ensures first { IfOk result (λ line. IsFirstLine (I.remaining input.old) line.items) }
     ensures taken { IfOk result (λ line. (has_lf : Bool) × TakesLine (I.remaining input.old) line.items has_lf (I.remaining input.new)) }
-    ensures most { IfOk result (λ line. length line.items ≤ MAX_INPUT_LEN) }
+    ensures most { IfOk result (λ line. length line.items ≤ max_input_len) }
     ensures err { IfErr result IsInputUnreadOrNoMemory }
 {
     let (line, _) = read_line(alloc, input, MAX_INPUT_LEN)?;
@@ -32,14 +31,14 @@ pub struct Lines<'a, I> {
     // How many more bytes may be read.
     left: usize,
 
-    ghost most: { left ≤ MAX_INPUT_LEN },
+    ghost most: { left ≤ max_input_len },
 }
 
 impl<'a, I: BufRead> Lines<'a, I> {
     /// The lines of `input` from its current position.
     pub fn new(input: &'a mut I) -> Lines<'a, I>
         ensures input { result.input ≡ input.entry }
-        ensures left { result.left ≡ MAX_INPUT_LEN }
+        ensures left { result.left ≡ max_input_len }
     {
         Lines {
             input,

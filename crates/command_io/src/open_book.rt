@@ -1,6 +1,6 @@
 //! Opens the file of a book: holds it, so that no other run uses it, and reads it.
 ghost use Rattle.std.specs.Prelude.{◌≡◌, ◌⊎◌, false, IfErr, IfOk, IfSome, string_bytes};
-ghost use Rattle.book_format.specs.FirstFault.{IsFirstFault};
+ghost use Rattle.book_format.specs.FirstFault.{IsBookFault};
 ghost use Rattle.book_format.specs.Trees.{IsBookText};
 ghost use Rattle.book_format.specs.declared.fault.BookFault.{BookFault};
 ghost use Rattle.book_file.specs.Text.{IsRead};
@@ -96,7 +96,7 @@ where
     ensures working { IfOk result (λ held. (⟦<FileStore<'r, R> as BookStore>⟧.facts held.keeper.store).failed ≡ false) }
     ensures path { IfOk result (λ held. held.path.now ≡ path.now) }
     ensures err { IfErr result (λ fault. (fault ≡ Fault.NoMemory)
-        ⊎ ((found : BookFault) × (fault ≡ fault_of_book found) × IsFirstFault (string_bytes text) found)) }
+        ⊎ ((found : BookFault) × (fault ≡ fault_of_book found) × IsBookFault (string_bytes text) found)) }
 {
     let book = Book::read(alloc, text.as_bytes())?;
     let store = FileStore::new(file, text);

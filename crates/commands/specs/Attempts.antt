@@ -9,9 +9,9 @@ use Rattle.otp_core.specs.Attempt.{CodeTexts}
 use Rattle.otp_core.specs.declared.token.reply.Reply.{Reply}
 use Rattle.book_format.specs.Book.{BookFields}
 use Rattle.book_format.specs.Trees.{IsBookText}
+use Rattle.account_book.specs.AccountAttempt.{AccountAttempt, account_attempt_of}
+use Rattle.account_book.specs.Tokens.{IsBookAttempt}
 use Rattle.log_grammar.specs.Lines.{reply_text}
-use Rattle.log_grammar.specs.LoggedAttempt.{LoggedAttempt, logged_attempt_of}
-use Rattle.sasl_desk.specs.JudgedAttempts.{IsAttemptJudged}
 use Rattle.sasl_desk.specs.Changes.{Change, judged}
 use Rattle.sasl_desk.specs.Desks.{HoldsBook, IsBookAfterReplies}
 use Rattle.command_line.specs.declared.fault.Fault.{Fault}
@@ -23,24 +23,24 @@ use Rattle.commands.specs.Verify.{VerifyRun, AnswersLine}
 
 -- a line makes this attempt: by the account of this name, at this moment, with what the line says. It gets a reply, so the account has a
 -- token.
-abbrev pub MakesAttempt : (name : List ℕ) → (moment : ℕ) → (line : List ℕ) → LoggedAttempt → Type 0
+abbrev pub MakesAttempt : (name : List ℕ) → (moment : ℕ) → (line : List ℕ) → AccountAttempt → Type 0
 MakesAttempt name moment line attempt =
-    (sent : CodeTexts) × (reply : Reply) × SaysCodes line sent × (attempt ≡ logged_attempt_of name moment sent (Some reply))
+    (sent : CodeTexts) × (reply : Reply) × SaysCodes line sent × (attempt ≡ account_attempt_of name moment sent (Some reply))
 
 -- the lines that are printed for the replies to attempts, in order
-abbrev pub printed_replies : List LoggedAttempt → List ℕ
+abbrev pub printed_replies : List AccountAttempt → List ℕ
 printed_replies attempts = flat_map (λ attempt. reply_text attempt.moment attempt.reply ++ byte "\n" ∷ []) attempts
 
 -- what is printed when a fault ends a run: the replies to these attempts, or to all but the last of them. If the output can't be written,
 -- it is not known what it holds.
-abbrev pub PrintsUntil : Fault → List LoggedAttempt → (old new : Option (List ℕ)) → Type 0
+abbrev pub PrintsUntil : Fault → List AccountAttempt → (old new : Option (List ℕ)) → Type 0
 PrintsUntil fault attempts old new =
     Appends old new (printed_replies attempts)
-    ⊎ ((earlier : List LoggedAttempt) × (last : LoggedAttempt) × (attempts ≡ earlier ++ last ∷ [])
+    ⊎ ((earlier : List AccountAttempt) × (last : AccountAttempt) × (attempts ≡ earlier ++ last ∷ [])
     × ((fault ≡ CannotWriteOutput) ⊎ Appends old new (printed_replies earlier)))
 
 -- the changes of a book that attempts are, the latest first
-abbrev pub judged_changes : List LoggedAttempt → List Change
+abbrev pub judged_changes : List AccountAttempt → List Change
 judged_changes attempts = map judged (reverse attempts)
 
 -- the store of a held book has not failed, and holds a text of the book, wherever that text is from
@@ -49,7 +49,7 @@ HoldsItsBook held = HoldsBook (λ text. Unit {0}) held.book held.store
 
 -- the first lines of an input, all but these last ones: each made one of these attempts, in order, and the attempts made the old book the
 -- new one
-pub record MakesAttempts (name : List ℕ) (moment : ℕ) (input : Option (List ℕ)) (last : List (List ℕ)) (attempts : List LoggedAttempt)
+pub record MakesAttempts (name : List ℕ) (moment : ℕ) (input : Option (List ℕ)) (last : List (List ℕ)) (attempts : List AccountAttempt)
     (old new : BookFields) : Type 0 where
   pub lines : List (List ℕ)
   pub are : AreFirstLines input lines last
@@ -64,8 +64,8 @@ pub record SavesNextLine (IsStored : List ℕ → Type 0) (name : List ℕ) (mom
   pub last : List (List ℕ)
   pub all_passed : Bool
   pub answers : LinesInTurn (AnswersLine IsStored name moment) input (line ∷ last) old all_passed middle
-  pub attempt : LoggedAttempt
+  pub attempt : AccountAttempt
   pub made : MakesAttempt name moment line attempt
   pub next : BookFields
-  pub judged : IsAttemptJudged middle.held.book attempt next
+  pub judged : IsBookAttempt middle.held.book attempt next
   pub is_text : IsBookText asked next

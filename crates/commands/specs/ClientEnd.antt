@@ -26,7 +26,7 @@ IsChosen (Some asked) names mechanism = mechanism ≡ asked
 IsChosen None names mechanism = IsOffered mechanism names × (IsOffered ScramSha256 names → mechanism ≡ ScramSha256)
 
 -- a login that the client of this user begins with this nonce, when it is offered these mechanisms
-pub record IsLoginOf (user : User) (nonce names : List ℕ) (login : Started) : Type 0 where
+pub record IsLoginStartedBy (user : User) (nonce names : List ℕ) (login : Started) : Type 0 where
   pub is_mechanism : IsChosen user.mechanism names login.mechanism
   pub are_limits : AreUsual login.limits
   pub is_name : login.name ≡ user.name
@@ -54,7 +54,7 @@ pub record HasBegun (user : User) (nonce received said : List ℕ) (login : Star
   pub names : List ℕ
   pub is_offer : IsLine offer (from_server (mechs names))
   pub is_received : received ≡ offer ++ byte "\n" ∷ []
-  pub is_of_user : IsLoginOf user nonce names login
+  pub is_of_user : IsLoginStartedBy user nonce names login
   pub first : ClientFirstParts
   pub is_first : IsHonestFirst login.name login.authzid login.nonce login.client_first first
   pub is_said : said ≡ said_line (auth_with (name_of login.mechanism) login.client_first)

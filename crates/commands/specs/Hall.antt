@@ -9,9 +9,8 @@ use Rattle.scram_text.specs.Class.{IsNoncePart}
 use Rattle.book_format.specs.Book.{BookFields}
 use Rattle.book_file.specs.Saved.{IsSavedText}
 use Rattle.clap.specs.declared.parser.matches.ArgMatches.{ArgMatches}
-use Rattle.command_line.specs.Fault.{IsFileUnwrittenOrNoMemory}
 use Rattle.command_line.specs.declared.fault.Fault.{Fault}
-use Rattle.command_line.specs.declared.fault.Fault.TheVariants.{BadEvent, CannotWriteOutput}
+use Rattle.command_line.specs.declared.fault.Fault.TheVariants.{BadEvent}
 use Rattle.command_line.specs.declared.option_name.OptionName.TheVariants as option
 use Rattle.command_words.specs.Values.{given_value}
 use Rattle.log_grammar.specs.Demands.{Accounts}
@@ -25,8 +24,8 @@ use Rattle.sasl_desk.specs.Halls.{hall_lines, hall_bytes, IsSessionRun}
 use Rattle.sasl_desk.specs.Runs.{greets, hears, Call}
 use Rattle.sasl_desk.specs.Saved.{AreLinesSaved}
 use Rattle.command_io.specs.HeldBook.{IsReadBook, CannotOpenBook}
-use Rattle.command_io.specs.Input.{AreFirstLines, IsInputUnreadOrNoMemory}
-use Rattle.commands.specs.PrintedLog.{StopsAfter}
+use Rattle.command_io.specs.Input.{AreFirstLines}
+use Rattle.commands.specs.PrintedLog.{StopsAfter, StopsServing}
 
 -- an event of a hall: a client arrives, and this is the server's part of its nonce; or the client of the session of this number
 -- does this at this moment
@@ -82,7 +81,7 @@ pub record PrintsHallLog (IsStored : List ℕ → Type 0) (book : BookFields) (i
   pub says : SaysEvents input last
   pub calls : List (Numbered Call)
   pub heard : AreCallsFor (reverse says.events) calls
-  -- the calls of each session were answered as by a hall, or the session was turned away
+  -- the calls of each session were answered as at a desk, or the session was turned away
   pub runs : (number : ℕ) → (place : Place) × IsSessionRun (accounts_in book) (of_number number calls) place
   -- what it logged is a front, and is printed
   pub is_front : IsLogFront (accounts_in book) (hall_bytes calls)
@@ -109,11 +108,10 @@ RunsToBadEvent bytes_of written_to input old new =
     (line : List ℕ) × (last : List (List ℕ)) × (run : RunsHall bytes_of written_to input (line ∷ last) old new)
     × IsBadEventAfter (accounts_in run.book) run.printed.calls line
 
--- the fault at which a hall stops hearing: a line of its input can't be read, says no event, or one of a session that is not open; the
--- book, whose file has this path, can't be saved; the output can't be written; or memory ran out
+-- the fault at which a hall stops hearing: one at which it stops, or of its own that a line of its input says no event, or one of a
+-- session that is not open
 abbrev pub StopsHearing : (path : List ℕ) → Fault → Type 0
-StopsHearing path fault = IsInputUnreadOrNoMemory fault ⊎ ((fault ≡ BadEvent) ⊎ (IsFileUnwrittenOrNoMemory path fault
-    ⊎ (fault ≡ CannotWriteOutput)))
+StopsHearing path fault = StopsServing BadEvent path fault
 
 -- the fault that ends `hall`, and what is printed before it: the book can't be held or read, and nothing is printed; or the hall stops
 -- hearing, and the log of what it heard may be printed. At a bad event this is the log of all lines before it.

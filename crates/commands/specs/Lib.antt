@@ -1,19 +1,17 @@
--- What `verify`, `login`, `hall`, `audit` and `upgrade` do, which faults end them, and what a run of the program does.
+-- What a run of the program does, in the order in which to read it: `verify`, `login` and `hall` with the faults that end them, `audit`
+-- and `upgrade`, and the program itself.
+pub mod Talked
+pub mod SentCodes
+pub mod Verify
 pub mod Attempts
-pub mod Audit
-pub mod ClientEnd
-pub mod ClientSteps
+pub mod Nonces
 pub mod DeskLog
-pub mod DeskLogSteps
-pub mod Hall
-pub mod HallSteps
+pub mod PrintedLog
+pub mod ClientEnd
 pub mod Login
 pub mod LoginFaults
-pub mod Nonces
-pub mod PrintedLog
-pub mod Program
-pub mod SentCodes
-pub mod Talked
-pub mod TurnFaults
+pub mod Hall
+pub mod Audit
 pub mod Upgrade
-pub mod Verify
+pub mod Program
+pub mod inner

@@ -11,7 +11,7 @@ use Rattle.book_file.specs.Saved.{IsSavedText}
 use Rattle.clap.specs.declared.parser.matches.ArgMatches.{ArgMatches}
 use Rattle.command_line.specs.declared.option_name.OptionName.TheVariants as option
 use Rattle.log_grammar.specs.Demands.{Accounts}
-use Rattle.log_grammar.specs.Lines.{log_bytes, header}
+use Rattle.log_grammar.specs.Lines.{log_bytes, header_one}
 use Rattle.log_grammar.specs.Versions.{IsClean, IsLogFront}
 use Rattle.commands.specs.ClientEnd.{IsLoggedIn, IsNotLoggedIn}
 use Rattle.command_io.specs.HeldBook.{IsReadBook}
@@ -43,7 +43,7 @@ pub record PrintsTalk (user : User) (nonce password : List ℕ) (input old : Opt
     : Type 0 where
   pub first : Talked
   pub last : Talked
-  pub begins : Appends old first.logged (log_bytes (header ∷ []))
+  pub begins : Appends old first.logged (log_bytes (header_one ∷ []))
   pub talk : EndsTalk user nonce password input first passed last
   pub printed : last.logged ≡ new
 

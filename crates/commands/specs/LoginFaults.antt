@@ -2,17 +2,16 @@
 use Rattle.std.specs.Prelude.{ℕ, ◌≡◌, ◌⊎◌, List, [], ◌∷◌}
 use Rattle.std.specs.declared.option.Option.{Option}
 use Rattle.clap.specs.declared.parser.matches.ArgMatches.{ArgMatches}
-use Rattle.command_line.specs.Fault.{IsFileUnwrittenOrNoMemory}
 use Rattle.command_line.specs.declared.option_name.OptionName.TheVariants as option
 use Rattle.command_line.specs.declared.fault.Fault.{Fault}
-use Rattle.command_line.specs.declared.fault.Fault.TheVariants.{Socket, CannotWriteOutput}
+use Rattle.command_line.specs.declared.fault.Fault.TheVariants.{Socket}
 use Rattle.command_io.specs.BadValues.{GivesBadValue, HasBadPassword, HasBadValue}
 use Rattle.command_io.specs.File.{IsFileUnreadOrNoMemory}
 use Rattle.command_io.specs.HeldBook.{CannotOpenBook}
 use Rattle.command_io.specs.Input.{IsInputUnreadOrNoMemory}
 use Rattle.command_words.specs.Values.{given_value}
 use Rattle.commands.specs.Login.{PrintsLoginFront}
-use Rattle.commands.specs.PrintedLog.{StopsAfter}
+use Rattle.commands.specs.PrintedLog.{StopsAfter, StopsServing}
 
 -- an option of `login` refuses the value that the words give, and the fault names it
 abbrev pub HasBadLoginValue : ArgMatches → Fault → Type 0
@@ -32,11 +31,9 @@ CannotPrepare bytes_of words input fault =
     ⊎ (IsInputUnreadOrNoMemory fault
     ⊎ (CannotOpenBook bytes_of (given_value words option.Book) fault ⊎ IsFileUnreadOrNoMemory (given_value words option.Random) fault)))
 
--- the fault that ends a talk: a line of the input can't be read, the socket fails, the book, whose file has this path, can't be saved, the
--- output can't be written, or memory ran out
+-- the fault that ends a talk: one at which its desk stops, or of its own that the socket fails
 abbrev pub StopsTalking : (path : List ℕ) → Fault → Type 0
-StopsTalking path fault = IsInputUnreadOrNoMemory fault ⊎ ((fault ≡ Socket) ⊎ (IsFileUnwrittenOrNoMemory path fault
-    ⊎ (fault ≡ CannotWriteOutput)))
+StopsTalking path fault = StopsServing Socket path fault
 
 -- the fault that ends `login`, and what is printed before it: what it begins with is not there, and nothing is printed; or its talk
 -- ends, and the front of a log may be printed

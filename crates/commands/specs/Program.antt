@@ -64,7 +64,7 @@ IsWordsError line error = (error ≡ kind.OutOfMemory) ⊎ IsAmong error (fault_
 -- what a run does, given the bytes of files and those written to them
 module _ {File : Type 0} (bytes_of written_to : File → Option (List ℕ)) where
   -- what a command has done for its words if it ends with this status: `verify` and `login` with that of their answer, `audit` and
-  -- `upgrade` with that of a log, and the others with 0
+  -- `upgrade` with that of a log, and the others with 0. Which files are read is not said (`specs/Text.antt` of `book_file`).
   abbrev pub HasDone : CommandName → ArgMatches → (status : ℕ) → (input old new : Option (List ℕ)) → Type 0
   HasDone Keys words status input old new = (status ≡ 0) × PrintsKeysAsked words input old new
   HasDone Enrol words status input old new = (status ≡ 0) × EnrolsAsked bytes_of written_to words input old new

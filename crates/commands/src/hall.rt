@@ -1,7 +1,7 @@
 //! The command `hall`: judges up to 64 logins at a time, over one book, from the events in its input, and prints the log.
 ghost use Rattle.std.specs.Prelude.{ℕ, List, [], IfErr, IsErrOf, OnOk};
 ghost use Rattle.commands.specs.Hall.{PrintsHallLog, RunsHall, StopsHall, StopsHearing};
-ghost use Rattle.commands.specs.HallSteps.{PrintsToBadEvent};
+ghost use Rattle.commands.specs.inner.HallSteps.{PrintsToBadEvent};
 ghost use Rattle.commands.specs.PrintedLog.{StopsAfter};
 
 mod event;
@@ -19,7 +19,6 @@ use command_io::terminal::{TerminalInput, TerminalOutput};
 use command_line::{Fault, OptionName};
 use command_words::given;
 use logged_hall::LoggedHall;
-use sasl_desk::laws::hall::{log_is_a_front, log_is_saved, phases_are_those_of_places};
 use std::alloc::Global;
 use std::fs::Files;
 use std::io::{BufRead, Write};
@@ -81,9 +80,6 @@ where
         → PrintsToBadEvent S.IsStored held.entry.keeper.book (I.remaining input.old) (O.contents output) (O.contents result.1) }
     ensures why { IfErr result.0 (StopsHearing held.entry.path.now) }
 {
-    log_is_a_front::<S>();
-    log_is_saved::<S>();
-    phases_are_those_of_places::<S>();
     let mut lines = Lines::new(input);
     match LoggedHall::begin(alloc, held, PrintedLog::new(output)) {
         Ok(mut hall) => {

@@ -6,7 +6,7 @@ ghost use Rattle.book_format.specs.Book.{BookFields};
 ghost use Rattle.book_format.specs.Trees.{IsBookText};
 ghost use Rattle.account_book.specs.Enrolled.{enrolled};
 ghost use Rattle.book_file.specs.Saved.{IsSavedText};
-ghost use Rattle.log_grammar.specs.LoggedAttempt.{LoggedAttempt};
+ghost use Rattle.account_book.specs.AccountAttempt.{AccountAttempt};
 ghost use Rattle.sasl_desk.specs.Desks.{spent_by_all, IsBookAfterReplies, MayHold, MayHoldWithinSave};
 ghost use Rattle.sasl_desk.specs.Changes.{Change, added, unlocked, AreChanges};
 ghost use Rattle.sasl_desk.specs.Saved.{IsToldSaved};
@@ -22,7 +22,6 @@ ghost use Rattle.commands.specs.Attempts.{judged_changes, printed_replies, Holds
 ghost use Rattle.commands.specs.Verify.{VerifyRun, AnswersLine, AnswersFirstLines, BeginsToVerify, VerifiesAllLines, VerifiesFirstLines};
 
 use account_book::BookStore;
-use sasl_desk::laws::replies_spend_counters;
 use std::fs::Files;
 
 /// Changes that follow others are, together with these, changes from the first book to the last.
@@ -48,10 +47,10 @@ pub fn changes_follow_changes<S: BookStore>()
 pub fn answered_lines_are_changes<S: BookStore>()
     ensures all { (name : List ℕ) (moment : ℕ) (input : Option (List ℕ)) (last : List (List ℕ)) (old : VerifyRun) (all_passed : Bool)
         (new : VerifyRun) → LinesInTurn (AnswersLine S.IsStored name moment) input last old all_passed new
-        → (attempts : List LoggedAttempt)
+        → (attempts : List AccountAttempt)
         × MakesAttempts name moment input last attempts old.held.book new.held.book
         × Appends old.printed new.printed (printed_replies attempts) }
-    ensures changes { (attempts : List LoggedAttempt) (old new : BookFields) → IsBookAfterReplies old (reverse attempts) new
+    ensures changes { (attempts : List AccountAttempt) (old new : BookFields) → IsBookAfterReplies old (reverse attempts) new
         → AreChanges S.facts S.IsStored old (judged_changes attempts) new }
     ensures saved { (name : List ℕ) (moment : ℕ) (input : Option (List ℕ)) (last : List (List ℕ)) (old : VerifyRun) (all_passed : Bool)
         (new : VerifyRun) (text : List ℕ) → LinesInTurn (AnswersLine S.IsStored name moment) input last old all_passed new
@@ -59,7 +58,7 @@ pub fn answered_lines_are_changes<S: BookStore>()
     ensures within { (name : List ℕ) (moment : ℕ) (input : Option (List ℕ)) (old middle : VerifyRun) (asked text : List ℕ)
         (saves : SavesNextLine S.IsStored name moment input old middle asked)
         → HoldsItsBook old.held → MayHoldWithinSave middle.held.store asked text
-        → (attempts : List LoggedAttempt) × Appends old.printed middle.printed (printed_replies attempts)
+        → (attempts : List AccountAttempt) × Appends old.printed middle.printed (printed_replies attempts)
         × ((IsBookText text middle.held.book
         × MakesAttempts name moment input (saves.line ∷ saves.last) attempts old.held.book middle.held.book)
         ⊎ (IsBookText text saves.next
@@ -67,7 +66,7 @@ pub fn answered_lines_are_changes<S: BookStore>()
     ensures first { (path name : List ℕ) (moment : ℕ) (input : Option (List ℕ)) (old : VerifyRun) (fault : Fault) (new : VerifyRun)
         (text : List ℕ) → AnswersFirstLines S.IsStored path name moment input old fault new
         → HoldsItsBook old.held → MayHold new.held.store text
-        → (left : BookFields) × (last : List (List ℕ)) × (attempts : List LoggedAttempt) × IsBookText text left
+        → (left : BookFields) × (last : List (List ℕ)) × (attempts : List AccountAttempt) × IsBookText text left
         × MakesAttempts name moment input last attempts old.held.book left
         × PrintsUntil fault attempts old.printed new.printed }
 {}
@@ -81,14 +80,14 @@ pub fn verified_counters_are_spent<R: Files>()
         (run : VerifiesAllLines R.File.remaining R.File.contents words input old all_passed new)
         (text : List ℕ) (spent : List (List ℕ × ℕ)) → MayHold run.last.held.store text
         → AreSpent spent run.first.held.book
-        → (left : BookFields) × (attempts : List LoggedAttempt) × IsBookText text left
+        → (left : BookFields) × (attempts : List AccountAttempt) × IsBookText text left
         × MakesAttempts (given_value words option.Name) run.moment input [] attempts run.first.held.book left
         × Appends old new (printed_replies attempts) × AreSpent (spent_by_all (reverse attempts) ++ spent) left }
     ensures first { (words : ArgMatches) (input old : Option (List ℕ)) (fault : Fault) (new : Option (List ℕ))
         (run : VerifiesFirstLines R.File.remaining R.File.contents words input old fault new)
         (text : List ℕ) (spent : List (List ℕ × ℕ)) → MayHold run.last.held.store text
         → AreSpent spent run.first.held.book
-        → (left : BookFields) × (last : List (List ℕ)) × (attempts : List LoggedAttempt) × IsBookText text left
+        → (left : BookFields) × (last : List (List ℕ)) × (attempts : List AccountAttempt) × IsBookText text left
         × MakesAttempts (given_value words option.Name) run.moment input last attempts run.first.held.book left
         × PrintsUntil fault attempts old new × AreSpent (spent_by_all (reverse attempts) ++ spent) left }
     ensures between { (words : ArgMatches) (input old : Option (List ℕ)) (moment : ℕ) (first : VerifyRun) (last : List (List ℕ))
@@ -96,17 +95,15 @@ pub fn verified_counters_are_spent<R: Files>()
         → BeginsToVerify R.File.remaining words old moment first
         → LinesInTurn (AnswersLine (IsSavedText R.File.contents) (given_value words option.Name) moment) input last first all_passed middle
         → MayHold middle.held.store text → AreSpent spent first.held.book
-        → (attempts : List LoggedAttempt) × IsBookText text middle.held.book × Appends old middle.printed (printed_replies attempts)
+        → (attempts : List AccountAttempt) × IsBookText text middle.held.book × Appends old middle.printed (printed_replies attempts)
         × AreSpent (spent_by_all (reverse attempts) ++ spent) middle.held.book }
     ensures within { (words : ArgMatches) (input old : Option (List ℕ)) (moment : ℕ) (first middle : VerifyRun) (asked text : List ℕ)
         (spent : List (List ℕ × ℕ)) → BeginsToVerify R.File.remaining words old moment first
         → SavesNextLine (IsSavedText R.File.contents) (given_value words option.Name) moment input first middle asked
         → MayHoldWithinSave middle.held.store asked text → AreSpent spent first.held.book
-        → (left : BookFields) × (attempts : List LoggedAttempt) × IsBookText text left
+        → (left : BookFields) × (attempts : List AccountAttempt) × IsBookText text left
         × Appends old middle.printed (printed_replies attempts) × AreSpent (spent_by_all (reverse attempts) ++ spent) left }
-{
-    replies_spend_counters();
-}
+{}
 
 /// What `unlock` and `enrol` do to a book is one change. What a log of `login` or of `hall` tells of codes is a list of changes, from the
 /// book that the log began with to the one whose text was saved: the attempts, each with its reply. So `no_counter_passes_twice` of
@@ -118,7 +115,7 @@ pub fn other_commands_make_changes<R: Files, S: BookStore>()
         (run : EnrolsAsked R.File.remaining R.File.contents words input old new)
         → AreChanges S.facts S.IsStored run.is_added.saved.first (added run.account.name (enrolled run.account.password
         run.is_added.salts.sha1 run.is_added.salts.sha256 run.account.count) ∷ []) run.is_added.saved.last }
-    ensures told { (start : BookFields) (told : List LoggedAttempt)
+    ensures told { (start : BookFields) (told : List AccountAttempt)
         (saved : IsToldSaved (IsSavedText R.File.contents) start told)
         → AreChanges S.facts S.IsStored start (judged_changes told) saved.last }
 {}

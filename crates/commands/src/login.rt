@@ -11,9 +11,8 @@ ghost use Rattle.command_io.specs.HeldBook.{IsReadBook};
 ghost use Rattle.command_io.specs.BadValues.{HasBadPassword};
 ghost use Rattle.command_io.specs.Input.{IsInputUnreadOrNoMemory, TakesLine};
 ghost use Rattle.command_words.specs.Values.{given_value, value_of};
-ghost use Rattle.commands.specs.DeskLog.{HasSavedLog};
-ghost use Rattle.commands.specs.DeskLogSteps.{IsDeskLog, StaysItsLog, StaysItsLogWith, IsLogAfterFault, IsLogAfterFaultWith};
-ghost use Rattle.commands.specs.DeskLog.{IsGiven};
+ghost use Rattle.commands.specs.DeskLog.{HasSavedLog, IsGiven};
+ghost use Rattle.commands.specs.inner.DeskLogSteps.{IsDeskLog, StaysItsLog, StaysItsLogWith, IsLogAfterFault, IsLogAfterFaultWith};
 ghost use Rattle.commands.specs.Login.{EndsTalk, PrintsTalk, IsUserAsked, RunsLogin};
 ghost use Rattle.commands.specs.LoginFaults.{CannotPrepare, StopsLogin, StopsTalking};
 ghost use Rattle.commands.specs.Nonces.{AreNonces};
@@ -43,7 +42,6 @@ use command_line::{Fault, OptionName};
 use command_words::given;
 use options::read_options;
 use otp_core::Moment;
-use sasl_desk::laws::{log_is_a_front, log_is_clean, log_is_saved};
 use sasl_log::{MAX_LINE_LEN, Sink, Source};
 use scram_text::{NoncePart, Password};
 use socket::Connection;
@@ -208,8 +206,6 @@ where
     } = login;
     let alloc = rt.alloc();
     let clock = LoginClock::<R, G>::new(rt, moment);
-    log_is_a_front::<S>();
-    log_is_saved::<S>();
     match Talk::begin(
         alloc,
         held,
@@ -263,8 +259,6 @@ where
         talk.old.desk (L.facts talk.old.log) talk.new.desk (L.facts talk.new.log)) }
     ensures err { IfErr result (StopsTalking talk.old.path.now) }
 {
-    log_is_clean::<S>();
-    log_is_saved::<S>();
     let passed = talk.log_in_and_send(alloc, server_nonce, client, lines)?;
     hang_up(alloc, talk, connection)?;
     Ok(passed)

@@ -1,5 +1,5 @@
 //! Reads an input line of `verify` or `login`: one code, or two in a row.
-ghost use Rattle.otp_core.specs.SentCodes.{texts_of};
+ghost use Rattle.otp_core.specs.Attempt.{texts_of};
 ghost use Rattle.commands.specs.SentCodes.{SaysCodes};
 
 use otp_core::SentCodes;

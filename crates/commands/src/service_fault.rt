@@ -1,7 +1,7 @@
 //! The fault of a command whose desk or hall can't go on.
 ghost use Rattle.std.specs.Prelude.{◌≡◌, ◌≢◌};
 ghost use Rattle.command_line.specs.Fault.{IsFileUnwrittenOrNoMemory};
-ghost use Rattle.commands.specs.TurnFaults.{IsFaultOfServing};
+ghost use Rattle.commands.specs.inner.TurnFaults.{IsFaultOfServing};
 
 use command_line::Fault;
 use sasl_desk::{DeskFault, ServeFault};

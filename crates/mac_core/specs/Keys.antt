@@ -1,4 +1,4 @@
--- Hi and the keys of SCRAM (RFC 5802, sections 2.2 and 3). `hash` and `block` are those of HMAC.
+-- Hi and the keys of SCRAM (RFC 5802, sections 2.2 and 3). `hash` and `block_len` are those of HMAC.
 use Rattle.std.specs.Prelude.{ℕ, zero, suc, List, [], ◌∷◌, ◌++◌, bit_xor, codes}
 use Rattle.mac_core.specs.Hmac.{hmac}
 
@@ -26,31 +26,31 @@ xor_of_iterated mac salt (suc (suc n)) =
     xor_bytes (xor_of_iterated mac salt (suc n)) (iterated mac salt (suc (suc n)))
 
 -- Hi(str, salt, i), which is PBKDF2 (RFC 8018) with HMAC and one block of output
-abbrev pub hi : (hash : List ℕ → List ℕ) → (block : ℕ) → (str salt : List ℕ) → (i : ℕ) → List ℕ
-hi hash block str salt i = xor_of_iterated (hmac hash block str) salt i
+abbrev pub hi : (hash : List ℕ → List ℕ) → (block_len : ℕ) → (str salt : List ℕ) → (i : ℕ) → List ℕ
+hi hash block_len str salt i = xor_of_iterated (hmac hash block_len str) salt i
 
 -- SaltedPassword = Hi(Normalize(password), salt, i). The password is already normalized here: `Password` of scram_text holds only
 -- passwords that SASLprep leaves unchanged.
-abbrev pub salted_password : (hash : List ℕ → List ℕ) → (block : ℕ) → (password salt : List ℕ) → (i : ℕ) → List ℕ
-salted_password hash block password salt i = hi hash block password salt i
+abbrev pub salted_password : (hash : List ℕ → List ℕ) → (block_len : ℕ) → (password salt : List ℕ) → (i : ℕ) → List ℕ
+salted_password hash block_len password salt i = hi hash block_len password salt i
 
 -- ClientKey = HMAC(SaltedPassword, "Client Key")
-abbrev pub client_key : (hash : List ℕ → List ℕ) → (block : ℕ) → (salted : List ℕ) → List ℕ
-client_key hash block salted = hmac hash block salted (codes "Client Key")
+abbrev pub client_key : (hash : List ℕ → List ℕ) → (block_len : ℕ) → (salted : List ℕ) → List ℕ
+client_key hash block_len salted = hmac hash block_len salted (codes "Client Key")
 
 -- StoredKey = H(ClientKey)
 abbrev pub stored_key : (hash : List ℕ → List ℕ) → (client : List ℕ) → List ℕ
 stored_key hash client = hash client
 
 -- ServerKey = HMAC(SaltedPassword, "Server Key")
-abbrev pub server_key : (hash : List ℕ → List ℕ) → (block : ℕ) → (salted : List ℕ) → List ℕ
-server_key hash block salted = hmac hash block salted (codes "Server Key")
+abbrev pub server_key : (hash : List ℕ → List ℕ) → (block_len : ℕ) → (salted : List ℕ) → List ℕ
+server_key hash block_len salted = hmac hash block_len salted (codes "Server Key")
 
 -- StoredKey of a password, by way of its SaltedPassword and ClientKey
-abbrev pub password_stored_key : (hash : List ℕ → List ℕ) → (block : ℕ) → (password salt : List ℕ) → (i : ℕ) → List ℕ
-password_stored_key hash block password salt i =
-    stored_key hash (client_key hash block (salted_password hash block password salt i))
+abbrev pub password_stored_key : (hash : List ℕ → List ℕ) → (block_len : ℕ) → (password salt : List ℕ) → (i : ℕ) → List ℕ
+password_stored_key hash block_len password salt i =
+    stored_key hash (client_key hash block_len (salted_password hash block_len password salt i))
 
 -- ServerKey of a password, by way of its SaltedPassword
-abbrev pub password_server_key : (hash : List ℕ → List ℕ) → (block : ℕ) → (password salt : List ℕ) → (i : ℕ) → List ℕ
-password_server_key hash block password salt i = server_key hash block (salted_password hash block password salt i)
+abbrev pub password_server_key : (hash : List ℕ → List ℕ) → (block_len : ℕ) → (password salt : List ℕ) → (i : ℕ) → List ℕ
+password_server_key hash block_len password salt i = server_key hash block_len (salted_password hash block_len password salt i)

@@ -29,26 +29,26 @@ hash_by ScramSha1 = sha1
 hash_by ScramSha256 = sha256
 
 -- the length in bytes of a block of the mechanism's hash function (FIPS 180-4, section 1)
-abbrev pub block_by : Mechanism → ℕ
-block_by ScramSha1 = 64
-block_by ScramSha256 = 64
+abbrev pub block_len_by : Mechanism → ℕ
+block_len_by ScramSha1 = 64
+block_len_by ScramSha256 = 64
 
 -- the length in bytes of the mechanism's digests, MACs and keys
-abbrev pub length_by : Mechanism → ℕ
-length_by ScramSha1 = 20
-length_by ScramSha256 = 32
+abbrev pub digest_len_by : Mechanism → ℕ
+digest_len_by ScramSha1 = 20
+digest_len_by ScramSha256 = 32
 
 -- HMAC of the mechanism
 abbrev pub hmac_by : Mechanism → (key text : List ℕ) → List ℕ
-hmac_by mechanism = hmac (hash_by mechanism) (block_by mechanism)
+hmac_by mechanism = hmac (hash_by mechanism) (block_len_by mechanism)
 
 -- Hi of the mechanism; Hi of a password is its SaltedPassword
 abbrev pub hi_by : Mechanism → (str salt : List ℕ) → (i : ℕ) → List ℕ
-hi_by mechanism = hi (hash_by mechanism) (block_by mechanism)
+hi_by mechanism = hi (hash_by mechanism) (block_len_by mechanism)
 
 -- ClientKey of a SaltedPassword
 abbrev pub client_key_by : Mechanism → (salted : List ℕ) → List ℕ
-client_key_by mechanism = client_key (hash_by mechanism) (block_by mechanism)
+client_key_by mechanism = client_key (hash_by mechanism) (block_len_by mechanism)
 
 -- StoredKey of a ClientKey
 abbrev pub stored_key_by : Mechanism → (client_key : List ℕ) → List ℕ
@@ -56,21 +56,21 @@ stored_key_by mechanism = stored_key (hash_by mechanism)
 
 -- ServerKey of a SaltedPassword
 abbrev pub server_key_by : Mechanism → (salted : List ℕ) → List ℕ
-server_key_by mechanism = server_key (hash_by mechanism) (block_by mechanism)
+server_key_by mechanism = server_key (hash_by mechanism) (block_len_by mechanism)
 
 -- StoredKey of a password
 abbrev pub password_stored_key_by : Mechanism → (password salt : List ℕ) → (count : ℕ) → List ℕ
-password_stored_key_by mechanism = password_stored_key (hash_by mechanism) (block_by mechanism)
+password_stored_key_by mechanism = password_stored_key (hash_by mechanism) (block_len_by mechanism)
 
 -- ServerKey of a password
 abbrev pub password_server_key_by : Mechanism → (password salt : List ℕ) → (count : ℕ) → List ℕ
-password_server_key_by mechanism = password_server_key (hash_by mechanism) (block_by mechanism)
+password_server_key_by mechanism = password_server_key (hash_by mechanism) (block_len_by mechanism)
 
 -- the running MAC is that of this key and text, with the mechanism's hash function
 abbrev pub IsScramMac : Mechanism → ScramMac → (key text : List ℕ) → Type 0
 IsScramMac ScramSha1 (BySha1 mac) key text =
-    IsMacOf (λ (h : HSha1) (m : List ℕ). Holds h.hasher m) sha1 (block_by ScramSha1) mac key text
+    IsMacOf (λ (h : HSha1) (m : List ℕ). Holds h.hasher m) sha1 (block_len_by ScramSha1) mac key text
 IsScramMac ScramSha256 (BySha256 mac) key text =
-    IsMacOf (λ (h : HSha256) (m : List ℕ). Holds256 h.hasher m) sha256 (block_by ScramSha256) mac key text
+    IsMacOf (λ (h : HSha256) (m : List ℕ). Holds256 h.hasher m) sha256 (block_len_by ScramSha256) mac key text
 IsScramMac ScramSha1 (BySha256 mac) key text = ⊥
 IsScramMac ScramSha256 (BySha1 mac) key text = ⊥

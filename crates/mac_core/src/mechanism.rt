@@ -1,6 +1,6 @@
 //! The formulas of `keys` and `hmac` with a hash function chosen at run time, by the name of a SCRAM mechanism.
 ghost use Rattle.std.specs.Prelude.{◌≡◌, ◌≢◌, ◌≤◌, ◌↔◌, IsTrue, ℕ, List, [], ◌++◌, length, IfSome, IfNone};
-ghost use Rattle.mac_core.specs.Mechanism.{name_of, IsOffered, length_by, hmac_by, hi_by, client_key_by, stored_key_by, server_key_by};
+ghost use Rattle.mac_core.specs.Mechanism.{name_of, IsOffered, digest_len_by, hmac_by, hi_by, client_key_by, stored_key_by, server_key_by};
 ghost use Rattle.mac_core.specs.Mechanism.{IsScramMac, password_stored_key_by, password_server_key_by};
 
 use crate::digest::{HSha1, HSha256, Tag};
@@ -73,7 +73,7 @@ impl Mechanism {
     pub fn hi(self, password: &[u8], salt: &[u8], count: u32) -> Tag
         requires { 1 ≤ count }
         ensures value { result.items ≡ hi_by self password.now salt.now count }
-        ensures len { length result.items ≡ length_by self }
+        ensures len { length result.items ≡ digest_len_by self }
     {
         match self {
             Mechanism::ScramSha1 => keys::hi::<HSha1>(password, salt, count),
@@ -84,7 +84,7 @@ impl Mechanism {
     /// ClientKey of a SaltedPassword, with the mechanism's hash function (RFC 5802, section 3).
     pub fn client_key(self, salted: &Tag) -> Tag
         ensures value { result.items ≡ client_key_by self salted.now.items }
-        ensures len { length result.items ≡ length_by self }
+        ensures len { length result.items ≡ digest_len_by self }
     {
         match self {
             Mechanism::ScramSha1 => keys::client_key::<HSha1>(salted),
@@ -95,7 +95,7 @@ impl Mechanism {
     /// StoredKey of a ClientKey, with the mechanism's hash function (RFC 5802, section 3).
     pub fn stored_key(self, client_key: &Tag) -> Tag
         ensures value { result.items ≡ stored_key_by self client_key.now.items }
-        ensures len { length result.items ≡ length_by self }
+        ensures len { length result.items ≡ digest_len_by self }
     {
         match self {
             Mechanism::ScramSha1 => keys::stored_key::<HSha1>(client_key),
@@ -106,7 +106,7 @@ impl Mechanism {
     /// ServerKey of a SaltedPassword, with the mechanism's hash function (RFC 5802, section 3).
     pub fn server_key(self, salted: &Tag) -> Tag
         ensures value { result.items ≡ server_key_by self salted.now.items }
-        ensures len { length result.items ≡ length_by self }
+        ensures len { length result.items ≡ digest_len_by self }
     {
         match self {
             Mechanism::ScramSha1 => keys::server_key::<HSha1>(salted),
@@ -120,8 +120,8 @@ impl Mechanism {
         requires { 1 ≤ count }
         ensures stored { result.stored.items ≡ password_stored_key_by self password.now salt.now count }
         ensures server { result.server.items ≡ password_server_key_by self password.now salt.now count }
-        ensures stored_len { length result.stored.items ≡ length_by self }
-        ensures server_len { length result.server.items ≡ length_by self }
+        ensures stored_len { length result.stored.items ≡ digest_len_by self }
+        ensures server_len { length result.server.items ≡ digest_len_by self }
     {
         match self {
             Mechanism::ScramSha1 => keys::scram_keys::<HSha1>(password, salt, count),
@@ -178,7 +178,7 @@ impl ScramMac {
         ensures value { (mechanism : Mechanism) (key text : List ℕ) → IsScramMac mechanism self key text
             → result.items ≡ hmac_by mechanism key text }
         ensures len { (mechanism : Mechanism) (key text : List ℕ) → IsScramMac mechanism self key text
-            → length result.items ≡ length_by mechanism }
+            → length result.items ≡ digest_len_by mechanism }
     {
         match self {
             ScramMac::BySha1(mac) => mac.done(),

@@ -1,6 +1,8 @@
 -- Attempts to pass with the codes of a token. A history is the list of the attempts so far, latest first.
 use Rattle.std.specs.Prelude.{ℕ, ◌-◌, List, [], ◌∷◌}
 use Rattle.std.specs.List.{flat_map}
+use Rattle.otp_core.specs.declared.sent.SentCodes.{SentCodes}
+use Rattle.otp_core.specs.declared.sent.SentCodes.TheVariants.{One, Two}
 use Rattle.otp_core.specs.declared.token.reply.Reply.{Reply}
 use Rattle.otp_core.specs.declared.token.reply.Reply.TheVariants.{Pass, Fail, Locked}
 
@@ -8,6 +10,11 @@ use Rattle.otp_core.specs.declared.token.reply.Reply.TheVariants.{Pass, Fail, Lo
 pub data CodeTexts : Type 0 where
   one_text : List ℕ → CodeTexts
   two_texts : List ℕ → List ℕ → CodeTexts
+
+-- the texts that a client sent, as a `SentCodes` of the code holds them
+abbrev pub texts_of : SentCodes → CodeTexts
+texts_of (One text) = one_text text.now
+texts_of (Two first second) = two_texts first.now second.now
 
 -- an attempt: when it was made, what was sent, and the reply
 pub record Attempt : Type 0 where

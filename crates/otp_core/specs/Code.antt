@@ -26,8 +26,8 @@ abbrev pub code_of : (digits : ℕ) → (tag : List ℕ) → List ℕ
 code_of digits tag = last_digits digits (truncated tag % 10 ^ digits)
 
 -- HOTP(K, C) = Truncate(HMAC(K, C)), with the counter as 8 bytes, most significant first
-abbrev pub hotp_text : (hash : List ℕ → List ℕ) → (block digits : ℕ) → (key : List ℕ) → (counter : ℕ) → List ℕ
-hotp_text hash block digits key counter = code_of digits (hmac hash block key (to_be_bytes w64 counter))
+abbrev pub hotp_text : (hash : List ℕ → List ℕ) → (block_len digits : ℕ) → (key : List ℕ) → (counter : ℕ) → List ℕ
+hotp_text hash block_len digits key counter = code_of digits (hmac hash block_len key (to_be_bytes w64 counter))
 
 -- a code's text: 6 to 8 ASCII digits
 pub record IsCodeText (text : List ℕ) : Type 0 where

@@ -29,11 +29,11 @@ otp_hash_by Sha256 = sha256
 otp_hash_by Sha512 = sha512
 
 -- the length of the hash function's blocks in bytes
-abbrev pub otp_block_by : OtpHash → ℕ
-otp_block_by Sha1 = 64
-otp_block_by Sha256 = 64
-otp_block_by Sha512 = 128
+abbrev pub otp_block_len_by : OtpHash → ℕ
+otp_block_len_by Sha1 = 64
+otp_block_len_by Sha256 = 64
+otp_block_len_by Sha512 = 128
 
 -- HOTP with this hash function, as RFC 6238, section 1.2, allows for TOTP
 abbrev pub hotp_text_by : OtpHash → (digits : ℕ) → (key : List ℕ) → (counter : ℕ) → List ℕ
-hotp_text_by hash = hotp_text (otp_hash_by hash) (otp_block_by hash)
+hotp_text_by hash = hotp_text (otp_hash_by hash) (otp_block_len_by hash)

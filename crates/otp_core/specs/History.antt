@@ -13,14 +13,14 @@ IsLegal start [] = Unit {0}
 IsLegal start (a ∷ before) = IsMoment a.moment × IsDueReply start before a.moment a.sent a.reply × IsLegal start before
 
 -- a token's settings: the token with its state cleared, so next, drift and failures are 0 and there is no last step
-abbrev pub settings_of : TokenFields → TokenFields
-settings_of (Hotp t) = Hotp (record t { next = 0; failures = 0 })
-settings_of (Totp t) = Totp (record t { last = None; drift = pos 0; failures = 0 })
+abbrev pub without_state : TokenFields → TokenFields
+without_state (Hotp t) = Hotp (record t { next = 0; failures = 0 })
+without_state (Totp t) = Totp (record t { last = None; drift = pos 0; failures = 0 })
 
 -- two starts with their histories have equal settings and equal failures, and at every moment the same counters can pass, by
 -- themselves and as the first of a pair
 pub record AreAlike (start : TokenFields) (history : List Attempt) (other : TokenFields) (since : List Attempt) : Type 0 where
-  pub settings : settings_of start ≡ settings_of other
+  pub settings : without_state start ≡ without_state other
   pub failures : failures_after start history ≡ failures_after other since
   pub candidates : (moment c : ℕ) → IsMoment moment → IsCandidate start history moment c ↔ IsCandidate other since moment c
   pub pairs : (c : ℕ) → IsPairCandidate start history c ↔ IsPairCandidate other since c

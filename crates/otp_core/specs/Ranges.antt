@@ -37,6 +37,10 @@ IsMoment seconds = seconds ≤ max_moment
 abbrev pub max_counter : ℕ
 max_counter = 2 ^ 63 - 2
 
+-- a counter that can pass is at most that one
+abbrev pub IsCounter : ℕ → Type 0
+IsCounter counter = counter ≤ max_counter
+
 -- the greatest look_ahead: how many counters after the first HOTP tries for one code
 abbrev pub max_look_ahead : ℕ
 max_look_ahead = 100
@@ -48,6 +52,10 @@ max_sync_ahead = 1000
 -- the longest step of TOTP, in seconds
 abbrev pub max_step : ℕ
 max_step = 3600
+
+-- a step of TOTP is 1 to 3600 seconds long
+abbrev pub IsStepLength : ℕ → Type 0
+IsStepLength seconds = (1 ≤ seconds) × (seconds ≤ max_step)
 
 -- the greatest `back` and the greatest `ahead` of TOTP, in steps
 abbrev pub max_window_steps : ℕ

@@ -1,6 +1,6 @@
 -- What an attempt does to a token.
-use Rattle.std.specs.Prelude.{ℕ, ◌≡◌, ◌≤◌, List, ◌∷◌}
-use Rattle.otp_core.specs.Ranges.{max_counter}
+use Rattle.std.specs.Prelude.{ℕ, ◌≡◌, List, ◌∷◌}
+use Rattle.otp_core.specs.Ranges.{IsCounter}
 use Rattle.otp_core.specs.Attempt.{Attempt, CodeTexts, attempt_of}
 use Rattle.otp_core.specs.History.{IsAfter}
 use Rattle.otp_core.specs.Reply.{IsDueReply}
@@ -19,4 +19,4 @@ pub record IsTokenAttempt (old : TokenFields) (moment : ℕ) (sent : CodeTexts) 
   -- the new token is the old one after the reply
   pub state : new ≡ after_reply old moment reply
   -- a counter that passes is at most the greatest that can pass
-  pub counter : (c : ℕ) → reply ≡ Pass c → c ≤ max_counter
+  pub counter : (c : ℕ) → reply ≡ Pass c → IsCounter c

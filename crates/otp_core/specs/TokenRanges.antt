@@ -1,7 +1,7 @@
 -- The ranges of the fields of tokens, and which field is the first outside its range.
 use Rattle.std.specs.Prelude.{◌+◌, ◌≤◌, ◌≡◌, ◌⊎◌, List, [], ◌∷◌, nat_abs}
 use Rattle.std.specs.Option.{ForSome}
-use Rattle.otp_core.specs.Ranges.{max_counter, max_look_ahead, max_sync_ahead, max_step, max_window_steps, max_drift_bound, max_limit}
+use Rattle.otp_core.specs.Ranges.{max_counter, max_look_ahead, max_sync_ahead, max_window_steps, max_drift_bound, max_limit, IsStepLength}
 use Rattle.otp_core.specs.declared.fault.OtpFault.{OtpFault}
 use Rattle.otp_core.specs.declared.fault.OtpFault.TheVariants as fault
 use Rattle.otp_core.specs.declared.fault.Setting.{Setting}
@@ -43,7 +43,7 @@ hotp_ranges t =
 -- the settings of a TOTP token that have a range, in the order in which they are checked
 abbrev pub totp_ranges : TotpFields → List Ranged
 totp_ranges t =
-    range Step ((1 ≤ t.step) × (t.step ≤ max_step))
+    range Step (IsStepLength t.step)
     ∷ range Back (t.back ≤ max_window_steps)
     ∷ range Ahead (t.ahead ≤ max_window_steps)
     ∷ range MaxDrift (t.max_drift ≤ max_drift_bound)

@@ -1,8 +1,8 @@
 -- The counters that can pass, given the start of a token and the history since.
-use Rattle.std.specs.Prelude.{ℕ, ◌+◌, ◌≤◌, ◌<◌, max, ℤ, pos, ◌+ℤ◌, ◌-ℤ◌, ◌≤ℤ◌, List, [], ◌∷◌, Option, Some, None}
+use Rattle.std.specs.Prelude.{ℕ, ◌+◌, ◌≤◌, ◌<◌, max, ℤ, pos, ◌+ℤ◌, ◌-ℤ◌, ◌≤ℤ◌, ◌⊎◌, List, [], ◌∷◌, Option, Some, None}
 use Rattle.std.specs.List.{AllByRecursion}
 use Rattle.std.specs.Option.{ForSome, option_map_or}
-use Rattle.otp_core.specs.Ranges.{max_counter}
+use Rattle.otp_core.specs.Ranges.{IsCounter}
 use Rattle.otp_core.specs.Code.{steps_from}
 use Rattle.otp_core.specs.Attempt.{Attempt, used_in}
 use Rattle.otp_core.specs.declared.token.reply.Reply.{Reply}
@@ -25,7 +25,7 @@ first_in_window next counters = option_map_or (λ most. most + 1) (greatest coun
 pub record IsInHotpWindow (first ahead c : ℕ) : Type 0 where
   pub not_before : first ≤ c
   pub within : c ≤ first + ahead
-  pub most : c ≤ max_counter
+  pub most : IsCounter c
 
 -- T, TOTP's present step (RFC 6238, section 4.2)
 abbrev pub step_at : TotpFields → (moment : ℕ) → ℕ
@@ -58,7 +58,7 @@ IsAbove counters c = AllByRecursion (λ used. used < c) counters
 -- sync_ahead counters after it (RFC 4226, section 7.4), and the second is at most the greatest that can pass. With TOTP two codes in a
 -- row never pass.
 abbrev pub IsPairCandidate : (start : TokenFields) → (history : List Attempt) → (c : ℕ) → Type 0
-IsPairCandidate (Hotp t) history c = IsInHotpWindow (first_in_window t.next (used_in history)) t.sync_ahead c × (c + 1 ≤ max_counter)
+IsPairCandidate (Hotp t) history c = IsInHotpWindow (first_in_window t.next (used_in history)) t.sync_ahead c × IsCounter (c + 1)
 IsPairCandidate (Totp t) history c = ⊥
 
 -- the counter can pass at a moment, after a history from a start. A step of TOTP passes at most once, and no earlier step passes
@@ -70,3 +70,7 @@ IsCandidate (Totp t) history moment w =
     × IsInTotpWindow (step_at t moment) (drift_after t history) t.back t.ahead t.max_drift w
     × ForSome t.last (λ l. l < w)
     × IsAbove (used_in history) w
+
+-- the counter can pass at a moment, after a history from a start: by itself, or as the first of a pair
+abbrev pub CanPass : (start : TokenFields) → (history : List Attempt) → (moment c : ℕ) → Type 0
+CanPass start history moment c = IsCandidate start history moment c ⊎ IsPairCandidate start history c

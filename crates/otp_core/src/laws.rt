@@ -1,6 +1,6 @@
 //! Laws about histories of attempts, for crates that use tokens. Each is the contract of a function that does nothing.
 ghost use Rattle.otp_core.specs.Laws.{BeginsWithItself, CandidatesAreNew, UsedStaysUsed, HistoriesJoin, LegalHistoriesJoin};
-ghost use Rattle.otp_core.specs.Laws.{OnlyOneReplyIsDue, SomeReplyIsDue};
+ghost use Rattle.otp_core.specs.Laws.{AtMostOneReplyIsDue, SomeReplyIsDue};
 
 /// A token and the empty history lead to that token, so a run may begin with any token.
 pub fn begins_with_itself()
@@ -32,8 +32,8 @@ pub fn legal_histories_join()
 {}
 
 /// At most one reply is due to an attempt. So the start and the history decide whether a recorded reply is right.
-pub fn only_one_reply_is_due()
-    ensures { OnlyOneReplyIsDue }
+pub fn at_most_one_reply_is_due()
+    ensures { AtMostOneReplyIsDue }
 {}
 
 /// At least one reply is due to every attempt, after any start and history.

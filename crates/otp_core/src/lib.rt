@@ -27,7 +27,7 @@ pub use code::{Code, hotp, hotp_with, step, truncate};
 pub use digits::{Digits, MAX_DIGITS, MIN_DIGITS};
 pub use fault::{OtpFault, Setting};
 pub use hash::OtpHash;
-pub use moment::{MAX_MOMENT, Moment};
+pub use moment::{MAX_MOMENT, Moment, law_of_moments};
 pub use secret::{MAX_SECRET_LEN, MIN_SECRET_LEN, Secret};
 pub use sent::SentCodes;
 pub use token::{

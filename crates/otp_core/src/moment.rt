@@ -46,3 +46,10 @@ impl Moment {
         self.seconds
     }
 }
+
+/// A law: a moment is in its range. Only proofs need it.
+pub fn law_of_moments(moment: Moment)
+    ensures { IsMoment moment }
+{
+    moment.seconds();
+}

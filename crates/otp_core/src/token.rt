@@ -2,7 +2,7 @@
 ghost use Rattle.std.specs.Prelude.{◌≡◌, MatchResult};
 ghost use Rattle.otp_core.specs.TokenRanges.{IsHotpInRange, IsTotpInRange, IsInRange, IsRefusalOf, hotp_ranges, totp_ranges};
 ghost use Rattle.otp_core.specs.Attempt.CodeTexts.{one_text, two_texts};
-ghost use Rattle.otp_core.specs.SentCodes.{texts_of};
+ghost use Rattle.otp_core.specs.Attempt.{texts_of};
 ghost use Rattle.otp_core.specs.State.{unlocked};
 ghost use Rattle.otp_core.specs.TokenAttempt.{IsTokenAttempt};
 ghost use Rattle.otp_core.specs.declared.token.kinds.TokenFields.TheVariants.{Hotp, Totp};

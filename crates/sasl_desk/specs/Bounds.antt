@@ -1,5 +1,5 @@
 -- The bounds of a desk, a hall and a service.
-use Rattle.std.specs.Prelude.{ℕ, ◌+◌, ◌*◌, ◌<◌, Vec, vec_len, vec_capacity}
+use Rattle.std.specs.Prelude.{ℕ, ◌+◌, ◌*◌}
 use Rattle.log_grammar.specs.Lines.{max_line_len, max_log_line_len}
 
 -- the most bytes that a call sends its client: one line with its LF
@@ -29,10 +29,6 @@ max_prefix_len = max_u64_digits + 1
 -- no call of a hall adds more bytes than this to its log
 abbrev pub max_numbered_call_bytes : ℕ
 max_numbered_call_bytes = max_call_lines * (max_log_line_and_lf_len + max_prefix_len)
-
--- the vector's spare capacity is too small for so many bytes
-abbrev pub LacksRoomFor : {Z : Type 0} → Vec ℕ Z → (bytes : ℕ) → Type 0
-LacksRoomFor v bytes = vec_capacity v < vec_len v + bytes
 
 -- the most turns that one client gets
 abbrev pub max_turns : ℕ

@@ -4,10 +4,9 @@ use Rattle.book_format.specs.Account.{AccountFields}
 use Rattle.book_format.specs.Book.{BookFields}
 use Rattle.account_book.specs.Accounts.{IsAdded}
 use Rattle.account_book.specs.Store.{StoreFacts}
-use Rattle.account_book.specs.Tokens.{IsUnlocked}
-use Rattle.log_grammar.specs.LoggedAttempt.{LoggedAttempt}
+use Rattle.account_book.specs.Tokens.{IsUnlocked, IsBookAttempt}
+use Rattle.account_book.specs.AccountAttempt.{AccountAttempt}
 use Rattle.log_grammar.specs.Numbered.{Numbered}
-use Rattle.sasl_desk.specs.JudgedAttempts.{IsAttemptJudged}
 use Rattle.sasl_desk.specs.Runs.{Call}
 use Rattle.sasl_desk.specs.Desks.{IsDeskAfter, spent_by_all}
 use Rattle.sasl_desk.specs.Halls.{HallFields, IsHallAfter}
@@ -19,14 +18,14 @@ use Rattle.sasl_desk.specs.declared.desk.Desk.{Desk}
 pub record RunOf (C : Type 0) : Type 0 where
   pub start : BookFields
   pub calls : List C
-  pub told : List LoggedAttempt
+  pub told : List AccountAttempt
   pub left : BookFields
 
 -- what a run that kept this book may leave: the book, or that with one more attempt. The law `store_holds_a_book` says that
 -- each text that the store may hold after a call is of such a book. Of a stop within a save it is assumed of the store (`BookStore`) that
 -- the old text or the new one is left.
 abbrev pub MayLeave : (kept left : BookFields) → Type 0
-MayLeave kept left = (left ≡ kept) ⊎ ((attempt : LoggedAttempt) × IsAttemptJudged kept attempt left)
+MayLeave kept left = (left ≡ kept) ⊎ ((attempt : AccountAttempt) × IsBookAttempt kept attempt left)
 
 -- what happens to a book: a desk or a hall runs with it, from the text that the store held when the run began to the one that
 -- it holds when the run has stopped; the token of an account judges an attempt, without a desk; the token of an account is
@@ -34,7 +33,7 @@ MayLeave kept left = (left ≡ kept) ⊎ ((attempt : LoggedAttempt) × IsAttempt
 pub data Change : Type 0 where
   desk_ran : (run : RunOf Call) → Change
   hall_ran : (run : RunOf (Numbered Call)) → Change
-  judged : (attempt : LoggedAttempt) → Change
+  judged : (attempt : AccountAttempt) → Change
   unlocked : (name : List ℕ) → Change
   added : (name : List ℕ) (account : AccountFields) → Change
 
@@ -53,7 +52,7 @@ spent_by_changes changes = flat_map spent_by_change changes
 -- this is a run of a desk or of a hall: `IsAfter` says that one that began with a book has answered calls; `replies` are then those in
 -- its log, and `book` is the book that it has
 pub record IsRunOf {Server C : Type 0} (IsAfter : BookFields → List C → Server → Type 0)
-    (replies : (start : BookFields) (calls : List C) (server : Server) → IsAfter start calls server → List LoggedAttempt)
+    (replies : (start : BookFields) (calls : List C) (server : Server) → IsAfter start calls server → List AccountAttempt)
     (book : Server → BookFields) (run : RunOf C) : Type 0 where
   -- one that began with the book has answered the calls
   pub server : Server
@@ -67,7 +66,7 @@ pub record IsRunOf {Server C : Type 0} (IsAfter : BookFields → List C → Serv
 -- a run of this kind began with the book, answered the calls, and leaves this book
 abbrev pub IsRunLeaving : {C : Type 0} → (IsRun : RunOf C → Type 0) → (start : BookFields) → List C → (left : BookFields) → Type 0
 IsRunLeaving IsRun start calls left =
-    (told : List LoggedAttempt) × IsRun (record { start = start; calls = calls; told = told; left = left })
+    (told : List AccountAttempt) × IsRun (record { start = start; calls = calls; told = told; left = left })
 
 -- runs and changes: `facts` are those of the store, and `IsStored` is true of each text that is stored
 module _ {S : Type 0} (facts : S → StoreFacts) (IsStored : List ℕ → Type 0) where
@@ -93,7 +92,7 @@ module _ {S : Type 0} (facts : S → StoreFacts) (IsStored : List ℕ → Type 0
   abbrev pub IsChange : Change → (old new : BookFields) → Type 0
   IsChange (desk_ran run) old new = IsDeskRunOf run × (run.start ≡ old) × (run.left ≡ new)
   IsChange (hall_ran run) old new = IsHallRunOf run × (run.start ≡ old) × (run.left ≡ new)
-  IsChange (judged attempt) old new = IsAttemptJudged old attempt new
+  IsChange (judged attempt) old new = IsBookAttempt old attempt new
   IsChange (unlocked name) old new = IsUnlocked old name new
   IsChange (added name account) old new = IsAdded old name account new
 

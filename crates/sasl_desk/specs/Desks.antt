@@ -4,13 +4,13 @@ use Rattle.book_format.specs.Book.{BookFields}
 use Rattle.book_format.specs.Trees.{IsBookText}
 use Rattle.account_book.specs.SavedBooks.{HasStoredText}
 use Rattle.account_book.specs.Store.{StoreFacts}
+use Rattle.account_book.specs.AccountAttempt.{AccountAttempt}
+use Rattle.account_book.specs.Tokens.{IsBookAttempt}
 use Rattle.log_grammar.specs.Books.{accounts_in}
 use Rattle.log_grammar.specs.Lines.{LogLine, log_bytes}
-use Rattle.log_grammar.specs.LoggedAttempt.{LoggedAttempt}
 use Rattle.log_grammar.specs.Places.{Place, between, halted}
 use Rattle.log_grammar.specs.Demands.{Accounts, demands}
 use Rattle.log_grammar.specs.Begins.{Begins}
-use Rattle.sasl_desk.specs.JudgedAttempts.{IsAttemptJudged}
 use Rattle.sasl_desk.specs.Runs.{Request, Call, call_of, run_lines, server_nonce_of, wire_bytes, IsRun}
 use Rattle.sasl_desk.specs.SavedCalls.{IsAttemptOf, CountsSaves, AsksToSaveAttempt, IsQuiet, LeavesFailedStore}
 use Rattle.sasl_desk.specs.Sessions.{IsSessionAt, CanBeWritten}
@@ -19,7 +19,7 @@ use Rattle.sasl_desk.specs.declared.session.Session.{Session}
 use Rattle.sasl_desk.specs.declared.session.Session.TheVariants.{WaitAuth, WaitFirst, WaitFinal, WaitCode}
 use Rattle.book_keeper.specs.declared.keeper.Keeper.{Keeper}
 use Rattle.sasl_desk.specs.declared.turn.AfterTurn.{AfterTurn}
-use Rattle.sasl_desk.specs.declared.turn.AfterTurn.TheVariants.{Going, Over}
+use Rattle.sasl_desk.specs.declared.turn.AfterTurn.TheVariants.{Going}
 use Rattle.sasl_desk.specs.declared.turn.AfterTurn.TheVariants as after
 use Rattle.sasl_desk.specs.declared.desk.Desk.{Desk}
 use Rattle.sasl_desk.specs.declared.desk.state.State.{State}
@@ -35,14 +35,14 @@ session_phase (WaitFinal waiting) = phase.WaitFinal
 session_phase (WaitCode name) = phase.WaitCode
 
 -- the phase of a state
-abbrev pub phase_of : State → Phase
-phase_of Closed = phase.Closed
-phase_of (Open session server_nonce) = session_phase session
-phase_of Halted = phase.Halted
+abbrev pub state_phase : State → Phase
+state_phase Closed = phase.Closed
+state_phase (Open session server_nonce) = session_phase session
+state_phase Halted = phase.Halted
 
 -- the phase of a desk
 abbrev pub desk_phase : {S : Type 0} → Desk S → Phase
-desk_phase desk = phase_of desk.state
+desk_phase desk = state_phase desk.state
 
 -- the state of a desk whose log is at this place. A desk that has halted may be at any place.
 abbrev pub IsStateAt : Accounts → (server_nonce : List ℕ) → Place → State → Type 0
@@ -66,7 +66,7 @@ pub record HoldsBook (IsStored : List ℕ → Type 0) (book : BookFields) (store
   pub stored : IsStored store.saved
 
 -- the latest call judged this attempt
-abbrev pub IsLatestAttempt : Accounts → List Call → LoggedAttempt → Type 0
+abbrev pub IsLatestAttempt : Accounts → List Call → AccountAttempt → Type 0
 IsLatestAttempt accounts [] attempt = ⊥
 IsLatestAttempt accounts (call ∷ before) attempt =
     (place : Place) × IsRun accounts before place × IsAttemptOf call.request place call.lines attempt
@@ -76,10 +76,10 @@ pub record IsLostAfter (IsStored : List ℕ → Type 0) (accounts : Accounts) (c
     (book : BookFields) (store : StoreFacts) : Type 0 where
   pub failed : store.failed ≡ true
   -- the latest call judged this attempt, which makes the next book
-  pub attempt : LoggedAttempt
+  pub attempt : AccountAttempt
   pub next : BookFields
   pub is_latest : IsLatestAttempt accounts calls attempt
-  pub is_judged : IsAttemptJudged book attempt next
+  pub is_judged : IsBookAttempt book attempt next
   -- the failed save was given the text of the next book
   pub asked : IsBookText store.asked next
   -- the store says that it holds the text of the book before the attempt, which was saved, or that of the next book
@@ -94,13 +94,13 @@ IsStoredAt IsStored accounts calls halted book store = IsLostAfter IsStored acco
 IsStoredAt IsStored accounts calls place book store = HoldsBook IsStored book store
 
 -- the book after these replies, the latest of which comes first: each attempt was judged in the book before it
-abbrev pub IsBookAfterReplies : (start : BookFields) → (latest_first : List LoggedAttempt) → (book : BookFields) → Type 0
+abbrev pub IsBookAfterReplies : (start : BookFields) → (latest_first : List AccountAttempt) → (book : BookFields) → Type 0
 IsBookAfterReplies start [] book = book ≡ start
 IsBookAfterReplies start (attempt ∷ before) book =
-    (old : BookFields) × IsBookAfterReplies start before old × IsAttemptJudged old attempt book
+    (old : BookFields) × IsBookAfterReplies start before old × IsBookAttempt old attempt book
 
 -- the counters that replies use, with their accounts, the latest first
-abbrev pub spent_by_all : List LoggedAttempt → List (List ℕ × ℕ)
+abbrev pub spent_by_all : List AccountAttempt → List (List ℕ × ℕ)
 spent_by_all attempts = flat_map spent_by attempts
 
 -- the desk of this keeper, in this state
@@ -116,7 +116,7 @@ pub record IsSameDesk {S : Type 0} (old new : Desk S) : Type 0 where
 -- the state of a desk whose session was left in this way
 abbrev pub state_after : AfterTurn → (server_nonce : List ℕ) → State
 state_after (Going session) server_nonce = Open session server_nonce
-state_after Over server_nonce = Closed
+state_after after.Closed server_nonce = Closed
 state_after (after.Halted session) server_nonce = Halted
 
 -- what a desk stands for, and what its calls do: `facts` are those of its store, and `IsStored` is true of each text that is stored
@@ -125,7 +125,7 @@ module _ {S : Type 0} (facts : S → StoreFacts) (IsStored : List ℕ → Type 0
   pub record IsDeskAfter (start : BookFields) (calls : List Call) (desk : Desk S) : Type 0 where
     -- where the log stands, and the replies to codes in it
     pub place : Place
-    pub told : List LoggedAttempt
+    pub told : List AccountAttempt
     -- what was asked is recorded and answered
     pub is_run : IsRun (accounts_in start) calls place
     -- a clean log may begin with the log's lines, and they can be written

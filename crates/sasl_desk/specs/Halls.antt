@@ -6,15 +6,15 @@ use Rattle.std.specs.declared.option.Option.{Option}
 use Rattle.std.specs.declared.option.Option.TheVariants.{None, Some}
 use Rattle.book_format.specs.Book.{BookFields}
 use Rattle.account_book.specs.Store.{StoreFacts}
+use Rattle.account_book.specs.AccountAttempt.{AccountAttempt}
 use Rattle.log_grammar.specs.Books.{accounts_in}
 use Rattle.log_grammar.specs.Bytes.{ended_by_lf}
 use Rattle.log_grammar.specs.Lines.{LogLine, header_two, said, ended, busy, log_bytes}
-use Rattle.log_grammar.specs.LoggedAttempt.{LoggedAttempt}
 use Rattle.log_grammar.specs.Places.{Place, between, offered, waits_first, waits_final, waits_code, open_at}
 use Rattle.log_grammar.specs.Demands.{Accounts, demands}
 use Rattle.log_grammar.specs.Numbered.{Numbered, numbered, of_number, given_in, closed_in, IsNumberedLogUpTo}
 use Rattle.log_grammar.specs.Versions.{max_open_sessions}
-use Rattle.log_grammar.specs.NumberedLines.{numbered_text, IsNumberedWritable, max_session_number}
+use Rattle.log_grammar.specs.NumberedLines.{numbered_text, IsNumberedLineWritable, max_session_number}
 use Rattle.sasl_desk.specs.Desks.{session_phase, IsStoredAt, HoldsBook, IsBookAfterReplies}
 use Rattle.sasl_desk.specs.OpenSessions.{is_of}
 use Rattle.sasl_desk.specs.Runs.{Request, greets, Call, call_of, server_nonce_of, wire_bytes, IsRun}
@@ -105,6 +105,11 @@ open_session_phase false (Some open_session) = Some (session_phase open_session.
 abbrev pub phase_in : {S : Type 0} → HallFields S → ℕ → Option Phase
 phase_in hall number = open_session_phase hall.is_halted (find (is_of number) hall.open_sessions)
 
+-- what `Hall::phase` returns of a session in this phase: none if the session is over
+abbrev pub open_phase : Phase → Option Phase
+open_phase phase.Closed = None
+open_phase phase = Some phase
+
 -- two halls have the same book, store and open sessions, in any order, have given the same numbers, and have both halted or neither
 pub record IsSameHall {S : Type 0} (old new : HallFields S) : Type 0 where
   pub book : new.keeper.book ≡ old.keeper.book
@@ -124,13 +129,13 @@ module _ {S : Type 0} (facts : S → StoreFacts) (IsStored : List ℕ → Type 0
   pub record IsHallAfter (start : BookFields) (calls : List (Numbered Call)) (hall : HallFields S) : Type 0 where
     -- where the session of each number stands, and the replies to codes, in the order of the whole log
     pub places : ℕ → Place
-    pub told : List LoggedAttempt
+    pub told : List AccountAttempt
     -- what each session was asked is recorded and answered; nothing was asked of a number that was not given
     pub session_runs : (number : ℕ) → IsSessionRun (accounts_in start) (of_number number calls) (places number)
     pub fresh : (number : ℕ) → given_in (hall_lines calls) < number → of_number number calls ≡ []
     -- the lines are those of a log of version 2, at most `max_open_sessions` of whose sessions are open at once, and they can be written
-    pub spelled : IsNumberedLogUpTo max_open_sessions (demands (accounts_in start)) (hall_lines calls) places told
-    pub writable : AllByRecursion IsNumberedWritable (hall_lines calls)
+    pub begins : IsNumberedLogUpTo max_open_sessions (demands (accounts_in start)) (hall_lines calls) places told
+    pub writable : AllByRecursion IsNumberedLineWritable (hall_lines calls)
     -- the numbers that were given are 1, 2, and so on
     pub given : hall.given ≡ given_in (hall_lines calls)
     pub last_number : hall.given ≤ max_session_number
@@ -152,8 +157,11 @@ module _ {S : Type 0} (facts : S → StoreFacts) (IsStored : List ℕ → Type 0
     -- the hall has answered one more call, and the phase that is returned is that of the place where the session then stands
     pub stands : (start : BookFields) (calls : List (Numbered Call)) → IsHallAfter start calls old
         → (after : IsHallAfter start (numbered number (call_of request lines) ∷ calls) new) × IsPhaseOf (after.places number) phase_after
+    -- unless the hall has halted, `Hall::phase` then returns the same phase, or none if the session is over
+    pub kept : (start : BookFields) (calls : List (Numbered Call)) → IsHallAfter start calls old
+        → new.is_halted ≡ false → phase_in new number ≡ open_phase phase_after
     -- the phase that is returned is Halted if and only if the hall has halted
-    pub tells : (phase_after ≡ phase.Halted) ↔ (new.is_halted ≡ true)
+    pub shows_halt : (phase_after ≡ phase.Halted) ↔ (new.is_halted ≡ true)
     -- the call saved what its lines record
     pub saves : (start : BookFields) (calls : List (Numbered Call)) → IsHallAfter start calls old
         → CountsSaves facts lines old.keeper new.keeper

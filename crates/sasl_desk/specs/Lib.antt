@@ -1,15 +1,11 @@
 -- What a desk and a hall do, in the order in which to read it: what a client does, which of its lines are due, a session, attempts that were
 -- judged, the runs of a desk and of a hall, what is true of all runs, and how a client is served.
 pub mod Events
-pub mod DueLines
 pub mod ChallengedLogin
 pub mod Sessions
-pub mod SessionTurns
+pub mod DueLines
 pub mod Bounds
-pub mod Prefix
-pub mod JudgedAttempts
 pub mod Runs
-pub mod TurnResults
 pub mod Spent
 pub mod SavedCalls
 pub mod Desks
@@ -24,3 +20,4 @@ pub mod Faults
 pub mod Inputs
 pub mod Outputs
 pub mod Serves
+pub mod inner

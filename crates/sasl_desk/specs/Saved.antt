@@ -4,20 +4,20 @@ use Rattle.book_format.specs.Book.{BookFields}
 use Rattle.book_format.specs.Trees.{IsBookText}
 use Rattle.account_book.specs.SavedBooks.{HasStoredText}
 use Rattle.account_book.specs.Store.{StoreFacts}
+use Rattle.account_book.specs.AccountAttempt.{AccountAttempt}
+use Rattle.account_book.specs.Tokens.{IsBookAttempt}
 use Rattle.log_grammar.specs.Books.{accounts_in}
 use Rattle.log_grammar.specs.Begins.{Begins}
 use Rattle.log_grammar.specs.Demands.{demands}
 use Rattle.log_grammar.specs.Lines.{LogLine, log_bytes}
 use Rattle.log_grammar.specs.Numbered.{Numbered, IsNumberedLogUpTo}
 use Rattle.log_grammar.specs.Places.{Place}
-use Rattle.log_grammar.specs.LoggedAttempt.{LoggedAttempt}
 use Rattle.log_grammar.specs.Versions.{max_open_sessions}
 use Rattle.sasl_desk.specs.Desks.{MayHold, MayHoldWithinSave, IsBookAfterReplies, spent_by_all}
-use Rattle.sasl_desk.specs.JudgedAttempts.{IsAttemptJudged}
 use Rattle.sasl_desk.specs.Spent.{AreSpent, spent_by}
 
 -- `IsStored` is true of some text of the book to which these replies lead
-pub record IsToldSaved (IsStored : List ℕ → Type 0) (start : BookFields) (told : List LoggedAttempt) : Type 0 where
+pub record IsToldSaved (IsStored : List ℕ → Type 0) (start : BookFields) (told : List AccountAttempt) : Type 0 where
   pub last : BookFields
   pub is_last : IsBookAfterReplies start (reverse told) last
   pub saved : HasStoredText IsStored last
@@ -26,7 +26,7 @@ pub record IsToldSaved (IsStored : List ℕ → Type 0) (start : BookFields) (to
 pub record IsLogSaved (IsStored : List ℕ → Type 0) (start : BookFields) (log : List ℕ) : Type 0 where
   pub lines : List LogLine
   pub place : Place
-  pub told : List LoggedAttempt
+  pub told : List AccountAttempt
   pub are_lines : log ≡ log_bytes lines
   pub begins : Begins (demands (accounts_in start)) lines place told
   pub saved : IsToldSaved IsStored start told
@@ -34,8 +34,8 @@ pub record IsLogSaved (IsStored : List ℕ → Type 0) (start : BookFields) (log
 -- `IsStored` is true of some text of the book to which the replies in these lines of a log of version 2 lead
 pub record AreLinesSaved (IsStored : List ℕ → Type 0) (start : BookFields) (lines : List (Numbered LogLine)) : Type 0 where
   pub places : ℕ → Place
-  pub told : List LoggedAttempt
-  pub spelled : IsNumberedLogUpTo max_open_sessions (demands (accounts_in start)) lines places told
+  pub told : List AccountAttempt
+  pub begins : IsNumberedLogUpTo max_open_sessions (demands (accounts_in start)) lines places told
   pub saved : IsToldSaved IsStored start told
 
 -- the text is that of a book in which these counters are spent
@@ -44,14 +44,14 @@ IsTextOfSpent counters text = (saved : BookFields) × IsBookText text saved × A
 
 -- a desk or a hall began with the book `start`, has told these replies, and has the book `kept` in this store. Whichever text the store
 -- may hold is that of a book in which each counter is spent that the replies have used, and each that was spent before the run.
-pub record AreToldCountersSaved (start : BookFields) (told : List LoggedAttempt) (kept : BookFields) (store : StoreFacts) : Type 0 where
+pub record AreToldCountersSaved (start : BookFields) (told : List AccountAttempt) (kept : BookFields) (store : StoreFacts) : Type 0 where
   -- it is so at the end of a call, also of the text that a failed save was given
   pub ended : (spent : List (List ℕ × ℕ)) (text : List ℕ) → AreSpent spent start → MayHold store text
       → IsTextOfSpent (spent_by_all (reverse told) ++ spent) text
   -- it is so within a call that is saving a text of `next`, the book with the attempt that is judged
-  pub within : (spent : List (List ℕ × ℕ)) (attempt : LoggedAttempt) (next : BookFields) (asked text : List ℕ) → AreSpent spent start
-      → IsAttemptJudged kept attempt next → IsBookText asked next → MayHoldWithinSave store asked text
+  pub within : (spent : List (List ℕ × ℕ)) (attempt : AccountAttempt) (next : BookFields) (asked text : List ℕ) → AreSpent spent start
+      → IsBookAttempt kept attempt next → IsBookText asked next → MayHoldWithinSave store asked text
       → IsTextOfSpent (spent_by_all (reverse told) ++ spent) text
   -- in the book with the attempt, the counters that the attempt uses are spent as well
-  pub next : (spent : List (List ℕ × ℕ)) (attempt : LoggedAttempt) (next : BookFields) → AreSpent spent start
-      → IsAttemptJudged kept attempt next → AreSpent (spent_by attempt ++ (spent_by_all (reverse told) ++ spent)) next
+  pub next : (spent : List (List ℕ × ℕ)) (attempt : AccountAttempt) (next : BookFields) → AreSpent spent start
+      → IsBookAttempt kept attempt next → AreSpent (spent_by attempt ++ (spent_by_all (reverse told) ++ spent)) next

@@ -4,11 +4,11 @@ use Rattle.book_format.specs.Book.{BookFields}
 use Rattle.book_format.specs.Trees.{IsBookText}
 use Rattle.account_book.specs.SavedBooks.{needs_save}
 use Rattle.account_book.specs.Store.{StoreFacts}
+use Rattle.account_book.specs.AccountAttempt.{AccountAttempt}
+use Rattle.account_book.specs.Tokens.{IsBookAttempt}
 use Rattle.log_grammar.specs.Lines.{LogLine, said, heard, replies, halt, code_line}
-use Rattle.log_grammar.specs.LoggedAttempt.{LoggedAttempt}
 use Rattle.log_grammar.specs.Places.{Place, waits_code}
 use Rattle.sasl_desk.specs.Events.{ClientEvent}
-use Rattle.sasl_desk.specs.JudgedAttempts.{IsAttemptJudged}
 use Rattle.sasl_desk.specs.Runs.{Request, hears}
 use Rattle.book_keeper.specs.declared.keeper.Keeper.{Keeper}
 
@@ -20,7 +20,7 @@ is_saving line = false
 
 -- the attempt of a call: by the account whose client may send a code at this place, at the moment of the call, with what the client sent;
 -- and its reply needs a save
-pub record IsAttemptOf (request : Request) (at : Place) (lines : List LogLine) (attempt : LoggedAttempt) : Type 0 where
+pub record IsAttemptOf (request : Request) (at : Place) (lines : List LogLine) (attempt : AccountAttempt) : Type 0 where
   pub event : ClientEvent
   pub answer : LogLine
   pub is_request : request ≡ hears event attempt.moment
@@ -37,8 +37,8 @@ module _ {S : Type 0} (facts : S → StoreFacts) where
   -- if the store was asked to save, it was given the text of the book with the attempt of this call
   abbrev pub AsksToSaveAttempt : Request → Place → List LogLine → (old new : Keeper S) → Type 0
   AsksToSaveAttempt request place lines old new = (filter is_saving lines ≡ [] → ⊥)
-      → (attempt : LoggedAttempt) × (next : BookFields) × IsAttemptOf request place lines attempt
-      × IsAttemptJudged old.book attempt next × IsBookText (facts new.store).asked next
+      → (attempt : AccountAttempt) × (next : BookFields) × IsAttemptOf request place lines attempt
+      × IsBookAttempt old.book attempt next × IsBookText (facts new.store).asked next
 
   -- a call without a reply that needs a save, and without HALT, leaves the book and the store as they are
   abbrev pub IsQuiet : List LogLine → (old new : Keeper S) → Type 0

@@ -1,5 +1,5 @@
 -- How a client is served: its lines are read, the desk answers them, and what the desk writes goes to the log and to the client.
-use Rattle.std.specs.Prelude.{ℕ, ◌≡◌, ◌≢◌, ◌⊎◌, ◌<◌, ◌≤◌, true, List, [], ◌∷◌, ◌++◌, length, map}
+use Rattle.std.specs.Prelude.{ℕ, ◌≡◌, ◌≢◌, ◌⊎◌, ◌<◌, ◌≤◌, true, false, List, [], ◌∷◌, ◌++◌, length, map}
 use Rattle.std.specs.Io.KnownBytes.{Appends}
 use Rattle.std.specs.List.{AllByRecursion}
 use Rattle.book_format.specs.Book.{BookFields}
@@ -10,7 +10,7 @@ use Rattle.sasl_log.specs.Sink.{SinkFacts}
 use Rattle.sasl_desk.specs.Bounds.{max_turns}
 use Rattle.sasl_desk.specs.Events.{goes_away}
 use Rattle.sasl_desk.specs.Inputs.{LineRead, ReadsLine, ReadsLines, event_read}
-use Rattle.sasl_desk.specs.Runs.{Request, greets, hears, Call, call_of}
+use Rattle.sasl_desk.specs.Runs.{Request, greets, hears, Call, call_of, call_lines}
 use Rattle.sasl_desk.specs.Desks.{IsDeskAfter, IsSameDesk, desk_phase}
 use Rattle.sasl_desk.specs.SavedCalls.{CountsSaves}
 use Rattle.sasl_desk.specs.Outputs.{AreWritten}
@@ -18,11 +18,6 @@ use Rattle.sasl_desk.specs.declared.desk.Desk.{Desk}
 use Rattle.sasl_desk.specs.declared.session.phase.Phase.TheVariants as phase
 use Rattle.sasl_desk.specs.declared.fault.ServeFault.{ServeFault}
 use Rattle.sasl_desk.specs.declared.fault.ServeFault.TheVariants.{Halted, Unwritable, NoMemory, WriteFault, LogFault}
-
--- the lines of these calls
-abbrev pub call_lines : List Call → List LogLine
-call_lines [] = []
-call_lines (call ∷ before) = call_lines before ++ call.lines
 
 -- if the desk has halted, its store has failed
 abbrev pub HaltsOnlyByStore : {S : Type 0} → (S → StoreFacts) → Desk S → Type 0
@@ -79,14 +74,15 @@ module _ {S : Type 0} (facts : S → StoreFacts) (IsStored : List ℕ → Type 0
     pub lines : List LogLine
     pub answers : AnswersAll old (call_of request lines ∷ []) new
     pub logged : Appends log.given log'.given (log_bytes lines)
-    pub failed : wire'.failed ≡ true
+    pub log_works : log'.failed ≡ false
+    pub wire_fails : wire'.failed ≡ true
     pub halts : HaltsOnlyByStore facts new
 
   -- the desk answered what it was asked, but the log has failed: then the desk has halted, and nothing was sent
   pub record IsUnlogged (request : Request) (old new : Desk S) (wire wire' log' : SinkFacts) : Type 0 where
     pub lines : List LogLine
     pub answers : AnswersAll old (call_of request lines ∷ []) new
-    pub failed : log'.failed ≡ true
+    pub log_fails : log'.failed ≡ true
     pub halted : desk_phase new ≡ phase.Halted
     pub unsent : wire' ≡ wire
 

@@ -1,21 +1,16 @@
 -- Counters of accounts that are spent: no code passes with one of them again, whatever is attempted later.
-use Rattle.std.specs.Prelude.{ℕ, ◌≡◌, ◌≢◌, ◌<◌, ◌⊎◌, List, [], ◌∷◌, ◌++◌, map, Option}
+use Rattle.std.specs.Prelude.{ℕ, ◌≡◌, ◌≢◌, ◌<◌, List, [], ◌∷◌, ◌++◌, map, Option}
 use Rattle.std.specs.List.{AllByRecursion}
 use Rattle.std.specs.declared.option.Option.TheVariants.{None, Some}
 use Rattle.otp_core.specs.Attempt.{Attempt, CodeTexts, used_in_reply}
 use Rattle.otp_core.specs.Ranges.{IsMoment}
-use Rattle.otp_core.specs.Window.{IsCandidate, IsPairCandidate}
+use Rattle.otp_core.specs.Window.{CanPass}
 use Rattle.otp_core.specs.History.{IsLegal}
 use Rattle.otp_core.specs.declared.token.reply.Reply.{Reply}
 use Rattle.otp_core.specs.declared.token.kinds.TokenFields.{TokenFields}
 use Rattle.book_format.specs.Book.{BookFields}
-use Rattle.account_book.specs.Tokens.{token_at}
-use Rattle.log_grammar.specs.LoggedAttempt.{LoggedAttempt}
-use Rattle.sasl_desk.specs.JudgedAttempts.{IsAttemptJudged}
-
--- a counter can pass at a moment after a history, by itself or as the first of a pair
-abbrev pub CanPass : TokenFields → List Attempt → (moment counter : ℕ) → Type 0
-CanPass token history moment counter = IsCandidate token history moment counter ⊎ IsPairCandidate token history counter
+use Rattle.account_book.specs.Tokens.{token_at, IsBookAttempt}
+use Rattle.account_book.specs.AccountAttempt.{AccountAttempt}
 
 -- a counter is below each that can pass with a token, at every moment and after every legal history
 abbrev pub IsBelow : TokenFields → (counter : ℕ) → Type 0
@@ -48,11 +43,11 @@ abbrev pub of_account : (name : List ℕ) → (counters : List ℕ) → List (Li
 of_account name counters = map (λ counter. (name, counter)) counters
 
 -- the counters that a reply uses, each with its account
-abbrev pub spent_by : LoggedAttempt → List (List ℕ × ℕ)
+abbrev pub spent_by : AccountAttempt → List (List ℕ × ℕ)
 spent_by attempt = of_account attempt.account (used_by_reply attempt.sent attempt.reply)
 
 -- what was spent stays spent, and the counters that a reply uses are different ones and are then spent as well. So over any number
 -- of replies, in any number of runs that each continue with the book of the one before, no counter of an account passes twice.
 abbrev pub SpentStaysSpent : Type 0
-SpentStaysSpent = (old new : BookFields) (attempt : LoggedAttempt) (counters : List (List ℕ × ℕ))
-    → IsAttemptJudged old attempt new → AreSpent counters old → AreSpent (spent_by attempt ++ counters) new
+SpentStaysSpent = (old new : BookFields) (attempt : AccountAttempt) (counters : List (List ℕ × ℕ))
+    → IsBookAttempt old attempt new → AreSpent counters old → AreSpent (spent_by attempt ++ counters) new

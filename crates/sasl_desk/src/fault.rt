@@ -106,9 +106,9 @@ impl ServeFault {
 pub enum OutputFault {
     /// The log could not be written, and nothing was sent to the client. The desk or hall should be halted.
     #[error("cannot write the log")]
-    Log,
+    LogFault,
 
     /// What is due to the client could not be written to it. It is in the log.
     #[error("cannot write to the client")]
-    Client,
+    WriteFault,
 }

@@ -2,21 +2,20 @@
 ghost use Rattle.std.specs.Prelude.{◌≡◌, ◌⊎◌, true, ℕ, List, [], ◌∷◌, ◌++◌};
 ghost use Rattle.book_format.specs.Book.{BookFields};
 ghost use Rattle.book_format.specs.Trees.{IsBookText};
+ghost use Rattle.account_book.specs.AccountAttempt.{AccountAttempt};
+ghost use Rattle.account_book.specs.Tokens.{IsBookAttempt};
 ghost use Rattle.log_grammar.specs.Books.{accounts_in};
 ghost use Rattle.log_grammar.specs.Versions.{IsLogFront, IsClean};
 ghost use Rattle.log_grammar.specs.Lines.{LogLine, said, halt, log_bytes};
-ghost use Rattle.log_grammar.specs.LoggedAttempt.{LoggedAttempt};
 ghost use Rattle.log_grammar.specs.Places.{Place};
 ghost use Rattle.log_grammar.specs.Demands.{Accounts};
 ghost use Rattle.sasl_desk.specs.AcceptedLogins.{LinesAcceptExactlyValid};
 ghost use Rattle.sasl_desk.specs.Desks.{MayHold, IsDeskAfter, IsBookAfterReplies, desk_phase, spent_by_all};
-ghost use Rattle.sasl_desk.specs.JudgedAttempts.{IsAttemptJudged};
 ghost use Rattle.sasl_desk.specs.Records.{HasItsRecords};
 ghost use Rattle.sasl_desk.specs.Changes.{IsDeskRunLeaving, Change, AreChanges, spent_by_changes};
 ghost use Rattle.sasl_desk.specs.Halls.{IsSessionRun};
-ghost use Rattle.sasl_desk.specs.Runs.{Call, run_lines, wire_bytes, IsRun};
+ghost use Rattle.sasl_desk.specs.Runs.{Call, run_lines, wire_bytes, IsRun, call_lines};
 ghost use Rattle.sasl_desk.specs.Saved.{IsLogSaved, AreToldCountersSaved};
-ghost use Rattle.sasl_desk.specs.Serves.{call_lines};
 ghost use Rattle.sasl_desk.specs.Sessions.{LongTextsAreBad};
 ghost use Rattle.sasl_desk.specs.Spent.{SpentStaysSpent, AreSpent};
 ghost use Rattle.sasl_desk.specs.declared.desk.Desk.{Desk};
@@ -36,7 +35,7 @@ pub fn spent_stays_spent()
 /// Over any number of replies, the counters that they use differ from each other and from those that were spent before. All of them
 /// are spent in the book after the replies.
 pub fn replies_spend_counters()
-    ensures { (start : BookFields) (latest_first : List LoggedAttempt) (last : BookFields) (spent : List (List ℕ × ℕ))
+    ensures { (start : BookFields) (latest_first : List AccountAttempt) (last : BookFields) (spent : List (List ℕ × ℕ))
         → IsBookAfterReplies start latest_first last → AreSpent spent start → AreSpent (spent_by_all latest_first ++ spent) last }
 {}
 
@@ -114,8 +113,8 @@ pub fn log_is_saved<S: BookStore>()
 /// The desk's book with one more judged attempt is a book that the run may leave: a stop within a call, while the store replaces the
 /// old text with the new one, leaves no other.
 pub fn stops_leave_runs<S: BookStore>()
-    ensures { (start : BookFields) (calls : List Call) (desk : Desk S) (attempt : LoggedAttempt) (next : BookFields)
-        → IsDeskAfter S.facts S.IsStored start calls desk → IsAttemptJudged desk.keeper.book attempt next
+    ensures { (start : BookFields) (calls : List Call) (desk : Desk S) (attempt : AccountAttempt) (next : BookFields)
+        → IsDeskAfter S.facts S.IsStored start calls desk → IsBookAttempt desk.keeper.book attempt next
         → IsDeskRunLeaving S.facts S.IsStored start calls next }
 {}
 

@@ -4,16 +4,15 @@
 //! nothing of the store or of other sessions, and writes nothing: it says what the log is to record. It hands each code on to be judged.
 ghost use Rattle.std.specs.Prelude.{◌≡◌, [], IfOk, IfErr, OnErr};
 ghost use Rattle.log_grammar.specs.Lines as grammar;
-ghost use Rattle.log_grammar.specs.Lines.{from_client};
+ghost use Rattle.log_grammar.specs.Lines.{from_client, IsLineWritable};
 ghost use Rattle.log_grammar.specs.Places.{Place};
 ghost use Rattle.log_grammar.specs.Demands.{Accounts};
 ghost use Rattle.sasl_log.specs.Logins.{KeepsEntries};
 ghost use Rattle.sasl_log.specs.Shown.{client_shown};
-ghost use Rattle.sasl_log.specs.Texts.{IsLineWritable};
 ghost use Rattle.sasl_desk.specs.Events.{event_shown};
 ghost use Rattle.sasl_desk.specs.Sessions.{IsSessionAt, IsLineOf, BearsMessage, CanBeWritten};
-ghost use Rattle.sasl_desk.specs.SessionTurns.{heard_lines};
-ghost use Rattle.sasl_desk.specs.SessionTurns.{ComesOfEvent, ComesOfLine, JudgesOnlyWhereCodeIsDue, JudgesOnlyLine, JudgesOnlyWhatWasSent};
+ghost use Rattle.sasl_desk.specs.inner.SessionTurns.{heard_lines};
+ghost use Rattle.sasl_desk.specs.inner.SessionTurns.{ComesOfEvent, ComesOfLine, JudgesOnlyWhereCodeIsDue, JudgesOnlyLine, JudgesOnlyWhatWasSent};
 
 mod answer;
 mod challenged_login;

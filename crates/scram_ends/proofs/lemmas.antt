@@ -2,7 +2,6 @@
 pub mod Challenges
 pub mod client_messages
 pub mod Decided
-pub mod Digests
 pub mod DueMessages
 pub mod HonestLogins
 pub mod Opening

@@ -1,7 +1,7 @@
 -- What both ends sign, and what shows that an end has its key (RFC 5802, section 3).
 use Rattle.std.specs.Prelude.{ℕ, ◌≡◌, List, [], ◌∷◌, ◌++◌, length}
 use Rattle.std.specs.Str.{byte}
-use Rattle.mac_core.specs.Mechanism.{length_by, hmac_by, hi_by, client_key_by, stored_key_by}
+use Rattle.mac_core.specs.Mechanism.{digest_len_by, hmac_by, hi_by, client_key_by, stored_key_by}
 use Rattle.mac_core.specs.Keys.{xor_bytes}
 use Rattle.mac_core.specs.declared.mechanism.Mechanism.{Mechanism}
 use Rattle.scram_text.specs.Messages.{ClientFirstParts, client_first_bare, ClientFinalParts, client_final_without_proof}
@@ -26,7 +26,7 @@ server_signature mechanism keys auth = hmac_by mechanism keys.server auth
 
 -- ClientProof is as long as a digest of H, and H(ClientProof XOR ClientSignature) = StoredKey
 pub record IsProof (mechanism : Mechanism) (keys : Keys) (auth proof : List ℕ) : Type 0 where
-  pub len : length proof ≡ length_by mechanism
+  pub len : length proof ≡ digest_len_by mechanism
   pub opens : stored_key_by mechanism (xor_bytes proof (client_signature mechanism keys auth)) ≡ keys.stored
 
 -- ClientProof = ClientKey XOR ClientSignature, for the keys of a password

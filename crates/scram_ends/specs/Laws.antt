@@ -1,5 +1,6 @@
 -- The laws of logins: exactly one verdict is due, acceptance is due if and only if the login is valid, and honest logins succeed.
 use Rattle.std.specs.Prelude.{ℕ, ◌≡◌, ◌≤◌, ◌↔◌, List, length}
+use Rattle.std.specs.List.{AllByRecursion}
 use Rattle.std.specs.declared.option.Option.{Option}
 use Rattle.std.specs.declared.option.Option.TheVariants.{Some}
 use Rattle.scram_text.specs.Messages.{ClientFirstParts, IsClientFirst}
@@ -8,7 +9,7 @@ use Rattle.scram_ends.specs.Stages.{Challenged, Answered, challenged_login}
 use Rattle.scram_ends.specs.Opening.{Opening, IsOpening, IsTakenUp, IsAllowed}
 use Rattle.scram_ends.specs.Verdict.{Due, accept, IsDue, due_text}
 use Rattle.scram_ends.specs.Login.{IsAuthentic, IsValidLogin}
-use Rattle.scram_ends.specs.First.{IsChallengeTo, IsRefusedWith}
+use Rattle.scram_ends.specs.First.{IsChallengeTo, IsRefusedWith, AsksOfFirst, first_faults_in_order}
 use Rattle.scram_ends.specs.declared.first.FirstFault.{FirstFault}
 use Rattle.scram_ends.specs.Honest.{IsHonest, honest_signature}
 
@@ -26,6 +27,12 @@ SomeVerdictIsDue = (login : Challenged) (client_final : List ℕ) (opening : Ope
 abbrev pub RefusedIsNotTakenUp : Type 0
 RefusedIsNotTakenUp = (client_first : List ℕ) (fault : FirstFault) (first : ClientFirstParts) (name : List ℕ) (authzid : Option (List ℕ))
     → IsRefusedWith client_first fault → IsClientFirst client_first first → IsTakenUp first name authzid → ⊥
+
+-- a client-first message is taken up, with some names, if and only if its parts meet every row of the table of faults
+abbrev pub TakenUpMeetsEveryRow : Type 0
+TakenUpMeetsEveryRow = (first : ClientFirstParts)
+    → ((name : List ℕ) × (authzid : Option (List ℕ)) × IsTakenUp first name authzid)
+    ↔ AllByRecursion (λ row. AsksOfFirst row first) first_faults_in_order
 
 -- a login is valid if and only if acceptance is due to its client-final message and its server-final message has the signature due
 -- as its verifier

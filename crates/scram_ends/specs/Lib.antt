@@ -8,8 +8,8 @@ pub mod Verdict
 pub mod Login
 pub mod Standing
 pub mod First
-pub mod TakenFirst
 pub mod Honest
 pub mod Client
 pub mod Faults
 pub mod Laws
+pub mod inner

@@ -11,7 +11,7 @@ ghost use Rattle.scram_text.specs.Messages.{ClientFirstParts, IsClientFirst};
 ghost use Rattle.scram_text.specs.Shown.{flag_text};
 ghost use Rattle.scram_ends.specs.Opening.{IsNameOf, IsAuthzidOf, IsUnbound, IsTakenUp};
 ghost use Rattle.scram_ends.specs.First.{IsRefusedWith};
-ghost use Rattle.scram_ends.specs.TakenFirst.{ShowsTakenFirst};
+ghost use Rattle.scram_ends.specs.inner.TakenFirst.{ShowsTakenFirst};
 ghost use Rattle.scram_ends.specs.Faults.{first_fault_number};
 ghost use Rattle.scram_ends.specs.declared.lengths.TheConstants.{MAX_HEADER_LEN};
 ghost use Rattle.scram_ends.specs.declared.first.FirstFault.TheVariants.{Text};

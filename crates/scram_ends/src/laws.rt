@@ -1,5 +1,6 @@
 //! Laws of logins, for proofs that build on this crate. Each is the contract of a function that does nothing.
 ghost use Rattle.scram_ends.specs.Laws.{AtMostOneVerdictIsDue, SomeVerdictIsDue, AcceptsExactlyValid, RefusedIsNotTakenUp};
+ghost use Rattle.scram_ends.specs.Laws.{TakenUpMeetsEveryRow};
 
 /// At most one verdict is due to a text that is received as client-final.
 pub fn at_most_one_verdict_is_due()
@@ -20,4 +21,9 @@ pub fn accepts_exactly_valid()
 /// No client-first message is both refused and taken up.
 pub fn refused_is_not_taken_up()
     ensures { RefusedIsNotTakenUp }
+{}
+
+/// A client-first message is taken up if and only if its parts meet every row of the table of its faults.
+pub fn taken_up_meets_every_row()
+    ensures { TakenUpMeetsEveryRow }
 {}

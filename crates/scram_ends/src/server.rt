@@ -24,7 +24,7 @@ ghost use Rattle.scram_ends.specs.Verdict.{Due, IsDue, IsVerdictOn, CanBeReporte
 ghost use Rattle.scram_ends.specs.Login.{IsValidLogin};
 ghost use Rattle.scram_ends.specs.Standing.{IsSigningFor, StandsForChallenged};
 ghost use Rattle.scram_ends.specs.First.{IsRefusedWith, IsChallengeTo};
-ghost use Rattle.scram_ends.specs.TakenFirst.{ShowsOpening};
+ghost use Rattle.scram_ends.specs.inner.TakenFirst.{ShowsOpening};
 ghost use Rattle.scram_ends.specs.Faults.{first_refused_number};
 ghost use Rattle.scram_ends.specs.declared.lengths.TheConstants.{MAX_HEADER_LEN};
 

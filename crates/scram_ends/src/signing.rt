@@ -2,7 +2,7 @@
 //! as they come. The MAC under StoredKey checks the client's proof; the one under ServerKey signs.
 ghost use Rattle.std.specs.Prelude.{◌≡◌, ◌≤◌, ◌↔◌, ℕ, List, [], ◌∷◌, ◌++◌, length, IsTrue};
 ghost use Rattle.std.specs.Str.{byte};
-ghost use Rattle.mac_core.specs.Mechanism.{length_by, hmac_by, IsScramMac};
+ghost use Rattle.mac_core.specs.Mechanism.{digest_len_by, hmac_by, IsScramMac};
 ghost use Rattle.scram_text.specs.Messages.{ClientFirstParts, client_first_bare};
 ghost use Rattle.scram_ends.specs.Entry.{Keys, keys_of};
 ghost use Rattle.scram_ends.specs.Auth.{auth_to_challenge, server_signature, IsProof};
@@ -93,7 +93,7 @@ fn signed(mac: &ScramMac, rest: &[u8]) -> Tag
     ensures value { (m : Mechanism) (key front : List ℕ) → IsScramMac m mac.now key front
         → result.items ≡ hmac_by m key (front ++ rest.now) }
     ensures len { (m : Mechanism) (key front : List ℕ) → IsScramMac m mac.now key front
-        → length result.items ≡ length_by m }
+        → length result.items ≡ digest_len_by m }
 {
     let mut mac = mac.copy();
     mac.add(rest);

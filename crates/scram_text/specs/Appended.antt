@@ -14,6 +14,10 @@ abbrev pub IsAppended : {T E Z : Type 0} → Result T E → (old new : Vec ℕ Z
 IsAppended result old new text =
     OnOk result (vec_items new ≡ vec_items old ++ text) × IsUnchangedOnErr result old new × KeepsRoom old new
 
+-- the vector's spare capacity is too small for so many bytes
+abbrev pub LacksRoomFor : {Z : Type 0} → Vec ℕ Z → (bytes : ℕ) → Type 0
+LacksRoomFor v bytes = vec_capacity v < vec_len v + bytes
+
 -- the vector's spare capacity is too small for the text
 abbrev pub LacksRoom : {Z : Type 0} → Vec ℕ Z → (text : List ℕ) → Type 0
-LacksRoom v text = vec_capacity v < vec_len v + length text
+LacksRoom v text = LacksRoomFor v (length text)

@@ -9,6 +9,10 @@ use Rattle.scram_text.specs.Limits.{max_name_len, max_nonce_part_len, max_passwo
 abbrev pub is_comma : ℕ → Bool
 is_comma c = c == byte ","
 
+-- no byte is this one
+abbrev pub Lacks : (b : ℕ) → (bytes : List ℕ) → Type 0
+Lacks b bytes = IsTrue (list_all (λ c. not (c == b)) bytes)
+
 -- VCHAR = %x21-7E, from "!" to "~" (RFC 5234, appendix B.1)
 abbrev pub is_vchar : ℕ → Bool
 is_vchar c = nat_le (byte "!") c && nat_le c (byte "~")
@@ -30,22 +34,22 @@ abbrev pub is_cb_char : ℕ → Bool
 is_cb_char c = is_letter c || nat_le (byte "0") c && nat_le c (byte "9") || c == byte "." || c == byte "-"
 
 -- 1 to `most` bytes that pass a test
-pub record IsWordOf (test : ℕ → Bool) (most : ℕ) (bytes : List ℕ) : Type 0 where
+pub record IsCharsOf (test : ℕ → Bool) (most : ℕ) (bytes : List ℕ) : Type 0 where
   pub at_least : 1 ≤ length bytes
   pub at_most : length bytes ≤ most
   pub each : IsTrue (list_all test bytes)
 
 -- a name in plain bytes: 1 to 255 of %x20-7E
 abbrev pub IsPlainName : List ℕ → Type 0
-IsPlainName name = IsWordOf is_plain max_name_len name
+IsPlainName name = IsCharsOf is_plain max_name_len name
 
 -- a password: 1 to 1024 bytes of %x20-7E
 abbrev pub IsPassword : List ℕ → Type 0
-IsPassword password = IsWordOf is_plain max_password_len password
+IsPassword password = IsCharsOf is_plain max_password_len password
 
 -- a nonce of 1 to `most` characters: 1*(printable)
 abbrev pub IsNonce : (most : ℕ) → (nonce : List ℕ) → Type 0
-IsNonce most nonce = IsWordOf is_printable most nonce
+IsNonce most nonce = IsCharsOf is_printable most nonce
 
 -- what one end adds to a nonce: 1 to 256 characters
 abbrev pub IsNoncePart : List ℕ → Type 0

@@ -48,29 +48,29 @@ fault part why = record { part = part; why = why }
 abbrev pub IsAuthzid : List ℕ → Type 0
 IsAuthzid part = (authzid : Option (List ℕ)) × (part ≡ authzid_text authzid) × IfSome authzid IsSaslName
 
--- what a part must be at the place that gives this fault, in a message whose nonce has at most `most` characters. TooLong, NotText
+-- what a part must be at the place that gives this fault, in a message whose nonce has at most `max_nonce` characters. TooLong, NotText
 -- and Missing are faults of no place.
-abbrev pub Fits : (most : ℕ) → TextWhy → (part : List ℕ) → Type 0
-Fits most TooLong part = Unit {0}
-Fits most NotText part = Unit {0}
-Fits most Missing part = Unit {0}
-Fits most Flag part = IsTrue (is_flag part)
-Fits most Authzid part = IsAuthzid part
-Fits most Mandatory part = IsAttrVal (byte "m") IsValue part
-Fits most Name part = IsAttrVal (byte "n") IsSaslName part
-Fits most Nonce part = IsAttrVal (byte "r") (IsNonce most) part
-Fits most Salt part = IsAttrVal (byte "s") (SpellsField max_salt_len) part
-Fits most Count part = IsAttrVal (byte "i") SpellsCount part
-Fits most Channel part = IsAttrVal (byte "c") (SpellsField max_channel_len) part
-Fits most Extension part = IsExtension part
-Fits most Proof part = IsAttrVal (byte "p") (SpellsField max_tag_len) part
-Fits most Verifier part = IsAttrVal (byte "v") (SpellsField max_tag_len) part
-Fits most ErrorValue part = IsAttrVal (byte "e") IsValue part
+abbrev pub Fits : (max_nonce : ℕ) → TextWhy → (part : List ℕ) → Type 0
+Fits max_nonce TooLong part = Unit {0}
+Fits max_nonce NotText part = Unit {0}
+Fits max_nonce Missing part = Unit {0}
+Fits max_nonce Flag part = IsTrue (is_flag part)
+Fits max_nonce Authzid part = IsAuthzid part
+Fits max_nonce Mandatory part = IsAttrVal (byte "m") IsValue part
+Fits max_nonce Name part = IsAttrVal (byte "n") IsSaslName part
+Fits max_nonce Nonce part = IsAttrVal (byte "r") (IsNonce max_nonce) part
+Fits max_nonce Salt part = IsAttrVal (byte "s") (SpellsField max_salt_len) part
+Fits max_nonce Count part = IsAttrVal (byte "i") SpellsCount part
+Fits max_nonce Channel part = IsAttrVal (byte "c") (SpellsField max_channel_len) part
+Fits max_nonce Extension part = IsExtension part
+Fits max_nonce Proof part = IsAttrVal (byte "p") (SpellsField max_tag_len) part
+Fits max_nonce Verifier part = IsAttrVal (byte "v") (SpellsField max_tag_len) part
+Fits max_nonce ErrorValue part = IsAttrVal (byte "e") IsValue part
 
 -- the fault is that of the first part that does not fit its place, with parts counted from k
-pub record IsFirstMisfit (most : ℕ) (places : List TextWhy) (k : ℕ) (pieces : List (List ℕ)) (f : TextFault) : Type 0 where
+pub record IsFirstMisfit (max_nonce : ℕ) (places : List TextWhy) (k : ℕ) (pieces : List (List ℕ)) (f : TextFault) : Type 0 where
   pub part : List ℕ
-  pub first : IsFirstUnmet (λ row. Fits most row.0 row.1) (zip places pieces) (f.why, part)
+  pub first : IsFirstUnmet (λ row. Fits max_nonce row.0 row.1) (zip places pieces) (f.why, part)
   pub number : f.part ≡ k + length first.before
 
 -- the places of n parts: the fixed ones at the front and at the back, and extensions between them
@@ -78,11 +78,11 @@ abbrev pub places : (front back : List TextWhy) → (n : ℕ) → List TextWhy
 places front back n = front ++ (replicate (n - (length front + length back)) Extension ++ back)
 
 -- a part is missing, or does not fit its place
-abbrev pub IsPartFault : (most : ℕ) → (front back : List TextWhy) → (pieces : List (List ℕ)) → TextFault → Type 0
-IsPartFault most front back pieces f =
+abbrev pub IsPartFault : (max_nonce : ℕ) → (front back : List TextWhy) → (pieces : List (List ℕ)) → TextFault → Type 0
+IsPartFault max_nonce front back pieces f =
     ((length pieces < length front + length back) × (f ≡ fault (length pieces) Missing))
     ⊎ ((length front + length back ≤ length pieces)
-    × IsFirstMisfit most (places front back (length pieces)) 0 pieces f)
+    × IsFirstMisfit max_nonce (places front back (length pieces)) 0 pieces f)
 
 -- the text has more than 2048 bytes, or is not UTF-8 without NUL
 abbrev pub IsWholeFault : List ℕ → TextFault → Type 0
@@ -91,10 +91,10 @@ IsWholeFault text f =
     ⊎ ((length text ≤ max_message_len) × (IsUtf8Text text → ⊥) × (f ≡ fault 0 NotText))
 
 -- the first fault of a text that is not a message with these fixed places
-abbrev pub IsFault : (most : ℕ) → (front back : List TextWhy) → (text : List ℕ) → TextFault → Type 0
-IsFault most front back text f =
+abbrev pub IsFault : (max_nonce : ℕ) → (front back : List TextWhy) → (text : List ℕ) → TextFault → Type 0
+IsFault max_nonce front back text f =
     IsWholeFault text f
-    ⊎ ((length text ≤ max_message_len) × IsUtf8Text text × IsPartFault most front back (parts text) f)
+    ⊎ ((length text ≤ max_message_len) × IsUtf8Text text × IsPartFault max_nonce front back (parts text) f)
 
 -- the first part, or the empty text if there is none
 abbrev pub first_of : List (List ℕ) → List ℕ

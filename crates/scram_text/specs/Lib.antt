@@ -8,8 +8,8 @@ pub mod Messages
 pub mod FirstUnmet
 pub mod Faults
 pub mod Shown
-pub mod Pieces
 pub mod Draft
 pub mod Appended
 pub mod Written
 pub mod Laws
+pub mod inner

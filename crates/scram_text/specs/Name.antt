@@ -1,12 +1,11 @@
 -- User names in plain bytes, and as messages spell them (RFC 5802, sections 5.1 and 7).
 use Rattle.std.specs.Prelude.{ℕ, ◌≡◌, ◌≤◌, ◌==◌, Bool, true, false, not, ◌&&◌, ◌||◌, if◌then◌else◌, IsTrue, List, [], ◌∷◌, length, flat_map, codes}
-use Rattle.std.specs.List.{list_all}
 use Rattle.std.specs.Str.{byte}
-use Rattle.scram_text.specs.Class.{is_comma}
+use Rattle.scram_text.specs.Class.{Lacks}
 
 -- no byte is a comma
 abbrev pub LacksComma : List ℕ → Type 0
-LacksComma bytes = IsTrue (list_all (λ c. not (is_comma c)) bytes)
+LacksComma bytes = Lacks (byte ",") bytes
 
 -- the text begins with "2C" or "3D", the codes that may follow `=` in a saslname
 abbrev pub begins_with_code : List ℕ → Bool

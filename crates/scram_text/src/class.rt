@@ -2,7 +2,7 @@
 ghost use Rattle.std.specs.Prelude.{◌≡◌, ◌==◌, ◌↔◌, IsTrue, not};
 ghost use Rattle.std.specs.List.{list_all};
 ghost use Rattle.std.specs.Str.{byte};
-ghost use Rattle.scram_text.specs.Class.{is_comma, is_printable, is_plain, is_letter, is_cb_char, IsNonce, IsWordOf, IsUtf8Text};
+ghost use Rattle.scram_text.specs.Class.{is_comma, is_printable, is_plain, is_letter, is_cb_char, IsNonce, IsCharsOf, IsUtf8Text};
 ghost use Rattle.scram_text.specs.Parts.{is_cb_name};
 
 /// Whether the byte is printable = %x21-2B / %x2D-7E.
@@ -27,8 +27,8 @@ pub(crate) fn is_plain(byte: u8) -> bool
 }
 
 /// Whether these are 1 to `most` bytes from 0x20 to 0x7E.
-pub(crate) fn is_plain_run(bytes: &[u8], most: usize) -> bool
-    ensures { IsTrue result ↔ IsWordOf is_plain most bytes.now }
+pub(crate) fn is_plain_word(bytes: &[u8], most: usize) -> bool
+    ensures { IsTrue result ↔ IsCharsOf is_plain most bytes.now }
 {
     are_plain(bytes) && !bytes.is_empty() && bytes.len() <= most
 }

@@ -16,7 +16,7 @@ ghost use Rattle.scram_text.specs.Written.{client_final_of, CanBeClientFinal, Ca
 ghost use Rattle.scram_text.specs.Written.{IsMessageWritten};
 ghost use Rattle.scram_text.specs.Faults.{IsClientFinalFault};
 ghost use Rattle.scram_text.specs.Shown.{ShowsClientFinal};
-ghost use Rattle.scram_text.specs.Pieces.{IsCutClientFinal};
+ghost use Rattle.scram_text.specs.inner.Pieces.{IsCutClientFinal};
 ghost use Rattle.scram_text.specs.Appended.{IsUnchangedOnErr, KeepsRoom, LacksRoom};
 
 use crate::draft::MessageDraft;

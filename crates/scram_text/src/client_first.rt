@@ -11,7 +11,7 @@ ghost use Rattle.std.specs.Prelude.{◌≡◌, ◌≤◌, ◌+◌, [], length, I
 ghost use Rattle.std.specs.Prelude.{MatchOption};
 ghost use Rattle.std.specs.Option.{option_copied};
 ghost use Rattle.scram_text.specs.Limits.{max_message_len};
-ghost use Rattle.scram_text.specs.Pieces.{most_parts};
+ghost use Rattle.scram_text.specs.inner.Pieces.{most_parts};
 ghost use Rattle.scram_text.specs.Name.{IsSaslName};
 ghost use Rattle.scram_text.specs.Parts.{parts, is_flag, authzid_text};
 ghost use Rattle.scram_text.specs.Messages.{ClientFirstParts, client_first_text, IsClientFirst};
@@ -19,7 +19,7 @@ ghost use Rattle.scram_text.specs.Faults.{IsClientFirstFault, IsAuthzid, fault, 
 ghost use Rattle.scram_text.specs.Shown.{ShowsClientFirst, flag_text};
 ghost use Rattle.scram_text.specs.Draft.{IsDraftOf};
 ghost use Rattle.scram_text.specs.Written.{client_first_of, CanBeClientFirst, IsMessageWritten};
-ghost use Rattle.scram_text.specs.Pieces.{IsCutClientFirst, IsCutBare, IsBare, ShowsBare, IsBareMisfit};
+ghost use Rattle.scram_text.specs.inner.Pieces.{IsCutClientFirst, IsCutBare, IsBare, ShowsBare, IsBareMisfit};
 
 use crate::draft::MessageDraft;
 use crate::fault::{TextFault, TextWhy, WriteFault};

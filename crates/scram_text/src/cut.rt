@@ -11,7 +11,7 @@ ghost use Rattle.scram_text.specs.Parts.{parts, parts_of_some, joined, is_named,
 ghost use Rattle.scram_text.specs.Parts.{mext_parts};
 ghost use Rattle.scram_text.specs.Faults.{IsWholeFault, first_of, places_with_mext};
 ghost use Rattle.scram_text.specs.Written.{IsExtensionText};
-ghost use Rattle.scram_text.specs.Pieces.{most_parts, is_attribute, IsExtensionMisfit, IsMextAndRest, IsMextMisfit};
+ghost use Rattle.scram_text.specs.inner.Pieces.{most_parts, is_attribute, IsExtensionMisfit, IsMextAndRest, IsMextMisfit};
 
 use crate::fault::{TextFault, TextWhy};
 use crate::{MAX_MESSAGE_LEN, class, field};
@@ -107,11 +107,11 @@ pub(crate) fn headed(part: &[u8], letter: u8) -> Option<&[u8]>
     }
 }
 
-/// Whether the part begins with `m=`.
-pub(crate) fn is_mext(part: &[u8]) -> bool
-    ensures { result ≡ is_named (byte "m") part.now }
+/// Whether the part begins with this letter and `=`.
+pub(crate) fn is_named(letter: u8, part: &[u8]) -> bool
+    ensures { result ≡ is_named letter part.now }
 {
-    matches!(part, [b'm', b'=', ..])
+    matches!(part, [first, b'=', ..] if *first == letter)
 }
 
 // Whether the part, which has no comma, is attr-val = ALPHA "=" value: as `is_attribute`, but the clause cites the grammar.
@@ -180,7 +180,7 @@ fn check_extensions(text: &[u8], first: usize) -> Result<bool, TextFault>
                 why: TextWhy::Extension,
             });
         }
-        mandatory |= is_mext(part);
+        mandatory |= is_named(b'm', part);
         index += 1;
         left = more;
     }
@@ -202,11 +202,11 @@ pub(crate) fn cut_two(text: &[u8]) -> (&[u8], &[u8], Option<&[u8]>)
     (first, second, rest)
 }
 
-/// Whether the text begins with `m=`: as `is_mext`, but the clause is about the first part of the text.
+/// Whether the text begins with `m=`: as `is_named`, but the clause is about the first part of the text.
 pub(crate) fn begins_with_mext(text: &[u8]) -> bool
     ensures { result ≡ is_named (byte "m") (first_of (parts text.now)) }
 {
-    is_mext(text)
+    is_named(b'm', text)
 }
 
 /// The least number of parts of a message that needs `fixed` parts besides reserved-mext: one more if it has a reserved-mext.

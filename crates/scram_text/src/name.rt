@@ -36,7 +36,7 @@ impl PlainName {
     pub fn new(bytes: &[u8]) -> Option<PlainName>
         ensures { SomeIff result (IsPlainName bytes.now) bytes.now }
     {
-        if !class::is_plain_run(bytes, MAX_NAME_LEN) {
+        if !class::is_plain_word(bytes, MAX_NAME_LEN) {
             return None;
         }
         Some(PlainName {

@@ -6,12 +6,10 @@
 //!
 //! For example: `v=rmF9pqV8S7suAoZWja4dJRkFsKQ=` or `e=invalid-proof`.
 ghost use Rattle.std.specs.Prelude.{◌≡◌, ◌≤◌, ◌+◌, ◌↔◌, ◌++◌, length, codes, IsTrue, IfOk, IfErr, IsOkAnd};
-ghost use Rattle.std.specs.Str.{byte};
 ghost use Rattle.scram_text.specs.Limits.{max_message_len, max_nonce_len, max_tag_len};
 ghost use Rattle.scram_text.specs.Class.{IsUtf8Text};
 ghost use Rattle.scram_text.specs.Name.{LacksComma};
 ghost use Rattle.scram_text.specs.Base64Field.{base64};
-ghost use Rattle.scram_text.specs.Parts.{is_named};
 ghost use Rattle.scram_text.specs.Messages.{ServerFinalParts, IsServerFinal, IsVerifierOrError, verifier_or_error_text, server_final_text};
 ghost use Rattle.scram_text.specs.Faults.{IsServerFinalFault, Fits, fault, outcome_place};
 ghost use Rattle.scram_text.specs.Shown.{ShowsServerFinal, verifier_or_error_of};
@@ -88,7 +86,7 @@ fn outcome_of(part: &[u8]) -> Result<FinalResult<'_>, TextFault>
     ensures fault { IfErr result (λ f. (Fits max_nonce_len (outcome_place part.now) part.now → ⊥) × (f
         ≡ fault 0 (outcome_place part.now))) }
 {
-    if is_error(part) {
+    if cut::is_named(b'e', part) {
         match field::value_of(part, b'e') {
             Some(value) => Ok(FinalResult::ErrorValue(value)),
             None => Err(TextFault {
@@ -105,13 +103,6 @@ fn outcome_of(part: &[u8]) -> Result<FinalResult<'_>, TextFault>
             }),
         }
     }
-}
-
-// Whether the part begins with `e=`.
-fn is_error(part: &[u8]) -> bool
-    ensures { result ≡ is_named (byte "e") part.now }
-{
-    matches!(part, [b'e', b'=', ..])
 }
 
 /// Appends a server-final message (RFC 5802, section 7) to `out`: the verifier of 1 to 64 bytes or the error value of one or more

@@ -12,7 +12,7 @@ ghost use Rattle.scram_text.specs.Draft.{IsDraftOf};
 ghost use Rattle.scram_text.specs.Written.{server_first_of, CanBeServerFirst, IsMessageWritten};
 ghost use Rattle.scram_text.specs.Faults.{IsServerFirstFault};
 ghost use Rattle.scram_text.specs.Shown.{ShowsServerFirst};
-ghost use Rattle.scram_text.specs.Pieces.{IsCutServerFirst};
+ghost use Rattle.scram_text.specs.inner.Pieces.{IsCutServerFirst};
 
 use crate::draft::MessageDraft;
 use crate::fault::{TextFault, TextWhy, WriteFault};

@@ -1,6 +1,6 @@
 //! Adds an account with a password.
 ghost use Rattle.std.specs.Prelude.{◌≡◌, ◌≤◌, IfErr, OnOk, OnErr, MatchOption};
-ghost use Rattle.mac_core.specs.Mechanism.{length_by};
+ghost use Rattle.mac_core.specs.Mechanism.{digest_len_by};
 ghost use Rattle.book_format.specs.Account.{AreKeys};
 ghost use Rattle.account_book.specs.Accounts.{account_at, IsAdded};
 ghost use Rattle.account_book.specs.Enrolled.{enrolled, keys_from};
@@ -74,7 +74,7 @@ impl Book {
 fn made_keys(mechanism: Mechanism, password: &Password, salt: &Salt, count: u32) -> MechKeys
     requires { 1 ≤ count }
     ensures value { result ≡ keys_from mechanism password.now salt.now count }
-    ensures range { AreKeys (length_by mechanism) result }
+    ensures range { AreKeys (digest_len_by mechanism) result }
 {
     let bytes = salt.bytes();
     law_of_bytes(bytes);

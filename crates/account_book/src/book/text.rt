@@ -2,7 +2,7 @@
 ghost use Rattle.std.specs.Prelude.{◌≡◌, ◌⊎◌, false, Ok, IfOk, IfErr, IsErrAnd, string_bytes};
 ghost use Rattle.toml.specs.Text.{IsDocumentText};
 ghost use Rattle.book_format.specs.Book.{BookFields};
-ghost use Rattle.book_format.specs.FirstFault.{IsFirstFault};
+ghost use Rattle.book_format.specs.FirstFault.{IsBookFault};
 ghost use Rattle.book_format.specs.Trees.{IsBookText};
 ghost use Rattle.book_format.specs.Written.{book_tree};
 ghost use Rattle.book_format.specs.declared.fault.BookFault.{BookFault};
@@ -21,8 +21,8 @@ impl Book {
         // If the text is that of a book, this book is returned, or 99 NoMemory.
         ensures every { (book : BookFields) → IsBookText bytes.now book
             → (result ≡ Ok book) ⊎ IsErrAnd result (λ fault. fault.why ≡ NoMemory) }
-        ensures first_fault { IfErr result (λ fault. (fault.why ≡ NoMemory) ⊎ IsFirstFault bytes.now fault) }
-        ensures every_fault { (first : BookFault) → IsFirstFault bytes.now first
+        ensures first_fault { IfErr result (λ fault. (fault.why ≡ NoMemory) ⊎ IsBookFault bytes.now fault) }
+        ensures every_fault { (first : BookFault) → IsBookFault bytes.now first
             → IsErrAnd result (λ fault. (fault.why ≡ NoMemory) ⊎ (fault ≡ first)) }
     {
         match Contents::read(alloc, bytes) {

@@ -1,12 +1,13 @@
 //! The tokens of accounts, and attempts with codes.
 ghost use Rattle.std.specs.Prelude.{◌≡◌, is_some};
 ghost use Rattle.otp_core.specs.Attempt.CodeTexts.{one_text, two_texts};
-ghost use Rattle.otp_core.specs.SentCodes.{texts_of};
+ghost use Rattle.otp_core.specs.Attempt.{texts_of};
+ghost use Rattle.account_book.specs.AccountAttempt.{account_attempt_of};
 ghost use Rattle.account_book.specs.Accounts.{account_at, IsChanged};
 ghost use Rattle.account_book.specs.Tokens.{IsBookAttempt, IsUnlocked, token_at, with_token};
 
 use crate::book::Book;
-use otp_core::{Moment, Reply, SentCodes, Token};
+use otp_core::{Moment, Reply, SentCodes, Token, law_of_moments};
 use scram_text::PlainName;
 
 impl Book {
@@ -37,7 +38,7 @@ impl Book {
     /// Judges `text` as a code at `moment` with the token of the account of this name, as `Token::attempt` does, and keeps the
     /// changed token. Returns None, and changes nothing, if there is no such account or it has no token.
     pub fn attempt(&mut self, name: &PlainName, moment: Moment, text: &[u8]) -> Option<Reply>
-        ensures { IsBookAttempt self.old name.now moment (one_text text.now) result self.new }
+        ensures { IsBookAttempt self.old (account_attempt_of name.now moment (one_text text.now) result) self.new }
     {
         self.judge(name, moment, SentCodes::One(text))
     }
@@ -51,7 +52,7 @@ impl Book {
         first: &[u8],
         second: &[u8],
     ) -> Option<Reply>
-        ensures { IsBookAttempt self.old name.now moment (two_texts first.now second.now) result self.new }
+        ensures { IsBookAttempt self.old (account_attempt_of name.now moment (two_texts first.now second.now) result) self.new }
     {
         self.judge(name, moment, SentCodes::Two(first, second))
     }
@@ -59,8 +60,9 @@ impl Book {
     /// Judges what was sent, at `moment`, with the token of the account of this name: one text as `attempt` does, two as `sync`
     /// does.
     pub fn judge(&mut self, name: &PlainName, moment: Moment, sent: SentCodes<'_>) -> Option<Reply>
-        ensures { IsBookAttempt self.old name.now moment (texts_of sent.entry) result self.new }
+        ensures { IsBookAttempt self.old (account_attempt_of name.now moment (texts_of sent.entry) result) self.new }
     {
+        law_of_moments(moment);
         let mut token = self.token(name)?;
         let reply = token.judge(moment, sent);
         self.put_token(name, token);

@@ -1,6 +1,6 @@
 //! What a SCRAM server sees for a name.
 ghost use Rattle.std.specs.Prelude.{◌≡◌, ◌≤◌, length, option_copied, IfSome};
-ghost use Rattle.mac_core.specs.Mechanism.{length_by};
+ghost use Rattle.mac_core.specs.Mechanism.{digest_len_by};
 ghost use Rattle.scram_ends.specs.Entry.{entry_of};
 ghost use Rattle.book_format.specs.Account.{AreKeys, IsAccount};
 ghost use Rattle.account_book.specs.View.{decoy_entry, decoy_salt, entry_in, mech_keys};
@@ -23,8 +23,8 @@ impl Book {
     pub fn view(&self, name: &PlainName, mechanism: Mechanism) -> KeysView<'_>
         ensures entry { entry_of result ≡ entry_in self.now mechanism name.now }
         ensures count { 1 ≤ result.count }
-        ensures len { IfSome result.keys (λ keys. (length keys.stored.items ≡ length_by mechanism)
-            × (length keys.server.items ≡ length_by mechanism)) }
+        ensures len { IfSome result.keys (λ keys. (length keys.stored.items ≡ digest_len_by mechanism)
+            × (length keys.server.items ≡ digest_len_by mechanism)) }
     {
         let Some(account) = self.account(name) else {
             return self.decoy(name, mechanism);
@@ -74,7 +74,7 @@ impl Book {
 fn keys_for(account: &Account, mechanism: Mechanism) -> Option<&MechKeys>
     requires { IsAccount account.now }
     ensures value { option_copied result ≡ mech_keys mechanism account.now }
-    ensures range { IfSome result (λ keys. AreKeys (length_by mechanism) keys.now) }
+    ensures range { IfSome result (λ keys. AreKeys (digest_len_by mechanism) keys.now) }
 {
     match mechanism {
         Mechanism::ScramSha1 => account.sha1.as_ref(),

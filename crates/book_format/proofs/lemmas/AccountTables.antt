@@ -3,15 +3,15 @@ use Rattle.std.proofs.Common.{◌≡◌, ◌+◌, ℕ, List, [], ◌∷◌, true
 use Rattle.toml.specs.Data.{Data, Members, no_members, member}
 use Rattle.scram_text.specs.Class.{IsPlainName}
 use Rattle.book_format.specs.Account.{AccountFields}
-use Rattle.book_format.specs.reading.Values.{value_or, plain_name_of}
+use Rattle.book_format.specs.inner.Values.{value_or, plain_name_of}
 use Rattle.book_format.specs.Names.{is_plain_name}
-use Rattle.book_format.specs.reading.Books.{named_account_of, in_account, accounts_from, accounts_of_table}
+use Rattle.book_format.specs.inner.Books.{named_account_of, in_account, accounts_from, accounts_of_table}
 use Rattle.book_format.specs.FirstFault.{placed, account_demands, accounts_demands}
 use Rattle.book_format.specs.Demands.{Demand, must, if_there}
-use Rattle.book_format.specs.reading.Steps.{◌>>=◌}
+use Rattle.book_format.specs.inner.Steps.{◌>>=◌}
 use Rattle.book_format.specs.Rows.{IsTableIn}
 use Rattle.book_format.specs.RowKinds.{table_type}
-use Rattle.book_format.specs.reading.Rows.{table_in}
+use Rattle.book_format.specs.inner.Rows.{table_in}
 use Rattle.book_format.specs.Tables.{keys_table, account_table}
 use Rattle.book_format.specs.Trees.{AreAccountTrees, AreAccountsOf}
 use Rattle.book_format.specs.declared.fault.BookWhy.{BookWhy}

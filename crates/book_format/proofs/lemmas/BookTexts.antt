@@ -8,10 +8,10 @@ use Rattle.toml.specs.Parse.{parse_document}
 use Rattle.book_format.specs.Account.{AccountFields}
 use Rattle.book_format.specs.Book.{BookFields, IsBook}
 use Rattle.book_format.specs.Tables.{TopFields}
-use Rattle.book_format.specs.reading.Books.{at_top, tree_in, top_of, accounts_of_table, book_of, book_in}
-use Rattle.book_format.specs.reading.Steps.{◌>>=◌}
+use Rattle.book_format.specs.inner.Books.{at_top, tree_in, top_of, accounts_of_table, book_of, book_in}
+use Rattle.book_format.specs.inner.Steps.{◌>>=◌}
 use Rattle.book_format.specs.Demands.{must, required}
-use Rattle.book_format.specs.FirstFault.{document_demands, book_demands, IsFirstFault}
+use Rattle.book_format.specs.FirstFault.{document_demands, book_demands, IsBookFault}
 use Rattle.book_format.specs.Trees.{IsBookText}
 use Rattle.book_format.specs.declared.fault.BookFault.{BookFault}
 use Rattle.book_format.specs.declared.fault.BookWhy.{BookWhy}
@@ -84,11 +84,11 @@ text_follows bytes = follows (is_utf8 bytes) (parse_document bytes)
     follows false parsed = refl
 
 -- the fault for which a text is refused is its first
-pub text_fault_is_first : (bytes : List ℕ) (fault : BookFault) → book_in bytes ≡ Err fault → IsFirstFault bytes fault
+pub text_fault_is_first : (bytes : List ℕ) (fault : BookFault) → book_in bytes ≡ Err fault → IsBookFault bytes fault
 text_fault_is_first bytes fault h = read_fault_is_first (book_demands bytes) fault (book_in bytes) (text_follows bytes) h
 
 -- a text is refused for its first fault
-pub text_first_fault_is_read : (bytes : List ℕ) (fault : BookFault) → IsFirstFault bytes fault → book_in bytes ≡ Err fault
+pub text_first_fault_is_read : (bytes : List ℕ) (fault : BookFault) → IsBookFault bytes fault → book_in bytes ≡ Err fault
 text_first_fault_is_read bytes fault first = first_fault_is_read (book_demands bytes) fault (book_in bytes) (text_follows bytes) first
 
 -- a book that is read from a text is in its ranges

@@ -6,7 +6,7 @@ use Rattle.std.specs.Ordering.{match_ordering}
 use Rattle.toml.specs.Data.{Data, string, integer, table, Members, no_members, member, depth, items_depth, members_depth, has_valid_dates}
 use Rattle.toml.specs.Data.{items_have_valid_dates, members_have_valid_dates}
 use Rattle.toml.specs.View.{items_of}
-use Rattle.mac_core.specs.Mechanism.{length_by}
+use Rattle.mac_core.specs.Mechanism.{digest_len_by}
 use Rattle.mac_core.specs.declared.mechanism.Mechanism.TheVariants.{ScramSha1, ScramSha256}
 use Rattle.otp_core.specs.declared.token.kinds.TokenFields.{TokenFields}
 use Rattle.otp_core.specs.declared.token.kinds.TokenFields.TheVariants.{Hotp, Totp}
@@ -119,9 +119,9 @@ account_is_flat : (a : AccountFields) → IsFlat 2 (table (written_table account
 unfolding written_table
 account_is_flat a =
     let flat = put_all_is_flat 1 (table_entries account_table a) no_members (
-      option_is_flat 1 (table_type sha1_keys_table).write a.sha1 (mech_is_flat (length_by ScramSha1)),
+      option_is_flat 1 (table_type sha1_keys_table).write a.sha1 (mech_is_flat (digest_len_by ScramSha1)),
       (
-        option_is_flat 1 (table_type sha256_keys_table).write a.sha256 (mech_is_flat (length_by ScramSha256)),
+        option_is_flat 1 (table_type sha256_keys_table).write a.sha256 (mech_is_flat (digest_len_by ScramSha256)),
         (
           (omega (arith, names_have_no_depth a.act_as), names_have_valid_dates a.act_as),
           (option_is_flat 1 token_type.write a.token token_is_flat, tt),

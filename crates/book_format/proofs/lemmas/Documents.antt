@@ -5,12 +5,12 @@ use Rattle.std.proofs.lemmas.Bool.Decides.{nat_tests}
 use Rattle.toml.specs.Data.{Data, integer, Members, get_member, as_integer, as_table}
 use Rattle.book_format.specs.Book.{BookFields}
 use Rattle.book_format.specs.ValueTypes.{any_table_type}
-use Rattle.book_format.specs.reading.Books.{at_top, accounts_of_table, top_of, book_of}
+use Rattle.book_format.specs.inner.Books.{at_top, accounts_of_table, top_of, book_of}
 use Rattle.book_format.specs.FirstFault.{is_one, placed, top_demands, document_demands}
-use Rattle.book_format.specs.reading.Steps.{pass_or}
+use Rattle.book_format.specs.inner.Steps.{pass_or}
 use Rattle.book_format.specs.Rows.{IsTable, table_demands}
 use Rattle.book_format.specs.RowKinds.{HasSome}
-use Rattle.book_format.specs.reading.Rows.{read_table}
+use Rattle.book_format.specs.inner.Rows.{read_table}
 use Rattle.book_format.specs.Tables.{document_table, TopFields}
 use Rattle.book_format.specs.Trees.{IsBookTree}
 use Rattle.book_format.specs.declared.fault.BookWhy.TheVariants.{Format}

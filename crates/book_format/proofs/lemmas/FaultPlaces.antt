@@ -1,9 +1,9 @@
 -- Readings whose fault says in which account it is, or that it is in none: they give the same value, and follow the same demands.
 use Rattle.std.proofs.Common.{◌≡◌, ℕ, List, [], ◌∷◌, true, false, Option, Some, None, Ok, Result, Err, Bool, refl, ap, ◌∙◌}
-use Rattle.book_format.specs.reading.Books.{in_account, at_top}
+use Rattle.book_format.specs.inner.Books.{in_account, at_top}
 use Rattle.book_format.specs.FirstFault.{placed}
 use Rattle.book_format.specs.Demands.{Demand}
-use Rattle.book_format.specs.reading.Steps.{◌>>=◌, pass_or}
+use Rattle.book_format.specs.inner.Steps.{◌>>=◌, pass_or}
 use Rattle.book_format.specs.declared.fault.BookFault.{BookFault}
 use Rattle.book_format.specs.declared.fault.BookWhy.{BookWhy}
 use Rattle.book_format.proofs.lemmas.Demands.{judged, FollowsDemands}

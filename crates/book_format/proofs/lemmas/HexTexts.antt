@@ -3,7 +3,7 @@ use Rattle.std.proofs.Common.{◌≡◌, ◌<◌, ◌*◌, ◌/◌, ◌&&◌, na
 use Rattle.std.proofs.lemmas.Bool.Decides.{nat_tests}
 use Rattle.hex.specs.Hex.{decode_of}
 use Rattle.hex.proofs.HexLemmas.{decode_of-ok}
-use Rattle.book_format.specs.reading.Values.{decoded}
+use Rattle.book_format.specs.inner.Values.{decoded}
 use Rattle.book_format.specs.declared.fault.BookWhy.{BookWhy}
 
 -- a text whose number of bytes is outside the bounds is refused

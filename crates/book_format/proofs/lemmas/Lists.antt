@@ -6,8 +6,8 @@ use Rattle.toml.specs.View.{items_view}
 use Rattle.toml.specs.declared.value.Value.{Value}
 use Rattle.book_format.specs.Account.{max_names}
 use Rattle.book_format.specs.Names.{are_texts, item_count}
-use Rattle.book_format.specs.reading.Values.{names_in, names_of}
-use Rattle.book_format.specs.reading.Steps.{◌>>=◌}
+use Rattle.book_format.specs.inner.Values.{names_in, names_of}
+use Rattle.book_format.specs.inner.Steps.{◌>>=◌}
 use Rattle.book_format.specs.declared.fault.BookWhy.TheVariants.{Key, Name}
 
 -- the view of a list of values has as many items as the list has

@@ -8,11 +8,11 @@ use Rattle.toml.specs.Data.{Data, string, array, Items, no_items, item, as_str}
 use Rattle.toml.specs.View.{items_of}
 use Rattle.scram_text.specs.Class.{IsPlainName, is_plain}
 use Rattle.book_format.specs.Account.{max_names}
-use Rattle.book_format.specs.reading.Values.{value_or, text_in, plain_name_of, names_in, names_of, name_list_in}
+use Rattle.book_format.specs.inner.Values.{value_or, text_in, plain_name_of, names_in, names_of, name_list_in}
 use Rattle.book_format.specs.Names.{is_plain_name, are_names, are_texts, item_count, AreNames, IsNameList}
 use Rattle.book_format.specs.ValueTypes.{name_list_type}
 use Rattle.book_format.specs.Demands.{must}
-use Rattle.book_format.specs.reading.Steps.{◌>>=◌, pass_or}
+use Rattle.book_format.specs.inner.Steps.{◌>>=◌, pass_or}
 use Rattle.book_format.specs.declared.fault.BookWhy.{BookWhy}
 use Rattle.book_format.specs.declared.fault.BookWhy.TheVariants.{Key, Name}
 use Rattle.book_format.proofs.lemmas.Demands.{FollowsDemands, test_follows, making_keeps_faults}

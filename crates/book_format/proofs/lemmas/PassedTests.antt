@@ -1,7 +1,7 @@
 -- What is known of a value that passed a test, and of a number that passed tests of bounds.
 use Rattle.std.proofs.Common.{◌≡◌, ◌≤◌, ◌&&◌, nat_le, ℕ, [], ◌∷◌, Bool, true, false, Ok, refl, arith}
 use Rattle.std.proofs.lemmas.Bool.Decides.{nat_tests}
-use Rattle.book_format.specs.reading.Values.{value_or}
+use Rattle.book_format.specs.inner.Values.{value_or}
 use Rattle.book_format.specs.Demands.{must}
 use Rattle.book_format.specs.declared.fault.BookWhy.{BookWhy}
 use Rattle.book_format.proofs.lemmas.Demands.{FollowsDemands}

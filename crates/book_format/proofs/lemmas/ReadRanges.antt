@@ -2,7 +2,7 @@
 use Rattle.std.proofs.Common.{◌≡◌, ◌≤◌, ◌⊎◌, ℕ, List, [], ◌∷◌, length, codes, Option, Some, None, subst, arith, inl, inr}
 use Rattle.hex.proofs.HexLemmas.{decode_of-ok}
 use Rattle.toml.specs.Data.{Data, Members, no_members, member, get_member}
-use Rattle.mac_core.specs.Mechanism.{length_by}
+use Rattle.mac_core.specs.Mechanism.{digest_len_by}
 use Rattle.mac_core.specs.declared.mechanism.Mechanism.TheVariants.{ScramSha1, ScramSha256}
 use Rattle.book_format.specs.Account.{AccountFields, AreKeys, IsAccount, max_names}
 use Rattle.book_format.specs.Book.{BookFields, AreAccounts, IsBook}
@@ -50,8 +50,8 @@ names_are_in_range names key ms (inr h) = h.2.few
 -- an account whose table was read is in its ranges
 account_is_in_range : (d : Data) (a : AccountFields) → IsTableIn account_table d a → IsAccount a
 account_is_in_range d a h = record {
-  sha1 = optional_keys_are_in_range (length_by ScramSha1) (codes "sha1") a.sha1 h.0 h.2.rows.0;
-  sha256 = optional_keys_are_in_range (length_by ScramSha256) (codes "sha256") a.sha256 h.0 h.2.rows.1.0;
+  sha1 = optional_keys_are_in_range (digest_len_by ScramSha1) (codes "sha1") a.sha1 h.0 h.2.rows.0;
+  sha256 = optional_keys_are_in_range (digest_len_by ScramSha256) (codes "sha256") a.sha256 h.0 h.2.rows.1.0;
   names = names_are_in_range a.act_as (codes "act_as") h.0 h.2.rows.1.1.0;
 }
 

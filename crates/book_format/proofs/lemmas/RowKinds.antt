@@ -2,10 +2,10 @@
 use Rattle.std.proofs.Common.{◌≡◌, ◌⊎◌, ℕ, List, codes, Option, Some, None, Result, Ok, Err, refl, sym, subst, ◌∙◌, inl, inr}
 use Prim.Native.String.{String}
 use Rattle.toml.specs.Data.{Data, Members, get_member}
-use Rattle.book_format.specs.reading.Steps.{◌>>=◌}
+use Rattle.book_format.specs.inner.Steps.{◌>>=◌}
 use Rattle.book_format.specs.Rows.{ValueType}
 use Rattle.book_format.specs.Demands.{required, if_there}
-use Rattle.book_format.specs.reading.Rows.{read_or, read_some}
+use Rattle.book_format.specs.inner.Rows.{read_or, read_some}
 use Rattle.book_format.specs.RowKinds.{HasAt, HasSome, row, row_up_to, row_or_default, optional_row, bound_at}
 use Rattle.book_format.specs.declared.fault.BookWhy.{BookWhy}
 use Rattle.book_format.specs.declared.fault.BookWhy.TheVariants.{Key}

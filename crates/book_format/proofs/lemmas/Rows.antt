@@ -3,10 +3,10 @@
 use Rattle.std.proofs.Common.{◌≡◌, List, [], ◌∷◌, Ok, refl, sym, ap, subst, ◌∙◌}
 use Rattle.toml.specs.Data.{Data, table, Members, as_table}
 use Rattle.book_format.specs.Keys.{is_among, has_only}
-use Rattle.book_format.specs.reading.Steps.{pass_or}
+use Rattle.book_format.specs.inner.Steps.{pass_or}
 use Rattle.book_format.specs.Rows.{ValueType, Row, Table, Maker, table_keys, HasMarks, HasRows, IsTable, row_demands, table_demands}
-use Rattle.book_format.specs.reading.Rows.{read_rows, read_table, table_in}
-use Rattle.book_format.specs.reading.Values.{table_of}
+use Rattle.book_format.specs.inner.Rows.{read_rows, read_table, table_in}
+use Rattle.book_format.specs.inner.Values.{table_of}
 use Rattle.book_format.specs.RowKinds.{table_type}
 use Rattle.book_format.specs.declared.fault.BookWhy.TheVariants.{Key}
 use Rattle.book_format.proofs.lemmas.Demands.{FollowsDemands, both_follow, test_follows, required_follows}

@@ -1,7 +1,7 @@
 -- What is known of the steps of a reading that gives a value.
 use Rattle.std.proofs.Common.{◌≡◌, Bool, true, false, Option, Some, None, ok_or, Result, Ok, Err, refl}
 use Rattle.std.specs.Result.{OnOk, is_err}
-use Rattle.book_format.specs.reading.Steps.{◌>>=◌, pass_or}
+use Rattle.book_format.specs.inner.Steps.{◌>>=◌, pass_or}
 
 -- if two steps together give a value, the first gives one, and the second gives the value from it
 pub each_step_gives_value : {A B E : Type 0} (first : Result A E) (next : A → Result B E) (y : B) → (first >>= next) ≡ Ok y

@@ -7,13 +7,13 @@ use Rattle.std.proofs.lemmas.Slice.Eq.{bytes_eq-Decides}
 use Rattle.toml.specs.Data.{Data, string, table, Members, get_member, as_str, as_table}
 use Rattle.otp_core.specs.declared.token.kinds.TokenFields.{TokenFields}
 use Rattle.otp_core.specs.declared.token.kinds.TokenFields.TheVariants.{Hotp, Totp}
-use Rattle.book_format.specs.reading.Values.{text_in, table_of}
+use Rattle.book_format.specs.inner.Values.{text_in, table_of}
 use Rattle.book_format.specs.Demands.{required}
-use Rattle.book_format.specs.reading.Steps.{◌>>=◌}
-use Rattle.book_format.specs.reading.Rows.{read_or, read_table}
+use Rattle.book_format.specs.inner.Steps.{◌>>=◌}
+use Rattle.book_format.specs.inner.Rows.{read_or, read_table}
 use Rattle.book_format.specs.Tables.{token_type}
 use Rattle.book_format.specs.Tokens.{hotp_table, totp_table, IsToken, kind_demands, token_demands}
-use Rattle.book_format.specs.reading.Tokens.{token_of_kind, token_in}
+use Rattle.book_format.specs.inner.Tokens.{token_of_kind, token_in}
 use Rattle.book_format.specs.declared.fault.BookWhy.TheVariants.{Key}
 use Rattle.book_format.proofs.lemmas.Demands.{FollowsDemands, required_follows, making_keeps_faults}
 use Rattle.book_format.proofs.lemmas.Steps.{each_step_gives_value, same_ok_has_same_value}

@@ -10,7 +10,7 @@ use Rattle.toml.specs.Data.{Data, string, integer, as_str, as_table}
 use Rattle.otp_core.specs.Hash.{hash_name, hash_named}
 use Rattle.otp_core.specs.declared.hash.OtpHash.{OtpHash}
 use Rattle.otp_core.specs.declared.hash.OtpHash.TheVariants.{Sha1, Sha256, Sha512}
-use Rattle.book_format.specs.reading.Values.{number_in, signed_in, decoded, bytes_in, text_in, hash_in}
+use Rattle.book_format.specs.inner.Values.{number_in, signed_in, decoded, bytes_in, text_in, hash_in}
 use Rattle.book_format.specs.ValueTypes.{IsNumber, number_type, IsSigned, signed_type, IsHexText, are_decoded, bytes_type, hash_type, any_table_type}
 use Rattle.book_format.specs.Demands.{must}
 use Rattle.book_format.specs.declared.fault.BookWhy.{BookWhy}

@@ -3,7 +3,7 @@ use Rattle.std.proofs.Common.{◌≡◌, inr, ℕ, ℤ, pos, nat_abs, ◌≤◌,
 use Rattle.std.proofs.Common.{arith}
 use Rattle.std.specs.Option.{ForSome}
 use Rattle.toml.specs.Data.{integer, Members, no_members, get_member}
-use Rattle.mac_core.specs.Mechanism.{length_by}
+use Rattle.mac_core.specs.Mechanism.{digest_len_by}
 use Rattle.mac_core.specs.declared.mechanism.Mechanism.TheVariants.{ScramSha256}
 use Rattle.scram_text.specs.Class.{IsPlainName}
 use Rattle.scram_text.specs.Limits.{max_iteration_count, max_salt_len}
@@ -175,11 +175,11 @@ more_accounts_are_trees [] e h plain tree = (refl, plain, tree, tt)
 more_accounts_are_trees (first ∷ done) e h plain tree = (h.0, h.1, h.2, more_accounts_are_trees done e h.3 plain tree)
 
 -- a book in its ranges whose accounts are their trees is written as its tree
-pub book_writes_itself : (b : BookFields) → IsBook b → length b.decoy_key ≡ length_by ScramSha256 → ComesBack b.decoy_key
+pub book_writes_itself : (b : BookFields) → IsBook b → length b.decoy_key ≡ digest_len_by ScramSha256 → ComesBack b.decoy_key
     → AreAccountTrees (accounts_tree b.accounts) b.accounts → IsBookTree (book_tree b) b
 unfolding book_tree
 book_writes_itself b fits key back accounts =
-    let len = length_by ScramSha256 in
+    let len = digest_len_by ScramSha256 in
     record {
       named = Some (accounts_tree b.accounts);
       top = table_writes_itself document_table _ refl refl (λ ms at. (

@@ -2,12 +2,12 @@
 ghost use Rattle.std.specs.Prelude.{◌≡◌, ◌≤◌, codes, [], Ok, Some};
 ghost use Rattle.toml.specs.Data.{get_member};
 ghost use Rattle.toml.specs.View.{view, items_view, table_view};
-ghost use Rattle.book_format.specs.reading.Values.{plain_name_of, names_in, names_of, name_list_in};
+ghost use Rattle.book_format.specs.inner.Values.{plain_name_of, names_in, names_of, name_list_in};
 ghost use Rattle.book_format.specs.Names.{are_texts};
-ghost use Rattle.book_format.specs.reading.Steps.{IsReadAs, IsReadOrFault};
-ghost use Rattle.book_format.specs.reading.Books.{named_account_of, accounts_from, in_account};
+ghost use Rattle.book_format.specs.inner.Steps.{IsReadAs, IsReadOrFault};
+ghost use Rattle.book_format.specs.inner.Books.{named_account_of, accounts_from, in_account};
 ghost use Rattle.book_format.specs.RowKinds.{table_type};
-ghost use Rattle.book_format.specs.reading.Rows.{read_or, read_some, table_in};
+ghost use Rattle.book_format.specs.inner.Rows.{read_or, read_some, table_in};
 ghost use Rattle.book_format.specs.Tables.{keys_table, token_type, account_table};
 ghost use Rattle.book_format.specs.declared.fault.BookWhy.TheVariants.{NoMemory};
 
@@ -27,7 +27,7 @@ const MAX_NAMES: usize = 16;
 
 /// The accounts of a table, in byte order of names, each read as a whole before the next. Errors: the fault of the first account at
 /// fault, with its index; `NoMemory` at any place.
-#[tactic(auto, unfolding(crate::specs::reading::Books::accounts_from))]
+#[tactic(auto, unfolding(crate::specs::inner::Books::accounts_from))]
 pub(crate) fn accounts_from(
     alloc: Global,
     table: &Table,
@@ -60,7 +60,7 @@ fn in_account(why: BookWhy, index: usize) -> BookFault
 }
 
 // An account and its name. Errors: `Name` if the key is not a plain name; then those of `account_of`.
-#[tactic(auto, unfolding(crate::specs::reading::Books::named_account_of))]
+#[tactic(auto, unfolding(crate::specs::inner::Books::named_account_of))]
 fn named_account_of(
     alloc: Global,
     key: &str,
@@ -82,7 +82,7 @@ fn plain_name_of(text: &str) -> Result<PlainName, BookWhy>
 
 // The account of a table. Each of its keys may be missing. Errors: `Key` if the value is not a table or a key is unknown; then the
 // fault of the first of `sha1`, `sha256`, `act_as` and `token` at fault.
-#[tactic(auto, unfolding(crate::specs::reading::Rows::table_in, crate::specs::reading::Rows::read_table))]
+#[tactic(auto, unfolding(crate::specs::inner::Rows::table_in, crate::specs::inner::Rows::read_table))]
 fn account_of(alloc: Global, value: &Value) -> Result<Account, BookWhy>
     ensures { IsReadAs (λ a. a) result (table_in account_table (view value.now)) }
 {
@@ -133,7 +133,7 @@ fn act_as_if_any(alloc: Global, table: &Table) -> Result<Vec<PlainName>, BookWhy
 
 // The names of a list. Errors: `Key` if the value is not a list or contains a value that is not a text; then `Name` if there are
 // more than 16 or one is not plain.
-#[tactic(auto, unfolding(crate::specs::reading::Values::name_list_in))]
+#[tactic(auto, unfolding(crate::specs::inner::Values::name_list_in))]
 fn act_as_of(alloc: Global, value: &Value) -> Result<Vec<PlainName>, BookWhy>
     ensures { IsReadAs (λ v. v.items) result (name_list_in (view value.now)) }
 {
@@ -168,7 +168,7 @@ fn are_texts(list: &[Value]) -> bool
 }
 
 // The names of texts. Errors: `Key` at the first value that is not a text; `Name` at the first that is not a plain name.
-#[tactic(auto, unfolding(crate::specs::reading::Values::names_in, crate::specs::reading::Values::text_in))]
+#[tactic(auto, unfolding(crate::specs::inner::Values::names_in, crate::specs::inner::Values::text_in))]
 fn names_in(alloc: Global, list: &[Value]) -> Result<Vec<PlainName>, BookWhy>
     ensures { IsReadAs (λ v. v.items) result (names_in (items_view list.now)) }
 {

@@ -7,10 +7,10 @@ ghost use Rattle.toml.specs.View.{view, table_view};
 ghost use Rattle.book_format.specs.Keys.{has_only};
 ghost use Rattle.hex.specs.Hex.{decode_of};
 ghost use Rattle.book_format.specs.ValueTypes.{number_type, bytes_type};
-ghost use Rattle.book_format.specs.reading.Values.{number_in, bytes_in, decoded, text_in, table_of};
-ghost use Rattle.book_format.specs.reading.Steps.{seen, pass_or};
+ghost use Rattle.book_format.specs.inner.Values.{number_in, bytes_in, decoded, text_in, table_of};
+ghost use Rattle.book_format.specs.inner.Steps.{seen, pass_or};
 ghost use Rattle.book_format.specs.RowKinds.{bound_at};
-ghost use Rattle.book_format.specs.reading.Rows.{read_at, read_or};
+ghost use Rattle.book_format.specs.inner.Rows.{read_at, read_or};
 ghost use Rattle.book_format.specs.declared.fault.BookWhy.{BookWhy};
 ghost use Rattle.book_format.specs.declared.fault.BookWhy.TheVariants.{Key};
 
@@ -72,7 +72,7 @@ fn is_among(keys: &[&str], key: &str) -> bool
 }
 
 /// The text at a key. Errors: `Key` if the key is missing or its value has the wrong type.
-#[tactic(auto, unfolding(crate::specs::reading::Values::text_in))]
+#[tactic(auto, unfolding(crate::specs::inner::Values::text_in))]
 pub(crate) fn text_at<'a>(table: &'a Table, key: &str) -> Result<&'a str, BookWhy>
     ensures { seen (λ t. t.now) result ≡ read_or (Err Key) text_in (get_member key.now (table_view table.now)) }
 {
@@ -80,7 +80,7 @@ pub(crate) fn text_at<'a>(table: &'a Table, key: &str) -> Result<&'a str, BookWh
 }
 
 /// The value as a whole number from `least` to `most`. Errors: `Key` if it has the wrong type; `why` if it is another number.
-#[tactic(auto, unfolding(crate::specs::reading::Values::number_in))]
+#[tactic(auto, unfolding(crate::specs::inner::Values::number_in))]
 pub(crate) fn number_of(value: &Value, least: u64, most: u64, why: BookWhy) -> Result<u64, BookWhy>
     ensures value { result ≡ number_in why least most (view value.now) }
     ensures least { IfOk result (λ n. least ≤ n) }
@@ -100,7 +100,7 @@ pub(crate) fn number_of(value: &Value, least: u64, most: u64, why: BookWhy) -> R
 
 /// The whole number from `least` to `most` at a key. Errors: `Key` if the key is missing or its value has the wrong type; `why` if
 /// it is another number.
-#[tactic(auto, unfolding(crate::specs::reading::Values::number_in))]
+#[tactic(auto, unfolding(crate::specs::inner::Values::number_in))]
 pub(crate) fn number_at(
     table: &Table,
     key: &str,
@@ -151,7 +151,7 @@ fn bytes_within(least: usize, most: usize, text: &str) -> Option<Tag>
 
 /// The `least` to `most` bytes whose hexadecimal text, in either case, is at a key. Errors: `Key` if the key is missing or its
 /// value has the wrong type; `why` if it is another text.
-#[tactic(auto, unfolding(crate::specs::reading::Values::bytes_in, crate::specs::reading::Values::text_in))]
+#[tactic(auto, unfolding(crate::specs::inner::Values::bytes_in, crate::specs::inner::Values::text_in))]
 pub(crate) fn bytes_at(
     table: &Table,
     key: &str,

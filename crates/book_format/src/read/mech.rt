@@ -1,7 +1,7 @@
 //! Reads what is kept for one mechanism: `salt`, `count`, `stored`, `server`.
 ghost use Rattle.std.specs.Prelude.{◌≡◌, ◌≤◌, length};
 ghost use Rattle.toml.specs.View.{view};
-ghost use Rattle.book_format.specs.reading.Rows.{table_in};
+ghost use Rattle.book_format.specs.inner.Rows.{table_in};
 ghost use Rattle.book_format.specs.Tables.{keys_table};
 
 use crate::account::MechKeys;
@@ -14,7 +14,7 @@ use toml::Value;
 /// What is kept for a mechanism whose keys have `len` bytes. Errors: `Key` if the value is not a table or a key is unknown; then
 /// for the first key at fault, in the order of the keys at the head of this file: `Key` if it is missing or its value has the wrong
 /// type, else `Salt`, `Count` or `KeyLength` if the value is out of its range.
-#[tactic(auto, unfolding(crate::specs::reading::Rows::table_in, crate::specs::reading::Rows::read_table))]
+#[tactic(auto, unfolding(crate::specs::inner::Rows::table_in, crate::specs::inner::Rows::read_table))]
 pub(crate) fn mech_of(len: usize, value: &Value) -> Result<MechKeys, BookWhy>
     requires { len ≤ 64 }
     ensures { result ≡ table_in (keys_table len) (view value.now) }

@@ -1,6 +1,6 @@
 -- What a keeper did with a code: the attempt was judged, and kept.
 use Rattle.std.proofs.Common.{◌≡◌, ◌≢◌, ℕ, true, List, refl, sym, ap, ◌∙◌}
-use Rattle.std.specs.declared.option.Option.TheVariants.{None, Some}
+use Rattle.std.specs.declared.option.Option.TheVariants.{Some}
 use Rattle.otp_core.specs.Attempt.{CodeTexts}
 use Rattle.otp_core.specs.Ranges.{IsMoment}
 use Rattle.otp_core.specs.State.{after_reply}
@@ -9,27 +9,22 @@ use Rattle.otp_core.specs.declared.token.reply.Reply.{Reply}
 use Rattle.otp_core.specs.declared.token.reply.Reply.TheVariants.{Pass, Fail, Locked}
 use Rattle.otp_core.specs.declared.token.kinds.TokenFields.{TokenFields}
 use Rattle.book_format.specs.Book.{BookFields}
+use Rattle.account_book.specs.AccountAttempt.{account_attempt_of}
 use Rattle.account_book.specs.Accounts.{IsChanged, with_changed}
-use Rattle.account_book.specs.SavedBooks.{needs_save, SavesBook}
+use Rattle.account_book.specs.SavedBooks.{needs_save}
 use Rattle.account_book.specs.Store.{StoreFacts}
-use Rattle.account_book.specs.Tokens.{token_at, with_token}
+use Rattle.account_book.specs.Tokens.{token_at, with_token, IsBookAttempt}
 use Rattle.account_book.proofs.lemmas.Tokens.{tokens_stay}
-use Rattle.book_keeper.specs.Keeper.{IsAttemptAtMoment, IsSavedIfChanged}
+use Rattle.book_keeper.specs.Keeper.{IsSavedIfChanged}
 
 -- an attempt that an account's token judged is judged in the book: the reply is the token's, and the new book has the token after it
 pub token_attempt_is_judged : (old new : BookFields) (name : List ℕ) (token now : TokenFields) (moment : ℕ) (sent : CodeTexts)
     (reply : Reply)
     → IsMoment moment
     → token_at old name ≡ Some token → IsTokenAttempt token moment sent reply now → IsChanged old name (with_token now) new
-    → IsAttemptAtMoment old name moment sent (Some reply) new
+    → IsBookAttempt old (account_attempt_of name moment sent (Some reply)) new
 token_attempt_is_judged old new name token now moment sent reply is has attempt put =
     record { is_moment = is; answered = rw has (reply, refl, record { next = now; judged = attempt; kept = put }) }
-
--- an attempt of an account without a token is judged: there is no reply, and the book stays as it was
-pub tokenless_attempt_is_judged : (old : BookFields) (name : List ℕ) (moment : ℕ) (sent : CodeTexts) → IsMoment moment
-    → token_at old name ≡ None
-    → IsAttemptAtMoment old name moment sent None old
-tokenless_attempt_is_judged old name moment sent is has = record { is_moment = is; answered = rw has (refl, refl) }
 
 -- a reply other than LOCKED needs a save
 pub reply_but_locked_needs_save : (reply : Reply) → reply ≢ Locked → needs_save (Some reply) ≡ true
@@ -42,14 +37,9 @@ pub locked_attempt_is_judged : (IsStored : List ℕ → Type 0) (old : BookField
     (sent : CodeTexts)
     (reply : Reply) → IsMoment moment
     → token_at old name ≡ Some token → IsTokenAttempt token moment sent reply now → reply ≡ Locked → (was : StoreFacts)
-    → IsAttemptAtMoment old name moment sent (Some reply) old × IsSavedIfChanged IsStored (needs_save (Some reply)) old was old was
+    → IsBookAttempt old (account_attempt_of name moment sent (Some reply)) old × IsSavedIfChanged IsStored (needs_save (Some reply)) old was old was
 locked_attempt_is_judged IsStored old name token now moment sent reply is has attempt locked was =
     let same : now ≡ token = attempt.state ∙ ap (after_reply token moment) locked in
     let stays : old ≡ with_changed old name (with_token now) =
     sym (ap (λ (t : TokenFields). with_changed old name (with_token t)) same ∙ tokens_stay old name token has) in
     (token_attempt_is_judged old old name token now moment sent reply is has attempt stays, rw locked (refl, refl))
-
--- a reply that is not LOCKED is kept by a store that holds the book's text
-pub reply_but_locked_is_kept : (IsStored : List ℕ → Type 0) (old new : BookFields) (was now : StoreFacts) (reply : Reply) → reply ≢ Locked
-    → SavesBook IsStored was new now → IsSavedIfChanged IsStored (needs_save (Some reply)) old was new now
-reply_but_locked_is_kept IsStored old new was now reply apart holds = rw (reply_but_locked_needs_save reply apart) holds

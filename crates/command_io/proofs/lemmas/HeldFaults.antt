@@ -10,7 +10,7 @@ use Rattle.book_file.specs.Text.{IsRead}
 use Rattle.book_format.specs.Faults.{book_why_number}
 use Rattle.scram_text.proofs.lemmas.FirstUnmet.{found_is_first}
 use Rattle.book_format.specs.Demands.{must}
-use Rattle.book_format.specs.FirstFault.{book_demands, IsFirstFault}
+use Rattle.book_format.specs.FirstFault.{book_demands, IsBookFault}
 use Rattle.book_format.specs.declared.fault.BookFault.{BookFault}
 use Rattle.book_format.specs.declared.fault.BookWhy.TheVariants as why
 use Rattle.command_line.specs.Fault.{fault_of_book_why, fault_of_book}
@@ -48,7 +48,7 @@ failed_read_prevents_holding path kind file fault named memory plain =
 pub bad_text_leaves_book_unread : {File : Type 0} (bytes_of : File → Option (List ℕ)) (path text : List ℕ) (found : BookFault)
     (fault : Fault)
     → IsRead bytes_of text
-    → fault ≡ fault_of_book found → (found.why ≡ why.NoMemory) ⊎ IsFirstFault text found
+    → fault ≡ fault_of_book found → (found.why ≡ why.NoMemory) ⊎ IsBookFault text found
     → IsFileUnreadOrNoMemory path fault ⊎ IsFaultOfText bytes_of fault
 bad_text_leaves_book_unread bytes_of path text found fault read is (inl memory) =
     inl (subst (IsFileUnreadOrNoMemory path) (sym (is ∙ ap fault_of_book_why memory)) refl)
@@ -57,7 +57,7 @@ bad_text_leaves_book_unread bytes_of path text found fault read is (inr first) =
 -- if a text was read that is not a book, the fault is one of a book that can't be held or read
 pub bad_text_prevents_opening : {File : Type 0} (bytes_of : File → Option (List ℕ)) (path text : List ℕ) (found : BookFault) (fault : Fault)
     → IsRead bytes_of text
-    → fault ≡ fault_of_book found → (found.why ≡ why.NoMemory) ⊎ IsFirstFault text found → CannotOpenBook bytes_of path fault
+    → fault ≡ fault_of_book found → (found.why ≡ why.NoMemory) ⊎ IsBookFault text found → CannotOpenBook bytes_of path fault
 bad_text_prevents_opening bytes_of path text found fault read is reason =
     elim (bad_text_leaves_book_unread bytes_of path text found fault read is reason) [
       | inl file ↦ inl (unread_file_prevents_holding path fault file)
@@ -65,7 +65,7 @@ bad_text_prevents_opening bytes_of path text found fault read is reason =
     ]
 
 -- the first fault of bytes that are not UTF-8 is that they are not TOML
-non_utf8_is_no_toml : (bytes : List ℕ) → (IsUtf8 bytes → ⊥) → IsFirstFault bytes (record { why = why.Toml; account = None })
+non_utf8_is_no_toml : (bytes : List ℕ) → (IsUtf8 bytes → ⊥) → IsBookFault bytes (record { why = why.Toml; account = None })
 unfolding book_demands
 non_utf8_is_no_toml bytes none = elim (cases_Bool (is_utf8 bytes)) [
   | inl is ↦ absurd (none (IsUtf8-from_is_utf8 bytes is))

@@ -9,16 +9,16 @@ use Rattle.std.proofs.lemmas.Grind.{reverse_onto}
 use Rattle.std.proofs.lemmas.List.{reverse-append}
 use Rattle.otp_core.specs.Attempt.{CodeTexts}
 use Rattle.otp_core.specs.declared.token.reply.Reply.{Reply}
-use Rattle.otp_core.specs.declared.token.reply.Reply.TheVariants.{Pass, Fail, Locked}
+use Rattle.otp_core.specs.declared.token.reply.Reply.TheVariants.{Locked}
 use Rattle.book_format.specs.Book.{BookFields}
 use Rattle.book_format.specs.Trees.{IsBookText}
 use Rattle.account_book.specs.SavedBooks.{SavesBook}
 use Rattle.account_book.specs.Store.{StoreFacts, IsFailedSave}
-use Rattle.book_keeper.specs.Keeper.{IsAttemptAtMoment, IsChangeUnsaved, IsSavingReplyDue}
+use Rattle.account_book.specs.AccountAttempt.{AccountAttempt, account_attempt_of}
+use Rattle.account_book.specs.Tokens.{IsBookAttempt}
+use Rattle.book_keeper.specs.Keeper.{IsChangeUnsaved, IsSavingReplyDue}
 use Rattle.book_keeper.specs.declared.keeper.SaveFault.TheVariants.{NotSaved}
-use Rattle.log_grammar.specs.LoggedAttempt.{LoggedAttempt, logged_attempt_of}
 use Rattle.sasl_desk.specs.Desks.{spent_by_all, IsBookAfterReplies, MayHold, MayHoldWithinSave}
-use Rattle.sasl_desk.specs.JudgedAttempts.{IsAttemptJudged}
 use Rattle.sasl_desk.specs.Changes.{Change, judged, AreChanges}
 use Rattle.sasl_desk.specs.Spent.{AreSpent, spent_by}
 use Rattle.sasl_desk.proofs.lemmas.runs.BooksAfterReplies.{reply_adds_to_book}
@@ -51,8 +51,6 @@ saved_book_is_held IsStored old new saves = record {
 -- after a reply the store holds a text of the book, if it did so before
 saved_reply_keeps_book_held : (IsStored : List ℕ → Type 0) (old : HeldFacts) (name : List ℕ) (moment : ℕ) (sent : CodeTexts) (reply : Reply)
     (new : HeldFacts) → IsReplySaved IsStored old name moment sent reply new → HoldsItsBook old → HoldsItsBook new
-saved_reply_keeps_book_held IsStored old name moment sent (Pass counter) new is holds = saved_book_is_held IsStored old new is.kept
-saved_reply_keeps_book_held IsStored old name moment sent Fail new is holds = saved_book_is_held IsStored old new is.kept
 saved_reply_keeps_book_held IsStored old name moment sent Locked new is holds =
     let (book, store) = is.kept in
     record {
@@ -61,6 +59,7 @@ saved_reply_keeps_book_held IsStored old name moment sent Locked new is holds =
           (subst (λ (s : StoreFacts). IsBookText s.saved old.book) (sym store) holds.saved);
       stored = tt;
     }
+saved_reply_keeps_book_held IsStored old name moment sent reply new is holds = saved_book_is_held IsStored old new is.kept
 
 -- each text that the store may hold is one of the book, if it holds one and has not failed
 held_text_is_of_book : (held : HeldFacts) (text : List ℕ) → HoldsItsBook held → MayHold held.store text → IsBookText text held.book
@@ -80,12 +79,12 @@ run_holds_its_book bytes_of words printed moment run begins =
     record { working = begins.working; saved = begins.is_book.is_text; stored = tt }
 
 -- what attempts and one more used contains what the attempts used
-pub earlier_counters_are_spent : (attempts : List LoggedAttempt) (attempt : LoggedAttempt) (spent : List (List ℕ × ℕ)) (book : BookFields)
+pub earlier_counters_are_spent : (attempts : List AccountAttempt) (attempt : AccountAttempt) (spent : List (List ℕ × ℕ)) (book : BookFields)
     → AreSpent (spent_by_all (reverse (attempts ++ attempt ∷ [])) ++ spent) book → AreSpent (spent_by_all (reverse attempts) ++ spent) book
 earlier_counters_are_spent attempts attempt spent book all =
     rest_is_spent book (spent_by attempt) (spent_by_all (reverse attempts) ++ spent)
     (subst (λ (l : List (List ℕ × ℕ)). AreSpent l book) (append_assoc (spent_by attempt) (spent_by_all (reverse attempts)) spent)
-    (subst (λ (latest_first : List LoggedAttempt). AreSpent (spent_by_all latest_first ++ spent) book)
+    (subst (λ (latest_first : List AccountAttempt). AreSpent (spent_by_all latest_first ++ spent) book)
     (reverse-append attempts (attempt ∷ [])) all))
 
 -- changes
@@ -100,13 +99,13 @@ module _ {S : Type 0} (facts : S → StoreFacts) (IsStored : List ℕ → Type 0
       (next, changes_follow_changes first before middle after next earlier later, one)
 
   -- the law, of replies, of which the latest is given first: their attempts are changes
-  pub replies_are_changes : (start : BookFields) (latest_first : List LoggedAttempt) (book : BookFields)
+  pub replies_are_changes : (start : BookFields) (latest_first : List AccountAttempt) (book : BookFields)
       → IsBookAfterReplies start latest_first book → AreChanges facts IsStored start (map judged latest_first) book
   replies_are_changes start [] book same = same
   replies_are_changes start (attempt ∷ before) book (old, earlier, one) = (old, replies_are_changes start before old earlier, one)
 
 -- replies that follow others are, together with these, replies from the first book to the last; the latest of each are given first
-replies_follow_replies : (first : BookFields) (before : List LoggedAttempt) (middle : BookFields) (after : List LoggedAttempt)
+replies_follow_replies : (first : BookFields) (before : List AccountAttempt) (middle : BookFields) (after : List AccountAttempt)
     (last : BookFields) → IsBookAfterReplies first before middle → IsBookAfterReplies middle after last
     → IsBookAfterReplies first (after ++ before) last
 replies_follow_replies first before middle [] last earlier same =
@@ -133,7 +132,7 @@ module _ (IsStored : List ℕ → Type 0) (name : List ℕ) (moment : ℕ) where
       held_text_is_of_book new.held text (answered_lines_keep_book_held answers.lines old all_passed new answers.in_turn holds) may
 
   -- lines made these attempts in order: they made the old book the new one, and the replies were printed
-  record HaveMade (lines : List (List ℕ)) (attempts : List LoggedAttempt) (old new : VerifyRun) : Type 0 where
+  record HaveMade (lines : List (List ℕ)) (attempts : List AccountAttempt) (old new : VerifyRun) : Type 0 where
     made : AllZip (MakesAttempt name moment) lines attempts
     printed : Appends old.printed new.printed (printed_replies attempts)
     leads : IsBookAfterReplies old.held.book (reverse attempts) new.held.book
@@ -141,20 +140,20 @@ module _ (IsStored : List ℕ → Type 0) (name : List ℕ) (moment : ℕ) where
   -- lines that are answered have made attempts
   answered_lines_have_made : (lines : List (List ℕ)) (old : VerifyRun) (all_passed : Bool) (new : VerifyRun)
       → EachInTurn (AnswersLine IsStored name moment) lines old all_passed new
-      → (attempts : List LoggedAttempt) × HaveMade lines attempts old new
+      → (attempts : List AccountAttempt) × HaveMade lines attempts old new
   answered_lines_have_made [] old all_passed new (same, is) = (
     [],
     subst (λ (r : VerifyRun). HaveMade [] [] old r) (sym same)
         (record { made = tt; printed = Appends-nil old.printed; leads = refl }),
   )
   answered_lines_have_made (line ∷ lines) old all_passed new (passed, next, others, (reply, answered, passes), rest, is) =
-      let attempt = logged_attempt_of name moment answered.sent (Some reply) in
+      let attempt = account_attempt_of name moment answered.sent (Some reply) in
       let more = answered_lines_have_made lines next others new rest in (
         attempt ∷ more.0,
         record {
           made = ((answered.sent, reply, answered.says, refl), more.1.made);
           printed = Appends-trans old.printed next.printed new.printed _ (printed_replies more.0) answered.printed more.1.printed;
-          leads = subst (λ (l : List LoggedAttempt). IsBookAfterReplies old.held.book l new.held.book)
+          leads = subst (λ (l : List AccountAttempt). IsBookAfterReplies old.held.book l new.held.book)
               (sym (reverse_onto more.0 attempt []))
               (replies_follow_replies old.held.book (attempt ∷ []) next.held.book (reverse more.0) new.held.book
               (old.held.book, refl, answered.saved.due) more.1.leads);
@@ -164,7 +163,7 @@ module _ (IsStored : List ℕ → Type 0) (name : List ℕ) (moment : ℕ) where
   -- the law, of a run that answered all lines except these last ones
   pub answered_lines_are_changes_all : (input : Option (List ℕ)) (last : List (List ℕ)) (old : VerifyRun) (all_passed : Bool)
       (new : VerifyRun) → LinesInTurn (AnswersLine IsStored name moment) input last old all_passed new
-      → (attempts : List LoggedAttempt)
+      → (attempts : List AccountAttempt)
       × MakesAttempts name moment input last attempts old.held.book new.held.book
       × Appends old.printed new.printed (printed_replies attempts)
   answered_lines_are_changes_all input last old all_passed new answers =
@@ -172,10 +171,10 @@ module _ (IsStored : List ℕ → Type 0) (name : List ℕ) (moment : ℕ) where
       (attempts, record { lines = answers.lines; are = answers.are; made = have.made; leads = have.leads }, have.printed)
 
   -- the next line makes one attempt more
-  next_line_makes_attempt : (input : Option (List ℕ)) (line : List ℕ) (last : List (List ℕ)) (attempts : List LoggedAttempt)
-      (attempt : LoggedAttempt) (old middle next : BookFields)
+  next_line_makes_attempt : (input : Option (List ℕ)) (line : List ℕ) (last : List (List ℕ)) (attempts : List AccountAttempt)
+      (attempt : AccountAttempt) (old middle next : BookFields)
       → MakesAttempts name moment input (line ∷ last) attempts old middle
-      → MakesAttempt name moment line attempt → IsAttemptJudged middle attempt next
+      → MakesAttempt name moment line attempt → IsBookAttempt middle attempt next
       → MakesAttempts name moment input last (attempts ++ attempt ∷ []) old next
   next_line_makes_attempt input line last attempts attempt old middle next makes made one = record {
     lines = makes.lines ++ line ∷ [];
@@ -189,7 +188,7 @@ module _ (IsStored : List ℕ → Type 0) (name : List ℕ) (moment : ℕ) where
   pub answered_lines_are_changes_within : (input : Option (List ℕ)) (old middle : VerifyRun) (asked text : List ℕ)
       (saves : SavesNextLine IsStored name moment input old middle asked) → HoldsItsBook old.held
       → MayHoldWithinSave middle.held.store asked text
-      → (attempts : List LoggedAttempt) × Appends old.printed middle.printed (printed_replies attempts)
+      → (attempts : List AccountAttempt) × Appends old.printed middle.printed (printed_replies attempts)
       × ((IsBookText text middle.held.book
       × MakesAttempts name moment input (saves.line ∷ saves.last) attempts old.held.book middle.held.book)
       ⊎ (IsBookText text saves.next
@@ -218,7 +217,7 @@ module _ (IsStored : List ℕ → Type 0) (name : List ℕ) (moment : ℕ) where
     -- the text is that of a book to which attempts led, and the replies to these are printed as far as the run came
     abbrev LeavesText : Type 0
     LeavesText =
-        (left : BookFields) × (last : List (List ℕ)) × (attempts : List LoggedAttempt) × IsBookText text left
+        (left : BookFields) × (last : List (List ℕ)) × (attempts : List AccountAttempt) × IsBookText text left
         × MakesAttempts name moment input last attempts old.held.book left
         × PrintsUntil fault attempts old.printed new.printed
 
@@ -241,11 +240,11 @@ module _ (IsStored : List ℕ → Type 0) (name : List ℕ) (moment : ℕ) where
         (walk : LinesInTurn (AnswersLine IsStored name moment) input (line ∷ last) old all_passed middle) where
       -- the run left the book with the attempt of this line
       leaves_book_after : (sent : CodeTexts) (reply : Reply) (next : BookFields) → SaysCodes line sent
-          → IsAttemptAtMoment middle.held.book name moment sent (Some reply) next
+          → IsBookAttempt middle.held.book (account_attempt_of name moment sent (Some reply)) next
           → (fault ≡ CannotWriteOutput) ⊎ (new.printed ≡ middle.printed) → IsBookText text next → LeavesText
       leaves_book_after sent reply next says due output is_text =
           let (attempts, makes, printed) = answered_lines_are_changes_all input (line ∷ last) old all_passed middle walk in
-          let attempt = logged_attempt_of name moment sent (Some reply) in (
+          let attempt = account_attempt_of name moment sent (Some reply) in (
             next,
             last,
             attempts ++ attempt ∷ [],
@@ -278,7 +277,7 @@ module _ (IsStored : List ℕ → Type 0) (name : List ℕ) (moment : ℕ) where
 
         -- if the save of this line's attempt failed, the run left the book before or after the attempt
         failed_save_leaves_either : (sent : CodeTexts) (reply : Reply) (next : BookFields) (given : List ℕ) → SaysCodes line sent
-            → IsAttemptAtMoment middle.held.book name moment sent (Some reply) next → IsBookText given next
+            → IsBookAttempt middle.held.book (account_attempt_of name moment sent (Some reply)) next → IsBookText given next
             → IsFailedSave middle.held.store given new.held.store → new.printed ≡ middle.printed → MayHold new.held.store text
             → LeavesText
         failed_save_leaves_either sent reply next given says due is_text fails silent (inl same) = elim fails.saved [

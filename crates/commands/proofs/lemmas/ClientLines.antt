@@ -17,7 +17,7 @@ use Rattle.scram_ends.specs.Client.{StandsForStarted, IsAnswerable, StandsForAns
 use Rattle.scram_ends.specs.declared.client.ClientOne.{ClientOne}
 use Rattle.scram_ends.specs.declared.client.ClientTwo.{ClientTwo}
 use Rattle.commands.specs.ClientEnd.{IsChosen}
-use Rattle.commands.specs.ClientSteps.{IfSays, BeginsLogin, AnswersChallenge, MaySay, HasToLeave}
+use Rattle.commands.specs.inner.ClientSteps.{IfSays, BeginsLogin, AnswersChallenge, MaySay, HasToLeave}
 use Rattle.commands.specs.declared.login.client_end.ClientEnd.{ClientEnd}
 use Rattle.commands.specs.declared.login.client_end.User.{User}
 use Rattle.commands.specs.declared.login.client_end.Next.{Next}

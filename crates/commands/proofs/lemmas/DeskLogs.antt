@@ -19,8 +19,8 @@ use Rattle.sasl_desk.specs.declared.fault.ServeFault.TheVariants.{Halted, Unwrit
 use Rattle.sasl_desk.proofs.lemmas.turns.TurnBytes.{log_bytes-append}
 use Rattle.command_line.specs.declared.fault.Fault.{Fault}
 use Rattle.commands.specs.DeskLog.{IsRequestWith}
-use Rattle.commands.specs.DeskLogSteps.{IsDeskLog, StaysItsLog, StaysItsLogWith, IsLogAfterFault}
-use Rattle.commands.specs.TurnFaults.{IsFaultOfServing}
+use Rattle.commands.specs.inner.DeskLogSteps.{IsDeskLog, StaysItsLog, StaysItsLogWith, IsLogAfterFault}
+use Rattle.commands.specs.inner.TurnFaults.{IsFaultOfServing}
 
 -- a desk with this book, store and state
 abbrev desk_with : {S : Type 0} → (book : BookFields) → (store : S) → State → Desk S
@@ -82,7 +82,7 @@ module _ {S : Type 0} {facts : S → StoreFacts} {IsStored : List ℕ → Type 0
         inr (λ server_nonce. next_call_keeps_log server_nonce (hears event moment) undone.lines
         (now (λ same. cc same)) undone.answers.stands
         undone.logged)
-    undone_turn_leaves_log event moment wire wire' path LogFault fault now is undone = inl (is, undone.failed)
+    undone_turn_leaves_log event moment wire wire' path LogFault fault now is undone = inl (is, undone.log_fails)
 
 -- what stays a desk's log in two steps, one after the other, stays its log
 pub two_steps_keep_log : {S : Type 0} {facts : S → StoreFacts} {IsStored : List ℕ → Type 0} {IsNow : ℕ → Type 0} {server_nonce : List ℕ}

@@ -1,23 +1,11 @@
--- The words of a hall's input lines: a moment before a space, and what follows a session's number.
+-- The words of a hall's input lines: what follows a session's number.
 use Rattle.std.proofs.Common.{◌≡◌, ℕ, List, ◌∷◌, ◌++◌, sym, ◌∙◌}
 use Rattle.std.specs.Prelude.{decimal}
 use Rattle.std.specs.Str.{byte}
 use Rattle.std.proofs.lemmas.List.{append_cancel_left}
-use Rattle.otp_core.specs.Ranges.{IsMoment}
 use Rattle.log_grammar.specs.NumberedLines.{IsSessionNumber}
-use Rattle.log_grammar.proofs.lemmas.lines.Words.{number_is_spaceless, moment_fits_64_bits}
 use Rattle.sasl_log.specs.NumberedFaults.{BeginsWithNumber}
-use Rattle.sasl_log.specs.Words.{LacksSpace}
 use Rattle.sasl_log.proofs.lemmas.texts.NumberedLines.{one_rest_after_number}
-use Rattle.sasl_log.proofs.lemmas.texts.Spaces.{text_is_spaceless, one_cut_at_space}
-
--- if a text begins with a moment and a space, the text before its first space is that moment
-pub text_before_space_is_moment : (text front back : List ℕ) → LacksSpace front × (text ≡ front ++ byte " " ∷ back) → (n : ℕ) → IsMoment n
-    → (rest : List ℕ)
-    → text ≡ decimal n ++ byte " " ∷ rest → front ≡ decimal n
-text_before_space_is_moment text front back (lacks, whole) n is rest same =
-    (one_cut_at_space front (decimal n) back rest (text_is_spaceless front lacks) (number_is_spaceless n (moment_fits_64_bits n is))
-    (sym whole ∙ same)).0
 
 -- a line of this word and a text
 module _ (word line text : List ℕ) (is : line ≡ word ++ text) where

@@ -6,7 +6,7 @@ use Rattle.command_line.specs.declared.fault.Fault.TheVariants.{BadEvent}
 use Rattle.sasl_log.specs.Sink.{SinkFacts}
 use Rattle.commands.specs.Hall.{StopsHearing}
 use Rattle.commands.specs.PrintedLog.{StopsAfter}
-use Rattle.commands.specs.TurnFaults.{FailsToBegin, IsUnsavedOrUnlogged}
+use Rattle.commands.specs.inner.TurnFaults.{FailsToBegin, IsUnsavedOrUnlogged}
 
 -- if a desk or a hall can't begin, it has printed nothing, or the output can't be written
 pub failed_begin_prints_nothing : (path : List ℕ) (old new : SinkFacts) (fault : Fault) (before after : Option (List ℕ)) (Printed : Type 0)

@@ -18,9 +18,9 @@ use Rattle.sasl_desk.specs.declared.session.phase.Phase.{Phase}
 use Rattle.sasl_desk.specs.declared.hall.Hall.{Hall}
 use Rattle.sasl_desk.proofs.lemmas.halls.CallBytes.{hall_bytes-next_call}
 use Rattle.sasl_desk.proofs.lemmas.halls.Working.{reordered_hall_stands}
-use Rattle.commands.specs.TurnFaults.{IsUnsavedOrUnlogged}
+use Rattle.commands.specs.inner.TurnFaults.{IsUnsavedOrUnlogged}
 use Rattle.commands.specs.Hall.{InputEvent, opens, does_at, SaysEvent, SaysNoEvent, IsCallFor}
-use Rattle.commands.specs.HallSteps.{IsHallLogOf, Hears}
+use Rattle.commands.specs.inner.HallSteps.{IsHallLogOf, Hears}
 
 -- a hall that is the same, up to the order of its open sessions, differs from what it was in its open sessions alone
 same_hall_differs_in_open_sessions : {S : Type 0} (old new : HallFields S) → IsSameHall old new

@@ -8,18 +8,18 @@ use Rattle.command_line.specs.declared.fault.Fault.{Fault}
 use Rattle.log_grammar.specs.Books.{accounts_in}
 use Rattle.log_grammar.specs.Numbered.{Numbered, of_number}
 use Rattle.log_grammar.specs.Places.{Place, between}
-use Rattle.log_grammar.specs.Versions.{IsLogFront}
 use Rattle.sasl_log.specs.Sink.{SinkFacts}
-use Rattle.sasl_desk.specs.Halls.{HallFields, hall_shown, hall_lines, hall_bytes, phase_in, IsPhaseIn, IsSessionRun, IsHallAfter}
+use Rattle.sasl_desk.specs.Halls.{HallFields, hall_shown, hall_bytes, phase_in, IsPhaseIn, IsSessionRun, IsHallAfter}
 use Rattle.sasl_desk.specs.Runs.{Call}
-use Rattle.sasl_desk.specs.Saved.{AreLinesSaved}
 use Rattle.sasl_desk.specs.declared.session.phase.Phase.{Phase}
 use Rattle.sasl_desk.specs.declared.hall.Hall.{Hall}
-use Rattle.commands.specs.Hall.{InputEvent, opens, does_at, IsBadEventAfter, AreCallsFor}
-use Rattle.commands.specs.HallSteps.{IsBadEvent, IsHallLogOf, Hears, HearsLine, HearsUpTo, HearsFirstLines, MayHaveHeard, MeetsBadEvent, PrintsToBadEvent}
-use Rattle.commands.specs.Hall.{PrintsHallLog}
+use Rattle.commands.specs.Hall.{InputEvent, opens, does_at, IsBadEventAfter, AreCallsFor, PrintsHallLog}
+use Rattle.commands.specs.inner.HallSteps.{IsBadEvent, IsHallLogOf, Hears, HearsLine, HearsUpTo, HearsFirstLines, MayHaveHeard, MeetsBadEvent, PrintsToBadEvent}
 use Rattle.command_io.specs.Input.{line_bytes, TakesLine}
 use Rattle.commands.specs.PrintedLog.{StopsAfter}
+use Rattle.sasl_desk.proofs.lemmas.halls.Logs.{log_is_a_front}
+use Rattle.sasl_desk.proofs.lemmas.halls.Phases.{phases_are_those_of_places}
+use Rattle.sasl_desk.proofs.lemmas.halls.Stores.{log_is_saved}
 use Rattle.commands.proofs.lemmas.HallLogs.{hearings_join}
 use Rattle.command_io.proofs.lemmas.InputLines.{end_has_no_lines, taken_line_begins_lines, some_lines}
 
@@ -111,27 +111,21 @@ module _ {S : Type 0} {facts : S → StoreFacts} {IsStored : List ℕ → Type 0
 module _ {S : Type 0} {facts : S → StoreFacts} {IsStored : List ℕ → Type 0} {start : BookFields} {calls : List (Numbered Call)}
     {hall : HallFields S} (s : IsHallAfter facts IsStored start calls hall) where
   -- if a hall has no session of a number, its calls have left none open
-  closed_session_is_between : (n : ℕ) → IsPhaseIn (s.places n) (phase_in hall n) → phase_in hall n ≡ None
-      → IsSessionRun (accounts_in start) (of_number n calls) between
-  closed_session_is_between n phase none =
-      let at : s.places n ≡ between = subst (λ (p : Option Phase). IsPhaseIn (s.places n) p) none phase in
+  closed_session_is_between : (n : ℕ) → phase_in hall n ≡ None → IsSessionRun (accounts_in start) (of_number n calls) between
+  closed_session_is_between n none =
+      let at : s.places n ≡ between = subst (λ (p : Option Phase). IsPhaseIn (s.places n) p) none (phases_are_those_of_places s n) in
       subst (λ (p : Place). IsSessionRun (accounts_in start) (of_number n calls) p) at (s.session_runs n)
 
   -- a line that is bad for a hall is bad after the calls of the hall
-  bad_line_stays_bad : (line : List ℕ) → ((n : ℕ) → IsPhaseIn (s.places n) (phase_in hall n)) → IsBadEvent line hall
-      → IsBadEventAfter (accounts_in start) calls line
-  bad_line_stays_bad line phases (inl nothing) = inl nothing
-  bad_line_stays_bad line phases (inr (opens server_nonce, said, never)) = absurd never
-  bad_line_stays_bad line phases (inr (does_at n event moment, said, none)) =
-      inr (does_at n event moment, said, closed_session_is_between n (phases n) none)
+  bad_line_stays_bad : (line : List ℕ) → IsBadEvent line hall → IsBadEventAfter (accounts_in start) calls line
+  bad_line_stays_bad line (inl nothing) = inl nothing
+  bad_line_stays_bad line (inr (opens server_nonce, said, never)) = absurd never
+  bad_line_stays_bad line (inr (does_at n event moment, said, none)) =
+      inr (does_at n event moment, said, closed_session_is_between n none)
 
--- what a hall prints that began with this book: each log of calls is a front, and the book after it was saved
+-- what a hall prints that began with this book
 module _ {S : Type 0} {facts : S → StoreFacts} {IsStored : List ℕ → Type 0} {book : BookFields} {input given before after : Option (List ℕ)}
     {old new : Hall S} {log log' : SinkFacts}
-    (front : (start : BookFields) (calls : List (Numbered Call)) (hall : HallFields S) → IsHallAfter facts IsStored start calls hall
-    → IsLogFront (accounts_in start) (hall_bytes calls))
-    (kept : (start : BookFields) (calls : List (Numbered Call)) (hall : HallFields S) → IsHallAfter facts IsStored start calls hall
-    → AreLinesSaved IsStored start (hall_lines calls))
     (was : given ≡ before) (is : after ≡ log'.given) (begun : IsHallLogOf facts IsStored book given [] old log) where
   -- a hall prints the log of what it heard of its input, and that log is a front
   pub hall_prints_its_log : {last : List (List ℕ)} → HearsUpTo facts IsStored input last old log new log'
@@ -142,8 +136,8 @@ module _ {S : Type 0} {facts : S → StoreFacts} {IsStored : List ℕ → Type 0
         calls = hall.calls;
         heard = subst (λ (events : List InputEvent). AreCallsFor events hall.calls) (append-nil (reverse heard.says.events)) hall.heard;
         runs = λ n. (hall.stands.places n, hall.stands.session_runs n);
-        is_front = front book hall.calls (hall_shown new) hall.stands;
-        saved = kept book hall.calls (hall_shown new) hall.stands;
+        is_front = log_is_a_front hall.stands;
+        saved = log_is_saved hall.stands;
         printed = subst (λ (o : Option (List ℕ)). Appends before o (hall_bytes hall.calls)) (sym is)
             (subst (λ (o : Option (List ℕ)). Appends o log'.given (hall_bytes hall.calls)) was hall.logged);
       }
@@ -155,14 +149,12 @@ module _ {S : Type 0} {facts : S → StoreFacts} {IsStored : List ℕ → Type 0
   hall_stops_after fault (inr (last, heard)) = inr (last, hall_prints_its_log heard)
 
   -- a hall that meets a bad event prints the log of what it heard before, and the next line is bad after that
-  pub hall_prints_to_bad_event : ((start : BookFields) (calls : List (Numbered Call)) (hall : HallFields S)
-      (s : IsHallAfter facts IsStored start calls hall) (n : ℕ) → IsPhaseIn (s.places n) (phase_in hall n))
-      → MeetsBadEvent facts IsStored input old log new log' → PrintsToBadEvent IsStored book input before after
+  pub hall_prints_to_bad_event : MeetsBadEvent facts IsStored input old log new log' → PrintsToBadEvent IsStored book input before after
   unfolding hall_prints_its_log
-  hall_prints_to_bad_event phases (line, last, heard, bad) =
+  hall_prints_to_bad_event (line, last, heard, bad) =
       let hall = heard.heard book given [] begun in (
         line,
         last,
         hall_prints_its_log heard,
-        bad_line_stays_bad hall.stands line (phases book hall.calls (hall_shown new) hall.stands) bad,
+        bad_line_stays_bad hall.stands line bad,
       )

@@ -3,24 +3,23 @@ use Rattle.std.proofs.Common.{◌≡◌, ◌≢◌, inl, inr, ℕ, Bool, Option,
 use Rattle.std.specs.Io.KnownBytes.{Appends}
 use Rattle.book_format.specs.Book.{BookFields}
 use Rattle.account_book.specs.Store.{StoreFacts}
-use Rattle.log_grammar.specs.Books.{accounts_in}
-use Rattle.log_grammar.specs.Lines.{log_bytes, header}
+use Rattle.log_grammar.specs.Lines.{log_bytes, header_one}
 use Rattle.log_grammar.specs.Versions.{IsClean, IsLogFront}
 use Rattle.sasl_log.specs.Sink.{SinkFacts}
-use Rattle.sasl_desk.specs.Runs.{Call, run_lines}
-use Rattle.sasl_desk.specs.Desks.{IsDeskAfter}
-use Rattle.sasl_desk.specs.Saved.{IsLogSaved}
+use Rattle.sasl_desk.specs.Runs.{run_lines}
 use Rattle.sasl_desk.specs.Serves.{Service, IsTurnFault}
 use Rattle.sasl_desk.specs.declared.desk.Desk.{Desk}
 use Rattle.sasl_desk.specs.declared.fault.ServeFault.{ServeFault}
 use Rattle.sasl_desk.specs.declared.fault.ServeFault.TheVariants.{Halted, Unwritable, NoMemory, WriteFault, LogFault}
+use Rattle.sasl_desk.proofs.lemmas.runs.Logs.{log_is_a_front}
+use Rattle.sasl_desk.proofs.lemmas.runs.Stores.{log_is_saved}
 use Rattle.command_line.specs.Fault.{IsFileUnwrittenOrNoMemory}
 use Rattle.command_line.specs.declared.fault.Fault.{Fault}
 use Rattle.command_line.specs.declared.fault.Fault.TheVariants.{NoMemory as OutOfMemory}
 use Rattle.commands.specs.DeskLog.{HasSavedLog}
-use Rattle.commands.specs.DeskLogSteps.{IsDeskLog, IsLogAfterFaultWith}
+use Rattle.commands.specs.inner.DeskLogSteps.{IsDeskLog, IsLogAfterFaultWith}
 use Rattle.commands.specs.LoginFaults.{StopsTalking}
-use Rattle.commands.specs.TurnFaults.{IsFaultOfServing, IsFaultInTurn}
+use Rattle.commands.specs.inner.TurnFaults.{IsFaultOfServing, IsFaultInTurn}
 use Rattle.commands.specs.Login.{EndsTalk, PrintsTalk}
 use Rattle.commands.specs.PrintedLog.{StopsAfter}
 use Rattle.commands.specs.Talked.{Talked}
@@ -32,23 +31,19 @@ module _ {S : Type 0} {facts : S → StoreFacts} {IsStored : List ℕ → Type 0
     (begun : IsDeskLog facts IsStored IsNow book given server_nonce old log) where
   -- after a fault a login has printed nothing, or its saved log, which is a front, or the output can't be written
   pub login_stops_after : {new : Desk S} {log' : SinkFacts} {fault : Fault} → after ≡ log'.given
-      → ((start : BookFields) (calls : List Call) (desk : Desk S) → IsDeskAfter facts IsStored start calls desk
-      → IsLogFront (accounts_in start) (log_bytes (run_lines calls)))
-      → ((start : BookFields) (calls : List Call) (desk : Desk S) → IsDeskAfter facts IsStored start calls desk
-      → IsLogSaved IsStored start (log_bytes (run_lines calls)))
       → IsLogAfterFaultWith facts IsStored IsNow server_nonce old log new log' fault
       → StopsAfter fault before after (HasSavedLog IsStored IsNow IsLogFront book server_nonce before after)
-  login_stops_after is front kept (inl (output, failed)) = inl (inl output)
-  login_stops_after {new = new} {log' = log'} is front kept (inr stays) =
+  login_stops_after is (inl (output, failed)) = inl (inl output)
+  login_stops_after {log' = log'} is (inr stays) =
       let desk = stays book given begun in
       let bytes = log_bytes (run_lines desk.calls) in
       inr (
         bytes,
-        front book desk.calls new desk.stands,
+        log_is_a_front desk.stands,
         record { calls = desk.calls; place = desk.stands.place; is_run = desk.stands.is_run; requests = desk.requests; is_log = refl },
         subst (λ (o : Option (List ℕ)). Appends before o bytes) (sym is)
             (subst (λ (o : Option (List ℕ)). Appends o log'.given bytes) was desk.logged),
-        kept book desk.calls new desk.stands,
+        log_is_saved desk.stands,
       )
 
   -- a clean log of a desk is printed as the saved log
@@ -63,11 +58,11 @@ module _ {S : Type 0} {facts : S → StoreFacts} {IsStored : List ℕ → Type 0
 -- a talk that has ended is printed, after the first line of the log
 pub ended_talk_is_printed : (user : User) (nonce password : List ℕ) (input : Option (List ℕ)) (first last : Talked)
     (before given after : Option (List ℕ)) (passed : Bool) → EndsTalk user nonce password input first passed last → given ≡ before
-    → Appends given first.logged (log_bytes (header ∷ [])) → after ≡ last.logged → PrintsTalk user nonce password input before passed after
+    → Appends given first.logged (log_bytes (header_one ∷ [])) → after ≡ last.logged → PrintsTalk user nonce password input before passed after
 ended_talk_is_printed user nonce password input first last before given after passed talk was begins is = record {
   first = first;
   last = last;
-  begins = subst (λ (known : Option (List ℕ)). Appends known first.logged (log_bytes (header ∷ []))) was begins;
+  begins = subst (λ (known : Option (List ℕ)). Appends known first.logged (log_bytes (header_one ∷ []))) was begins;
   talk = talk;
   printed = sym is;
 }
@@ -85,7 +80,7 @@ module _ {S : Type 0} (facts : S → StoreFacts) (IsStored : List ℕ → Type 0
   serving_fault_is_in_turn path Unwritable result served never = absurd never
   serving_fault_is_in_turn path NoMemory result served is = inr (inl (no_memory_is_unwritten path result is))
   serving_fault_is_in_turn path WriteFault result served is = inr (inl (no_memory_is_unwritten path result is))
-  serving_fault_is_in_turn path LogFault result (read, reads, undone) is = inr (inr (is, undone.failed))
+  serving_fault_is_in_turn path LogFault result (read, reads, undone) is = inr (inr (is, undone.log_fails))
 
   -- a turn never goes unserved because what is due can't be written
   pub no_turn_is_unwritable : (fault : ServeFault) → IsTurnFault facts IsStored moment old new fault → fault ≢ Unwritable

@@ -15,10 +15,10 @@ use Rattle.command_line.specs.declared.fault.Fault.{Fault}
 use Rattle.command_words.specs.Commands.CommandName.{Keys, Enrol, Code, Verify, Unlock, Login, Hall, Audit, Upgrade}
 use Rattle.command_words.specs.Commands.{CommandName, NamesCommand, program, word_of}
 use Rattle.command_words.proofs.lemmas.Naming.{faultless_line_names_command}
-use Rattle.commands.specs.Program.{EndsCommand, EndsRun, HasDone, IsWordsError, Names, RunsCommand, RunsUntil, StopsAt, exit_status, found_in}
+use Rattle.commands.specs.Program.{EndsBeforeFlush, EndsCommand, EndsRun, HasDone, IsWordsError, Names, RunsCommand, RunsUntil, StopsAt, exit_status, found_in}
 
 -- what follows from the facts known about a command's answer and about its fault is true when the command ends
-pub command_ends_as_known : {T : Type 0} {P : T → Type 0} {S : Fault → Type 0} (Q : T → Type 0) (R : Fault → Type 0)
+command_ends_as_known : {T : Type 0} {P : T → Type 0} {S : Fault → Type 0} (Q : T → Type 0) (R : Fault → Type 0)
     (ended : Result T Fault)
     → IfOk ended P → IfErr ended S
     → ((x : T) → P x → Q x) → ((fault : Fault) → S fault → R fault) → MatchResult ended Q R
@@ -26,7 +26,7 @@ command_ends_as_known Q R (Ok x) did stopped runs stops = runs x did
 command_ends_as_known Q R (Err fault) did stopped runs stops = stops fault stopped
 
 -- what follows from the facts known about a command's answer, and about its fault, is true of a result computed from the answer
-pub computed_status_ends_as_known : {T : Type 0} {P : T → Type 0} {S : Fault → Type 0} (Q : ℕ → Type 0) (R : Fault → Type 0) (value : T → ℕ)
+computed_status_ends_as_known : {T : Type 0} {P : T → Type 0} {S : Fault → Type 0} (Q : ℕ → Type 0) (R : Fault → Type 0) (value : T → ℕ)
     (ended : Result T Fault)
     (result : Result ℕ Fault) → MatchResult ended (λ x. result ≡ Ok (value x)) (λ fault. result ≡ Err fault) → IfOk ended P → IfErr ended S
     → ((x : T) → P x → Q (value x)) → ((fault : Fault) → S fault → R fault) → MatchResult result Q R
@@ -44,14 +44,14 @@ entered_subcommand_has_rows None name word rows is are known = absurd (cc is)
 entered_subcommand_has_rows (Some b) name word rows is are known = cc
 
 -- if a parse has entered a subcommand of this name with these option values, they are what the parse finds
-pub parse_finds_named_command : (matches words : ArgMatches) (name word : Text) → Some name ≡ subcommand_name_of matches
+parse_finds_named_command : (matches words : ArgMatches) (name word : Text) → Some name ≡ subcommand_name_of matches
     → Some (rows_of (found_of words)) ≡ option_map (λ p. p.1) (subcommand_rows (out-ArgMatches matches).subcommand)
     → name ≡ word → subcommand_rows_of matches ≡ Some (word, rows_of (found_of words))
 parse_finds_named_command matches words name word is are known =
     entered_subcommand_has_rows (out-ArgMatches matches).subcommand name word (rows_of (found_of words)) is are known
 
 -- a named command that has done its work is a run of a named command
-pub done_command_has_run : {File : Type 0} {bytes_of written_to : File
+done_command_has_run : {File : Type 0} {bytes_of written_to : File
     → Option (List ℕ)} {found : Option (Text × List Row)} {status : ℕ} {input old new : Option (List ℕ)}
     (name : CommandName) (words : ArgMatches) → Names found name words → HasDone bytes_of written_to name words status input old new
     → RunsCommand bytes_of written_to found status input old new
@@ -59,11 +59,43 @@ done_command_has_run name words is done =
     record { name = name; words = words; is_named = is; printed = _; has_done = done; kept = Keeps-refl _ }
 
 -- a named command that stops with a fault is a run until the fault
-pub stopped_command_has_run : {File : Type 0} {bytes_of written_to : File
+stopped_command_has_run : {File : Type 0} {bytes_of written_to : File
     → Option (List ℕ)} {found : Option (Text × List Row)} {fault : Fault} {input old new : Option (List ℕ)}
     (name : CommandName) (words : ArgMatches) → Names found name words → StopsAt bytes_of written_to name words fault input old new
     → RunsUntil bytes_of written_to found fault input old new
 stopped_command_has_run name words is stopped = record { name = name; words = words; is_named = is; stops = stopped }
+
+-- a parse has entered the subcommand of this command, with these words
+module _ (name : CommandName) (matches words : ArgMatches) (entered : Text) (is_entered : Some entered ≡ subcommand_name_of matches)
+    (are_rows : Some (rows_of (found_of words)) ≡ option_map (λ p. p.1) (subcommand_rows (out-ArgMatches matches).subcommand))
+    (is_word : entered ≡ word_of name) {File : Type 0} (bytes_of written_to : File → Option (List ℕ))
+    (input old new : Option (List ℕ)) where
+  -- an entered command is the one that the parse finds
+  entered_command_is_named : Names (subcommand_rows_of matches) name words
+  entered_command_is_named = parse_finds_named_command matches words entered (word_of name) is_entered are_rows is_word
+
+  -- an entered command whose status is computed from its answer has run with that status, or until its fault
+  pub command_with_answer_ends : {T : Type 0} {P : T → Type 0} {S : Fault → Type 0} (value : T → ℕ) (ended : Result T Fault)
+      (result : Result ℕ Fault) → MatchResult ended (λ x. result ≡ Ok (value x)) (λ fault. result ≡ Err fault)
+      → IfOk ended P → IfErr ended S → ((x : T) → P x → HasDone bytes_of written_to name words (value x) input old new)
+      → ((fault : Fault) → S fault → StopsAt bytes_of written_to name words fault input old new)
+      → EndsBeforeFlush bytes_of written_to (subcommand_rows_of matches) result input old new
+  command_with_answer_ends value ended result is did stopped does stops =
+      computed_status_ends_as_known (λ status. RunsCommand bytes_of written_to (subcommand_rows_of matches) status input old new)
+      (λ fault. RunsUntil bytes_of written_to (subcommand_rows_of matches) fault input old new) value ended result is did stopped
+      (λ x done. done_command_has_run name words entered_command_is_named (does x done))
+      (λ fault why. stopped_command_has_run name words entered_command_is_named (stops fault why))
+
+  -- an entered command that returns its status has run with that status, or until its fault
+  pub command_with_status_ends : {P : ℕ → Type 0} {S : Fault → Type 0} (ended : Result ℕ Fault) → IfOk ended P → IfErr ended S
+      → ((status : ℕ) → P status → HasDone bytes_of written_to name words status input old new)
+      → ((fault : Fault) → S fault → StopsAt bytes_of written_to name words fault input old new)
+      → EndsBeforeFlush bytes_of written_to (subcommand_rows_of matches) ended input old new
+  command_with_status_ends ended did stopped does stops =
+      command_ends_as_known (λ status. RunsCommand bytes_of written_to (subcommand_rows_of matches) status input old new)
+      (λ fault. RunsUntil bytes_of written_to (subcommand_rows_of matches) fault input old new) ended did stopped
+      (λ status done. done_command_has_run name words entered_command_is_named (does status done))
+      (λ fault why. stopped_command_has_run name words entered_command_is_named (stops fault why))
 
 -- if no subcommand was entered, no command is found
 unentered_finds_no_command : {Z : Type 0} (o : Option (Box SubCommand Z)) (word : Text) (rows : List Row)

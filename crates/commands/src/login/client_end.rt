@@ -9,7 +9,7 @@ ghost use Rattle.scram_text.specs.Messages.{ServerFirstParts};
 ghost use Rattle.mac_core.specs.Mechanism.{name_of};
 ghost use Rattle.mac_core.specs.declared.mechanism.Mechanism.{Mechanism};
 ghost use Rattle.commands.specs.ClientEnd.{IsChosen};
-ghost use Rattle.commands.specs.ClientSteps.{IfSays, BeginsLogin, AnswersChallenge, MaySay, ShowsKeys, HasToLeave};
+ghost use Rattle.commands.specs.inner.ClientSteps.{IfSays, BeginsLogin, AnswersChallenge, MaySay, ShowsKeys, HasToLeave};
 
 use command_line::Fault;
 use mac_core::Mechanism;

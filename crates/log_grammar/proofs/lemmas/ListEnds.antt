@@ -1,5 +1,5 @@
 -- Lists with a last element, and their elements in general.
-use Rattle.std.proofs.Common.{◌≡◌, ◌⊎◌, inl, inr, ℕ, zero, suc, ◌+◌, ◌<◌, List, [], ◌∷◌, ◌++◌, length, take, refl, sym, ◌∙◌, ap, arith, length-append}
+use Rattle.std.proofs.Common.{◌≡◌, ◌⊎◌, inl, inr, ℕ, zero, suc, ◌+◌, ◌<◌, List, [], ◌∷◌, ◌++◌, length, take, refl, sym, ◌∙◌, ap, arith}
 use Rattle.std.proofs.Common.{append_assoc, subst, append-nil}
 use Rattle.std.specs.List.{AllByRecursion, AllZip}
 use Rattle.std.proofs.Math.Seq.{take-append-add}
@@ -65,10 +65,6 @@ holds_after_front P step front (x ∷ back) holds =
 -- a property that the empty list has, and that one more element at the end keeps, is true of each list
 pub holds_by_last : {A : Type 0} (P : List A → Type 0) → P [] → ((xs : List A) (x : A) → P xs → P (xs ++ x ∷ [])) → (xs : List A) → P xs
 holds_by_last P none step xs = holds_after_front P step [] xs none
-
--- a list with one more element at its end has length 1 more
-pub length-last : {A : Type 0} (xs : List A) (x : A) → length (xs ++ x ∷ []) ≡ length xs + 1
-length-last xs x = length-append xs (x ∷ [])
 
 -- the first 0 elements of a list are none
 take-zero : {A : Type 0} (xs : List A) → take 0 xs ≡ []

@@ -10,5 +10,6 @@ pub mod OneWhy
 pub mod VersionOne
 pub mod VersionTwo
 pub mod AllVersions
+pub mod OneAnswer
 pub mod ShownByLines
 pub mod FirstLinesDiffer

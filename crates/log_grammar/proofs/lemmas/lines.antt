@@ -5,6 +5,7 @@ pub mod ReadBack
 pub mod LinesDecided
 pub mod Cuts
 pub mod TextBytes
+pub mod Lengths
 pub mod LackLf
 pub mod Written
 pub mod ReadAndWritten

@@ -3,9 +3,9 @@
 use Rattle.std.specs.Prelude.{ℕ, ◌≡◌, ◌⊎◌, ◌↔◌, List, [], ◌∷◌, ◌++◌, flat_map}
 use Rattle.std.specs.List.{AllByRecursion}
 use Rattle.otp_core.specs.Attempt.{CodeTexts}
-use Rattle.log_grammar.specs.Lines.{LogLine, header, said, ended, halt, mechs, log_bytes, EndsWith, IsWritable}
+use Rattle.account_book.specs.AccountAttempt.{AccountAttempt}
+use Rattle.log_grammar.specs.Lines.{LogLine, header_one, said, ended, halt, mechs, log_bytes, EndsWith, IsLogLineWritable}
 use Rattle.log_grammar.specs.Bytes.{IsSplit}
-use Rattle.log_grammar.specs.LoggedAttempt.{LoggedAttempt}
 use Rattle.log_grammar.specs.Places.{got_code}
 use Rattle.log_grammar.specs.Demands.{Accounts, AllCanBeChallenged, IsTakenUpFor, demands}
 use Rattle.log_grammar.specs.Sessions.{Session, session_lines, session_told, SessionMeets}
@@ -33,8 +33,8 @@ AreFinished (s ∷ t ∷ more) = IsClosed s × AreFinished (t ∷ more)
 -- the bytes are a log of version 1 made of these sessions
 pub record IsLogOf (accounts : Accounts) (bytes : List ℕ) (sessions : List Session) : Type 0 where
   -- the bytes are `SCRAMLOG 1` and the lines of the sessions, each ended by an LF
-  pub spelled : bytes ≡ log_bytes (header ∷ flat_map session_lines sessions)
-  pub lines : AllByRecursion IsWritable (flat_map session_lines sessions)
+  pub spelled : bytes ≡ log_bytes (header_one ∷ flat_map session_lines sessions)
+  pub lines : AllByRecursion IsLogLineWritable (flat_map session_lines sessions)
   -- each session is closed, or is the last one and halted
   pub finished : AreFinished sessions
   -- each session meets its demands
@@ -74,5 +74,5 @@ EndsInLoginOf log account = (s : Session) × EndsWith log (session_lines s) × I
 
 -- when the reply to a code is due, the last lines are those of a session whose client-first message names the account
 abbrev pub EachReplyDueFollowsItsLogin : Type 0
-EachReplyDueFollowsItsLogin = (accounts : Accounts) (log : List LogLine) (account : List ℕ) (sent : CodeTexts) (told : List LoggedAttempt)
+EachReplyDueFollowsItsLogin = (accounts : Accounts) (log : List LogLine) (account : List ℕ) (sent : CodeTexts) (told : List AccountAttempt)
     → Begins (demands accounts) log (got_code account sent) told → EndsInLoginOf log account

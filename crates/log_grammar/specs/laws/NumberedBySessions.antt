@@ -3,13 +3,13 @@ use Rattle.std.specs.Prelude.{ℕ, ◌≡◌, ◌⊎◌, ◌↔◌, List, [], �
 use Rattle.std.specs.List.{AllByRecursion}
 use Rattle.std.specs.declared.option.Option.{Option}
 use Rattle.std.specs.declared.option.Option.TheVariants.{None, Some}
+use Rattle.account_book.specs.AccountAttempt.{AccountAttempt}
 use Rattle.log_grammar.specs.Lines.{LogLine, header_two, said, ended, halt, log_line_text, EndsWith}
 use Rattle.log_grammar.specs.Bytes.{ended_by_lf}
-use Rattle.log_grammar.specs.LoggedAttempt.{LoggedAttempt}
 use Rattle.log_grammar.specs.Demands.{Accounts, demands}
 use Rattle.log_grammar.specs.laws.Histories.{IsHistory}
 use Rattle.log_grammar.specs.Numbered.{Numbered, Visit, visit_lines, AreOfSessions}
-use Rattle.log_grammar.specs.NumberedLines.{numbered_text, IsNumberedWritable}
+use Rattle.log_grammar.specs.NumberedLines.{numbered_text, IsNumberedLineWritable}
 use Rattle.log_grammar.specs.LogKinds.{IsCleanOf}
 use Rattle.log_grammar.specs.VersionTwo.{version_two}
 
@@ -27,10 +27,10 @@ IsHaltedVisit (Some visit) = EndsWith (visit_lines (Some visit)) (said halt ∷ 
 pub record IsNumberedLogOf (limit : ℕ) (accounts : Accounts) (bytes : List ℕ) (log : List (Numbered LogLine)) : Type 0 where
   -- the bytes are `SCRAMLOG 2` and the lines, each after its number and ended by an LF
   pub spelled : bytes ≡ ended_by_lf (log_line_text header_two ∷ map numbered_text log)
-  pub written : AllByRecursion IsNumberedWritable log
+  pub written : AllByRecursion IsNumberedLineWritable log
   -- the lines are those of sessions, and either all are closed or one halted
   pub visit : ℕ → Option Visit
-  pub numbered_told : List (Numbered LoggedAttempt)
+  pub numbered_told : List (Numbered AccountAttempt)
   pub sessions : AreOfSessions limit (demands accounts) log visit numbered_told
   pub finished : ((n : ℕ) → IsClosedVisit (visit n)) ⊎ ((n : ℕ) × IsHaltedVisit (visit n))
   -- the replies to each account under all numbers, in the order of the log, are a legal history of its token

@@ -1,8 +1,8 @@
 -- Small logs of version 2, in which two sessions may be open at once.
 use Rattle.std.specs.Prelude.{ℕ, List, [], ◌∷◌, ◌++◌}
+use Rattle.account_book.specs.AccountAttempt.{AccountAttempt}
 use Rattle.log_grammar.specs.Words.{offered_names}
 use Rattle.log_grammar.specs.Lines.{LogLine, said, heard, gone, ended, mechs, refuses, busy, abort}
-use Rattle.log_grammar.specs.LoggedAttempt.{LoggedAttempt}
 use Rattle.log_grammar.specs.Places.{Place}
 use Rattle.log_grammar.specs.Demands.{Accounts, demands}
 use Rattle.log_grammar.specs.Numbered.{Numbered, numbered, IsNumberedLogUpTo, MayEndNumbered}
@@ -27,5 +27,5 @@ IsWholeForTwo accounts log = (places : ℕ → Place) × IsNumberedLogUpTo 2 (de
 
 -- if two sessions may be open at once, no log begins with these lines
 abbrev pub BeginsNoneForTwo : Accounts → List (Numbered LogLine) → Type 0
-BeginsNoneForTwo accounts log = (rest : List (Numbered LogLine)) (places : ℕ → Place) (told : List LoggedAttempt)
+BeginsNoneForTwo accounts log = (rest : List (Numbered LogLine)) (places : ℕ → Place) (told : List AccountAttempt)
     → IsNumberedLogUpTo 2 (demands accounts) (log ++ rest) places told → ⊥

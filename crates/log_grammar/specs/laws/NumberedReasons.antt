@@ -8,7 +8,7 @@ use Rattle.log_grammar.specs.Why.{Why, other_challenge}
 use Rattle.log_grammar.specs.LogKinds.{IsWhyOf, BeginsCleanOf}
 use Rattle.log_grammar.specs.VersionTwo.{version_two}
 use Rattle.log_grammar.specs.Numbered.{Numbered, numbered}
-use Rattle.log_grammar.specs.NumberedLines.{numbered_text, IsNumberedLine, IsNumberedWritable}
+use Rattle.log_grammar.specs.NumberedLines.{numbered_text, IsNumberedLine, IsNumberedLineWritable}
 use Rattle.log_grammar.specs.laws.Reasons.{SaysWhatIsDue, NamesWhatIsDue}
 
 -- line k is one of the texts, and a line of some number; and if it is replaced by a line of this number that says what the reason
@@ -23,7 +23,7 @@ pub record HasNumberedLineThatMayStand (limit : ℕ) (accounts : Accounts) (text
   pub is_line : IsNumberedLine text at_fault
   pub line : LogLine
   pub says : SaysWhatIsDue why line
-  pub writable : IsNumberedWritable (numbered at_fault.number line)
+  pub writable : IsNumberedLineWritable (numbered at_fault.number line)
   pub begins : BeginsCleanOf (version_two limit accounts) (ended_by_lf (before ++ numbered_text (numbered at_fault.number line) ∷ []))
 
 -- what a reason names as due may stand instead of the line at fault, under its number
@@ -40,5 +40,5 @@ EachNumberedLineThatIsDueMayStand = (limit : ℕ) (accounts : Accounts) → AllC
     (at_fault : Numbered LogLine) (line : LogLine)
     → IsSplit bytes (before ++ text ∷ more) rest → IsWhyOf (version_two limit accounts) bytes (length before + 1) why
     → (why ≡ other_challenge → ⊥)
-    → IsNumberedLine text at_fault → SaysWhatIsDue why line → IsNumberedWritable (numbered at_fault.number line)
+    → IsNumberedLine text at_fault → SaysWhatIsDue why line → IsNumberedLineWritable (numbered at_fault.number line)
     → BeginsCleanOf (version_two limit accounts) (ended_by_lf (before ++ numbered_text (numbered at_fault.number line) ∷ []))

@@ -4,8 +4,8 @@ use Rattle.std.specs.declared.option.Option.TheVariants.{Some}
 use Rattle.otp_core.specs.Attempt.{CodeTexts, used_in}
 use Rattle.otp_core.specs.Reply.{IsFitting}
 use Rattle.otp_core.specs.declared.token.kinds.TokenFields.{TokenFields}
+use Rattle.account_book.specs.AccountAttempt.{AccountAttempt}
 use Rattle.log_grammar.specs.Lines.{LogLine}
-use Rattle.log_grammar.specs.LoggedAttempt.{LoggedAttempt}
 use Rattle.log_grammar.specs.Places.{Place, waits_code, got_code}
 use Rattle.log_grammar.specs.Demands.{Accounts, attempts_of, demands}
 use Rattle.log_grammar.specs.laws.Replies.{pass_line, AreRising}
@@ -17,7 +17,7 @@ pub record IsNumberedCodeOf (limit : ℕ) (accounts : Accounts) (log : List (Num
   pub account : List ℕ
   pub sent : CodeTexts
   pub places : ℕ → Place
-  pub told : List LoggedAttempt
+  pub told : List AccountAttempt
   pub token : TokenFields
   -- the number waits for the reply to what the client of an account sent
   pub after : IsNumberedLogUpTo limit (demands accounts) log places told
@@ -33,7 +33,7 @@ pub record IsNumberedCodeOf (limit : ℕ) (accounts : Accounts) (log : List (Num
 -- PASS may stand under a number only after such a code
 abbrev pub EachNumberedPassIsACode : Type 0
 EachNumberedPassIsACode = (limit : ℕ) (accounts : Accounts) (log : List (Numbered LogLine)) (n moment counter : ℕ) (places : ℕ → Place)
-    (told : List LoggedAttempt)
+    (told : List AccountAttempt)
     → IsNumberedLogUpTo limit (demands accounts) (log ++ numbered n (pass_line moment counter) ∷ []) places told
     → IsNumberedCodeOf limit accounts log n moment counter (places n)
 
@@ -41,7 +41,7 @@ EachNumberedPassIsACode = (limit : ℕ) (accounts : Accounts) (log : List (Numbe
 abbrev pub NumberedCountersRise : Type 0
 NumberedCountersRise = (limit : ℕ) (accounts : Accounts) (log more : List (Numbered LogLine)) (account : List ℕ)
     (n moment counter m later greater : ℕ)
-    (places after : ℕ → Place) (told all : List LoggedAttempt)
+    (places after : ℕ → Place) (told all : List AccountAttempt)
     → IsNumberedLogUpTo limit (demands accounts) (log ++ numbered n (pass_line moment counter) ∷ []) places told
     → places n ≡ waits_code account
     → IsNumberedLogUpTo limit (demands accounts)
@@ -51,5 +51,5 @@ NumberedCountersRise = (limit : ℕ) (accounts : Accounts) (log more : List (Num
 -- the counters that an account's codes use in a log, including both counters of two codes in a row, rise: none is used twice
 abbrev pub NoNumberedCounterIsUsedTwice : Type 0
 NoNumberedCounterIsUsedTwice = (limit : ℕ) (accounts : Accounts) (log : List (Numbered LogLine)) (places : ℕ → Place)
-    (told : List LoggedAttempt) (account : List ℕ)
+    (told : List AccountAttempt) (account : List ℕ)
     → IsNumberedLogUpTo limit (demands accounts) log places told → AreRising (used_in (attempts_of account (reverse told)))

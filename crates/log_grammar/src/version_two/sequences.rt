@@ -29,11 +29,7 @@ pub fn has_one_numbered_reading()
 /// has to decide at each line, its ranges aside.
 pub fn numbered_logs_go_on_exactly_so()
     ensures { NumberedLogsGoOnExactlySo }
-{
-    goes_on_by_a_numbered_line();
-    goes_on_by_no_other_numbered_line();
-    has_one_numbered_reading();
-}
+{}
 
 /// The first lines of a log are a log.
 pub fn first_numbered_lines_are_logs()
@@ -53,9 +49,7 @@ pub fn open_sessions_are_counted()
 /// At most as many sessions are open as the limit says, or one more if BUSY is the last line: the one that it turns away.
 pub fn few_sessions_are_open()
     ensures { FewSessionsAreOpen }
-{
-    open_sessions_are_counted();
-}
+{}
 
 /// The classes of lines that are due at a number after a log's lines, demands aside, are those of its place: MECHS or BUSY,
 /// depending on how many sessions are open; nothing after a halt; and after BUSY its `E`.

@@ -6,7 +6,7 @@ use Rattle.otp_core.specs.Attempt.{Attempt, CodeTexts, attempt_of, counters_of, 
 use Rattle.otp_core.specs.Attempt.CodeTexts.{one_text, two_texts}
 use Rattle.otp_core.specs.Window.{IsCandidate, IsPairCandidate, IsInHotpWindow, IsInTotpWindow, IsAbove, first_in_window, greatest, step_at}
 use Rattle.otp_core.specs.Reply.{IsDueReply, IsFitting, failures_of, failures_after_reply}
-use Rattle.otp_core.specs.History.{AreAlike, settings_of}
+use Rattle.otp_core.specs.History.{AreAlike, without_state}
 use Rattle.otp_core.specs.State.{after_reply, after_pass}
 use Rattle.otp_core.specs.declared.token.reply.Reply.{Reply}
 use Rattle.otp_core.specs.declared.token.reply.Reply.TheVariants.{Pass, Fail, Locked}
@@ -18,7 +18,7 @@ use Rattle.otp_core.proofs.lemmas.AlikePasts.{iff_is_symmetric, iff_is_transitiv
 
 -- after a reply a token has the settings that it had, and as many failures as the reply leaves
 pub reply_keeps_settings_and_counts_failures : (t : TokenFields) (moment : ℕ) (reply : Reply)
-    → (settings_of t ≡ settings_of (after_reply t moment reply))
+    → (without_state t ≡ without_state (after_reply t moment reply))
     × (failures_after_reply reply (failures_of t) ≡ failures_of (after_reply t moment reply))
 reply_keeps_settings_and_counts_failures (Hotp t) moment (Pass p) = (refl, refl)
 reply_keeps_settings_and_counts_failures (Hotp t) moment Fail = (refl, refl)
@@ -78,7 +78,7 @@ CanPassAlike start history other since =
 
 -- what can pass after a pass of a fitting counter is what can pass in the token that the pass makes, whatever the past
 token_agrees_after_pass : (s t : TokenFields) (history : List Attempt) (moment : ℕ) (sent : CodeTexts) (p : ℕ)
-    → settings_of s ≡ settings_of t → IsFitting s history moment sent p
+    → without_state s ≡ without_state t → IsFitting s history moment sent p
     → CanPassAlike s (attempt_of moment sent (Pass p) ∷ history) (after_pass t moment p) []
 unfolding IsInWindowAfter IsPairCandidateAfter
 token_agrees_after_pass (Hotp s) (Hotp t) history moment sent p same fits =

@@ -4,28 +4,28 @@ use Rattle.otp_core.specs.Ranges.{IsMoment}
 use Rattle.otp_core.specs.Attempt.{Attempt, CodeTexts}
 use Rattle.otp_core.specs.Attempt.CodeTexts.{one_text, two_texts}
 use Rattle.otp_core.specs.Reply.{IsDueReply, IsFitting, code_text, limit_of, failures_after}
-use Rattle.otp_core.specs.History.{AreAlike, settings_of}
+use Rattle.otp_core.specs.History.{AreAlike, without_state}
 use Rattle.otp_core.specs.declared.token.reply.Reply.{Reply}
 use Rattle.otp_core.specs.declared.token.reply.Reply.TheVariants.{Pass, Fail, Locked}
 use Rattle.otp_core.specs.declared.token.kinds.TokenFields.{TokenFields}
 use Rattle.otp_core.specs.declared.token.kinds.TokenFields.TheVariants.{Hotp, Totp}
 
 -- a token's limit is one of its settings
-settings_keep_limit : (s : TokenFields) → limit_of (settings_of s) ≡ limit_of s
+settings_keep_limit : (s : TokenFields) → limit_of (without_state s) ≡ limit_of s
 settings_keep_limit (Hotp s) = refl
 settings_keep_limit (Totp s) = refl
 
 -- a token's codes depend only on its settings
-settings_keep_codes : (s : TokenFields) (c : ℕ) → code_text (settings_of s) c ≡ code_text s c
+settings_keep_codes : (s : TokenFields) (c : ℕ) → code_text (without_state s) c ≡ code_text s c
 settings_keep_codes (Hotp s) c = refl
 settings_keep_codes (Totp s) c = refl
 
 -- tokens with the same settings have the same limit of failures
-same_settings_give_same_limit : (s t : TokenFields) → settings_of s ≡ settings_of t → limit_of s ≡ limit_of t
+same_settings_give_same_limit : (s t : TokenFields) → without_state s ≡ without_state t → limit_of s ≡ limit_of t
 same_settings_give_same_limit s t e = sym (settings_keep_limit s) ∙ (ap limit_of e ∙ settings_keep_limit t)
 
 -- tokens with the same settings have the same code at each counter
-same_settings_give_same_codes : (s t : TokenFields) (c : ℕ) → settings_of s ≡ settings_of t → code_text s c ≡ code_text t c
+same_settings_give_same_codes : (s t : TokenFields) (c : ℕ) → without_state s ≡ without_state t → code_text s c ≡ code_text t c
 same_settings_give_same_codes s t c e = sym (settings_keep_codes s c) ∙ (ap (λ f. code_text f c) e ∙ settings_keep_codes t c)
 
 -- an equivalence is also true the other way round

@@ -7,7 +7,7 @@ use Rattle.otp_core.specs.Attempt.{CodeTexts}
 use Rattle.otp_core.specs.Attempt.CodeTexts.{one_text, two_texts}
 use Rattle.otp_core.specs.Window.{IsCandidate, IsInHotpWindow}
 use Rattle.otp_core.specs.Reply.{IsFitting, IsDueReply, code_text, limit_of, failures_of}
-use Rattle.otp_core.specs.Passes.{IsOneOf, IsLeast, CanMoveTo, reply_of}
+use Rattle.otp_core.specs.inner.Passes.{IsOneOf, IsLeast, CanMoveTo, reply_of}
 use Rattle.otp_core.specs.declared.hash.OtpHash.TheVariants.{Sha1}
 use Rattle.otp_core.specs.declared.token.reply.Reply.{Reply}
 use Rattle.otp_core.specs.declared.token.window.Counters.{Counters}

@@ -3,7 +3,7 @@ ghost use Rattle.std.specs.Prelude.{◌≡◌, ◌≤◌, ◌<◌, ◌↔◌, �
 ghost use Rattle.std.specs.Option.{ForSome};
 ghost use Rattle.otp_core.specs.TokenRanges.{IsHotpInRange, IsTotpInRange, IsInRange};
 ghost use Rattle.otp_core.specs.Window.{IsInHotpWindow, IsInTotpWindow, IsCandidate};
-ghost use Rattle.otp_core.specs.Passes.{IsOneOf};
+ghost use Rattle.otp_core.specs.inner.Passes.{IsOneOf};
 ghost use Rattle.otp_core.specs.Ranges.{IsMoment, max_moment, max_counter, max_window_steps, max_drift_bound};
 
 use crate::code::step;

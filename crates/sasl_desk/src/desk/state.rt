@@ -18,7 +18,7 @@ pub(crate) enum State {
 
 impl State {
     ghost use Rattle.std.specs.Prelude.{◌≡◌};
-    ghost use Rattle.sasl_desk.specs.Desks.{phase_of, state_after};
+    ghost use Rattle.sasl_desk.specs.Desks.{state_phase, state_after};
 
     /// The state after a turn that left its session like this. `server_nonce` is the server's part of its nonce.
     pub(crate) fn from_turn(after: AfterTurn, server_nonce: NoncePart) -> State
@@ -26,14 +26,14 @@ impl State {
     {
         match after {
             AfterTurn::Going(session) => State::Open(session, server_nonce),
-            AfterTurn::Over => State::Closed,
+            AfterTurn::Closed => State::Closed,
             AfterTurn::Halted(_) => State::Halted,
         }
     }
 
     /// The phase of a desk in this state.
     pub(crate) fn phase(&self) -> Phase
-        ensures { result ≡ phase_of self.now }
+        ensures { result ≡ state_phase self.now }
     {
         match self {
             State::Closed => Phase::Closed,

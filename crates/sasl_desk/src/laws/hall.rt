@@ -2,21 +2,20 @@
 ghost use Rattle.std.specs.Prelude.{◌≡◌, true, None, ℕ, List, [], ◌∷◌, ◌++◌, map};
 ghost use Rattle.book_format.specs.Book.{BookFields};
 ghost use Rattle.book_format.specs.Trees.{IsBookText};
+ghost use Rattle.account_book.specs.AccountAttempt.{AccountAttempt};
+ghost use Rattle.account_book.specs.Tokens.{IsBookAttempt};
 ghost use Rattle.log_grammar.specs.Books.{accounts_in};
 ghost use Rattle.log_grammar.specs.Lines.{LogLine, said, halt};
 ghost use Rattle.log_grammar.specs.Numbered.{Numbered, numbered, of_number};
-ghost use Rattle.log_grammar.specs.LoggedAttempt.{LoggedAttempt};
 ghost use Rattle.log_grammar.specs.Versions.{IsLogFront, IsClean};
 ghost use Rattle.sasl_desk.specs.AcceptedLogins.{LinesAcceptExactlyValid};
 ghost use Rattle.sasl_desk.specs.Alone.{HaveSameRequests, HaveSameEntries, up_to_acceptance};
 ghost use Rattle.sasl_desk.specs.Desks.{MayHold};
 ghost use Rattle.sasl_desk.specs.Halls.{HallFields, IsTurnedAway, hall_lines, hall_bytes, numbered_bytes, phase_in, IsPhaseIn, IsHallAfter};
-ghost use Rattle.sasl_desk.specs.JudgedAttempts.{IsAttemptJudged};
 ghost use Rattle.sasl_desk.specs.Records.{HasSessionRecords};
 ghost use Rattle.sasl_desk.specs.Changes.{IsHallRunLeaving};
-ghost use Rattle.sasl_desk.specs.Runs.{Call, wire_bytes};
+ghost use Rattle.sasl_desk.specs.Runs.{Call, wire_bytes, call_lines};
 ghost use Rattle.sasl_desk.specs.Saved.{AreLinesSaved, AreToldCountersSaved};
-ghost use Rattle.sasl_desk.specs.Serves.{call_lines};
 
 use account_book::BookStore;
 
@@ -91,8 +90,8 @@ pub fn log_is_saved<S: BookStore>()
 /// The hall's book with one more judged attempt is a book that the run may leave: a stop within a call, while the store replaces the
 /// old text with the new one, leaves no other.
 pub fn stops_leave_runs<S: BookStore>()
-    ensures { (start : BookFields) (calls : List (Numbered Call)) (hall : HallFields S) (attempt : LoggedAttempt) (next : BookFields)
-        → IsHallAfter S.facts S.IsStored start calls hall → IsAttemptJudged hall.keeper.book attempt next
+    ensures { (start : BookFields) (calls : List (Numbered Call)) (hall : HallFields S) (attempt : AccountAttempt) (next : BookFields)
+        → IsHallAfter S.facts S.IsStored start calls hall → IsBookAttempt hall.keeper.book attempt next
         → IsHallRunLeaving S.facts S.IsStored start calls next }
 {}
 

@@ -3,7 +3,7 @@ ghost use Rattle.std.specs.Prelude.{◌≡◌, ℕ, List, []};
 ghost use Rattle.log_grammar.specs.Places.{Place, asks_bare, over};
 ghost use Rattle.log_grammar.specs.Demands.{Accounts};
 ghost use Rattle.sasl_desk.specs.Sessions.{CanBeWritten};
-ghost use Rattle.sasl_desk.specs.SessionTurns.{lines_of_answer, verdict_answer, IsBareNoDue, IsAnswer};
+ghost use Rattle.sasl_desk.specs.inner.SessionTurns.{lines_of_answer, verdict_answer, IsBareNoDue, IsAnswer};
 
 use crate::session::Session;
 use crate::session::event::{Answer, Saying};

@@ -34,7 +34,7 @@ impl Model for ChallengedLogin {
 
 impl ChallengedLogin {
     ghost use Rattle.sasl_desk.specs.Sessions.{CanBeWritten};
-    ghost use Rattle.sasl_desk.specs.SessionTurns.{lines_of_answer, IsAnswer};
+    ghost use Rattle.sasl_desk.specs.inner.SessionTurns.{lines_of_answer, IsAnswer};
 
     /// The login of this account, for which the server waits.
     pub(crate) fn new(server: ServerWait, mechanism: Mechanism, name: PlainName) -> ChallengedLogin

@@ -7,7 +7,7 @@ ghost use Rattle.log_grammar.specs.Places.{got_first};
 ghost use Rattle.log_grammar.specs.Demands.{Accounts, NamesMechanism};
 ghost use Rattle.sasl_log.specs.Logins.{KeepsEntries};
 ghost use Rattle.sasl_desk.specs.Sessions.{CanBeWritten};
-ghost use Rattle.sasl_desk.specs.SessionTurns.{lines_of_answer, IsAnswer};
+ghost use Rattle.sasl_desk.specs.inner.SessionTurns.{lines_of_answer, IsAnswer};
 
 use crate::session::Session;
 use crate::session::answer::bare_no;

@@ -2,22 +2,21 @@
 ghost use Rattle.std.specs.Prelude.{◌≡◌, true, false, ℕ, List, [], IfOk, IfErr, OnErr};
 ghost use Rattle.mac_core.specs.Mechanism.{name_of};
 ghost use Rattle.log_grammar.specs.Lines as grammar;
-ghost use Rattle.log_grammar.specs.Lines.{bad, gone, abort, from_client};
+ghost use Rattle.log_grammar.specs.Lines.{bad, gone, abort, from_client, IsLineWritable};
 ghost use Rattle.log_grammar.specs.Places.{Place, offered, waits_first, waits_code};
 ghost use Rattle.log_grammar.specs.Demands.{Accounts};
 ghost use Rattle.sasl_log.specs.Logins.{KeepsEntries};
 ghost use Rattle.sasl_log.specs.Shown.{client_shown};
-ghost use Rattle.sasl_log.specs.Texts.{IsLineWritable};
 ghost use Rattle.sasl_desk.specs.Events.{ClientEvent};
-ghost use Rattle.sasl_desk.specs.DueLines.{is_client_turn, is_due};
+ghost use Rattle.sasl_desk.specs.DueLines.{is_client_turn, is_due, place_after_line};
 ghost use Rattle.sasl_desk.specs.Sessions.{IsWaitingAt, IsRecord, BearsMessage, CanBeWritten};
-ghost use Rattle.sasl_desk.specs.SessionTurns.{turn_lines, heard_lines};
-ghost use Rattle.sasl_desk.specs.SessionTurns.{IsTurnOnEvent, IsTurnOnLine, ComesOfLine, JudgesOnlyWhereCodeIsDue, JudgesOnlyLine};
+ghost use Rattle.sasl_desk.specs.inner.SessionTurns.{lines_of_answer, turn_lines, heard_lines, IsAnswer};
+ghost use Rattle.sasl_desk.specs.inner.SessionTurns.{IsTurnOnEvent, IsTurnOnLine, ComesOfLine, JudgesOnlyWhereCodeIsDue, JudgesOnlyLine};
 
 use crate::session::Session;
 use crate::session::answer::{answer_to_auth, bare_no, silence};
 use crate::session::challenged_login::ChallengedLogin;
-use crate::session::event::{HearResult, Recorded, Turn};
+use crate::session::event::{Answer, HearResult, Recorded, Turn};
 use crate::session::first::{answer_to_auth_with_message, answer_to_client_first};
 use account_book::Book;
 use mac_core::Mechanism;
@@ -52,6 +51,21 @@ pub(crate) fn bad_turn<'a>() -> Turn<'a>
     }
 }
 
+// A line that is due is recorded, and answered like this.
+fn answered_line<'a>(line: ClientLine<'a>, answer: Answer) -> Turn<'a>
+    requires { IsLineWritable (from_client (client_shown line)) }
+    ensures turn { (accounts : Accounts) (server_nonce : List ℕ) (place : Place) (message : List ℕ)
+        → is_due place (client_shown line.entry) ≡ true
+        → IsAnswer accounts server_nonce (place_after_line place (client_shown line.entry)) answer message
+        → IsTurnOnLine accounts server_nonce (client_shown line.entry) place result message }
+    ensures lines { (message : List ℕ) → CanBeWritten (lines_of_answer answer message) → CanBeWritten (turn_lines result message) }
+{
+    Turn {
+        recorded: Recorded::Line(line),
+        answer,
+    }
+}
+
 // The client gives up: it is sent a bare `S NO`, and the session is over.
 fn abort_turn<'a>() -> Turn<'a>
     ensures line { (accounts : Accounts) (server_nonce : List ℕ) (place : Place) → is_client_turn place ≡ true
@@ -83,10 +97,7 @@ pub(crate) fn hear_auth<'a, A: Allocator>(
     match &line {
         ClientLine::Auth(mechanism_name) => {
             let answer = answer_to_auth(mechanism_name);
-            Ok(Turn {
-                recorded: Recorded::Line(line),
-                answer,
-            })
+            Ok(answered_line(line, answer))
         }
         ClientLine::AuthWith(mechanism_name, client_first) => {
             match answer_to_auth_with_message(
@@ -97,10 +108,7 @@ pub(crate) fn hear_auth<'a, A: Allocator>(
                 server_nonce,
                 message,
             ) {
-                Ok(answer) => Ok(Turn {
-                    recorded: Recorded::Line(line),
-                    answer,
-                }),
+                Ok(answer) => Ok(answered_line(line, answer)),
                 Err(_) => Err(Session::WaitAuth),
             }
         }
@@ -137,10 +145,7 @@ pub(crate) fn hear_first<'a, A: Allocator>(
                 server_nonce,
                 message,
             ) {
-                Ok(answer) => Ok(Turn {
-                    recorded: Recorded::Line(line),
-                    answer,
-                }),
+                Ok(answer) => Ok(answered_line(line, answer)),
                 Err(_) => Err(Session::WaitFirst(mechanism)),
             }
         }
@@ -167,10 +172,7 @@ pub(crate) fn hear_final<'a, A: Allocator>(
     match &line {
         ClientLine::Resp(client_final) => {
             match waiting.final_answer(alloc, client_final, message) {
-                Ok(answer) => Ok(Turn {
-                    recorded: Recorded::Line(line),
-                    answer,
-                }),
+                Ok(answer) => Ok(answered_line(line, answer)),
                 Err(back) => Err(Session::WaitFinal(back)),
             }
         }

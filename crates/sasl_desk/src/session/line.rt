@@ -1,9 +1,8 @@
 //! Reads the line of a client.
 ghost use Rattle.std.specs.Prelude.{IfNone, IfSome};
 ghost use Rattle.log_grammar.specs.Lines as grammar;
-ghost use Rattle.log_grammar.specs.Lines.{from_client, IsLine};
+ghost use Rattle.log_grammar.specs.Lines.{from_client, IsLine, IsLineWritable};
 ghost use Rattle.sasl_log.specs.Shown.{client_shown};
-ghost use Rattle.sasl_log.specs.Texts.{IsLineWritable};
 
 use sasl_log::{ClientLine, Line, read_line};
 

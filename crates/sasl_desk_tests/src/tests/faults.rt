@@ -61,8 +61,8 @@ fn numbers_and_texts_of_serving(rt: HostRuntime) -> Result<(), Fail> {
 #[test]
 fn texts_of_output(rt: HostRuntime) -> Result<(), Fail> {
     for (fault, text) in [
-        (OutputFault::Log, "cannot write the log"),
-        (OutputFault::Client, "cannot write to the client"),
+        (OutputFault::LogFault, "cannot write the log"),
+        (OutputFault::WriteFault, "cannot write to the client"),
     ] {
         assert_eq!(rt; format!(in rt.alloc(); "{fault}")?.as_str(), text);
     }

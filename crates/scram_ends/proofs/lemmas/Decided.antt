@@ -6,7 +6,7 @@ use Rattle.std.specs.declared.option.Option.{Option}
 use Rattle.std.specs.declared.option.Option.TheVariants.{None, Some}
 use Rattle.std.proofs.lemmas.Bool.{cases_Bool, both_ways}
 use Rattle.std.proofs.lemmas.Option.{same_Some, none-some}
-use Rattle.mac_core.specs.Mechanism.{length_by, stored_key_by}
+use Rattle.mac_core.specs.Mechanism.{digest_len_by, stored_key_by}
 use Rattle.mac_core.specs.Keys.{xor_bytes}
 use Rattle.mac_core.specs.declared.mechanism.Mechanism.{Mechanism}
 use Rattle.mac_core.proofs.lemmas.Among.{found_iff_among}
@@ -44,9 +44,9 @@ decided_allowed e name (Some authzid) = elim (decided_same_text authzid name) [
 -- it is decidable whether a proof is one for these keys
 decided_proof : (m : Mechanism) (keys : Keys) (auth proof : List ℕ) → Decided (IsProof m keys auth proof)
 decided_proof m keys auth proof =
-    decided_equivalent ((length proof ≡ length_by m) × (stored_key_by m (xor_bytes proof (client_signature m keys auth)) ≡ keys.stored))
+    decided_equivalent ((length proof ≡ digest_len_by m) × (stored_key_by m (xor_bytes proof (client_signature m keys auth)) ≡ keys.stored))
     (IsProof m keys auth proof) (λ h. record { len = h.0; opens = h.1 }) (λ p. (p.len, p.opens))
-    (decided_both _ _ (decided_same_number (length proof) (length_by m)) (decided_same_text _ _))
+    (decided_both _ _ (decided_same_number (length proof) (digest_len_by m)) (decided_same_text _ _))
 
 -- it is decidable whether a proof is one for keys that may be missing
 decided_proof_by_held : (m : Mechanism) (held : Option Keys) (auth proof : List ℕ)

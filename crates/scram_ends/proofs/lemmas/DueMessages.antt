@@ -1,13 +1,13 @@
 -- The message due makes a valid login if and only if the verdict accepts.
 use Rattle.std.proofs.Common.{◌≡◌, ◌↔◌, ℕ, List, length, sym, ◌∙◌, ap, subst, refl, arith}
-use Rattle.mac_core.specs.Mechanism.{length_by}
+use Rattle.mac_core.specs.Mechanism.{digest_len_by}
 use Rattle.mac_core.proofs.lemmas.Lengths.{length-hmac_by}
 use Rattle.scram_ends.specs.Stages.{Challenged}
 use Rattle.scram_ends.specs.Verdict.{Due, accept, refuse, IsDue, due_text, verdict_of}
 use Rattle.scram_ends.specs.Login.{IsAuthentic, IsValidLogin}
 use Rattle.scram_ends.specs.declared.verdict.Refusal.{Refusal}
 use Rattle.scram_ends.specs.declared.verdict.Verdict.TheVariants as verdict
-use Rattle.scram_ends.proofs.lemmas.Digests.{AreBytes, mac_is_bytes}
+use Rattle.mac_core.proofs.lemmas.Digests.{AreBytes, mac_is_bytes}
 use Rattle.scram_ends.proofs.lemmas.HonestLogins.{digest_length_is_in_range, due_text_is_authentic}
 use Rattle.scram_ends.proofs.lemmas.Verdicts.{refusal_is_not_acceptance, at_most_one_verdict_is_due, due_signature_is_servers, accepts_exactly_valid}
 
@@ -16,7 +16,7 @@ acceptance_due_is_authentic : (l : Challenged) (client_final signature : List �
     → IsDue l client_final (accept signature) → IsAuthentic (due_text (accept signature)) signature
 acceptance_due_is_authentic l client_final signature due =
     let (keys, auth, signed) = due_signature_is_servers l client_final signature due in
-    let long : length signature ≡ length_by l.mechanism = ap length signed ∙ length-hmac_by l.mechanism keys.server auth in
+    let long : length signature ≡ digest_len_by l.mechanism = ap length signed ∙ length-hmac_by l.mechanism keys.server auth in
     let range = digest_length_is_in_range l.mechanism in
     due_text_is_authentic signature (subst AreBytes (sym signed) (mac_is_bytes l.mechanism keys.server auth))
     (omega (arith, long, range.0)) (omega (arith, long, range.1))

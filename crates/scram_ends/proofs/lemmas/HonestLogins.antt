@@ -1,7 +1,7 @@
 -- Honest logins succeed.
 use Rattle.std.proofs.Common.{◌≡◌, ℕ, ◌≤◌, List, [], ◌++◌, length, sym, ◌∙◌, ap, subst, refl, arith}
 use Rattle.std.specs.Prelude.{codes}
-use Rattle.mac_core.specs.Mechanism.{length_by, hi_by, client_key_by, stored_key_by}
+use Rattle.mac_core.specs.Mechanism.{digest_len_by, hi_by, client_key_by, stored_key_by}
 use Rattle.mac_core.specs.Keys.{xor_bytes}
 use Rattle.mac_core.specs.declared.mechanism.Mechanism.{Mechanism}
 use Rattle.mac_core.specs.declared.mechanism.Mechanism.TheVariants.{ScramSha1, ScramSha256}
@@ -29,10 +29,10 @@ use Rattle.scram_ends.proofs.lemmas.client_messages.Expectations.{proofs_are_sam
 use Rattle.scram_ends.proofs.lemmas.Verdicts.{acceptance_is_due}
 use Rattle.scram_ends.proofs.lemmas.Written.{signature_can_be_written, signature_is_short}
 use Rattle.mac_core.proofs.lemmas.Lengths.{length-hmac_by}
-use Rattle.scram_ends.proofs.lemmas.Digests.{AreBytes, mac_is_bytes, length-xor, xor_bytes_cancels}
+use Rattle.mac_core.proofs.lemmas.Digests.{AreBytes, mac_is_bytes, length-xor, xor_bytes_cancels}
 
 -- a mechanism's digests have from 1 to 32 bytes
-pub digest_length_is_in_range : (m : Mechanism) → (1 ≤ length_by m) × (length_by m ≤ 32)
+pub digest_length_is_in_range : (m : Mechanism) → (1 ≤ digest_len_by m) × (digest_len_by m ≤ 32)
 digest_length_is_in_range ScramSha1 = (omega arith, omega arith)
 digest_length_is_in_range ScramSha256 = (omega arith, omega arith)
 
@@ -53,7 +53,7 @@ password_proof_passes : (m : Mechanism) (password salt auth proof : List ℕ) (c
 password_proof_passes m password salt auth proof count is =
     let key = client_key_by m (hi_by m password salt count) in
     let signature = client_signature m (password_keys m password salt count) auth in
-    let key_length : length key ≡ length_by m = length-hmac_by m (hi_by m password salt count) (codes "Client Key") in
+    let key_length : length key ≡ digest_len_by m = length-hmac_by m (hi_by m password salt count) (codes "Client Key") in
     let same : length key ≡ length signature = key_length ∙ sym (length-hmac_by m (stored_key_by m key) auth) in
     record {
       len = ap length is ∙ (length-xor key signature same ∙ key_length);
@@ -112,7 +112,7 @@ honest_logs_in e server_nonce l has_keys allowed some challenge honest =
     let is_opening = honest_login_opens e server_nonce l some challenge honest in
     let same : signature ≡ server_signature m keys auth = signatures_are_same m m l.password _ e.salt auth auth _ e.count
     refl is_opening.salt is_opening.count refl in
-    let long : length signature ≡ length_by m = length-hmac_by m _ auth in
+    let long : length signature ≡ digest_len_by m = length-hmac_by m _ auth in
     let range = digest_length_is_in_range m in
     let authentic : IsAuthentic (due_text (accept signature)) signature =
     due_text_is_authentic signature (mac_is_bytes m _ auth) (omega (arith, long, range.0)) (omega (arith, long, range.1)) in

@@ -11,7 +11,7 @@ use Rattle.scram_text.proofs.lemmas.Names.{one_name_per_spelling}
 use Rattle.scram_text.proofs.lemmas.ClientFirst.{has_one_client_first}
 use Rattle.scram_text.proofs.lemmas.ServerFirst.{has_one_server_first}
 use Rattle.scram_ends.specs.Entry.{Entry}
-use Rattle.scram_ends.specs.Laws.{RefusedIsNotTakenUp}
+use Rattle.scram_ends.specs.Laws.{RefusedIsNotTakenUp, TakenUpMeetsEveryRow}
 use Rattle.scram_ends.specs.Opening.{IsNameOf, IsAuthzidOf, IsTakenUp, Opening, IsOpening}
 use Rattle.scram_ends.specs.First.{first_faults_in_order, AsksOfFirst}
 use Rattle.scram_ends.specs.declared.first.FirstFault.TheVariants.{Text}
@@ -61,6 +61,16 @@ taken_up_meets_rows : (first : ClientFirstParts) (name : List ℕ) (authzid : Op
     → IsTakenUp first name authzid → AllByRecursion (λ row. AsksOfFirst row first) first_faults_in_order
 taken_up_meets_rows first name authzid taken =
     (taken.not_mandatory, (taken.unbound, ((name, authzid, taken.is_name, taken.is_authzid), tt)))
+
+-- parts that meet every row are taken up, with the names that the last row gives
+met_rows_are_taken_up : (first : ClientFirstParts) → AllByRecursion (λ row. AsksOfFirst row first) first_faults_in_order
+    → (name : List ℕ) × (authzid : Option (List ℕ)) × IsTakenUp first name authzid
+met_rows_are_taken_up first (not_mandatory, (unbound, ((name, authzid, is_name, is_authzid), rest))) =
+    (name, authzid, record { not_mandatory = not_mandatory; unbound = unbound; is_name = is_name; is_authzid = is_authzid })
+
+-- the law: a message is taken up if and only if its parts meet every row
+pub taken_up_meets_every_row : TakenUpMeetsEveryRow
+taken_up_meets_every_row first = (λ (name, authzid, taken). taken_up_meets_rows first name authzid taken, met_rows_are_taken_up first)
 
 -- the law: what is refused is not taken up
 pub refused_is_not_taken_up : RefusedIsNotTakenUp

@@ -4,7 +4,7 @@ use Rattle.scram_text.specs.Messages.{ClientFirstParts, IsClientFirst, IsServerF
 use Rattle.scram_text.specs.Written.{server_first_of}
 use Rattle.scram_ends.specs.Entry.{Entry}
 use Rattle.scram_ends.specs.Opening.{Opening, IsOpening}
-use Rattle.scram_ends.specs.TakenFirst.{ShowsTakenFirst, ShowsOpening}
+use Rattle.scram_ends.specs.inner.TakenFirst.{ShowsTakenFirst, ShowsOpening}
 use Rattle.scram_ends.specs.declared.first.TakenFirst.{TakenFirst}
 
 -- a client-first message that is taken up and a challenge to it are an opening, of the parts that were taken

@@ -1,7 +1,7 @@
 //! The client's answer to a challenge: client-final with the proof, for example
 //! `c=biws,r=fyko+d2lbbFgONRv9qkxdawL3rfcNHYJY1ZVvWVs7j,p=v0X8v3Bz2T0CJGbJQyF0X+HI4Ts=`.
 ghost use Rattle.std.specs.Prelude.{◌≡◌, ◌≤◌, ◌<◌, ◌+◌, ℕ, List, ◌++◌, length, slice_index, IfOk, IfErr};
-ghost use Rattle.mac_core.specs.Mechanism.{hmac_by, length_by};
+ghost use Rattle.mac_core.specs.Mechanism.{hmac_by, digest_len_by};
 ghost use Rattle.scram_text.specs.Messages.{ClientFirstParts, client_first_bare, ServerFirstParts, IsServerFirst};
 ghost use Rattle.scram_text.specs.Shown.{ShowsServerFirst};
 ghost use Rattle.scram_text.specs.Appended.{IsUnchangedOnErr, KeepsRoom, LacksRoom};
@@ -136,7 +136,7 @@ impl ClientOne {
         ensures expected { (first : ClientFirstParts) → self.now.bare.items ≡ client_first_bare first
             → result.expected.items ≡ expected_signature self.now.mechanism password.now challenge.now.salt
             challenge.now.count (auth_to_challenge first server_first.now ++ client_final_without_proof.now) }
-        ensures len { length result.proof.items ≡ length_by self.now.mechanism }
+        ensures len { length result.proof.items ≡ digest_len_by self.now.mechanism }
         ensures bytes { (i : ℕ) → slice_index result.proof.items i < 256 }
     {
         let mechanism = self.mechanism;
@@ -158,7 +158,7 @@ impl ClientOne {
         ensures value { (first : ClientFirstParts) → self.now.bare.items ≡ client_first_bare first
             → result.items ≡ hmac_by self.now.mechanism key.now.items
             (auth_to_challenge first server_first.now ++ client_final_without_proof.now) }
-        ensures len { length result.items ≡ length_by self.now.mechanism }
+        ensures len { length result.items ≡ digest_len_by self.now.mechanism }
     {
         let mut mac = running_mac(self.mechanism, key, self.bare.as_slice(), server_first);
         mac.add(client_final_without_proof);

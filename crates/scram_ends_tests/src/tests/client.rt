@@ -83,9 +83,10 @@ fn logins_of_other_software(rt: HostRuntime) {
     }
 }
 
-// The fault, if any, with which a client with this nonce and these limits ends the login at a
-// challenge.
+// The fault with which a client with this nonce and these limits ends the login at a challenge, or
+// None if it answers.
 fn refused(
+    rt: &impl Abort,
     nonce: &'static str,
     limits: Limits,
     challenge: &str,
@@ -101,10 +102,13 @@ fn refused(
         messages: [""; 4],
     };
     let mut out = Vec::new(alloc);
-    let client = start(&exchange, None, limits, &mut out)?.ok()?;
-    match answer(client, &exchange, challenge, &mut out)? {
-        Err(OneRefused::Spent(fault)) => Some(fault),
-        _ => None,
+    let Some(Ok(client)) = start(&exchange, None, limits, &mut out) else {
+        panic!(rt; "the client does not start");
+    };
+    match answer(client, &exchange, challenge, &mut out) {
+        Some(Ok(_)) => None,
+        Some(Err(OneRefused::Spent(fault))) => Some(fault),
+        _ => panic!(rt; "no answer"),
     }
 }
 
@@ -135,7 +139,7 @@ fn faults_of_a_challenge(rt: HostRuntime) {
         ("a", "r=ab,s=QQ==,i=1000001", ClientFault::CountOutside),
         ("a", "r=ab,s=QQ==,i=4095", ClientFault::CountOutside),
     ] {
-        let refused = refused(nonce, Limits::usual(), challenge, rt.alloc());
+        let refused = refused(&rt, nonce, Limits::usual(), challenge, rt.alloc());
         check(&rt, &refused, &Some(fault), challenge);
     }
 }
@@ -155,7 +159,7 @@ fn counts_at_the_limits(rt: HostRuntime) {
     ] {
         check(
             &rt,
-            &refused("a", limits, challenge, rt.alloc()),
+            &refused(&rt, "a", limits, challenge, rt.alloc()),
             &fault,
             challenge,
         );

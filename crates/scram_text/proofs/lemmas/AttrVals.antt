@@ -8,7 +8,7 @@ use Rattle.std.specs.Str.{byte}
 use Rattle.scram_text.specs.Class.{is_letter, is_comma}
 use Rattle.scram_text.specs.Name.{LacksComma}
 use Rattle.scram_text.specs.Parts.{IsExtension}
-use Rattle.scram_text.specs.Pieces.{is_attribute}
+use Rattle.scram_text.specs.inner.Pieces.{is_attribute}
 use Rattle.scram_text.proofs.lemmas.ListEnds.{same_head_and_tail}
 
 -- a part without a comma that passes the code's test is an extension

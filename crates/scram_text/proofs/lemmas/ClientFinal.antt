@@ -12,7 +12,7 @@ use Rattle.scram_text.specs.Parts.{parts, joined, AreExtensions}
 use Rattle.scram_text.specs.Messages.{ClientFinalParts, client_final_without_proof, client_final_text, IsClientFinal}
 use Rattle.scram_text.specs.Laws.{HasOneClientFinal}
 use Rattle.scram_text.specs.Faults.{Fits, fault, places, IsFirstMisfit, IsClientFinalFault}
-use Rattle.scram_text.specs.Pieces.{IsExtensionMisfit}
+use Rattle.scram_text.specs.inner.Pieces.{IsExtensionMisfit}
 use Rattle.scram_text.specs.Shown.{ShowsClientFinal}
 use Rattle.scram_text.specs.declared.client_final.ClientFinal.{ClientFinal}
 use Rattle.scram_text.specs.declared.fault.TextFault.{TextFault}

@@ -17,7 +17,7 @@ use Rattle.scram_text.specs.Messages.{ClientFirstParts, gs2_header, bare_parts, 
 use Rattle.scram_text.specs.Laws.{HasOneClientFirst}
 use Rattle.scram_text.specs.Faults.{Fits, fault, places, IsAuthzid, IsFirstMisfit, places_with_mext, first_of, client_first_places}
 use Rattle.scram_text.specs.Faults.{IsClientFirstFault}
-use Rattle.scram_text.specs.Pieces.{IsExtensionMisfit, IsMextAndRest, IsBareMisfit}
+use Rattle.scram_text.specs.inner.Pieces.{IsExtensionMisfit, IsMextAndRest, IsBareMisfit}
 use Rattle.scram_text.specs.Shown.{ShowsClientFirst}
 use Rattle.scram_text.specs.declared.client_first.ClientFirst.{ClientFirst}
 use Rattle.scram_text.specs.declared.fault.TextFault.{TextFault}

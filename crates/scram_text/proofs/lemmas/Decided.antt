@@ -14,11 +14,11 @@ use Rattle.mac_core.proofs.lemmas.Decided.{decided_same_text}
 use Rattle.base64.specs.GeneralPurpose.{IsBytes}
 use Rattle.base64.specs.declared.decode.DecodeError.{DecodeError}
 use Rattle.scram_text.specs.Limits.{max_channel_len, max_salt_len, max_tag_len, max_iteration_count}
-use Rattle.scram_text.specs.Class.{is_printable, IsWordOf, IsNonce, IsUtf8Text}
+use Rattle.scram_text.specs.Class.{is_printable, IsCharsOf, IsNonce, IsUtf8Text}
 use Rattle.scram_text.specs.Name.{LacksComma, is_escaped, IsSaslName}
 use Rattle.scram_text.specs.Base64Field.{base64, base64_decoded, IsField}
 use Rattle.scram_text.specs.Parts.{is_flag, IsAttrVal, IsValue, IsCount, SpellsCount, SpellsField, IsExtension}
-use Rattle.scram_text.specs.Pieces.{is_attribute}
+use Rattle.scram_text.specs.inner.Pieces.{is_attribute}
 use Rattle.scram_text.specs.Faults.{Fits, IsAuthzid}
 use Rattle.scram_text.specs.declared.fault.TextWhy.{TextWhy}
 use Rattle.scram_text.specs.declared.fault.TextWhy.TheVariants.{TooLong, NotText, Missing, Flag, Authzid, Mandatory, Name, Nonce, Salt, Count}
@@ -30,9 +30,9 @@ use Rattle.scram_text.proofs.lemmas.ListEnds.{same_head_and_tail, same_cons}
 use Rattle.scram_text.proofs.lemmas.Places.{AllFit}
 
 -- it is decidable whether bytes are a run of a class, no longer than a bound
-pub decided_run : (test : ℕ → Bool) (most : ℕ) (bytes : List ℕ) → Decided (IsWordOf test most bytes)
+pub decided_run : (test : ℕ → Bool) (most : ℕ) (bytes : List ℕ) → Decided (IsCharsOf test most bytes)
 decided_run test most bytes =
-    decided_equivalent ((1 ≤ length bytes) × ((length bytes ≤ most) × (list_all test bytes ≡ true))) (IsWordOf test most bytes)
+    decided_equivalent ((1 ≤ length bytes) × ((length bytes ≤ most) × (list_all test bytes ≡ true))) (IsCharsOf test most bytes)
     (λ h. record { at_least = h.0; at_most = h.1.0; each = h.1.1 }) (λ r. (r.at_least, (r.at_most, r.each)))
     (decided_both _ _ (decided_le 1 (length bytes))
     (decided_both _ _ (decided_le (length bytes) most) (decided_test (list_all test bytes))))

@@ -4,7 +4,7 @@ use Rattle.std.proofs.Math.Bool.{or_assoc}
 use Rattle.std.specs.Str.{byte}
 use Rattle.scram_text.specs.Parts.{IsExtension, AreExtensions, have_mandatory, is_named}
 use Rattle.scram_text.specs.Faults.{fault}
-use Rattle.scram_text.specs.Pieces.{IsExtensionMisfit}
+use Rattle.scram_text.specs.inner.Pieces.{IsExtensionMisfit}
 use Rattle.scram_text.specs.declared.fault.TextFault.{TextFault}
 use Rattle.scram_text.specs.declared.fault.TextWhy.TheVariants.{Extension}
 use Rattle.scram_text.proofs.lemmas.Parts.{unfit_part_is_misfit, fitting_part_keeps_misfit}

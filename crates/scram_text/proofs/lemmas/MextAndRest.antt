@@ -10,7 +10,7 @@ use Rattle.std.specs.Str.{byte}
 use Rattle.scram_text.specs.Name.{LacksComma}
 use Rattle.scram_text.specs.Parts.{is_named, mext_parts, IsValue, IsAttrVal}
 use Rattle.scram_text.specs.Faults.{fault, IsFirstMisfit, IsPartFault, places, first_of, places_with_mext}
-use Rattle.scram_text.specs.Pieces.{IsMextAndRest, IsMextMisfit}
+use Rattle.scram_text.specs.inner.Pieces.{IsMextAndRest, IsMextMisfit}
 use Rattle.scram_text.specs.declared.fault.TextFault.{TextFault}
 use Rattle.scram_text.specs.declared.fault.TextWhy.{TextWhy}
 use Rattle.scram_text.specs.declared.fault.TextWhy.TheVariants.{Mandatory, Extension}

@@ -13,7 +13,7 @@ use Rattle.scram_text.specs.Messages.{VerifierOrError, verifier, server_error, S
 use Rattle.scram_text.specs.Messages.{server_final_text, IsServerFinal}
 use Rattle.scram_text.specs.Laws.{HasOneServerFinal}
 use Rattle.scram_text.specs.Faults.{Fits, fault, places, IsFirstMisfit, outcome_place, server_final_places, IsServerFinalFault}
-use Rattle.scram_text.specs.Pieces.{IsExtensionMisfit}
+use Rattle.scram_text.specs.inner.Pieces.{IsExtensionMisfit}
 use Rattle.scram_text.specs.Shown.{ShowsServerFinal}
 use Rattle.scram_text.specs.declared.server_final.ServerFinal.{ServerFinal}
 use Rattle.scram_text.specs.declared.fault.TextFault.{TextFault}

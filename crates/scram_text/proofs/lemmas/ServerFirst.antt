@@ -13,7 +13,7 @@ use Rattle.scram_text.specs.Parts.{parts, joined, mext_parts, AreExtensions}
 use Rattle.scram_text.specs.Messages.{ServerFirstParts, server_first_text, IsServerFirst}
 use Rattle.scram_text.specs.Laws.{HasOneServerFirst}
 use Rattle.scram_text.specs.Faults.{Fits, fault, places, IsFirstMisfit, IsServerFirstFault, server_first_places}
-use Rattle.scram_text.specs.Pieces.{IsExtensionMisfit, IsMextAndRest}
+use Rattle.scram_text.specs.inner.Pieces.{IsExtensionMisfit, IsMextAndRest}
 use Rattle.scram_text.specs.Shown.{ShowsServerFirst}
 use Rattle.scram_text.specs.declared.server_first.ServerFirst.{ServerFirst}
 use Rattle.scram_text.specs.declared.fault.TextFault.{TextFault}

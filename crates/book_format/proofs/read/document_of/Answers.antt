@@ -3,7 +3,7 @@ use Rattle.std.proofs.lemmas.Bool.{cases_Bool, false≢true}
 use Rattle.std.proofs.lemmas.Str.{IsUtf8-from_is_utf8, is_utf8-from_IsUtf8}
 use Rattle.std.specs.Str.{is_utf8}
 use Rattle.toml.specs.Errors.{IsMemory}
-use Rattle.book_format.specs.reading.Books.{tree_in}
+use Rattle.book_format.specs.inner.Books.{tree_in}
 use Rattle.book_format.proofs.read.document_of.Goals as goal
 
 pub returns-in-Ok : goal.returns-in-Ok

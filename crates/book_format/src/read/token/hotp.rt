@@ -4,8 +4,8 @@ ghost use Rattle.toml.specs.View.{table_view};
 ghost use Rattle.otp_core.specs.TokenRanges.{IsHotpInRange};
 ghost use Rattle.otp_core.specs.declared.token.kinds.TokenFields.TheVariants.{Hotp};
 ghost use Rattle.book_format.specs.Keys.{is_among, has_only};
-ghost use Rattle.book_format.specs.reading.Steps.{pass_or};
-ghost use Rattle.book_format.specs.reading.Rows.{read_table};
+ghost use Rattle.book_format.specs.inner.Steps.{pass_or};
+ghost use Rattle.book_format.specs.inner.Rows.{read_table};
 ghost use Rattle.book_format.specs.Rows.{table_keys};
 ghost use Rattle.book_format.specs.Tokens.{hotp_table};
 ghost use Rattle.book_format.specs.declared.fault.BookWhy.TheVariants as why;
@@ -22,7 +22,7 @@ use toml::Table;
 /// The settings and the state of a HOTP token, from a table whose `kind` says that it is one. `sync_ahead` may be missing. Errors:
 /// `Key` if a key is unknown; then for the first key at fault, in the order of the keys at the head of this file: `Key` if it is
 /// missing or its value has the wrong type, else `Token` if the value is out of its range.
-#[tactic(auto, unfolding(crate::specs::reading::Rows::read_table))]
+#[tactic(auto, unfolding(crate::specs::inner::Rows::read_table))]
 pub(crate) fn hotp_of(table: &Table) -> Result<HotpFields, BookWhy>
     ensures value { result ≡ read_table hotp_table (table_view table.now) }
     ensures range { IfOk result IsHotpInRange }

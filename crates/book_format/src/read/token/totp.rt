@@ -8,8 +8,8 @@ ghost use Rattle.otp_core.specs.TokenRanges.{IsTotpInRange};
 ghost use Rattle.otp_core.specs.declared.token.kinds.TokenFields.TheVariants.{Totp};
 ghost use Rattle.book_format.specs.Keys.{is_among, has_only};
 ghost use Rattle.book_format.specs.ValueTypes.{number_type, signed_type, hash_type};
-ghost use Rattle.book_format.specs.reading.Steps.{pass_or};
-ghost use Rattle.book_format.specs.reading.Rows.{read_at, read_some, read_table};
+ghost use Rattle.book_format.specs.inner.Steps.{pass_or};
+ghost use Rattle.book_format.specs.inner.Rows.{read_at, read_some, read_table};
 ghost use Rattle.book_format.specs.Rows.{table_keys};
 ghost use Rattle.book_format.specs.Tokens.{totp_table};
 ghost use Rattle.book_format.specs.declared.fault.BookWhy.TheVariants as why;
@@ -26,7 +26,7 @@ use toml::Table;
 /// The settings and the state of a TOTP token, from a table whose `kind` says that it is one. `last` may be missing. Errors: `Key`
 /// if a key is unknown; then for the first key at fault, in the order of the keys at the head of this file: `Key` if it is missing
 /// or its value has the wrong type, else `Token` if the value is out of its range.
-#[tactic(auto, unfolding(crate::specs::reading::Rows::read_table))]
+#[tactic(auto, unfolding(crate::specs::inner::Rows::read_table))]
 pub(crate) fn totp_of(table: &Table) -> Result<TotpFields, BookWhy>
     ensures value { result ≡ read_table totp_table (table_view table.now) }
     ensures range { IfOk result IsTotpInRange }
@@ -109,7 +109,7 @@ pub(crate) fn totp_token(fields: TotpFields) -> Token
 
 // The hash function at a key. Errors: `Key` if the key is missing or its value not a text; `Token` if no hash function has the
 // name.
-#[tactic(auto, unfolding(crate::specs::reading::Values::hash_in))]
+#[tactic(auto, unfolding(crate::specs::inner::Values::hash_in))]
 fn hash_at(table: &Table, key: &str) -> Result<OtpHash, BookWhy>
     ensures { result ≡ read_at key.now hash_type (table_view table.now) }
 {
@@ -130,7 +130,7 @@ fn last_if_any(table: &Table) -> Result<Option<u64>, BookWhy>
 
 // The drift at a key, at most `most` steps to either side. Errors: `Key` if the key is missing or its value not a whole number;
 // `Token` if the drift is greater.
-#[tactic(auto, unfolding(crate::specs::reading::Values::signed_in))]
+#[tactic(auto, unfolding(crate::specs::inner::Values::signed_in))]
 fn drift_at(table: &Table, key: &str, most: u64) -> Result<i64, BookWhy>
     ensures value { result ≡ read_at key.now (signed_type why.Token most) (table_view table.now) }
     ensures range { IfOk result (λ drift. nat_abs drift ≤ most) }

@@ -12,7 +12,7 @@ returns-in-Ok-clause-ok g c =
     let before = ap (λ (f : SinkFacts). f.given) c.new.ensures in
     let after = c.into_output.ensures ∙ ap (λ (l : PrintedLog _). g.O.Write.contents l.output) c.into_log.ensures in
     on_ok_weaker c.hear_lines-heard.result
-    (hall_prints_its_log c.log_is_a_front.ensures c.log_is_saved.ensures before after c.in-Ok.ensures.log)
+    (hall_prints_its_log before after c.in-Ok.ensures.log)
     (rw c.new-lines.ensures.input at c.hear_lines-heard.ensures.ok)
 
 pub returns-in-Ok-clause-err : goal.returns-in-Ok-clause-err
@@ -20,7 +20,7 @@ returns-in-Ok-clause-err g c =
     let before = ap (λ (f : SinkFacts). f.given) c.new.ensures in
     let after = c.into_output.ensures ∙ ap (λ (l : PrintedLog _). g.O.Write.contents l.output) c.into_log.ensures in
     IfErr-weaker c.hear_lines-heard.result _ _
-    (λ fault. hall_stops_after c.log_is_a_front.ensures c.log_is_saved.ensures before after c.in-Ok.ensures.log fault)
+    (λ fault. hall_stops_after before after c.in-Ok.ensures.log fault)
     (rw c.new-lines.ensures.input at c.hear_lines-heard.ensures.err)
 
 pub returns-in-Err-clause-err : goal.returns-in-Err-clause-err
@@ -32,8 +32,7 @@ pub returns-in-Ok-clause-bad : goal.returns-in-Ok-clause-bad
 returns-in-Ok-clause-bad g c = λ is.
     let before = ap (λ (f : SinkFacts). f.given) c.new.ensures in
     let after = c.into_output.ensures ∙ ap (λ (l : PrintedLog _). g.O.Write.contents l.output) c.into_log.ensures in
-    hall_prints_to_bad_event c.log_is_a_front.ensures c.log_is_saved.ensures before after c.in-Ok.ensures.log
-    c.phases_are_those_of_places.ensures
+    hall_prints_to_bad_event before after c.in-Ok.ensures.log
     (rw c.new-lines.ensures.input at (c.hear_lines-heard.ensures.bad is))
 
 pub returns-in-Err-clause-bad : goal.returns-in-Err-clause-bad

@@ -1,5 +1,6 @@
 use Rattle.std.proofs.Common.{inl, inr, List, [], ◌∷◌, ◌++◌, ℕ, Option, reverse, subst}
 use Rattle.std.specs.Io.KnownBytes.{Appends}
+use Rattle.sasl_desk.proofs.lemmas.runs.BooksAfterReplies.{replies_spend_counters}
 use Rattle.commands.specs.Attempts.{printed_replies, PrintsUntil}
 use Rattle.commands.proofs.lemmas.Attempts.{answered_lines_are_changes_all, answered_lines_are_changes_saved, answered_lines_are_changes_first}
 use Rattle.commands.proofs.lemmas.Attempts.{answered_lines_are_changes_within, earlier_counters_are_spent, run_holds_its_book}
@@ -16,7 +17,7 @@ returns-clause-all g c = λ words input old all_passed new run text spent may be
       makes,
       subst (λ (o : Option (List ℕ)). Appends o new (printed_replies attempts)) run.begins.is_printed
           (subst (λ (o : Option (List ℕ)). Appends run.first.printed o (printed_replies attempts)) run.printed printed),
-      c.replies_spend_counters.ensures run.first.held.book (reverse attempts) run.last.held.book spent makes.leads before,
+      replies_spend_counters run.first.held.book (reverse attempts) run.last.held.book spent makes.leads before,
     )
 
 pub returns-clause-first : goal.returns-clause-first
@@ -30,7 +31,7 @@ returns-clause-first g c = λ words input old fault new run text spent may befor
       makes,
       subst (λ (o : Option (List ℕ)). PrintsUntil fault attempts o new) run.begins.is_printed
           (subst (λ (o : Option (List ℕ)). PrintsUntil fault attempts run.first.printed o) run.printed printed),
-      c.replies_spend_counters.ensures run.first.held.book (reverse attempts) left spent makes.leads before,
+      replies_spend_counters run.first.held.book (reverse attempts) left spent makes.leads before,
     )
 
 pub returns-clause-between : goal.returns-clause-between
@@ -41,7 +42,7 @@ returns-clause-between g c = λ words input old moment first last all_passed mid
       answered_lines_are_changes_saved _ _ moment input last first all_passed middle text answers
           (run_holds_its_book _ words old moment first begins) may,
       subst (λ (o : Option (List ℕ)). Appends o middle.printed (printed_replies attempts)) begins.is_printed printed,
-      c.replies_spend_counters.ensures first.held.book (reverse attempts) middle.held.book spent makes.leads before,
+      replies_spend_counters first.held.book (reverse attempts) middle.held.book spent makes.leads before,
     )
 
 pub returns-clause-within : goal.returns-clause-within
@@ -56,7 +57,7 @@ returns-clause-within g c = λ words input old moment first middle asked text sp
         attempts,
         is_text,
         shown,
-        c.replies_spend_counters.ensures first.held.book (reverse attempts) middle.held.book spent makes.leads before,
+        replies_spend_counters first.held.book (reverse attempts) middle.held.book spent makes.leads before,
       )
       | inr (is_text, makes) ↦ (
         saves.next,
@@ -64,7 +65,7 @@ returns-clause-within g c = λ words input old moment first middle asked text sp
         is_text,
         shown,
         earlier_counters_are_spent attempts saves.attempt spent saves.next
-            (c.replies_spend_counters.ensures first.held.book (reverse (attempts ++ saves.attempt ∷ [])) saves.next spent makes.leads
+            (replies_spend_counters first.held.book (reverse (attempts ++ saves.attempt ∷ [])) saves.next spent makes.leads
             before),
       )
     ]

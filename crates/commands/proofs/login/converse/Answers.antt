@@ -1,5 +1,7 @@
 use Rattle.std.proofs.Common.{inl, refl}
-use Rattle.commands.specs.DeskLogSteps.{IsLogAfterFaultWith}
+use Rattle.sasl_desk.proofs.lemmas.runs.Logs.{log_is_clean_closed}
+use Rattle.sasl_desk.proofs.lemmas.runs.Stores.{log_is_saved}
+use Rattle.commands.specs.inner.DeskLogSteps.{IsLogAfterFaultWith}
 use Rattle.commands.specs.Talked.{talked_in}
 use Rattle.command_io.proofs.lemmas.Results.{handed_fault_keeps_fact}
 use Rattle.commands.proofs.lemmas.Cases.{second_case_weakens}
@@ -27,8 +29,8 @@ pub returns-clause-clean : goal.returns-clause-clean
 returns-clause-clean g c = λ start before l.
     let desk = two_steps_keep_log c.in_ok-passed.ensures.log c.in_ok-hang_up.ensures.log start before l in (
       _,
-      c.log_is_clean.ensures.closed start desk.calls c.hang_up.new.talk.desk desk.stands (inl c.in_ok-hang_up.ensures.closed),
+      log_is_clean_closed desk.stands (inl c.in_ok-hang_up.ensures.closed),
       record { calls = desk.calls; place = desk.stands.place; is_run = desk.stands.is_run; requests = desk.requests; is_log = refl },
       desk.logged,
-      c.log_is_saved.ensures start desk.calls c.hang_up.new.talk.desk desk.stands,
+      log_is_saved desk.stands,
     )

@@ -19,8 +19,7 @@ returns-in-Ok-clause-err g c =
     let before = ap (λ (f : SinkFacts). f.given) c.new.ensures in
     let after = c.into_output.ensures ∙ ap (λ (l : PrintedLog _). g.O.Write.contents l.output) c.into_log.ensures in
     IfErr-weaker c.converse-passed.result _ _
-    (λ fault. login_stops_after before (c.in-Ok.ensures.log c.args.login.server_nonce) after
-    c.log_is_a_front.ensures c.log_is_saved.ensures)
+    (λ fault. login_stops_after before (c.in-Ok.ensures.log c.args.login.server_nonce) after)
     c.converse-passed.ensures.after_fault
 
 pub returns-in-Ok-clause-talk : goal.returns-in-Ok-clause-talk

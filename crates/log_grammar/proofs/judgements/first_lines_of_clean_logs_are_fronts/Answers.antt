@@ -1,5 +1,5 @@
+use Rattle.log_grammar.proofs.lemmas.kinds.OneAnswer.{first_lines_of_clean_log_are_front}
 use Rattle.log_grammar.proofs.judgements.first_lines_of_clean_logs_are_fronts.Goals as goal
 
 pub returns : goal.returns
-returns c = λ accounts bytes texts k clean cut.
-    c.fronts_begin_with_fronts.ensures accounts bytes texts k (c.clean_logs_are_fronts.ensures accounts bytes clean) cut
+returns c = first_lines_of_clean_log_are_front

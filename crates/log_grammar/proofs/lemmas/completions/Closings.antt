@@ -2,7 +2,7 @@
 use Rattle.std.proofs.Common.{◌≡◌, ◌⊎◌, inl, inr, ℕ, List, [], ◌∷◌, refl}
 use Rattle.otp_core.specs.Attempt.{CodeTexts}
 use Rattle.scram_ends.specs.Verdict.{Due, accept, refuse, due_text}
-use Rattle.log_grammar.specs.Lines.{LogLine, said, gone, ended, cont, accepts, refuses, IsWritable}
+use Rattle.log_grammar.specs.Lines.{LogLine, said, gone, ended, cont, accepts, refuses, IsLogLineWritable}
 use Rattle.log_grammar.specs.Places.{Place, before_all, between, offered, asks_bare, waits_first, got_first, waits_final, got_final, waits_code}
 use Rattle.log_grammar.specs.Places.{got_code, leaving, over, halted}
 use Rattle.log_grammar.specs.Demands.{Accounts, AllCanBeChallenged, IsVerdictDue, demands}
@@ -18,7 +18,7 @@ use Rattle.log_grammar.proofs.lemmas.lines.TextBytes.{utf8_is_message}
 
 -- a line that may be written at any time, and that any line may follow
 pub record IsPlain (line : LogLine) : Type 0 where
-  pub writable : IsWritable line
+  pub writable : IsLogLineWritable line
   pub room : (limit : ℕ) (before : List (Numbered LogLine)) (n : ℕ) → MayBeNumbered limit before n line
   pub follow : (n m : ℕ) (next : LogLine) → MayFollow n line m next
   pub has_number : IsNoFirstLine line
@@ -39,15 +39,15 @@ gone_is_plain = record { writable = gone_is_writable; room = λ limit before n. 
 
 module _ (message : List ℕ) where
   -- an `S NO` that can be written has room after any lines, and any line may follow it
-  refusal_is_plain : IsWritable (said (refuses message)) → IsPlain (said (refuses message))
+  refusal_is_plain : IsLogLineWritable (said (refuses message)) → IsPlain (said (refuses message))
   refusal_is_plain writable = record { writable = writable; room = λ limit before n. tt; follow = λ n m next. tt; has_number = tt }
 
   -- an `S CONT` that can be written has room after any lines, and any line may follow it
-  cont_is_plain : IsWritable (said (cont message)) → IsPlain (said (cont message))
+  cont_is_plain : IsLogLineWritable (said (cont message)) → IsPlain (said (cont message))
   cont_is_plain writable = record { writable = writable; room = λ limit before n. tt; follow = λ n m next. tt; has_number = tt }
 
   -- an `S OK` that can be written has room after any lines, and any line may follow it
-  ok_is_plain : IsWritable (said (accepts message)) → IsPlain (said (accepts message))
+  ok_is_plain : IsLogLineWritable (said (accepts message)) → IsPlain (said (accepts message))
   ok_is_plain writable = record { writable = writable; room = λ limit before n. tt; follow = λ n m next. tt; has_number = tt }
 
 -- there are lines that close a session at this place
@@ -59,7 +59,7 @@ over_is_closable : (accounts : Accounts) → IsClosable accounts over
 over_is_closable accounts = (ended ∷ [], (end_is_plain, refl, between, refl, refl))
 
 -- a session can be closed by a refusal and `E` if the server may refuse
-refused_place_is_closable : (accounts : Accounts) (place : Place) (text : List ℕ) → IsWritable (said (refuses text))
+refused_place_is_closable : (accounts : Accounts) (place : Place) (text : List ℕ) → IsLogLineWritable (said (refuses text))
     → told_at place (said (refuses text)) ≡ []
     → IsTransition (demands accounts) place (said (refuses text)) over → IsClosable accounts place
 refused_place_is_closable accounts place text writable quiet goes =

@@ -2,9 +2,9 @@
 use Rattle.std.proofs.Common.{◌≡◌, inl, inr, ℕ, ◌+◌, false, List, [], ◌∷◌, ◌++◌, reverse, refl, sym, ◌∙◌, ap, subst, arith}
 use Rattle.std.specs.Prelude.{codes}
 use Rattle.std.specs.List.{AllZip}
+use Rattle.account_book.specs.AccountAttempt.{AccountAttempt}
 use Rattle.log_grammar.specs.Lines.{LogLine, said, ended, busy}
 use Rattle.log_grammar.specs.Bytes.{ended_by_lf, IsSplit}
-use Rattle.log_grammar.specs.LoggedAttempt.{LoggedAttempt}
 use Rattle.log_grammar.specs.Places.{Place, between, over, is_closed}
 use Rattle.log_grammar.specs.Demands.{Accounts, AllCanBeChallenged, demands, HaveDueReplies}
 use Rattle.log_grammar.specs.state_machine.Steps.{IsTransition, told_at}
@@ -41,7 +41,7 @@ read_line_has_text (t ∷ texts) (y ∷ before) x rest are = read_line_has_text 
 
 -- the open numbers in lines that were read are in their range
 open_numbers_are_in_range : (limit : ℕ) (accounts : Accounts) (texts : List (List ℕ)) (log : List (Numbered LogLine)) (places : ℕ → Place)
-    (told : List LoggedAttempt)
+    (told : List AccountAttempt)
     → AllZip IsNumberedLine texts log → IsNumberedLogUpTo limit (demands accounts) log places told → OpenInRange places
 open_numbers_are_in_range limit accounts texts log places told are s n is = elim (number_is_given_or_not (s.visit n)) [
   | inl none ↦ let wrong = sym (ap is_closed (s.after n ∙ ap visit_place none)) ∙ is in absurd (cc wrong)
@@ -68,7 +68,7 @@ empty_front_begins_clean limit accounts bytes cut =
 
 module _ (limit : ℕ) (accounts : Accounts) (fit : AllCanBeChallenged accounts) where
   -- a log after whose last line any line may follow can be completed by closing the open numbers
-  free_log_is_completable : (log : List (Numbered LogLine)) (places : ℕ → Place) (told : List LoggedAttempt)
+  free_log_is_completable : (log : List (Numbered LogLine)) (places : ℕ → Place) (told : List AccountAttempt)
       → IsNumberedLogUpTo limit (demands accounts) log places told → Free log → OpenInRange places
       → IsNumberedCompletable limit accounts log
   free_log_is_completable log places told s free ranged =
@@ -76,7 +76,7 @@ module _ (limit : ℕ) (accounts : Accounts) (fit : AllCanBeChallenged accounts)
       (λ n most. ungiven_number_is_between limit (demands accounts) log places told s n (omega (arith, most)))
 
   -- a log whose last line is BUSY can be completed, beginning with the `E` of that number
-  busy_log_is_completable : (front : List (Numbered LogLine)) (last : Numbered LogLine) (places : ℕ → Place) (told : List LoggedAttempt)
+  busy_log_is_completable : (front : List (Numbered LogLine)) (last : Numbered LogLine) (places : ℕ → Place) (told : List AccountAttempt)
       → IsNumberedLogUpTo limit (demands accounts) (front ++ last ∷ []) places told → OpenInRange places → last.value ≡ said busy
       → places last.number ≡ over → IsNumberedCompletable limit accounts (front ++ last ∷ [])
   busy_log_is_completable front last places told s ranged is at =
@@ -98,7 +98,7 @@ module _ (limit : ℕ) (accounts : Accounts) (fit : AllCanBeChallenged accounts)
       (log_is_free_after log n ended (λ m next. tt)) ranged_on)
 
   -- a log with a last line can be completed, whatever that line is
-  nonempty_log_is_completable : (front : List (Numbered LogLine)) (last : Numbered LogLine) (places : ℕ → Place) (told : List LoggedAttempt)
+  nonempty_log_is_completable : (front : List (Numbered LogLine)) (last : Numbered LogLine) (places : ℕ → Place) (told : List AccountAttempt)
       → IsNumberedLogUpTo limit (demands accounts) (front ++ last ∷ []) places told → OpenInRange places
       → IsNumberedCompletable limit accounts (front ++ last ∷ [])
   nonempty_log_is_completable front last places told s ranged =
@@ -117,7 +117,7 @@ module _ (limit : ℕ) (accounts : Accounts) (fit : AllCanBeChallenged accounts)
       ]
 
   -- a log of version 2 can be completed if each open number is in its range
-  numbered_log_is_completable : (log : List (Numbered LogLine)) (places : ℕ → Place) (told : List LoggedAttempt)
+  numbered_log_is_completable : (log : List (Numbered LogLine)) (places : ℕ → Place) (told : List AccountAttempt)
       → IsNumberedLogUpTo limit (demands accounts) log places told → OpenInRange places → IsNumberedCompletable limit accounts log
   numbered_log_is_completable [] places told s ranged =
       free_log_is_completable [] places told s (λ before x e. absurd (empty_has_no_element before x [] e)) ranged

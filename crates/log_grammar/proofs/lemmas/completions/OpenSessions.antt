@@ -6,9 +6,9 @@ use Rattle.std.specs.List.{AllByRecursion, AllZip}
 use Rattle.std.proofs.lemmas.Bool.{cases_Bool}
 use Rattle.std.proofs.lemmas.Bool.Decides.{eqb_tells}
 use Rattle.std.proofs.lemmas.List.{same_from_push}
-use Rattle.log_grammar.specs.Lines.{LogLine, said, halt, IsWritable}
+use Rattle.account_book.specs.AccountAttempt.{AccountAttempt}
+use Rattle.log_grammar.specs.Lines.{LogLine, said, halt, IsLogLineWritable}
 use Rattle.log_grammar.specs.Bytes.{LacksLf}
-use Rattle.log_grammar.specs.LoggedAttempt.{LoggedAttempt}
 use Rattle.log_grammar.specs.Places.{Place, before_all, between, halted, is_closed}
 use Rattle.log_grammar.specs.Demands.{Accounts, AllCanBeChallenged, Demands, demands, HaveDueReplies}
 use Rattle.log_grammar.specs.state_machine.Steps.{IsTransition, told_at}
@@ -38,7 +38,7 @@ pub record IsNumberedCompletable (limit : ℕ) (accounts : Accounts) (log : List
   -- where each number stands after them
   pub places : ℕ → Place
   -- the replies recorded in all lines
-  pub told : List LoggedAttempt
+  pub told : List AccountAttempt
   -- the log and these lines are a log of version 2, which may be cut short
   pub spells : IsNumberedLogUpTo limit (demands accounts) (log ++ more) places told
   -- it may end there
@@ -74,10 +74,10 @@ no_line_leads_before_all d place line next goes never at = elim (visit_transitio
 ]
 
 -- no number of a log stands at the place before all lines
-no_number_is_before_all : (limit : ℕ) (d : Demands) (log : List (Numbered LogLine)) (p : ℕ → Place) (told : List LoggedAttempt)
+no_number_is_before_all : (limit : ℕ) (d : Demands) (log : List (Numbered LogLine)) (p : ℕ → Place) (told : List AccountAttempt)
     → IsNumberedLogUpTo limit d log p told → (n : ℕ) → p n ≡ before_all → ⊥
 no_number_is_before_all limit d = holds_by_last
-    (λ log. (p : ℕ → Place) (told : List LoggedAttempt) → IsNumberedLogUpTo limit d log p told → (n : ℕ) → p n ≡ before_all → ⊥)
+    (λ log. (p : ℕ → Place) (told : List AccountAttempt) → IsNumberedLogUpTo limit d log p told → (n : ℕ) → p n ≡ before_all → ⊥)
     (λ p told s n at. let wrong = sym ((empty_log_tells_nothing limit d p told s).0 n) ∙ at in cc wrong)
     (λ log x earlier p told s.
     let n = x.number in
@@ -93,7 +93,7 @@ OpenInRange places = (n : ℕ) → is_closed (places n) ≡ false → IsSessionN
 
 module _ (limit : ℕ) (accounts : Accounts) where
   -- a log is complete if the places of its numbers let it end
-  pub ended_numbered_log_is_completable : (log : List (Numbered LogLine)) (places : ℕ → Place) (told : List LoggedAttempt)
+  pub ended_numbered_log_is_completable : (log : List (Numbered LogLine)) (places : ℕ → Place) (told : List AccountAttempt)
       → IsNumberedLogUpTo limit (demands accounts) log places told → MayEndNumbered places → IsNumberedCompletable limit accounts log
   ended_numbered_log_is_completable log places told s ends = record {
     texts = [];
@@ -108,7 +108,7 @@ module _ (limit : ℕ) (accounts : Accounts) where
 
   -- a log can be completed if one more line can be written and the log with it can be completed
   pub shorter_numbered_log_is_completable : (log : List (Numbered LogLine)) (n : ℕ) (line : LogLine)
-      → IsSessionNumber n → IsNoFirstLine line → IsWritable line
+      → IsSessionNumber n → IsNoFirstLine line → IsLogLineWritable line
       → IsNumberedCompletable limit accounts (log ++ numbered n line ∷ []) → IsNumberedCompletable limit accounts log
   shorter_numbered_log_is_completable log n line number has written c =
       let x = numbered n line in
@@ -127,9 +127,9 @@ module _ (limit : ℕ) (accounts : Accounts) where
 
   -- a log can be completed if some lines close one number and the log after them can be completed
   closing_number_completes_log : (n : ℕ) → IsSessionNumber n
-      → (lines : List LogLine) (log : List (Numbered LogLine)) (places : ℕ → Place) (told : List LoggedAttempt)
+      → (lines : List LogLine) (log : List (Numbered LogLine)) (places : ℕ → Place) (told : List AccountAttempt)
       → IsNumberedLogUpTo limit (demands accounts) log places told → Free log → Closes accounts (places n) lines
-      → ((longer : List (Numbered LogLine)) (after : ℕ → Place) (all : List LoggedAttempt)
+      → ((longer : List (Numbered LogLine)) (after : ℕ → Place) (all : List AccountAttempt)
       → IsNumberedLogUpTo limit (demands accounts) longer after all → Free longer
       → after n ≡ between → ((m : ℕ) → (n ≡ m → ⊥) → after m ≡ places m) → IsNumberedCompletable limit accounts longer)
       → IsNumberedCompletable limit accounts log
@@ -151,7 +151,7 @@ module _ (limit : ℕ) (accounts : Accounts) where
       (λ m other. others m other ∙ put_keeps_others n next places m other)))
 
   -- a log can be completed by a halt if the place of some number allows it
-  halt_completes_log : (log : List (Numbered LogLine)) (places : ℕ → Place) (told : List LoggedAttempt) (n : ℕ) → IsSessionNumber n
+  halt_completes_log : (log : List (Numbered LogLine)) (places : ℕ → Place) (told : List AccountAttempt) (n : ℕ) → IsSessionNumber n
       → IsNumberedLogUpTo limit (demands accounts) log places told → Free log
       → IsTransition (demands accounts) (places n) (said halt) halted
       → told_at (places n) (said halt) ≡ [] → IsNumberedCompletable limit accounts log
@@ -168,7 +168,7 @@ module _ (limit : ℕ) (accounts : Accounts) where
 
 module _ (limit : ℕ) (accounts : Accounts) (fit : AllCanBeChallenged accounts) where
   -- if all numbers from k on are closed, the log is completed by closing those below k
-  pub closing_all_completes_log : (k : ℕ) (log : List (Numbered LogLine)) (places : ℕ → Place) (told : List LoggedAttempt)
+  pub closing_all_completes_log : (k : ℕ) (log : List (Numbered LogLine)) (places : ℕ → Place) (told : List AccountAttempt)
       → IsNumberedLogUpTo limit (demands accounts) log places told → Free log → OpenInRange places → ((n : ℕ) → k ≤ n → places n ≡ between)
       → IsNumberedCompletable limit accounts log
   closing_all_completes_log zero log places told s free ranged closed =

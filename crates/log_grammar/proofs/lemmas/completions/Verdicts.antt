@@ -1,7 +1,7 @@
 -- Some verdict is due to each login, and the server's line that tells it can be written.
 use Rattle.std.proofs.Common.{◌≡◌, inl, inr, ℕ, ◌≤◌, List, [], length, refl, sym, ◌∙◌, ap, subst, arith}
 use Rattle.std.proofs.lemmas.Bool.{cases_lt}
-use Rattle.mac_core.specs.Mechanism.{length_by}
+use Rattle.mac_core.specs.Mechanism.{digest_len_by}
 use Rattle.mac_core.specs.declared.mechanism.Mechanism.{Mechanism}
 use Rattle.scram_text.specs.Limits.{max_message_len, max_tag_len}
 use Rattle.scram_text.specs.Messages.{verifier, server_error, IsServerFinal}
@@ -12,11 +12,11 @@ use Rattle.scram_ends.specs.Verdict.{Due, accept, refuse, due_text, final_due, e
 use Rattle.scram_ends.specs.Login.{IsAuthentic}
 use Rattle.scram_ends.specs.declared.verdict.Refusal.{Refusal}
 use Rattle.mac_core.proofs.lemmas.Lengths.{length-hmac_by}
-use Rattle.scram_ends.proofs.lemmas.Digests.{AreBytes, mac_is_bytes}
+use Rattle.mac_core.proofs.lemmas.Digests.{AreBytes, mac_is_bytes}
 use Rattle.scram_ends.proofs.lemmas.HonestLogins.{digest_length_is_in_range}
 use Rattle.scram_ends.proofs.lemmas.Verdicts.{due_signature_is_servers}
 use Rattle.scram_ends.proofs.lemmas.Written.{signature_can_be_written, signature_fits, refusal_can_be_written, refusal_fits}
-use Rattle.log_grammar.specs.Lines.{said, accepts, refuses, IsWritable}
+use Rattle.log_grammar.specs.Lines.{said, accepts, refuses, IsLogLineWritable}
 use Rattle.log_grammar.specs.Demands.{Accounts, IsChallenged, IsVerdictDue}
 use Rattle.log_grammar.proofs.lemmas.lines.Written.{refusal_is_writable, ok_is_writable}
 use Rattle.log_grammar.proofs.lemmas.lines.TextBytes.{utf8_is_message}
@@ -53,11 +53,11 @@ refusal_is_server_final why =
     written_is_server_final (server_error (error_value why)) [] (error_is_text (error_value why) can.outcome_class.1) can short
 
 -- a signature as long as a mechanism's digests has from 1 to 64 bytes
-signature_length_is_in_range : (m : Mechanism) (n : ℕ) → n ≡ length_by m → (1 ≤ n) × (n ≤ max_tag_len)
+signature_length_is_in_range : (m : Mechanism) (n : ℕ) → n ≡ digest_len_by m → (1 ≤ n) × (n ≤ max_tag_len)
 signature_length_is_in_range m n is = let range = digest_length_is_in_range m in (omega (arith, is, range.0), omega (arith, is, range.1))
 
 -- `S NO` with the message of a refusal can be written
-pub due_refusal_is_writable : (why : Refusal) → IsWritable (said (refuses (due_text (refuse why))))
+pub due_refusal_is_writable : (why : Refusal) → IsLogLineWritable (said (refuses (due_text (refuse why))))
 due_refusal_is_writable why =
     let final = refusal_is_server_final why in
     let text = due_text (refuse why) in
@@ -66,7 +66,7 @@ due_refusal_is_writable why =
 -- an acceptance with this signature can be written, by a message that bears it
 pub record WritableAcceptance (signature : List ℕ) : Type 0 where
   pub text : List ℕ
-  pub line : IsWritable (said (accepts text))
+  pub line : IsLogLineWritable (said (accepts text))
   pub authentic : IsAuthentic text signature
 
 -- if acceptance is due to a login, `S OK` can be written with a message that has the signature due

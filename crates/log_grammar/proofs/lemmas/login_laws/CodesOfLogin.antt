@@ -3,8 +3,8 @@ use Rattle.std.proofs.Common.{◌≡◌, inl, inr, ℕ, Bool, List, [], ◌∷�
 use Rattle.std.specs.Prelude.{flat_map}
 use Rattle.std.specs.List.{AllByRecursion}
 use Rattle.otp_core.specs.Attempt.{CodeTexts}
-use Rattle.log_grammar.specs.Lines.{LogLine, header, said, heard, mechs, cont, auth, auth_with, resp}
-use Rattle.log_grammar.specs.LoggedAttempt.{LoggedAttempt}
+use Rattle.account_book.specs.AccountAttempt.{AccountAttempt}
+use Rattle.log_grammar.specs.Lines.{LogLine, header_one, said, heard, mechs, cont, auth, auth_with, resp}
 use Rattle.log_grammar.specs.Places.{Place, MayEnd, offered, asks_bare, waits_first, got_first, got_code}
 use Rattle.log_grammar.specs.Demands.{Demands, Accounts, demands}
 use Rattle.log_grammar.specs.Sessions.{Part, rests, refusal, session_part, Quit, quitting, AfterFirst, after_first, Session, session_lines}
@@ -16,7 +16,7 @@ use Rattle.log_grammar.proofs.lemmas.session_laws.LaterLines.{CodeIsOf, HoldsFro
 use Rattle.log_grammar.proofs.lemmas.demands.Challenges.{challenged_first_is_of_name}
 
 -- the account of each recorded reply, and of a code that waits for its reply at the place, is one of these
-abbrev AreCodesOf : (IsAccount : List ℕ → Type 0) → List LogLine → Place → List LoggedAttempt → Type 0
+abbrev AreCodesOf : (IsAccount : List ℕ → Type 0) → List LogLine → Place → List AccountAttempt → Type 0
 AreCodesOf IsAccount lines place told = AllByRecursion (λ t. IsAccount t.account) told
     × ((account : List ℕ) (sent : CodeTexts) → place ≡ got_code account sent → IsAccount account)
 
@@ -109,4 +109,4 @@ pub each_reply_due_follows_its_login : EachReplyDueFollowsItsLogin
 each_reply_due_follows_its_login accounts log account sent told (inl none) = absurd (cc none.1)
 each_reply_due_follows_its_login accounts log account sent told (inr s) =
     let (last, (before, same), login) = last_session_code_has_login accounts s.sessions account sent s.good (sym s.after) in
-    (last, (header ∷ before, s.lines ∙ ap (λ (l : List LogLine). header ∷ l) same), login)
+    (last, (header_one ∷ before, s.lines ∙ ap (λ (l : List LogLine). header_one ∷ l) same), login)

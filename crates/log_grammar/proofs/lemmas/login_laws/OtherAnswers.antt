@@ -1,7 +1,7 @@
 -- Valid logins that a log has as refused, and codes after them that it has answered by another reply.
 use Rattle.std.proofs.Common.{inr, [], refl}
 use Rattle.scram_ends.specs.Verdict.{accept, refuse}
-use Rattle.log_grammar.specs.Lines.{header, said, refuses, replies, log_line_text}
+use Rattle.log_grammar.specs.Lines.{header_one, said, refuses, replies, log_line_text}
 use Rattle.log_grammar.specs.Places.{got_final, got_code}
 use Rattle.log_grammar.specs.Why.{other_outcome, other_reply, accepted, of_login_answers, of_replies}
 use Rattle.log_grammar.specs.Upgrades.{original_bytes}
@@ -22,7 +22,7 @@ refused_logins_are_at_fault accounts mechanism name exchange message l is =
     let line = said (refuses message) in (
       signature,
       authentic,
-      last_line_is_at_fault accounts _ header _ at [] (log_line_text line) line
+      last_line_is_at_fault accounts _ header_one _ at [] (log_line_text line) line
           (other_outcome (accepted signature)) lead is
           (lines_lack_lf (log_line_text line) line is)
           (λ f.
@@ -44,7 +44,7 @@ other_replies_are_at_fault accounts mechanism name exchange sent moment reply du
     let place = got_code name sent in
     let line = said (replies moment reply) in
     let spelled = reply_is_writable moment reply at range in
-    last_line_is_at_fault accounts _ header _ place [] (log_line_text line) line (other_reply moment due) lead
+    last_line_is_at_fault accounts _ header_one _ place [] (log_line_text line) line (other_reply moment due) lead
     spelled
     (lines_lack_lf (log_line_text line) line spelled)
     (λ f. other (one_due_reply (accounts.token name) [] moment sent reply due f.due.0 by))

@@ -4,8 +4,8 @@ use Rattle.std.specs.Prelude.{map}
 use Rattle.std.specs.declared.option.Option.{Option}
 use Rattle.std.specs.declared.option.Option.TheVariants.{None, Some}
 use Rattle.std.proofs.lemmas.Bool.Decides.{eqb_tells}
+use Rattle.account_book.specs.AccountAttempt.{AccountAttempt}
 use Rattle.log_grammar.specs.Lines.{LogLine, said, busy}
-use Rattle.log_grammar.specs.LoggedAttempt.{LoggedAttempt}
 use Rattle.log_grammar.specs.Places.{Place}
 use Rattle.log_grammar.specs.Demands.{Demands, no_demands}
 use Rattle.log_grammar.specs.Numbered.{Numbered, numbered, of_number, Visit, let_in, turned_away, visit_part, IsNumberedLogUpTo}
@@ -27,28 +27,28 @@ visit_is_same_aside (Some (let_in s)) = session_is_same_aside s
 visit_is_same_aside (Some (turned_away closed)) = next_line_is_same_aside (said busy) _ _ (closing_is_same_aside closed)
 
 -- numbered replies with no account named
-abbrev accountless_numbered_told : List (Numbered LoggedAttempt) → List (Numbered LoggedAttempt)
-accountless_numbered_told numbered_told = map (λ (t : Numbered LoggedAttempt). numbered t.number (accountless_reply t.value)) numbered_told
+abbrev accountless_numbered_told : List (Numbered AccountAttempt) → List (Numbered AccountAttempt)
+accountless_numbered_told numbered_told = map (λ (t : Numbered AccountAttempt). numbered t.number (accountless_reply t.value)) numbered_told
 
 -- the replies of a number with no account named are its own replies with no account named
-of_number-accountless : (n : ℕ) (numbered_told : List (Numbered LoggedAttempt))
+of_number-accountless : (n : ℕ) (numbered_told : List (Numbered AccountAttempt))
     → of_number n (accountless_numbered_told numbered_told) ≡ map accountless_reply (of_number n numbered_told)
 of_number-accountless n [] = refl
 of_number-accountless n (t ∷ numbered_told) = elim (eqb_tells n t.number) [
-  | inl same ↦ rw same.0 (ap (λ (l : List LoggedAttempt). accountless_reply t.value ∷ l) (of_number-accountless n numbered_told))
+  | inl same ↦ rw same.0 (ap (λ (l : List AccountAttempt). accountless_reply t.value ∷ l) (of_number-accountless n numbered_told))
   | inr other ↦ rw other.0 (of_number-accountless n numbered_told)
 ]
 
 -- replies with no account named keep their numbers
-numbers_of-accountless : (numbered_told : List (Numbered LoggedAttempt))
+numbers_of-accountless : (numbered_told : List (Numbered AccountAttempt))
     → numbers_of (accountless_numbered_told numbered_told) ≡ numbers_of numbered_told
 numbers_of-accountless [] = refl
 numbers_of-accountless (t ∷ numbered_told) = ap (λ (l : List ℕ). t.number ∷ l) (numbers_of-accountless numbered_told)
 
 -- lines of a log of version 2 that meet the demands are also lines of a log without demands, at the same places but with no account named
-pub numbered_log_begins_aside : (limit : ℕ) (d : Demands) (log : List (Numbered LogLine)) (places : ℕ → Place) (told : List LoggedAttempt)
+pub numbered_log_begins_aside : (limit : ℕ) (d : Demands) (log : List (Numbered LogLine)) (places : ℕ → Place) (told : List AccountAttempt)
     → IsNumberedLogUpTo limit d log places told
-    → (tells : List LoggedAttempt) × IsNumberedLogUpTo limit no_demands log (λ n. accountless_place (places n)) tells
+    → (tells : List AccountAttempt) × IsNumberedLogUpTo limit no_demands log (λ n. accountless_place (places n)) tells
 numbered_log_begins_aside limit d log places told s = (
   values_of (accountless_numbered_told s.numbered_told),
   record {

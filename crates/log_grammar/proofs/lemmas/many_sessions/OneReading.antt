@@ -1,7 +1,7 @@
 -- A log of version 2 has only one reading, its first lines are such a log too, and the challenge at a number's place meets its demand.
 use Rattle.std.proofs.Common.{◌≡◌, inl, inr, ℕ, List, [], ◌∷◌, ◌++◌, reverse, refl, sym, ◌∙◌, ap, subst, append_assoc, append-nil}
+use Rattle.account_book.specs.AccountAttempt.{AccountAttempt}
 use Rattle.log_grammar.specs.Lines.{LogLine}
-use Rattle.log_grammar.specs.LoggedAttempt.{LoggedAttempt}
 use Rattle.log_grammar.specs.Places.{Place, between}
 use Rattle.log_grammar.specs.Demands.{Demands, HaveDueReplies}
 use Rattle.log_grammar.specs.state_machine.Steps.{IsTransition, told_at}
@@ -27,7 +27,7 @@ one_next_visit_place d one at line p q (inr b) (inl k) =
 one_next_visit_place d one at line p q (inr b) (inr c) = b.2 ∙ sym c.2
 
 -- if there is no line, no session is open and no reply is recorded
-pub empty_log_tells_nothing : (limit : ℕ) (d : Demands) (places : ℕ → Place) (told : List LoggedAttempt)
+pub empty_log_tells_nothing : (limit : ℕ) (d : Demands) (places : ℕ → Place) (told : List AccountAttempt)
     → IsNumberedLogUpTo limit d [] places told → ((n : ℕ) → places n ≡ between) × (told ≡ [])
 empty_log_tells_nothing limit d places told s = (
   λ n. s.after n ∙ empty_visit_is_between (s.visit n) (sym (s.sessions.lines n)),
@@ -37,10 +37,10 @@ empty_log_tells_nothing limit d places told s = (
 
 -- the places and the recorded replies follow from the lines
 pub numbered_lines_have_one_reading : (limit : ℕ) (d : Demands) → OneAccount d
-    → (log : List (Numbered LogLine)) (p q : ℕ → Place) (told other : List LoggedAttempt)
+    → (log : List (Numbered LogLine)) (p q : ℕ → Place) (told other : List AccountAttempt)
     → IsNumberedLogUpTo limit d log p told → IsNumberedLogUpTo limit d log q other → ((n : ℕ) → p n ≡ q n) × (told ≡ other)
 numbered_lines_have_one_reading limit d one = holds_by_last
-    (λ log. (p q : ℕ → Place) (told other : List LoggedAttempt) → IsNumberedLogUpTo limit d log p told
+    (λ log. (p q : ℕ → Place) (told other : List AccountAttempt) → IsNumberedLogUpTo limit d log p told
     → IsNumberedLogUpTo limit d log q other
     → ((n : ℕ) → p n ≡ q n) × (told ≡ other))
     (λ p q told other s r.
@@ -60,18 +60,18 @@ numbered_lines_have_one_reading limit d one = holds_by_last
     ))
 
 -- these lines are a log of version 2, and their replies are the first of these replies
-pub record Front (limit : ℕ) (d : Demands) (log : List (Numbered LogLine)) (told : List LoggedAttempt) : Type 0 where
+pub record Front (limit : ℕ) (d : Demands) (log : List (Numbered LogLine)) (told : List AccountAttempt) : Type 0 where
   pub places : ℕ → Place
-  pub earlier : List LoggedAttempt
-  pub rest : List LoggedAttempt
+  pub earlier : List AccountAttempt
+  pub rest : List AccountAttempt
   pub spells : IsNumberedLogUpTo limit d log places earlier
   pub tells : told ≡ earlier ++ rest
 
 -- the first lines of a log of version 2 are such a log, and their replies come first
-pub front_told_comes_first : (limit : ℕ) (d : Demands) (log more : List (Numbered LogLine)) (p : ℕ → Place) (told : List LoggedAttempt)
+pub front_told_comes_first : (limit : ℕ) (d : Demands) (log more : List (Numbered LogLine)) (p : ℕ → Place) (told : List AccountAttempt)
     → IsNumberedLogUpTo limit d (log ++ more) p told → Front limit d log told
 front_told_comes_first limit d log = holds_by_last
-    (λ more. (p : ℕ → Place) (told : List LoggedAttempt) → IsNumberedLogUpTo limit d (log ++ more) p told → Front limit d log told)
+    (λ more. (p : ℕ → Place) (told : List AccountAttempt) → IsNumberedLogUpTo limit d (log ++ more) p told → Front limit d log told)
     (λ p told s. record {
       places = p;
       earlier = told;
@@ -89,7 +89,7 @@ front_told_comes_first limit d log = holds_by_last
       earlier = f.earlier;
       rest = f.rest ++ this;
       spells = f.spells;
-      tells = b.tells ∙ ap (λ (t : List LoggedAttempt). t ++ this) f.tells ∙ append_assoc f.earlier f.rest this;
+      tells = b.tells ∙ ap (λ (t : List AccountAttempt). t ++ this) f.tells ∙ append_assoc f.earlier f.rest this;
     })
 
 -- if the challenge at a number's place meets its demand, so does the one at the place to which a line leads from there
@@ -99,10 +99,10 @@ visit_challenge_meets_demand d at line next is (inl h) = each_line_keeps_demand 
 visit_challenge_meets_demand d at line next is (inr b) = subst (ChallengeMeetsDemand d) (sym b.2) tt
 
 -- in a log that meets the demands, the challenge at a number's place meets its demand
-pub number_challenge_meets_demand : (limit : ℕ) (d : Demands) (log : List (Numbered LogLine)) (p : ℕ → Place) (told : List LoggedAttempt)
+pub number_challenge_meets_demand : (limit : ℕ) (d : Demands) (log : List (Numbered LogLine)) (p : ℕ → Place) (told : List AccountAttempt)
     → IsNumberedLogUpTo limit d log p told → (n : ℕ) → ChallengeMeetsDemand d (p n)
 number_challenge_meets_demand limit d = holds_by_last
-    (λ log. (p : ℕ → Place) (told : List LoggedAttempt) → IsNumberedLogUpTo limit d log p told → (n : ℕ) → ChallengeMeetsDemand d (p n))
+    (λ log. (p : ℕ → Place) (told : List AccountAttempt) → IsNumberedLogUpTo limit d log p told → (n : ℕ) → ChallengeMeetsDemand d (p n))
     (λ p told s n. subst (ChallengeMeetsDemand d) (sym ((empty_log_tells_nothing limit d p told s).0 n)) tt)
     (λ log x earlier p told s.
     let n = x.number in
@@ -114,7 +114,7 @@ number_challenge_meets_demand limit d = holds_by_last
 
 -- whether a number may have a line depends on its own place and the recorded replies, not on the places of other numbers
 pub own_place_decides_transition : (limit : ℕ) (d : Demands) (log : List (Numbered LogLine)) (places other : ℕ → Place)
-    (told also : List LoggedAttempt) (n : ℕ)
+    (told also : List AccountAttempt) (n : ℕ)
     (line : LogLine) (to : Place)
     → IsNumberedTransition limit d log places told n line to → places n ≡ other n → told ≡ also
     → IsNumberedTransition limit d log other also n line to
@@ -122,6 +122,6 @@ own_place_decides_transition limit d log places other told also n line to g at s
   room = g.room;
   next = g.next;
   goes = subst (λ (p : Place). IsVisitTransition d p line to) at g.goes;
-  due = subst (λ (t : List LoggedAttempt). HaveDueReplies d (reverse t) (told_at (other n) line)) same
+  due = subst (λ (t : List AccountAttempt). HaveDueReplies d (reverse t) (told_at (other n) line)) same
       (subst (λ (p : Place). HaveDueReplies d (reverse told) (told_at p line)) at g.due);
 }

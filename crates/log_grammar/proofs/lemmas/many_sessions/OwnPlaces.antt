@@ -2,8 +2,8 @@
 use Rattle.std.proofs.Common.{◌≡◌, inl, inr, ℕ, List, sym, ◌∙◌, ap, subst, ◌++◌, ◌∷◌, []}
 use Rattle.std.specs.declared.option.Option.{Option}
 use Rattle.std.proofs.lemmas.List.{same_from_push}
+use Rattle.account_book.specs.AccountAttempt.{AccountAttempt}
 use Rattle.log_grammar.specs.Lines.{LogLine}
-use Rattle.log_grammar.specs.LoggedAttempt.{LoggedAttempt}
 use Rattle.log_grammar.specs.Places.{Place}
 use Rattle.log_grammar.specs.Demands.{Demands}
 use Rattle.log_grammar.specs.Numbered.{Numbered, Visit, of_number, visit_lines, visit_place, VisitMeets, IsNumberedLogUpTo}
@@ -39,7 +39,7 @@ visits_share_place d one = holds_by_last
 
 -- if a challenge is for only one account, two numbers with the same lines, in one log or in two, are at the same place
 pub numbers_share_place : (limit : ℕ) (d : Demands) → OneAccount d
-    → (log other : List (Numbered LogLine)) (p q : ℕ → Place) (told also : List LoggedAttempt)
+    → (log other : List (Numbered LogLine)) (p q : ℕ → Place) (told also : List AccountAttempt)
     → IsNumberedLogUpTo limit d log p told → IsNumberedLogUpTo limit d other q also → (n m : ℕ) → of_number n log ≡ of_number m other
     → p n ≡ q m
 numbers_share_place limit d one log other p q told also s r n m same =

@@ -7,8 +7,8 @@ use Rattle.scram_ends.specs.Verdict.{accept, refuse, IsDue}
 use Rattle.scram_ends.specs.declared.verdict.Refusal.{Refusal}
 use Rattle.otp_core.specs.Attempt.{CodeTexts}
 use Rattle.otp_core.specs.declared.token.reply.Reply.{Reply}
+use Rattle.account_book.specs.AccountAttempt.{AccountAttempt}
 use Rattle.log_grammar.specs.Lines.{LogLine, said, mechs, cont, refuses, replies, halt}
-use Rattle.log_grammar.specs.LoggedAttempt.{LoggedAttempt}
 use Rattle.log_grammar.specs.Places.{Place, between, offered, asks_bare, got_first, got_final, got_code, leaving, over, halted}
 use Rattle.log_grammar.specs.Demands.{Accounts, IsVerdictDue, demands, HaveDueReplies}
 use Rattle.log_grammar.specs.state_machine.Steps.{IsTransition, told_at}
@@ -27,14 +27,14 @@ use Rattle.log_grammar.proofs.lemmas.outcome_laws.PlaceMessages.{lines_have_thei
 use Rattle.scram_ends.proofs.lemmas.Verdicts.{at_most_one_verdict_is_due, accepts_exactly_valid}
 
 -- replies that come first still do when more are added at the end
-told_first_stays_first : (told before rest tells : List LoggedAttempt) → before ≡ told ++ rest → before ++ tells ≡ told ++ (rest ++ tells)
-told_first_stays_first told before rest tells same = ap (λ (l : List LoggedAttempt). l ++ tells) same ∙ append_assoc told rest tells
+told_first_stays_first : (told before rest tells : List AccountAttempt) → before ≡ told ++ rest → before ++ tells ≡ told ++ (rest ++ tells)
+told_first_stays_first told before rest tells same = ap (λ (l : List AccountAttempt). l ++ tells) same ∙ append_assoc told rest tells
 
 -- the law: the first lines of what a log may begin with also begin a log, and their replies come first
 pub first_lines_begin_logs : FirstLinesBeginLogs
 first_lines_begin_logs accounts log = holds_by_last
-    (λ more. (place : Place) (told : List LoggedAttempt) → Begins (demands accounts) (log ++ more) place told
-    → (at : Place) × (before : List LoggedAttempt) × (rest : List LoggedAttempt) × Begins (demands accounts) log at before
+    (λ more. (place : Place) (told : List AccountAttempt) → Begins (demands accounts) (log ++ more) place told
+    → (at : Place) × (before : List AccountAttempt) × (rest : List AccountAttempt) × Begins (demands accounts) log at before
     × (told ≡ before ++ rest))
     (λ place told begins. (
       place,
@@ -52,7 +52,7 @@ first_lines_begin_logs accounts log = holds_by_last
 
 module _ (accounts : Accounts) (log : List LogLine) where
   -- `S MECHS` may stand only between sessions, with the names that are demanded, and leads to the place after an offer
-  offer_is_due : (names : List ℕ) (next at : Place) (all told : List LoggedAttempt) → all ≡ told ++ told_at at (said (mechs names))
+  offer_is_due : (names : List ℕ) (next at : Place) (all told : List AccountAttempt) → all ≡ told ++ told_at at (said (mechs names))
       → Begins (demands accounts) log at told → IsTransition (demands accounts) at (said (mechs names)) next
       → Begins (demands accounts) log between all × (demands accounts).mechs names × (next ≡ offered)
   offer_is_due names next between all told same b goes =
@@ -60,7 +60,7 @@ module _ (accounts : Accounts) (log : List LogLine) where
   offer_is_due names next at all told same b goes = absurd goes
 
   -- `S CONT` may stand only with a challenge that is due
-  challenge_is_due : (text : List ℕ) (next at : Place) (all told : List LoggedAttempt) → all ≡ told ++ told_at at (said (cont text))
+  challenge_is_due : (text : List ℕ) (next at : Place) (all told : List AccountAttempt) → all ≡ told ++ told_at at (said (cont text))
       → Begins (demands accounts) log at told → IsTransition (demands accounts) at (said (cont text)) next
       → IsChallengeDue accounts log text next all
   challenge_is_due text next (asks_bare m) all told same b goes =
@@ -70,7 +70,7 @@ module _ (accounts : Accounts) (log : List LogLine) where
   challenge_is_due text next at all told same b goes = absurd goes
 
   -- `S CONT` may stand with a challenge that is due
-  due_challenge_may_stand : (text : List ℕ) (next : Place) (told : List LoggedAttempt) → IsChallengeDue accounts log text next told
+  due_challenge_may_stand : (text : List ℕ) (next : Place) (told : List AccountAttempt) → IsChallengeDue accounts log text next told
       → Begins (demands accounts) (log ++ said (cont text) ∷ []) next told
   due_challenge_may_stand text next told (inl (m, begins, is, none, at)) =
       log_goes_on_quietly accounts log (asks_bare m) told (said (cont text)) next refl begins ((is, none), at)
@@ -78,7 +78,7 @@ module _ (accounts : Accounts) (log : List LogLine) where
       log_goes_on_quietly accounts log (got_first m first) told (said (cont text)) next refl begins (name, is, at)
 
   -- a reply to a code may stand only if it is the one due
-  reply_is_due : (moment : ℕ) (reply : Option Reply) (next at : Place) (all told : List LoggedAttempt)
+  reply_is_due : (moment : ℕ) (reply : Option Reply) (next at : Place) (all told : List AccountAttempt)
       → all ≡ told ++ told_at at (said (replies moment reply))
       → HaveDueReplies (demands accounts) (reverse told) (told_at at (said (replies moment reply))) → Begins (demands accounts) log at told
       → IsTransition (demands accounts) at (said (replies moment reply)) next → IsReplied accounts log moment reply next all
@@ -176,18 +176,18 @@ each_reply_is_due accounts log moment reply next all = (
       let s = log_has_last_transition (demands accounts) log (said (replies moment reply)) next all begins in
       reply_is_due accounts log moment reply next s.place all s.told s.tells s.due s.begins s.goes,
   λ r.
-      subst (λ (t : List LoggedAttempt). Begins (demands accounts) (log ++ said (replies moment reply) ∷ []) next t) (sym r.tells)
+      subst (λ (t : List AccountAttempt). Begins (demands accounts) (log ++ said (replies moment reply) ∷ []) next t) (sym r.tells)
       (log_goes_on (demands accounts) log (got_code r.account r.sent) r.told (said (replies moment reply)) next r.after r.is_next
       (r.due, tt)),
 )
 
 -- the log ends in a line with one or two codes that waits for its reply, and the next place is the halt
-abbrev EndsCode : Accounts → List LogLine → Place → List LoggedAttempt → Type 0
+abbrev EndsCode : Accounts → List LogLine → Place → List AccountAttempt → Type 0
 EndsCode accounts log next told =
     (account : List ℕ) × (sent : CodeTexts) × Begins (demands accounts) log (got_code account sent) told × (next ≡ halted)
 
 -- `S HALT` may stand only while a code waits for its reply, and leads to the halt
-halt_ends_code : (accounts : Accounts) (log : List LogLine) (next at : Place) (all told : List LoggedAttempt)
+halt_ends_code : (accounts : Accounts) (log : List LogLine) (next at : Place) (all told : List AccountAttempt)
     → all ≡ told ++ told_at at (said halt)
     → Begins (demands accounts) log at told → IsTransition (demands accounts) at (said halt) next → EndsCode accounts log next all
 halt_ends_code accounts log next (got_code account sent) all told same b goes =

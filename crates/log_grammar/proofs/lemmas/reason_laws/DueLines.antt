@@ -2,8 +2,8 @@
 use Rattle.std.proofs.Common.{◌≡◌, inl, inr, ℕ, List, [], reverse, refl, sym, ◌∙◌, subst}
 use Rattle.scram_ends.specs.Verdict.{accept, refuse}
 use Rattle.scram_ends.specs.Login.{IsAuthentic}
-use Rattle.log_grammar.specs.Lines.{LogLine, said, mechs, cont, accepts, refuses, replies, IsLogLine, IsLogLineInRange, IsWritable}
-use Rattle.log_grammar.specs.LoggedAttempt.{LoggedAttempt}
+use Rattle.account_book.specs.AccountAttempt.{AccountAttempt}
+use Rattle.log_grammar.specs.Lines.{LogLine, said, mechs, cont, accepts, refuses, replies, IsLogLine, IsLogLineInRange, IsLogLineWritable}
 use Rattle.log_grammar.specs.Places.{Place, asks_bare, got_first, got_final, waits_code, got_code, leaving}
 use Rattle.log_grammar.specs.Demands.{Accounts, AllCanBeChallenged, demands, HaveDueReplies}
 use Rattle.log_grammar.specs.state_machine.Steps.{IsTransition, told_at}
@@ -33,7 +33,7 @@ one_line_says_due (other_outcome (refused_with message)) one other single says a
 one_line_says_due (other_reply moment due) one other single says also = says ∙ sym also
 
 -- if some line that can be written says what is due by a reason, the reason names what is due
-pub said_due_is_named : (why : Why) (line : LogLine) → SaysWhatIsDue why line → IsWritable line → NamesWhatIsDue why
+pub said_due_is_named : (why : Why) (line : LogLine) → SaysWhatIsDue why line → IsLogLineWritable line → NamesWhatIsDue why
 said_due_is_named is_cut line says writable = says
 said_due_is_named no_line line says writable = says
 said_due_is_named out_of_order line says writable = says
@@ -58,13 +58,13 @@ due_ok_may_stand accounts leaving signature text same bears = absurd (cc same)
 due_ok_may_stand accounts place signature text wrong bears = absurd wrong
 
 -- a reply other than the one due is never wrong for the reason that an acceptance is due
-wrong_reply_names_no_outcome : (accounts : Accounts) (place : Place) (told : List LoggedAttempt) (moment : ℕ) (signature : List ℕ)
+wrong_reply_names_no_outcome : (accounts : Accounts) (place : Place) (told : List AccountAttempt) (moment : ℕ) (signature : List ℕ)
     → IsReasonForReply accounts place told moment (other_outcome (accepted signature)) → ⊥
 wrong_reply_names_no_outcome accounts (got_code account sent) told moment signature (due, is, same) = cc same
 wrong_reply_names_no_outcome accounts place told moment signature wrong = wrong
 
 -- if the reason names an acceptance as due, a CONT, OK or NO is due at the place, whatever line is at fault there
-due_ok_shows_answer : (accounts : Accounts) (place : Place) (told : List LoggedAttempt) (line : LogLine) (signature : List ℕ)
+due_ok_shows_answer : (accounts : Accounts) (place : Place) (told : List AccountAttempt) (line : LogLine) (signature : List ℕ)
     → IsReasonForLine accounts place told line (other_outcome (accepted signature))
     → IsReasonForAnswer accounts place (other_outcome (accepted signature))
 due_ok_shows_answer accounts place told (said (mechs names)) signature wrong = absurd (cc wrong)
@@ -77,8 +77,8 @@ due_ok_shows_answer accounts place told line signature wrong = absurd wrong
 
 -- the only line that says what is due may stand at the place
 only_due_line_follows : (accounts : Accounts) → AllCanBeChallenged accounts
-    → (place : Place) (told : List LoggedAttempt) (text : List ℕ) (x : LogLine) (why : Why) (line : LogLine) → IsLogLine text x
-    → IsDueAt place (class_of x) → IsReasonForLine accounts place told x why → NamesOneLine why → SaysWhatIsDue why line → IsWritable line
+    → (place : Place) (told : List AccountAttempt) (text : List ℕ) (x : LogLine) (why : Why) (line : LogLine) → IsLogLine text x
+    → IsDueAt place (class_of x) → IsReasonForLine accounts place told x why → NamesOneLine why → SaysWhatIsDue why line → IsLogLineWritable line
     → Follows accounts place told line
 only_due_line_follows accounts fit place told text x why line is due wrong single says writable =
     let m = some_line_mends_line accounts fit place told text x why is due (said_due_is_named why line says writable) wrong in
@@ -86,9 +86,9 @@ only_due_line_follows accounts fit place told text x why line is due wrong singl
 
 -- each line that says what is due, except a challenge, may stand at the place
 pub each_due_line_follows : (accounts : Accounts) → AllCanBeChallenged accounts
-    → (place : Place) (told : List LoggedAttempt) (text : List ℕ) (x : LogLine) (why : Why) (line : LogLine) → IsLogLine text x
+    → (place : Place) (told : List AccountAttempt) (text : List ℕ) (x : LogLine) (why : Why) (line : LogLine) → IsLogLine text x
     → IsDueAt place (class_of x) → IsReasonForLine accounts place told x why → (why ≡ other_challenge → ⊥) → SaysWhatIsDue why line
-    → IsWritable line → Follows accounts place told line
+    → IsLogLineWritable line → Follows accounts place told line
 each_due_line_follows accounts fit place told text x is_cut line is due wrong other says writable = absurd says
 each_due_line_follows accounts fit place told text x no_line line is due wrong other says writable = absurd says
 each_due_line_follows accounts fit place told text x out_of_order line is due wrong other says writable = absurd says
@@ -103,7 +103,7 @@ each_due_line_follows accounts fit place told text x (other_outcome (accepted si
     (record {
       next = next;
       goes = goes;
-      due = subst (λ (t : List LoggedAttempt). HaveDueReplies (demands accounts) (reverse told) t) (sym no_farewell) tt;
+      due = subst (λ (t : List AccountAttempt). HaveDueReplies (demands accounts) (reverse told) t) (sym no_farewell) tt;
     })
 each_due_line_follows accounts fit place told text x (other_outcome (refused_with message)) line is due wrong other says writable =
     only_due_line_follows accounts fit place told text x (other_outcome (refused_with message)) line is due wrong tt says writable

@@ -2,9 +2,9 @@
 use Rattle.std.proofs.Common.{◌≡◌, inl, inr, ℕ, ◌+◌, List, [], ◌∷◌, ◌++◌, length, refl, sym, ◌∙◌, ap, subst}
 use Rattle.std.specs.List.{AllByRecursion, AllZip}
 use Rattle.std.proofs.lemmas.Slice.Zip.{all_zipped_more}
+use Rattle.account_book.specs.AccountAttempt.{AccountAttempt}
 use Rattle.log_grammar.specs.Lines.{LogLine, header_two, said, mechs, cont, accepts, refuses, replies, log_line_text}
 use Rattle.log_grammar.specs.Bytes.{LacksLf, ended_by_lf, IsSplit}
-use Rattle.log_grammar.specs.LoggedAttempt.{LoggedAttempt}
 use Rattle.log_grammar.specs.Places.{Place, asks_bare, got_first, got_final, got_code, leaving}
 use Rattle.log_grammar.specs.Demands.{Accounts, AllCanBeChallenged, demands}
 use Rattle.log_grammar.specs.state_machine.Steps.{told_at}
@@ -16,7 +16,7 @@ use Rattle.log_grammar.specs.LogKinds.{IsWhyOf, BeginsCleanOf}
 use Rattle.log_grammar.specs.VersionTwo.{MayBeginVersionTwo, IsReasonAfterFirst, version_two}
 use Rattle.log_grammar.specs.Numbered.{Numbered, numbered, IsNumberedLogUpTo}
 use Rattle.log_grammar.specs.state_machine.NumberedDueClasses.{ClassMayBeNumbered, ClassMayFollow, IsNumberDueAt}
-use Rattle.log_grammar.specs.NumberedLines.{IsNoFirstLine, numbered_text, IsNumberedLine, IsNumberedWritable}
+use Rattle.log_grammar.specs.NumberedLines.{IsNoFirstLine, numbered_text, IsNumberedLine, IsNumberedLineWritable}
 use Rattle.log_grammar.specs.state_machine.NumberedSteps.{put, IsNumberedTransition}
 use Rattle.log_grammar.specs.laws.Reasons.{SaysWhatIsDue, NamesWhatIsDue}
 use Rattle.log_grammar.specs.laws.NumberedReasons.{HasNumberedLineThatMayStand, WhatIsDueMayStandUnderItsNumber, EachNumberedLineThatIsDueMayStand}
@@ -49,7 +49,7 @@ record IsNumberedFault (limit : ℕ) (accounts : Accounts) (before : List (List 
   -- where each number stands after them
   places : ℕ → Place
   -- the replies recorded in them
-  told : List LoggedAttempt
+  told : List AccountAttempt
   -- the lines are a log of version 2, which may be cut short, with these places and replies
   spells : IsNumberedLogUpTo limit (demands accounts) log places told
   -- a line of the class of the one at fault is due under its number
@@ -151,14 +151,14 @@ wrong_answer_has_class accounts leaving why same = subst (λ (w : Why). NamesCla
 wrong_answer_has_class accounts place why wrong = absurd wrong
 
 -- the reason why a reply is wrong names the class of replies
-wrong_reply_has_class : (accounts : Accounts) (place : Place) (told : List LoggedAttempt) (moment : ℕ) (why : Why)
+wrong_reply_has_class : (accounts : Accounts) (place : Place) (told : List AccountAttempt) (moment : ℕ) (why : Why)
     → IsReasonForReply accounts place told moment why → NamesClass why of_replies
 wrong_reply_has_class accounts (got_code account sent) told moment why (due, is, same) =
     subst (λ (w : Why). NamesClass w of_replies) (sym same) refl
 wrong_reply_has_class accounts place told moment why wrong = absurd wrong
 
 -- the reason why a line is wrong names the class of the line
-wrong_line_has_class : (accounts : Accounts) (place : Place) (told : List LoggedAttempt) (line : LogLine) (why : Why)
+wrong_line_has_class : (accounts : Accounts) (place : Place) (told : List AccountAttempt) (line : LogLine) (why : Why)
     → IsReasonForLine accounts place told line why → NamesClass why (class_of line)
 wrong_line_has_class accounts place told (said (mechs names)) why wrong = subst (λ (w : Why). NamesClass w of_mechs) (sym wrong) refl
 wrong_line_has_class accounts place told (said (cont message)) why wrong = wrong_answer_has_class accounts place why wrong
@@ -194,7 +194,7 @@ module _ (limit : ℕ) (accounts : Accounts) (fit : AllCanBeChallenged accounts)
   due_numbered_begins_clean : (before : List (List ℕ)) (x : Numbered LogLine) (why : Why)
       (f : IsNumberedFault limit accounts before x why) (line : LogLine)
       → AllByRecursion LacksLf before → SaysWhatIsDue why line
-      → IsNumberedWritable (numbered x.number line) → Follows accounts (f.places x.number) f.told line
+      → IsNumberedLineWritable (numbered x.number line) → Follows accounts (f.places x.number) f.told line
       → BeginsCleanOf (version_two limit accounts) (ended_by_lf (before ++ numbered_text (numbered x.number line) ∷ []))
   due_numbered_begins_clean before x why f line lack says writable l =
       let n = x.number in

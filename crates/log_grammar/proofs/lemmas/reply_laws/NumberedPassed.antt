@@ -1,8 +1,8 @@
 -- Codes that passed in a log of version 2.
 use Rattle.std.proofs.Common.{◌≡◌, inl, inr, ℕ, List, [], ◌∷◌, ◌++◌, reverse, refl, sym, ◌∙◌, ap, subst, append-nil, append_assoc}
 use Rattle.otp_core.specs.Attempt.{CodeTexts, used_in}
+use Rattle.account_book.specs.AccountAttempt.{AccountAttempt}
 use Rattle.log_grammar.specs.Lines.{LogLine}
-use Rattle.log_grammar.specs.LoggedAttempt.{LoggedAttempt}
 use Rattle.log_grammar.specs.Places.{Place, waits_code, got_code}
 use Rattle.log_grammar.specs.Demands.{Demands, attempts_of, demands, HaveDueReplies}
 use Rattle.log_grammar.specs.state_machine.Steps.{told_at}
@@ -61,7 +61,7 @@ numbered_counters_rise limit accounts log more account n moment counter m at gre
     let same = (numbered_lines_have_one_reading limit (demands accounts) (challenge_has_one_account accounts)
     first f.places places f.earlier told f.spells s).1 in
     let told_here = one.tells ∙ ap (λ (p : Place). one.told ++ told_at p line) was in
-    let tells = f.tells ∙ ap (λ (l : List LoggedAttempt). l ++ f.rest) (same ∙ told_here) in
+    let tells = f.tells ∙ ap (λ (l : List AccountAttempt). l ++ f.rest) (same ∙ told_here) in
     let whose : mine ≡ two.account = cc (sym next ∙ at_n ∙ sym at_m ∙ two.is_next) in
     later_pass_is_greater two.token two.account two.sent two.told at greater two.fits mine moment counter sent one.told f.rest whose
     tells
@@ -69,5 +69,5 @@ numbered_counters_rise limit accounts log more account n moment counter m at gre
 -- the law: the counters that an account's codes use in a log of version 2 rise, so that none is used twice
 pub no_numbered_counter_is_used_twice : NoNumberedCounterIsUsedTwice
 no_numbered_counter_is_used_twice limit accounts log places told account s =
-    subst (λ (l : List LoggedAttempt). AreRising (used_in (attempts_of account l))) (append-nil (reverse told))
+    subst (λ (l : List AccountAttempt). AreRising (used_in (attempts_of account l))) (append-nil (reverse told))
     (replies_keep_counters_rising accounts account [] told s.replies tt)

@@ -9,13 +9,14 @@ use Rattle.std.specs.Char.{IsAsciiDigit}
 use Rattle.std.specs.List.{list_all}
 use Rattle.std.proofs.lemmas.List.Elements.{All-get_or}
 use Rattle.std.proofs.lemmas.List.Sums.{list_all-from_AllPass}
-use Rattle.otp_core.specs.Ranges.{IsDigitCount}
+use Rattle.otp_core.specs.Ranges.{IsDigitCount, IsCounter}
 use Rattle.otp_core.specs.Code.{IsCodeText}
 use Rattle.otp_core.proofs.lemmas.Digits.{IsCodeText-last_digits}
 use Rattle.otp_core.specs.declared.token.kinds.TokenFields.TheVariants.{Hotp}
 use Rattle.otp_core.specs.declared.token.kinds.HotpFields.{HotpFields}
 use Rattle.scram_text.specs.Class.{is_vchar}
-use Rattle.log_grammar.specs.Words.{IsCodeWord, IsCounter}
+use Rattle.account_book.specs.AccountAttempt.{AccountAttempt, account_attempt_of}
+use Rattle.log_grammar.specs.Words.{IsCodeWord}
 use Rattle.otp_core.specs.Attempt.{Attempt, CodeTexts, one_text, two_texts, counters_of, used_in}
 use Rattle.otp_core.specs.Window.{IsAbove, IsInHotpWindow}
 use Rattle.otp_core.specs.Reply.{IsDueReply, IsFitting, code_text}
@@ -23,7 +24,6 @@ use Rattle.otp_core.specs.declared.token.reply.Reply.{Reply}
 use Rattle.otp_core.specs.declared.token.reply.Reply.TheVariants.{Pass, Fail, Locked}
 use Rattle.otp_core.specs.declared.token.kinds.TokenFields.{TokenFields}
 use Rattle.log_grammar.specs.Lines.{LogLine}
-use Rattle.log_grammar.specs.LoggedAttempt.{LoggedAttempt, logged_attempt_of}
 use Rattle.log_grammar.specs.Places.{Place, waits_code, got_code}
 use Rattle.log_grammar.specs.Demands.{Accounts, attempts_by, attempts_of, IsReplyDueBy, demands}
 use Rattle.log_grammar.specs.Begins.{Begins}
@@ -46,7 +46,7 @@ due_pass_fits_token (Some token) attempts moment counter sent (reply, is, due) =
     (token, refl, (subst (λ (r : Reply). IsDueReply token attempts moment sent r) same due).1)
 
 -- a PASS that may stand is for a code that could pass then
-replied_pass_is_code : (accounts : Accounts) (log : List LogLine) (moment counter : ℕ) (next : Place) (told : List LoggedAttempt)
+replied_pass_is_code : (accounts : Accounts) (log : List LogLine) (moment counter : ℕ) (next : Place) (told : List AccountAttempt)
     → IsReplied accounts log moment (Some (Pass counter)) next told → IsCodeOf accounts log moment counter next
 replied_pass_is_code accounts log moment counter next told r =
     let (token, has, fits) =
@@ -88,7 +88,7 @@ number_is_above_used (one_text text) c counters d above = above
 number_is_above_used (two_texts first second) c counters d above = (above.0, above.1.1)
 
 -- a number above all counters that passed is above those that passed in fewer attempts
-number_is_above_fewer : (t : LoggedAttempt) (reply : Option Reply) (attempts : List Attempt) (d : ℕ)
+number_is_above_fewer : (t : AccountAttempt) (reply : Option Reply) (attempts : List Attempt) (d : ℕ)
     → IsAbove (used_in (attempts_by t reply attempts)) d → IsAbove (used_in attempts) d
 number_is_above_fewer t None attempts d above = above
 number_is_above_fewer t (Some (Pass c)) attempts d above = (number_is_above_used t.sent c (used_in attempts) d above).1
@@ -96,7 +96,7 @@ number_is_above_fewer t (Some Fail) attempts d above = above
 number_is_above_fewer t (Some Locked) attempts d above = above
 
 -- a number above all counters that passed in some replies is above those that passed before the latest of them
-number_is_above_before : (account : List ℕ) (t : LoggedAttempt) (before : List LoggedAttempt) (d : ℕ)
+number_is_above_before : (account : List ℕ) (t : AccountAttempt) (before : List AccountAttempt) (d : ℕ)
     → IsAbove (used_in (attempts_of account (t ∷ before))) d → IsAbove (used_in (attempts_of account before)) d
 number_is_above_before account t before d above = elim (account_is_same_or_other t account) [
   | inl is ↦ number_is_above_fewer t t.reply (attempts_of account before) d (rw is.1 at above)
@@ -104,14 +104,14 @@ number_is_above_before account t before d above = elim (account_is_same_or_other
 ]
 
 -- a number above all counters that passed in some replies is above those that passed in the earlier of them
-number_is_above_earlier : (account : List ℕ) (late early : List LoggedAttempt) (d : ℕ)
+number_is_above_earlier : (account : List ℕ) (late early : List AccountAttempt) (d : ℕ)
     → IsAbove (used_in (attempts_of account (late ++ early))) d → IsAbove (used_in (attempts_of account early)) d
 number_is_above_earlier account [] early d above = above
 number_is_above_earlier account (t ∷ late) early d above =
     number_is_above_earlier account late early d (number_is_above_before account t (late ++ early) d above)
 
 -- a number above all counters that passed in some replies is above the counter of each pass among them
-number_is_above_pass : (account : List ℕ) (t : LoggedAttempt) (before : List LoggedAttempt) (c d : ℕ) → t.account ≡ account
+number_is_above_pass : (account : List ℕ) (t : AccountAttempt) (before : List AccountAttempt) (c d : ℕ) → t.account ≡ account
     → t.reply ≡ Some (Pass c) → IsAbove (used_in (attempts_of account (t ∷ before))) d → c < d
 number_is_above_pass account t before c d is passes above = elim (account_is_same_or_other t account) [
   | inl same ↦
@@ -122,22 +122,22 @@ number_is_above_pass account t before c d is passes above = elim (account_is_sam
 ]
 
 -- a list reversed is what followed one of its elements, reversed, then this element, then what preceded it, reversed
-reverse-append_element : (front middle : List LoggedAttempt) (t : LoggedAttempt)
+reverse-append_element : (front middle : List AccountAttempt) (t : AccountAttempt)
     → reverse (front ++ t ∷ middle) ≡ reverse middle ++ t ∷ reverse front
 reverse-append_element front middle t = reverse-append front (t ∷ middle) ∙ first_reply_stands_last t middle (reverse front)
 
 -- of two passes of one account the later has the greater counter
-pub later_pass_is_greater : (token : TokenFields) (account : List ℕ) (last : CodeTexts) (told : List LoggedAttempt)
+pub later_pass_is_greater : (token : TokenFields) (account : List ℕ) (last : CodeTexts) (told : List AccountAttempt)
     (at d : ℕ)
     → IsFitting token (attempts_of account (reverse told)) at last d
-    → (mine : List ℕ) (moment counter : ℕ) (sent : CodeTexts) (before rest : List LoggedAttempt)
-    → mine ≡ account → told ≡ (before ++ logged_attempt_of mine moment sent (Some (Pass counter)) ∷ []) ++ rest → counter < d
+    → (mine : List ℕ) (moment counter : ℕ) (sent : CodeTexts) (before rest : List AccountAttempt)
+    → mine ≡ account → told ≡ (before ++ account_attempt_of mine moment sent (Some (Pass counter)) ∷ []) ++ rest → counter < d
 later_pass_is_greater token account last told at d fits mine moment counter sent before rest same tells =
-    let t = logged_attempt_of mine moment sent (Some (Pass counter)) in
+    let t = account_attempt_of mine moment sent (Some (Pass counter)) in
     let above = fitting_counter_is_above token (attempts_of account (reverse told)) at last d fits in
     let split = tells ∙ append_assoc before (t ∷ []) rest in
-    let turned = subst (λ (l : List LoggedAttempt). IsAbove (used_in (attempts_of account (reverse l))) d) split above in
-    let here = subst (λ (l : List LoggedAttempt). IsAbove (used_in (attempts_of account l)) d) (reverse-append_element before rest t)
+    let turned = subst (λ (l : List AccountAttempt). IsAbove (used_in (attempts_of account (reverse l))) d) split above in
+    let here = subst (λ (l : List AccountAttempt). IsAbove (used_in (attempts_of account l)) d) (reverse-append_element before rest t)
     turned in
     number_is_above_pass account t (reverse before) counter d same refl (number_is_above_earlier account (reverse rest) (t ∷ reverse before)
     d here)
@@ -152,7 +152,7 @@ counters_rise accounts log more account moment counter at greater told all begin
     (subst (λ (l : List LogLine). Begins (demands accounts) l (waits_code account) all) split both) in
     let front = first_lines_begin_logs accounts first more (got_code two.account two.sent) two.told two.after in
     let same = (logs_have_one_reading accounts first front.0 (waits_code account) front.1 told front.3 begins).1 in
-    let tells = front.4 ∙ ap (λ (l : List LoggedAttempt). l ++ front.2) (same ∙ one.tells) in
+    let tells = front.4 ∙ ap (λ (l : List AccountAttempt). l ++ front.2) (same ∙ one.tells) in
     let mine : one.account ≡ two.account = cc (sym one.is_next ∙ two.is_next) in
     later_pass_is_greater two.token two.account two.sent two.told at greater two.fits one.account moment counter one.sent one.told
     front.2 mine tells

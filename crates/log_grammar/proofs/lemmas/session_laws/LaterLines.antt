@@ -3,9 +3,9 @@ use Rattle.std.proofs.Common.{ℕ, Bool, true, false, List, [], ◌∷◌}
 use Rattle.std.specs.declared.option.Option.{Option}
 use Rattle.otp_core.specs.Attempt.{CodeTexts}
 use Rattle.otp_core.specs.declared.token.reply.Reply.{Reply}
-use Rattle.log_grammar.specs.Lines.{LogLine, header, header_two, said, heard, bad, gone, ended, mechs, cont, accepts, refuses, replies, halt, busy}
+use Rattle.account_book.specs.AccountAttempt.{AccountAttempt, account_attempt_of}
+use Rattle.log_grammar.specs.Lines.{LogLine, header_one, header_two, said, heard, bad, gone, ended, mechs, cont, accepts, refuses, replies, halt, busy}
 use Rattle.log_grammar.specs.Lines.{auth, auth_with, resp, abort, code_line}
-use Rattle.log_grammar.specs.LoggedAttempt.{LoggedAttempt, logged_attempt_of}
 use Rattle.log_grammar.specs.Places.{Place, MayEnd, between, offered, asks_bare, waits_first, got_first, waits_final, got_final, waits_code, got_code}
 use Rattle.log_grammar.specs.Places.{leaving, over, halted}
 use Rattle.log_grammar.specs.Demands.{Demands}
@@ -18,7 +18,7 @@ use Rattle.log_grammar.specs.Sessions.{with_first, without_first}
 
 -- a line between the first and the last of a session
 abbrev pub IsInnerLine : LogLine → Type 0
-IsInnerLine header = ⊥
+IsInnerLine header_one = ⊥
 IsInnerLine header_two = ⊥
 IsInnerLine (said (mechs names)) = ⊥
 IsInnerLine (said busy) = ⊥
@@ -33,7 +33,7 @@ CodeIsOf IsAccount place = Unit {0}
 
 -- what is claimed of lines, of the place after them and of the replies in them holds from the last line of a session on, if the codes are
 -- of these accounts
-pub record HoldsFromTheLastOf (IsAccount : List ℕ → Type 0) (Holds : List LogLine → Place → List LoggedAttempt → Type 0) : Type 0 where
+pub record HoldsFromTheLastOf (IsAccount : List ℕ → Type 0) (Holds : List LogLine → Place → List AccountAttempt → Type 0) : Type 0 where
   -- it holds of no line at a place where no log may end, if a code that waits there is of one of these accounts
   pub no_line : (place : Place) → (MayEnd place → ⊥) → CodeIsOf IsAccount place → Holds [] place []
   -- it holds of `E` alone
@@ -41,18 +41,18 @@ pub record HoldsFromTheLastOf (IsAccount : List ℕ → Type 0) (Holds : List Lo
   -- it holds of `S HALT` alone
   pub last_halt : Holds (said halt ∷ []) halted []
   -- if it holds of some lines, it holds of these with an inner line before them
-  pub inner_line : (line : LogLine) → IsInnerLine line → (lines : List LogLine) (place : Place) (told : List LoggedAttempt)
+  pub inner_line : (line : LogLine) → IsInnerLine line → (lines : List LogLine) (place : Place) (told : List AccountAttempt)
       → Holds lines place told → Holds (line ∷ lines) place told
   -- if it holds of some lines, it holds of these with a reply to a code of one of these accounts before them
   pub reply : (account : List ℕ) → IsAccount account → (sent : CodeTexts) (moment : ℕ) (reply : Option Reply)
-      (lines : List LogLine) (place : Place) (told : List LoggedAttempt)
-      → Holds lines place told → Holds (said (replies moment reply) ∷ lines) place (logged_attempt_of account moment sent reply ∷ told)
+      (lines : List LogLine) (place : Place) (told : List AccountAttempt)
+      → Holds lines place told → Holds (said (replies moment reply) ∷ lines) place (account_attempt_of account moment sent reply ∷ told)
 
 -- what is claimed of lines, a place and replies holds of those of a part
-abbrev pub HoldsOf : (List LogLine → Place → List LoggedAttempt → Type 0) → Part → Type 0
+abbrev pub HoldsOf : (List LogLine → Place → List AccountAttempt → Type 0) → Part → Type 0
 HoldsOf Holds part = Holds part.lines part.place part.told
 
-module _ (IsAccount : List ℕ → Type 0) (Holds : List LogLine → Place → List LoggedAttempt → Type 0)
+module _ (IsAccount : List ℕ → Type 0) (Holds : List LogLine → Place → List AccountAttempt → Type 0)
     (each : HoldsFromTheLastOf IsAccount Holds) where
   -- what holds from the last line of a session on holds of its end
   closing_holds : (closed : Bool) → HoldsOf Holds (closing closed)
@@ -131,10 +131,10 @@ module _ (IsAccount : List ℕ → Type 0) (Holds : List LogLine → Place → L
   after_mechs_holds any (without_first m i) = each.inner_line (heard (auth m)) tt _ _ _ (after_auth_holds any m i)
 
 -- what is claimed holds from the last line of a session on, whatever the accounts of its codes
-abbrev pub HoldsFromTheLast : (List LogLine → Place → List LoggedAttempt → Type 0) → Type 0
+abbrev pub HoldsFromTheLast : (List LogLine → Place → List AccountAttempt → Type 0) → Type 0
 HoldsFromTheLast Holds = HoldsFromTheLastOf (λ account. Unit {0}) Holds
 
 -- what holds of the last line of a session, and with each line that comes before it, holds of all its lines after the first
-pub later_lines_hold : (Holds : List LogLine → Place → List LoggedAttempt → Type 0) → HoldsFromTheLast Holds
+pub later_lines_hold : (Holds : List LogLine → Place → List AccountAttempt → Type 0) → HoldsFromTheLast Holds
     → (l : AfterMechs) → HoldsOf Holds (after_mechs l)
 later_lines_hold Holds each l = after_mechs_holds (λ account. Unit {0}) Holds each (λ account. tt) l

@@ -3,8 +3,8 @@ use Rattle.std.proofs.Common.{inl, inr, ℕ, Bool, true, false, List, [], ◌∷
 use Rattle.std.specs.Prelude.{flat_map}
 use Rattle.std.specs.List.{AllByRecursion, AllZip}
 use Rattle.otp_core.specs.Ranges.{IsMoment}
+use Rattle.account_book.specs.AccountAttempt.{AccountAttempt}
 use Rattle.log_grammar.specs.Lines.{LogLine, IsLogLineInRange, IsLogLine}
-use Rattle.log_grammar.specs.LoggedAttempt.{LoggedAttempt}
 use Rattle.log_grammar.specs.Places.{Place}
 use Rattle.log_grammar.specs.Demands.{Accounts, demands}
 use Rattle.log_grammar.specs.Sessions.{Part, closing, Session, session_part, session_lines, session_told, session}
@@ -17,7 +17,7 @@ abbrev pub Ranged : List LogLine → Type 0
 Ranged lines = AllByRecursion IsLogLineInRange lines
 
 -- the moments of all replies are in their range
-abbrev pub Timed : List LoggedAttempt → Type 0
+abbrev pub Timed : List AccountAttempt → Type 0
 Timed told = AllByRecursion (λ t. IsMoment t.moment) told
 
 -- if the lines are in their ranges, so are the moments of the replies that they record
@@ -62,7 +62,7 @@ read_lines_are_in_range (text ∷ texts) (line ∷ lines) h = (h.0.ranges, read_
 
 -- the law: the moment of each reply in a log that was read is in its range
 pub moments_are_in_range : (accounts : Accounts) (bytes : List ℕ) (lines : List LogLine) (rest : List ℕ) (place : Place)
-    (told : List LoggedAttempt)
+    (told : List AccountAttempt)
     → AreLines bytes lines rest → Begins (demands accounts) lines place told → AllByRecursion (λ t. IsMoment t.moment) told
 moments_are_in_range accounts bytes lines rest place told are (inl none) = subst Timed (sym none.2) tt
 moments_are_in_range accounts bytes lines rest place told are (inr s) =

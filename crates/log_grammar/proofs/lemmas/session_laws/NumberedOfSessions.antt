@@ -6,16 +6,16 @@ use Rattle.std.specs.declared.option.Option.TheVariants.{None, Some}
 use Rattle.std.proofs.lemmas.Bool.Decides.{eqb_tells}
 use Rattle.std.proofs.lemmas.List.{same_from_push}
 use Rattle.otp_core.specs.Ranges.{IsMoment}
+use Rattle.account_book.specs.AccountAttempt.{AccountAttempt}
 use Rattle.log_grammar.specs.Lines.{LogLine, header_two, said, ended, busy, halt, log_line_text, EndsWith}
 use Rattle.log_grammar.specs.Bytes.{ended_by_lf, IsSplit}
-use Rattle.log_grammar.specs.LoggedAttempt.{LoggedAttempt}
 use Rattle.log_grammar.specs.Places.{between, halted}
 use Rattle.log_grammar.specs.Demands.{Accounts, demands}
 use Rattle.log_grammar.specs.Sessions.{closing}
 use Rattle.log_grammar.specs.laws.Histories.{IsHistory}
 use Rattle.log_grammar.specs.Numbered.{Numbered, of_number, Visit, let_in, turned_away, visit_lines, visit_told, visit_place, IsNumberedLogUpTo}
 use Rattle.log_grammar.specs.Numbered.{MayEndNumbered}
-use Rattle.log_grammar.specs.NumberedLines.{numbered_text, IsNumberedLine, IsNumberedWritable}
+use Rattle.log_grammar.specs.NumberedLines.{numbered_text, IsNumberedLine, IsNumberedLineWritable}
 use Rattle.log_grammar.specs.LogKinds.{IsCleanOf}
 use Rattle.log_grammar.specs.VersionTwo.{AreCleanVersionTwo, version_two}
 use Rattle.log_grammar.specs.laws.NumberedBySessions.{IsClosedVisit, IsHaltedVisit, IsNumberedLogOf, CleanNumberedLogsAreThoseOfSessions}
@@ -28,7 +28,7 @@ use Rattle.log_grammar.proofs.lemmas.lines.ReadAndWritten.{texts_spell_lines, re
 use Rattle.log_grammar.proofs.lemmas.lines.ReadAndWritten.{writable_lines_are_read}
 
 -- the lines of a number are in their ranges
-lines_of_number_are_in_range : (n : ℕ) (log : List (Numbered LogLine)) → AllByRecursion IsNumberedWritable log → Ranged (of_number n log)
+lines_of_number_are_in_range : (n : ℕ) (log : List (Numbered LogLine)) → AllByRecursion IsNumberedLineWritable log → Ranged (of_number n log)
 lines_of_number_are_in_range n [] all = tt
 lines_of_number_are_in_range n (x ∷ log) all = elim (eqb_tells n x.number) [
   | inl same ↦ rw same.0 (all.0.line.ranges, lines_of_number_are_in_range n log all.1)
@@ -42,7 +42,7 @@ visit_tells_in_time (Some (let_in s)) h = session_tells_in_time s h
 visit_tells_in_time (Some (turned_away closed)) h = closing_tells_in_time closed h.1
 
 -- if the moments of the replies under a number are in range, they still are without the first of all the replies
-rest_is_told_in_time : (n : ℕ) (t : Numbered LoggedAttempt) (numbered_told : List (Numbered LoggedAttempt))
+rest_is_told_in_time : (n : ℕ) (t : Numbered AccountAttempt) (numbered_told : List (Numbered AccountAttempt))
     → Timed (of_number n (t ∷ numbered_told)) → Timed (of_number n numbered_told)
 rest_is_told_in_time n t numbered_told h = elim (eqb_tells n t.number) [
   | inl same ↦ (rw same.0 at h).1
@@ -50,7 +50,7 @@ rest_is_told_in_time n t numbered_told h = elim (eqb_tells n t.number) [
 ]
 
 -- if the moments of the replies under its number are in range, so is that of the first reply
-first_is_told_in_time : (t : Numbered LoggedAttempt) (numbered_told : List (Numbered LoggedAttempt))
+first_is_told_in_time : (t : Numbered AccountAttempt) (numbered_told : List (Numbered AccountAttempt))
     → Timed (of_number t.number (t ∷ numbered_told)) → IsMoment t.value.moment
 first_is_told_in_time t numbered_told h = elim (eqb_tells t.number t.number) [
   | inl same ↦ (rw same.0 at h).0
@@ -58,7 +58,7 @@ first_is_told_in_time t numbered_told h = elim (eqb_tells t.number t.number) [
 ]
 
 -- if the moments of the replies under each number are in range, so are those of all replies
-all_are_told_in_time : (numbered_told : List (Numbered LoggedAttempt)) → ((n : ℕ) → Timed (of_number n numbered_told))
+all_are_told_in_time : (numbered_told : List (Numbered AccountAttempt)) → ((n : ℕ) → Timed (of_number n numbered_told))
     → Timed (map (λ t. t.value) numbered_told)
 all_are_told_in_time [] each = tt
 all_are_told_in_time (t ∷ numbered_told) each = (
@@ -68,8 +68,8 @@ all_are_told_in_time (t ∷ numbered_told) each = (
 )
 
 -- the moments of all replies are in range if the lines can be written and each number has the lines and replies of its visit
-numbered_log_tells_in_time : (log : List (Numbered LogLine)) (visit : ℕ → Option Visit) (numbered_told : List (Numbered LoggedAttempt))
-    → AllByRecursion IsNumberedWritable log → ((n : ℕ) → of_number n log ≡ visit_lines (visit n))
+numbered_log_tells_in_time : (log : List (Numbered LogLine)) (visit : ℕ → Option Visit) (numbered_told : List (Numbered AccountAttempt))
+    → AllByRecursion IsNumberedLineWritable log → ((n : ℕ) → of_number n log ≡ visit_lines (visit n))
     → ((n : ℕ) → of_number n numbered_told ≡ visit_told (visit n)) → Timed (map (λ t. t.value) numbered_told)
 numbered_log_tells_in_time log visit numbered_told written lines told_of_each =
     all_are_told_in_time numbered_told (λ n. subst Timed (sym (told_of_each n))
@@ -119,7 +119,7 @@ clean_numbered_log_has_sessions limit accounts bytes [] cut ends = absurd ends
 clean_numbered_log_has_sessions limit accounts bytes (first ∷ texts) cut (is, log, places, told, are, s, may) =
     let written = read_lines_are_writable IsNumberedLine numbered_text (λ t x is. is.spelled) texts log are in
     let moments = numbered_log_tells_in_time log s.visit s.numbered_told written s.sessions.lines s.sessions.told_of_each in
-    let replies = subst (λ (t : List LoggedAttempt). (account : List ℕ) → IsHistory (accounts.token account) account t) s.tells
+    let replies = subst (λ (t : List AccountAttempt). (account : List ℕ) → IsHistory (accounts.token account) account t) s.tells
     ((each_account_has_its_history accounts told (subst Timed (sym s.tells) moments)).0 s.replies) in
     let finished = elim may as (λ m. ((n : ℕ) → IsClosedVisit (s.visit n)) ⊎ ((n : ℕ) × IsHaltedVisit (s.visit n))) [
       | inl all ↦ inl (λ n. visit_between_is_closed (s.visit n) (sym (s.after n) ∙ all n))
@@ -150,7 +150,7 @@ numbered_log_of_sessions_is_clean limit accounts bytes log l =
       lines = (refl, writable_lines_lack_lf IsNumberedLine numbered_text numbered_line_lacks_lf log l.written);
       after = refl;
     } in
-    let told = map (λ (t : Numbered LoggedAttempt). t.value) l.numbered_told in
+    let told = map (λ (t : Numbered AccountAttempt). t.value) l.numbered_told in
     let places = λ (n : ℕ). visit_place (l.visit n) in
     let moments = numbered_log_tells_in_time log l.visit l.numbered_told l.written l.sessions.lines l.sessions.told_of_each in
     let spells : IsNumberedLogUpTo limit (demands accounts) log places told = record {

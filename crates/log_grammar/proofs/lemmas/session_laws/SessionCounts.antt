@@ -2,7 +2,7 @@
 use Rattle.std.proofs.Common.{◌≡◌, ◌+◌, ℕ, List, [], ◌∷◌, length, refl, ◌∙◌, ap, cond, arith}
 use Rattle.std.specs.Prelude.{flat_map, count_by}
 use Rattle.std.proofs.lemmas.List.Sums.{sum_by-append}
-use Rattle.log_grammar.specs.Lines.{LogLine, header, said, mechs}
+use Rattle.log_grammar.specs.Lines.{LogLine, header_one, said, mechs}
 use Rattle.log_grammar.specs.Sessions.{after_mechs, Session, session_lines, session}
 use Rattle.log_grammar.specs.Counts.{is_offer, counts_of}
 use Rattle.log_grammar.proofs.lemmas.session_laws.LaterLines.{IsInnerLine, HoldsFromTheLast, later_lines_hold}
@@ -41,5 +41,5 @@ sessions_begin_as_many (s ∷ sessions) =
     ∙ ap (λ (n : ℕ). 1 + n) (sessions_begin_as_many sessions) ∙ omega arith
 
 -- as many sessions are counted in a log of version 1 as it has
-pub sessions_are_counted : (sessions : List Session) → (counts_of (header ∷ flat_map session_lines sessions)).sessions ≡ length sessions
+pub sessions_are_counted : (sessions : List Session) → (counts_of (header_one ∷ flat_map session_lines sessions)).sessions ≡ length sessions
 sessions_are_counted sessions = sessions_begin_as_many sessions

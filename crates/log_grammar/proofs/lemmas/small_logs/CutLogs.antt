@@ -1,9 +1,9 @@
 -- The small logs of version 1 that are cut: the line at fault is the one after their last.
 use Rattle.std.proofs.Common.{ℕ, ◌+◌, List, [], ◌∷◌, length, refl}
 use Rattle.std.specs.Prelude.{codes}
+use Rattle.account_book.specs.AccountAttempt.{AccountAttempt}
 use Rattle.log_grammar.specs.Lines.{LogLine}
 use Rattle.log_grammar.specs.Bytes.{ended_by_lf}
-use Rattle.log_grammar.specs.LoggedAttempt.{LoggedAttempt}
 use Rattle.log_grammar.specs.Places.{Place, MayEnd, before_all, offered, asks_bare, waits_first, got_first, leaving, over}
 use Rattle.log_grammar.specs.Demands.{Accounts}
 use Rattle.log_grammar.specs.Versions.{IsWhy}
@@ -17,7 +17,7 @@ use Rattle.log_grammar.proofs.lemmas.lines.Cuts.{whole_lines_are_split}
 
 module _ (accounts : Accounts) where
   -- whole lines that lead to a place where no log may end are cut after the last line
-  unended_lines_are_cut : (texts : List (List ℕ)) (lines : List LogLine) (place : Place) (told : List LoggedAttempt)
+  unended_lines_are_cut : (texts : List (List ℕ)) (lines : List LogLine) (place : Place) (told : List AccountAttempt)
       → LinesWereRead accounts texts lines place told → (MayEnd place → ⊥) → IsWhy accounts (ended_by_lf texts) (length texts + 1) is_cut
   unended_lines_are_cut texts lines place told l unended =
       unended_is_cut l (ended_by_lf texts) (whole_lines_are_split texts l.lack) unended

@@ -4,7 +4,7 @@ use Rattle.std.specs.Prelude.{decimal, if◌then◌else◌}
 use Rattle.std.proofs.lemmas.Fmt.{decimal_digit}
 use Rattle.std.specs.List.{AllByRecursion}
 use Rattle.std.specs.Str.{byte}
-use Rattle.log_grammar.specs.Lines.{LogLine, header, header_two, log_line_text, said, mechs, IsWritable, log_bytes}
+use Rattle.log_grammar.specs.Lines.{LogLine, header_one, header_two, log_line_text, said, mechs, IsLogLineWritable, log_bytes}
 use Rattle.log_grammar.specs.Bytes.{ended_by_lf}
 use Rattle.log_grammar.specs.Demands.{Accounts}
 use Rattle.log_grammar.specs.Why.{Why}
@@ -47,36 +47,36 @@ upgraded_bytes_are_digit_log lines few =
     ap (λ (ts : List (List ℕ)). ended_by_lf (log_line_text header_two ∷ ts)) (few_lines_have_digits 1 lines few)
 
 -- a few lines that can be written can be numbered
-few_lines_can_be_numbered : (lines : List LogLine) → AllByRecursion IsWritable lines → 1 + length lines ≤ 9 → CanBeUpgraded lines
+few_lines_can_be_numbered : (lines : List LogLine) → AllByRecursion IsLogLineWritable lines → 1 + length lines ≤ 9 → CanBeUpgraded lines
 few_lines_can_be_numbered lines each few = record { each = each; few = (omega arith, omega (arith, few)) }
 
 -- the log of version 2 of a few lines is clean if that of version 1 is
-pub digit_log_is_clean : (accounts : Accounts) (lines : List LogLine) → AllByRecursion IsWritable lines → 1 + length lines ≤ 9
-    → IsClean accounts (log_bytes (header ∷ lines)) → IsClean accounts (digit_log lines)
+pub digit_log_is_clean : (accounts : Accounts) (lines : List LogLine) → AllByRecursion IsLogLineWritable lines → 1 + length lines ≤ 9
+    → IsClean accounts (log_bytes (header_one ∷ lines)) → IsClean accounts (digit_log lines)
 digit_log_is_clean accounts lines each few clean =
     subst (IsClean accounts) (upgraded_bytes_are_digit_log lines few) ((upgraded_logs_are_clean accounts lines
     (few_lines_can_be_numbered lines each few)).0 clean)
 
 -- the log of version 2 of a few lines is at fault if that of version 1 is, in the same line and for the same reason
-pub digit_log_is_at_fault : (accounts : Accounts) (lines : List LogLine) (k : ℕ) (why : Why) → AllByRecursion IsWritable lines
+pub digit_log_is_at_fault : (accounts : Accounts) (lines : List LogLine) (k : ℕ) (why : Why) → AllByRecursion IsLogLineWritable lines
     → AllByRecursion IsNoFirstLine lines → 1 + length lines ≤ 9
-    → IsWhy accounts (log_bytes (header ∷ lines)) k why → IsWhy accounts (digit_log lines) k why
+    → IsWhy accounts (log_bytes (header_one ∷ lines)) k why → IsWhy accounts (digit_log lines) k why
 digit_log_is_at_fault accounts lines k why each have few w =
     subst (λ (b : List ℕ). IsWhy accounts b k why) (upgraded_bytes_are_digit_log lines few)
     (upgraded_log_has_same_fault accounts lines k why why (few_lines_can_be_numbered lines each few)
     (numbered_lines_keep_reason lines k why have) w)
 
 -- the log of version 2 of `S MECHS` and a few lines is clean if that of version 1 is
-pub digit_session_is_clean : (accounts : Accounts) (lines : List LogLine) → AllByRecursion IsWritable lines → 2 + length lines ≤ 9
-    → IsClean accounts (log_bytes (header ∷ said (mechs offered_names) ∷ lines))
+pub digit_session_is_clean : (accounts : Accounts) (lines : List LogLine) → AllByRecursion IsLogLineWritable lines → 2 + length lines ≤ 9
+    → IsClean accounts (log_bytes (header_one ∷ said (mechs offered_names) ∷ lines))
     → IsClean accounts (digit_log (said (mechs offered_names) ∷ lines))
 digit_session_is_clean accounts lines each few clean =
     digit_log_is_clean accounts (said (mechs offered_names) ∷ lines) (offer_is_writable, each) (omega (arith, few)) clean
 
 -- the log of version 2 of `S MECHS` and a few lines is at fault if that of version 1 is, in the same line and for the same reason
-pub digit_session_is_at_fault : (accounts : Accounts) (lines : List LogLine) (k : ℕ) (why : Why) → AllByRecursion IsWritable lines
+pub digit_session_is_at_fault : (accounts : Accounts) (lines : List LogLine) (k : ℕ) (why : Why) → AllByRecursion IsLogLineWritable lines
     → AllByRecursion IsNoFirstLine lines → 2 + length lines ≤ 9
-    → IsWhy accounts (log_bytes (header ∷ said (mechs offered_names) ∷ lines)) k why
+    → IsWhy accounts (log_bytes (header_one ∷ said (mechs offered_names) ∷ lines)) k why
     → IsWhy accounts (digit_log (said (mechs offered_names) ∷ lines)) k why
 digit_session_is_at_fault accounts lines k why each have few w =
     digit_log_is_at_fault accounts (said (mechs offered_names) ∷ lines) k why (offer_is_writable, each) (tt, have) (omega (arith, few)) w

@@ -2,9 +2,9 @@
 use Rattle.std.proofs.Common.{◌≤◌, ◌<◌, ◌+◌, inl, inr, ℕ, List, [], ◌∷◌, ◌++◌, length, refl, sym, subst}
 use Rattle.std.specs.List.{AllByRecursion, AllZip}
 use Rattle.std.proofs.lemmas.List.{same_from_push}
-use Rattle.log_grammar.specs.Lines.{LogLine, IsLogLine, max_log_line_len, header}
+use Rattle.account_book.specs.AccountAttempt.{AccountAttempt}
+use Rattle.log_grammar.specs.Lines.{LogLine, IsLogLine, max_log_line_len, header_one}
 use Rattle.log_grammar.specs.Bytes.{LacksLf, ended_by_lf, IsSplit}
-use Rattle.log_grammar.specs.LoggedAttempt.{LoggedAttempt}
 use Rattle.log_grammar.specs.Places.{Place, halted, between}
 use Rattle.log_grammar.specs.Demands.{Accounts, demands}
 use Rattle.log_grammar.specs.Begins.{Begins}
@@ -21,24 +21,24 @@ use Rattle.log_grammar.proofs.lemmas.small_logs.SmallLines.{header_was_read}
 use Rattle.log_grammar.proofs.lemmas.state_machine.DueClasses.{classes_follow_the_place}
 
 -- whole lines that lead to the place after `S HALT` are a clean log
-pub halted_is_clean : (accounts : Accounts) (texts : List (List ℕ)) (log : List LogLine) (told : List LoggedAttempt) → AreWhole texts log
+pub halted_is_clean : (accounts : Accounts) (texts : List (List ℕ)) (log : List LogLine) (told : List AccountAttempt) → AreWhole texts log
     → Begins (demands accounts) log halted told → IsClean accounts (ended_by_lf texts)
 halted_is_clean accounts texts log told are begins =
     let l : LinesWereRead accounts texts log halted told = record { are = are.0; lack = are.1; begins = begins } in
     read_texts_are_clean l tt
 
 -- a log without lines is not halted
-empty_log_is_not_halted : (accounts : Accounts) (told : List LoggedAttempt) → Begins (demands accounts) [] halted told → ⊥
+empty_log_is_not_halted : (accounts : Accounts) (told : List AccountAttempt) → Begins (demands accounts) [] halted told → ⊥
 empty_log_is_not_halted accounts told (inl none) = cc none.1
 empty_log_is_not_halted accounts told (inr s) = cc s.lines
 
 -- no class of lines is due after `S HALT`
-pub no_class_is_due_after_halt : (accounts : Accounts) (log : List LogLine) (told : List LoggedAttempt) (class : LineClass)
+pub no_class_is_due_after_halt : (accounts : Accounts) (log : List LogLine) (told : List AccountAttempt) (class : LineClass)
     → Begins (demands accounts) log halted told → IsClassDue log class → ⊥
 no_class_is_due_after_halt accounts log told class begins due = (classes_follow_the_place accounts log halted told class begins).0 due
 
 -- any line of a log after `S HALT` is out of order, and is the line at fault
-pub line_after_halt_is_at_fault : (accounts : Accounts) (texts : List (List ℕ)) (log : List LogLine) (told : List LoggedAttempt)
+pub line_after_halt_is_at_fault : (accounts : Accounts) (texts : List (List ℕ)) (log : List LogLine) (told : List AccountAttempt)
     (text : List ℕ) (line : LogLine) → AreWhole (texts ++ text ∷ []) (log ++ line ∷ []) → Begins (demands accounts) log halted told
     → IsWhy accounts (ended_by_lf (texts ++ text ∷ [])) (length texts + 1) out_of_order
 line_after_halt_is_at_fault accounts texts [] told text line whole begins =
@@ -77,7 +77,7 @@ whole_lines_and_rest_are_split : (texts : List (List ℕ)) (rest : List ℕ) →
     → IsSplit (ended_by_lf texts ++ rest) texts rest
 whole_lines_and_rest_are_split texts rest lack lacks = record { bytes_are = refl; lines = lack; after = lacks }
 
-module _ (accounts : Accounts) (texts : List (List ℕ)) (log : List LogLine) (place : Place) (told : List LoggedAttempt) where
+module _ (accounts : Accounts) (texts : List (List ℕ)) (log : List LogLine) (place : Place) (told : List AccountAttempt) where
   -- whole lines that lead to a place were read up to there
   whole_lines_were_read : AreWhole texts log → Begins (demands accounts) log place told → LinesWereRead accounts texts log place told
   whole_lines_were_read are begins = record { are = are.0; lack = are.1; begins = begins }
@@ -106,21 +106,21 @@ module _ (accounts : Accounts) (texts : List (List ℕ)) (log : List LogLine) (p
       (whole_lines_were_read are begins) long
 
 -- the text of the first line is a log of whole lines by itself
-header_is_whole : AreWhole (header_one_text ∷ []) (header ∷ [])
+header_is_whole : AreWhole (header_one_text ∷ []) (header_one ∷ [])
 header_is_whole = ((header_is_writable, tt), (refl, tt))
 
 -- a text after the first line that is longer than a line may be, with its LF, is no line: line 2 is at fault
 pub long_second_is_no_line : (accounts : Accounts) (text : List ℕ) → LacksLf text → max_log_line_len < length text
     → IsWhy accounts (ended_by_lf (header_one_text ∷ text ∷ [])) 2 no_line
 long_second_is_no_line accounts text lacks long =
-    long_line_is_no_line accounts (header_one_text ∷ []) (header ∷ []) between [] text header_is_whole (header_was_read accounts).begins
+    long_line_is_no_line accounts (header_one_text ∷ []) (header_one ∷ []) between [] text header_is_whole (header_was_read accounts).begins
     lacks long
 
 -- more bytes after the first line than a line may have, without an LF, are no line: line 2 is at fault
 pub long_unended_second_is_no_line : (accounts : Accounts) (rest : List ℕ) → LacksLf rest → max_log_line_len < length rest
     → IsWhy accounts (first_alone ++ rest) 2 no_line
 long_unended_second_is_no_line accounts rest lacks long =
-    long_unended_line_is_no_line accounts (header_one_text ∷ []) (header ∷ []) between [] rest header_is_whole
+    long_unended_line_is_no_line accounts (header_one_text ∷ []) (header_one ∷ []) between [] rest header_is_whole
     (header_was_read accounts).begins
     lacks long
 
@@ -128,6 +128,6 @@ long_unended_second_is_no_line accounts rest lacks long =
 pub unended_second_is_cut : (accounts : Accounts) (rest : List ℕ) → LacksLf rest → 1 ≤ length rest → length rest ≤ max_log_line_len
     → IsWhy accounts (first_alone ++ rest) 2 is_cut
 unended_second_is_cut accounts rest lacks some short =
-    unended_line_is_cut accounts (header_one_text ∷ []) (header ∷ []) between [] rest header_is_whole
+    unended_line_is_cut accounts (header_one_text ∷ []) (header_one ∷ []) between [] rest header_is_whole
     (header_was_read accounts).begins lacks some
     short

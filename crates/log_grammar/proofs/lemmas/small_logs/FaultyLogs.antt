@@ -3,7 +3,7 @@ use Rattle.std.proofs.Common.{◌≡◌, inl, inr, ℕ, List, [], ◌∷◌, get
 use Rattle.std.specs.Prelude.{codes}
 use Rattle.std.specs.Str.{byte}
 use Rattle.mac_core.specs.declared.mechanism.Mechanism.TheVariants.{ScramSha1}
-use Rattle.log_grammar.specs.Lines.{LogLine, header, said, heard, mechs, cont, accepts, refuses, halt, abort}
+use Rattle.log_grammar.specs.Lines.{LogLine, header_one, said, heard, mechs, cont, accepts, refuses, halt, abort}
 use Rattle.log_grammar.specs.Bytes.{ended_by_lf}
 use Rattle.log_grammar.specs.Places.{Place, between, offered, asks_bare, got_first, leaving, over}
 use Rattle.log_grammar.specs.Words.{offered_names}
@@ -54,18 +54,18 @@ module _ (accounts : Accounts) where
   pub abort_is_early : IsWhy accounts (ended_by_lf (header_one_text ∷ codes "C ABORT" ∷ [])) 2 out_of_order
   abort_is_early =
       let l = header_was_read accounts in
-      last_line_is_at_fault accounts (header_one_text ∷ []) header [] between [] (codes "C ABORT")
+      last_line_is_at_fault accounts (header_one_text ∷ []) header_one [] between [] (codes "C ABORT")
       (heard abort) out_of_order l
       abort_is_writable
       refl
       (λ f. f.goes)
-      (inl (class_is_not_due accounts (header ∷ []) between _ l.begins (λ is. cc is), refl))
+      (inl (class_is_not_due accounts (header_one ∷ []) between _ l.begins (λ is. cc is), refl))
 
   -- `S HALT` right after `S MECHS`, with no code to be answered, is out of order: line 3 is at fault
   pub halt_is_early : IsWhy accounts (one_session (codes "S HALT" ∷ [])) 3 out_of_order
   halt_is_early =
       let l = offer_was_read accounts in
-      last_line_is_at_fault accounts (header_one_text ∷ offer_text ∷ []) header _ offered [] (codes "S HALT")
+      last_line_is_at_fault accounts (header_one_text ∷ offer_text ∷ []) header_one _ offered [] (codes "S HALT")
       (said halt) out_of_order l halt_is_writable refl (λ f. f.goes)
       (inl (
         class_is_not_due accounts _ offered _ l.begins (λ is. elim is [
@@ -80,17 +80,17 @@ module _ (accounts : Accounts) where
   end_is_missing =
       let l = gone_was_read accounts in
       last_line_is_at_fault accounts (header_one_text ∷ offer_text ∷ codes "C GONE"
-      ∷ []) header _ over [] offer_text _ out_of_order l offer_is_writable refl (λ f. f.goes)
+      ∷ []) header_one _ over [] offer_text _ out_of_order l offer_is_writable refl (λ f. f.goes)
       (inl (class_is_not_due accounts _ over _ l.begins (λ is. cc is), refl))
 
   -- `S MECHS` with only SCRAM-SHA-1 names other mechanisms than those offered: line 2 is at fault
   pub other_offer_is_at_fault : IsWhy accounts (ended_by_lf (header_one_text ∷ codes "S MECHS SCRAM-SHA-1" ∷ [])) 2 other_mechs
   other_offer_is_at_fault =
       let l = header_was_read accounts in
-      last_line_is_at_fault accounts (header_one_text ∷ []) header [] between [] (codes "S MECHS SCRAM-SHA-1")
+      last_line_is_at_fault accounts (header_one_text ∷ []) header_one [] between [] (codes "S MECHS SCRAM-SHA-1")
       (said (mechs (codes "SCRAM-SHA-1"))) other_mechs
       l other_offer_is_line refl (λ f. one_name_is_not_both f.goes.0)
-      (inr (class_is_due accounts (header ∷ []) between _ l.begins refl, between, [], l.begins, refl))
+      (inr (class_is_due accounts (header_one ∷ []) between _ l.begins refl, between, [], l.begins, refl))
 
   -- the empty challenge to a mechanism that is not offered is at fault in line 4: `S NO` with nothing after its colon is due
   pub invited_plain_is_at_fault : IsWhy accounts (one_session (codes "C AUTH PLAIN" ∷ codes "S CONT :" ∷ [])) 4
@@ -98,7 +98,7 @@ module _ (accounts : Accounts) where
   invited_plain_is_at_fault =
       let l = plain_auth_was_read accounts in
       let at = asks_bare (codes "PLAIN") in
-      last_line_is_at_fault accounts (header_one_text ∷ offer_text ∷ codes "C AUTH PLAIN" ∷ []) header _ at []
+      last_line_is_at_fault accounts (header_one_text ∷ offer_text ∷ codes "C AUTH PLAIN" ∷ []) header_one _ at []
       (codes "S CONT :")
       (said (cont [])) (other_outcome (refused_with []))
       l bare_cont_is_writable refl (λ f. plain_is_not_offered f.goes.0.0.0 f.goes.0.0.1)
@@ -109,7 +109,7 @@ module _ (accounts : Accounts) where
   refused_auth_is_at_fault =
       let l = auth_was_read accounts in
       let at = asks_bare (codes "SCRAM-SHA-1") in
-      last_line_is_at_fault accounts (header_one_text ∷ offer_text ∷ codes "C AUTH SCRAM-SHA-1" ∷ []) header _ at []
+      last_line_is_at_fault accounts (header_one_text ∷ offer_text ∷ codes "C AUTH SCRAM-SHA-1" ∷ []) header_one _ at []
       (codes "S NO :")
       (said (refuses [])) other_challenge
       l bare_refusal_is_writable refl (λ f. f.goes.0.0 ScramSha1 refl)
@@ -119,16 +119,16 @@ module _ (accounts : Accounts) where
   pub header_again_is_early : IsWhy accounts (ended_by_lf (header_one_text ∷ header_one_text ∷ [])) 2 out_of_order
   header_again_is_early =
       let l = header_was_read accounts in
-      last_line_is_at_fault accounts (header_one_text ∷ []) header [] between [] header_one_text header out_of_order l
+      last_line_is_at_fault accounts (header_one_text ∷ []) header_one [] between [] header_one_text header_one out_of_order l
       header_is_writable refl
       (λ f. f.goes)
-      (inl (class_is_not_due accounts (header ∷ []) between _ l.begins (λ is. cc is), refl))
+      (inl (class_is_not_due accounts (header_one ∷ []) between _ l.begins (λ is. cc is), refl))
 
   -- `S OK` to a client that aborts is at fault in line 4: `S NO` with nothing after its colon is due
   pub accepted_abort_is_at_fault : IsWhy accounts (one_session (codes "C ABORT" ∷ codes "S OK :" ∷ [])) 4 (other_outcome (refused_with []))
   accepted_abort_is_at_fault =
       let l = abort_was_read accounts in
-      last_line_is_at_fault accounts (header_one_text ∷ offer_text ∷ codes "C ABORT" ∷ []) header _ leaving []
+      last_line_is_at_fault accounts (header_one_text ∷ offer_text ∷ codes "C ABORT" ∷ []) header_one _ leaving []
       (codes "S OK :")
       (said (accepts [])) (other_outcome (refused_with []))
       l ok_is_line refl (λ f. f.goes) (inr (class_is_due accounts _ leaving _ l.begins refl, leaving, [], l.begins, refl))
@@ -138,7 +138,7 @@ module _ (accounts : Accounts) where
       (other_outcome (refused_with []))
   refusal_message_is_at_fault =
       let l = bad_was_read accounts in
-      last_line_is_at_fault accounts (header_one_text ∷ offer_text ∷ codes "C BAD" ∷ []) header _ leaving []
+      last_line_is_at_fault accounts (header_one_text ∷ offer_text ∷ codes "C BAD" ∷ []) header_one _ leaving []
       (codes "S NO :e=other-error")
       (said (refuses (codes "e=other-error")))
       (other_outcome (refused_with [])) l error_is_line refl (λ f. error_is_not_empty f.goes.0)
@@ -150,7 +150,7 @@ module _ (accounts : Accounts) where
   challenged_empty_is_at_fault =
       let l = empty_first_was_read accounts in
       let at = got_first (codes "SCRAM-SHA-1") [] in
-      last_line_is_at_fault accounts (header_one_text ∷ offer_text ∷ codes "C AUTH SCRAM-SHA-1 :" ∷ []) header _ at []
+      last_line_is_at_fault accounts (header_one_text ∷ offer_text ∷ codes "C AUTH SCRAM-SHA-1 :" ∷ []) header_one _ at []
       (codes "S CONT :")
       (said (cont [])) (other_outcome (refused_with []))
       l bare_cont_is_writable refl (λ f. empty_is_no_client_first f.goes.1.opening.first f.goes.1.opens.is_first.spelled)

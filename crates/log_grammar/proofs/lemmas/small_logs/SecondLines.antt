@@ -3,7 +3,7 @@ use Rattle.std.proofs.Common.{◌≡◌, inl, inr, ℕ, List, [], ◌∷◌, ◌
 use Rattle.std.specs.Prelude.{codes, decimal}
 use Rattle.std.proofs.lemmas.Fmt.{decimal_digit}
 use Rattle.std.specs.Str.{byte}
-use Rattle.log_grammar.specs.Lines.{header, header_two, log_line_text, heard, abort, IsLogLine}
+use Rattle.log_grammar.specs.Lines.{header_one, header_two, log_line_text, heard, abort, IsLogLine}
 use Rattle.log_grammar.specs.Bytes.{LacksLf, ended_by_lf}
 use Rattle.log_grammar.specs.Demands.{Accounts}
 use Rattle.log_grammar.specs.Why.{Why, no_line, out_of_order}
@@ -19,7 +19,7 @@ use Rattle.log_grammar.proofs.lemmas.kinds.VersionTwo.{version_two_is_headed, la
 use Rattle.log_grammar.proofs.lemmas.lines.ReadBack.{each_text_is_at_most_one_log_line}
 use Rattle.log_grammar.proofs.lemmas.lines.NumberedReadBack.{line_text_is_unnumbered}
 use Rattle.log_grammar.proofs.lemmas.kinds.AllVersions.{any_version_can_be_shortened, header_two_shows_version_two}
-use Rattle.log_grammar.proofs.lemmas.lines.Words.{after_space, after_space-word, number_is_spaceless}
+use Rattle.log_grammar.proofs.lemmas.lines.Words.{after_space, after_space-word, number_lacks_space}
 
 -- `C ABORT` is no first line of a log
 abort_is_no_header : IsFirstText (codes "C ABORT") → ⊥
@@ -29,14 +29,14 @@ abort_is_no_header (inr is) = let wrong : byte "C" ≡ byte "S" = ap (λ (l : Li
 -- the first line of version 1 under a number is no numbered line
 header_bears_no_number : IsNoNumberedLine (codes "1 SCRAMLOG 1")
 header_bears_no_number x is =
-    let spelled : decimal 1 ++ (byte " " ∷ log_line_text header)
-    ≡ numbered_text x = ap (λ (d : List ℕ). d ++ (byte " " ∷ log_line_text header)) (decimal_digit 1 (omega arith)) ∙ is.spelled in
-    let word = number_is_spaceless 1 (omega arith) in
-    let also = number_is_spaceless x.number (omega (arith, is.number.1)) in
-    let same : log_line_text header ≡ log_line_text x.value =
-    sym (after_space-word (decimal 1) (log_line_text header) word) ∙ ap after_space spelled ∙ after_space-word (decimal x.number)
+    let spelled : decimal 1 ++ (byte " " ∷ log_line_text header_one)
+    ≡ numbered_text x = ap (λ (d : List ℕ). d ++ (byte " " ∷ log_line_text header_one)) (decimal_digit 1 (omega arith)) ∙ is.spelled in
+    let word = number_lacks_space 1 (omega arith) in
+    let also = number_lacks_space x.number (omega (arith, is.number.1)) in
+    let same : log_line_text header_one ≡ log_line_text x.value =
+    sym (after_space-word (decimal 1) (log_line_text header_one) word) ∙ ap after_space spelled ∙ after_space-word (decimal x.number)
     (log_line_text x.value) also in
-    let value = each_text_is_at_most_one_log_line (log_line_text header) x.value header
+    let value = each_text_is_at_most_one_log_line (log_line_text header_one) x.value header_one
     (subst (λ (t : List ℕ). IsLogLine t x.value) (sym same) is.line) header_is_writable in
     subst IsNoFirstLine value is.has_number
 
@@ -67,7 +67,7 @@ module _ (accounts : Accounts) where
   -- the first line of version 1 after that of version 2 is out of order: line 2 is at fault
   pub header_one_is_early : IsWhy accounts (ended_by_lf (header_two_text ∷ header_one_text ∷ [])) 2 out_of_order
   header_one_is_early =
-      text_after_header_is_at_fault header_one_text out_of_order refl (line_text_is_unnumbered header) (inl (inl refl, refl))
+      text_after_header_is_at_fault header_one_text out_of_order refl (line_text_is_unnumbered header_one) (inl (inl refl, refl))
 
   -- `C ABORT` without a number is no line in a log of version 2: line 2 is at fault
   pub unnumbered_abort_is_no_line : IsWhy accounts (ended_by_lf (header_two_text ∷ codes "C ABORT" ∷ [])) 2 no_line

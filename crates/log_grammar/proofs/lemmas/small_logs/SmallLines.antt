@@ -6,8 +6,8 @@ use Rattle.mac_core.specs.declared.mechanism.Mechanism.{Mechanism}
 use Rattle.mac_core.specs.declared.mechanism.Mechanism.TheVariants.{ScramSha1, ScramSha256}
 use Rattle.scram_text.specs.Messages.{ClientFirstParts, gs2_header, client_first_text, client_first_bare}
 use Rattle.scram_text.specs.Parts.{authzid_text}
-use Rattle.log_grammar.specs.Lines.{LogLine, header, said, heard, bad, gone, mechs, cont, accepts, refuses, auth, auth_with, abort, IsLogLine}
-use Rattle.log_grammar.specs.LoggedAttempt.{LoggedAttempt}
+use Rattle.account_book.specs.AccountAttempt.{AccountAttempt}
+use Rattle.log_grammar.specs.Lines.{LogLine, header_one, said, heard, bad, gone, mechs, cont, accepts, refuses, auth, auth_with, abort, IsLogLine}
 use Rattle.log_grammar.specs.Places.{Place, before_all, between, offered, asks_bare, waits_first, got_first, leaving, over}
 use Rattle.log_grammar.specs.Words.{offered_names}
 use Rattle.log_grammar.specs.Demands.{Accounts, NamesMechanism, demands, HaveDueReplies}
@@ -86,42 +86,42 @@ empty_is_no_client_first p e = text_with_comma_is_some p.flag (authzid_text p.au
 
 module _ (accounts : Accounts) where
   -- the first line leads to the place between sessions
-  pub header_was_read : LinesWereRead accounts (header_one_text ∷ []) (header ∷ []) between []
+  pub header_was_read : LinesWereRead accounts (header_one_text ∷ []) (header_one ∷ []) between []
   header_was_read =
-      next_line_was_read accounts [] [] before_all [] header_one_text header between
+      next_line_was_read accounts [] [] before_all [] header_one_text header_one between
       (no_lines_were_read accounts) header_is_writable refl tt
 
   -- the first line and a first `S MECHS` with all mechanisms are lines of a log, up to the place after `S MECHS`
   pub offer_was_read : LinesWereRead accounts (header_one_text ∷ offer_text ∷ [])
-      (header ∷ said (mechs offered_names) ∷ []) offered []
+      (header_one ∷ said (mechs offered_names) ∷ []) offered []
   offer_was_read = next_line_was_read accounts _ _ between [] offer_text _ offered (header_was_read) offer_is_writable (refl, refl) tt
 
   -- after `C GONE` the session is over
   pub gone_was_read : LinesWereRead accounts (header_one_text ∷ offer_text ∷ codes "C GONE" ∷ [])
-      (header ∷ said (mechs offered_names) ∷ gone ∷ []) over []
+      (header_one ∷ said (mechs offered_names) ∷ gone ∷ []) over []
   gone_was_read = next_line_was_read accounts _ _ offered [] (codes "C GONE") gone over (offer_was_read) gone_is_writable refl tt
 
   -- `C ABORT` leads to the place where a refusal is due
   pub abort_was_read : LinesWereRead accounts (header_one_text ∷ offer_text ∷ codes "C ABORT" ∷ [])
-      (header ∷ said (mechs offered_names) ∷ heard abort ∷ []) leaving []
+      (header_one ∷ said (mechs offered_names) ∷ heard abort ∷ []) leaving []
   abort_was_read =
       next_line_was_read accounts _ _ offered [] (codes "C ABORT") (heard abort) leaving (offer_was_read) abort_is_writable refl tt
 
   -- `C BAD` leads to the place where a refusal is due
   pub bad_was_read : LinesWereRead accounts (header_one_text ∷ offer_text ∷ codes "C BAD" ∷ [])
-      (header ∷ said (mechs offered_names) ∷ bad ∷ []) leaving []
+      (header_one ∷ said (mechs offered_names) ∷ bad ∷ []) leaving []
   bad_was_read = next_line_was_read accounts _ _ offered [] (codes "C BAD") bad leaving (offer_was_read) bad_is_writable refl tt
 
   -- `C AUTH` of PLAIN leads to the place where the server has to refuse it
   pub plain_auth_was_read : LinesWereRead accounts (header_one_text ∷ offer_text ∷ codes "C AUTH PLAIN" ∷ [])
-      (header ∷ said (mechs offered_names) ∷ heard (auth (codes "PLAIN")) ∷ []) (asks_bare (codes "PLAIN")) []
+      (header_one ∷ said (mechs offered_names) ∷ heard (auth (codes "PLAIN")) ∷ []) (asks_bare (codes "PLAIN")) []
   plain_auth_was_read =
       next_line_was_read accounts _ _ offered [] (codes "C AUTH PLAIN") (heard (auth (codes "PLAIN"))) (asks_bare (codes "PLAIN"))
       (offer_was_read) plain_auth_is_line refl tt
 
   -- an empty message instead of a client-first message leads to the place where it is answered
   pub empty_first_was_read : LinesWereRead accounts (header_one_text ∷ offer_text ∷ codes "C AUTH SCRAM-SHA-1 :" ∷ [])
-      (header ∷ said (mechs offered_names) ∷ heard (auth_with (codes "SCRAM-SHA-1") []) ∷ [])
+      (header_one ∷ said (mechs offered_names) ∷ heard (auth_with (codes "SCRAM-SHA-1") []) ∷ [])
       (got_first (codes "SCRAM-SHA-1") []) []
   empty_first_was_read =
       next_line_was_read accounts _ _ offered [] (codes "C AUTH SCRAM-SHA-1 :") (heard (auth_with (codes "SCRAM-SHA-1") []))
@@ -130,14 +130,14 @@ module _ (accounts : Accounts) where
 
   -- `C AUTH` of an offered mechanism leads to the place where the empty challenge is due
   pub auth_was_read : LinesWereRead accounts (header_one_text ∷ offer_text ∷ codes "C AUTH SCRAM-SHA-1" ∷ [])
-      (header ∷ said (mechs offered_names) ∷ heard (auth (codes "SCRAM-SHA-1")) ∷ [])
+      (header_one ∷ said (mechs offered_names) ∷ heard (auth (codes "SCRAM-SHA-1")) ∷ [])
       (asks_bare (codes "SCRAM-SHA-1")) []
   auth_was_read = next_line_was_read accounts _ _ offered [] (codes "C AUTH SCRAM-SHA-1") (heard (auth (codes "SCRAM-SHA-1")))
       (asks_bare (codes "SCRAM-SHA-1")) (offer_was_read) auth_is_line refl tt
 
   -- the empty challenge leads to the place where a client-first message is due
   pub empty_challenge_was_read : LinesWereRead accounts (header_one_text ∷ offer_text ∷ codes "C AUTH SCRAM-SHA-1" ∷ codes "S CONT :" ∷ [])
-      (header ∷ said (mechs offered_names) ∷ heard (auth (codes "SCRAM-SHA-1")) ∷ said (cont []) ∷ [])
+      (header_one ∷ said (mechs offered_names) ∷ heard (auth (codes "SCRAM-SHA-1")) ∷ said (cont []) ∷ [])
       (waits_first (codes "SCRAM-SHA-1")) []
   empty_challenge_was_read =
       next_line_was_read accounts _ _ (asks_bare (codes "SCRAM-SHA-1")) [] (codes "S CONT :") (said (cont []))
@@ -147,7 +147,7 @@ module _ (accounts : Accounts) where
   -- after the empty challenge and then `C GONE` the session is over
   pub invited_gone_was_read : LinesWereRead accounts
       (header_one_text ∷ offer_text ∷ codes "C AUTH SCRAM-SHA-1" ∷ codes "S CONT :" ∷ codes "C GONE" ∷ [])
-      (header ∷ said (mechs offered_names) ∷ heard (auth (codes "SCRAM-SHA-1")) ∷ said (cont []) ∷ gone ∷ []) over []
+      (header_one ∷ said (mechs offered_names) ∷ heard (auth (codes "SCRAM-SHA-1")) ∷ said (cont []) ∷ gone ∷ []) over []
   invited_gone_was_read =
       next_line_was_read accounts _ _ (waits_first (codes "SCRAM-SHA-1")) [] (codes "C GONE") gone over (empty_challenge_was_read)
       gone_is_writable refl tt
@@ -157,9 +157,9 @@ module _ (accounts : Accounts) where
       → IsTransition (demands accounts) place (said (refuses [])) over → told_at place (said (refuses [])) ≡ []
       → LinesWereRead accounts (texts ++ codes "S NO :" ∷ []) (lines ++ said (refuses []) ∷ []) over []
   refusal_was_read texts lines place l goes no_farewell =
-      let due = subst (λ (t : List LoggedAttempt). HaveDueReplies (demands accounts) [] t) (sym no_farewell) tt in
+      let due = subst (λ (t : List AccountAttempt). HaveDueReplies (demands accounts) [] t) (sym no_farewell) tt in
       let refusal =
       next_line_was_read accounts texts lines place [] (codes "S NO :") (said (refuses [])) over l bare_refusal_is_writable goes due in
-      subst (λ (t : List LoggedAttempt). LinesWereRead accounts (texts ++ codes "S NO :" ∷ []) (lines ++ said (refuses []) ∷ []) over t)
+      subst (λ (t : List AccountAttempt). LinesWereRead accounts (texts ++ codes "S NO :" ∷ []) (lines ++ said (refuses []) ∷ []) over t)
       no_farewell
       refusal

@@ -3,14 +3,14 @@ use Rattle.std.proofs.Common.{◌≡◌, ℕ, ◌+◌, ◌<◌, List, [], ◌∷
 use Rattle.std.specs.declared.option.Option.{Option}
 use Rattle.std.specs.declared.option.Option.TheVariants.{Some}
 use Rattle.otp_core.specs.Attempt.{two_texts}
-use Rattle.otp_core.specs.Ranges.{IsDigitCount, IsMoment}
+use Rattle.otp_core.specs.Ranges.{IsDigitCount, IsMoment, IsCounter}
 use Rattle.otp_core.specs.Reply.{IsDueReply, code_text}
 use Rattle.otp_core.specs.declared.token.reply.Reply.TheVariants.{Pass, Fail}
 use Rattle.otp_core.specs.declared.token.kinds.TokenFields.{TokenFields}
 use Rattle.otp_core.specs.declared.token.kinds.TokenFields.TheVariants.{Hotp, Totp}
 use Rattle.otp_core.specs.declared.token.kinds.HotpFields.{HotpFields}
 use Rattle.otp_core.specs.declared.token.kinds.TotpFields.{TotpFields}
-use Rattle.log_grammar.specs.Words.{IsCodeWord, IsCounter}
+use Rattle.log_grammar.specs.Words.{IsCodeWord}
 use Rattle.log_grammar.specs.Lines.{heard, sync}
 use Rattle.log_grammar.specs.Demands.{Accounts, IsReplyDueBy}
 use Rattle.log_grammar.specs.Why.{other_reply}

@@ -1,8 +1,8 @@
 -- The small logs of version 2 in which more than one session is open, line by line.
 use Rattle.std.proofs.Common.{◌≡◌, ◌∙◌, ◌≤◌, inl, inr, ℕ, suc, zero, List, [], ◌∷◌, ◌++◌, refl, sym, subst, arith}
 use Rattle.std.specs.List.{AllByRecursion}
+use Rattle.account_book.specs.AccountAttempt.{AccountAttempt}
 use Rattle.log_grammar.specs.Lines.{LogLine, said, heard, gone, ended, refuses, abort}
-use Rattle.log_grammar.specs.LoggedAttempt.{LoggedAttempt}
 use Rattle.log_grammar.specs.Places.{Place, between, offered, leaving, over}
 use Rattle.log_grammar.specs.Demands.{Accounts, Demands, demands, HaveDueReplies}
 use Rattle.log_grammar.specs.state_machine.Steps.{told_at}
@@ -27,9 +27,9 @@ quiet_line_goes_on limit d log y places n line to s room may goes quiet =
       room = room;
       next = line_follows_last log y n line may;
       goes = goes;
-      due = subst (λ (t : List LoggedAttempt). HaveDueReplies d [] t) (sym quiet) tt;
+      due = subst (λ (t : List AccountAttempt). HaveDueReplies d [] t) (sym quiet) tt;
     } in
-    subst (λ (t : List LoggedAttempt). IsNumberedLogUpTo limit d ((log ++ y ∷ []) ++ numbered n line ∷ []) (put n to places) t) quiet
+    subst (λ (t : List AccountAttempt). IsNumberedLogUpTo limit d ((log ++ y ∷ []) ++ numbered n line ∷ []) (put n to places) t) quiet
     (numbered_log_goes_on limit d (log ++ y ∷ []) places [] n line to s g)
 
 -- a log begins with a line that may stand between sessions

@@ -2,8 +2,8 @@
 use Rattle.std.proofs.Common.{◌≡◌, inl, inr, ℕ, Bool, true, false, List, [], ◌∷◌, ◌++◌, refl, sym, ◌∙◌, ap}
 use Rattle.std.specs.Prelude.{flat_map, map}
 use Rattle.std.specs.List.{AllByRecursion}
-use Rattle.log_grammar.specs.Lines.{LogLine, header, said, heard, bad, gone, cont, accepts, replies, resp, auth, auth_with, mechs, abort, code_line}
-use Rattle.log_grammar.specs.LoggedAttempt.{LoggedAttempt, logged_attempt_of}
+use Rattle.account_book.specs.AccountAttempt.{AccountAttempt, account_attempt_of}
+use Rattle.log_grammar.specs.Lines.{LogLine, header_one, said, heard, bad, gone, cont, accepts, replies, resp, auth, auth_with, mechs, abort, code_line}
 use Rattle.log_grammar.specs.Places.{Place, before_all, between, offered, asks_bare, waits_first, got_first, waits_final, got_final, waits_code}
 use Rattle.log_grammar.specs.Places.{got_code, leaving, over, halted}
 use Rattle.log_grammar.specs.Demands.{Demands, no_demands, HaveDueReplies}
@@ -62,8 +62,8 @@ abbrev pub accountless_session : Session → Session
 accountless_session (session names l) = session names (accountless_after_mechs l)
 
 -- a recorded reply with no account named
-abbrev pub accountless_reply : LoggedAttempt → LoggedAttempt
-accountless_reply t = logged_attempt_of [] t.moment t.sent t.reply
+abbrev pub accountless_reply : AccountAttempt → AccountAttempt
+accountless_reply t = account_attempt_of [] t.moment t.sent t.reply
 
 -- `bare` is the part `own` with no account named
 pub record IsAccountlessOf (bare own : Part) : Type 0 where
@@ -88,13 +88,13 @@ due_line_is_same_aside B Own l b own due is =
     record { lines = ap (λ (t : List LogLine). l ∷ t) is.lines; place = is.place; told = is.told; meets = (due, is.meets) }
 
 -- if a part stays the same with no account named, so does the part with a line before it that records a reply
-telling_line_is_same_aside : (t : LoggedAttempt) (l : LogLine) (b own : Part) → IsAccountlessOf b own
+telling_line_is_same_aside : (t : AccountAttempt) (l : LogLine) (b own : Part) → IsAccountlessOf b own
     → IsAccountlessOf (telling_line (accountless_reply t) l b) (telling_line t l own)
 telling_line_is_same_aside t l b own is =
     record {
       lines = ap (λ (ls : List LogLine). l ∷ ls) is.lines;
       place = is.place;
-      told = ap (λ (ts : List LoggedAttempt). accountless_reply t ∷ ts) is.told;
+      told = ap (λ (ts : List AccountAttempt). accountless_reply t ∷ ts) is.told;
       meets = is.meets;
     }
 
@@ -126,7 +126,7 @@ after_ok_is_same_aside account no_code = record { lines = refl; place = refl; to
 after_ok_is_same_aside account (quits_codes q) = quit_is_same_aside q
 after_ok_is_same_aside account (unreplied sent) = record { lines = refl; place = refl; told = refl; meets = tt }
 after_ok_is_same_aside account (replied sent moment reply more) =
-    next_line_is_same_aside (heard (code_line sent)) _ _ (telling_line_is_same_aside (logged_attempt_of account moment sent reply)
+    next_line_is_same_aside (heard (code_line sent)) _ _ (telling_line_is_same_aside (account_attempt_of account moment sent reply)
     (said (replies moment reply)) _ _
     (after_ok_is_same_aside account more))
 after_ok_is_same_aside account (halted_at sent) = record { lines = refl; place = refl; told = refl; meets = tt }
@@ -215,19 +215,19 @@ sessions_lead_to_same_place_aside (s ∷ []) = (session_is_same_aside s).place
 sessions_lead_to_same_place_aside (s ∷ t ∷ more) = sessions_lead_to_same_place_aside (t ∷ more)
 
 -- without demands any replies are due, whatever replies came before
-pub any_replies_are_due : (before told : List LoggedAttempt) → HaveDueReplies no_demands before told
+pub any_replies_are_due : (before told : List AccountAttempt) → HaveDueReplies no_demands before told
 any_replies_are_due before [] = tt
 any_replies_are_due before (t ∷ told) = (tt, any_replies_are_due (t ∷ before) told)
 
 -- if a log may begin with some lines, it may also begin with them without the demands, up to the same place with no account named
-pub log_begins_aside : (d : Demands) (log : List LogLine) (place : Place) (told : List LoggedAttempt) → Begins d log place told
-    → (tells : List LoggedAttempt) × Begins no_demands log (accountless_place place) tells
+pub log_begins_aside : (d : Demands) (log : List LogLine) (place : Place) (told : List AccountAttempt) → Begins d log place told
+    → (tells : List AccountAttempt) × Begins no_demands log (accountless_place place) tells
 log_begins_aside d log place told (inl nothing) = ([], inl (nothing.0, ap accountless_place nothing.1, refl))
 log_begins_aside d log place told (inr s) = (
   flat_map session_told (map accountless_session s.sessions),
   inr (record {
     sessions = map accountless_session s.sessions;
-    lines = s.lines ∙ ap (λ (l : List LogLine). header ∷ l) (sym (sessions_have_same_lines s.sessions));
+    lines = s.lines ∙ ap (λ (l : List LogLine). header_one ∷ l) (sym (sessions_have_same_lines s.sessions));
     closed = only_last_stays_open_aside s.sessions s.closed;
     good = sessions_meet_no_demands s.sessions;
     tells = refl;

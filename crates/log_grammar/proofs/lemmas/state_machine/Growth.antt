@@ -1,9 +1,9 @@
 -- A session continues with one line: if the line may stand at the session's place, there is the same session with this line after it.
 use Rattle.std.proofs.Common.{◌≡◌, ◌⊎◌, inl, inr, ℕ, true, false, List, [], ◌∷◌, ◌++◌, refl, sym, ◌∙◌, ap, append_assoc}
 use Rattle.otp_core.specs.Attempt.{one_text, two_texts}
+use Rattle.account_book.specs.AccountAttempt.{AccountAttempt}
 use Rattle.log_grammar.specs.Lines.{LogLine, said, heard, bad, gone, ended, cont, accepts, refuses, replies, halt, auth, auth_with, resp, abort, code}
 use Rattle.log_grammar.specs.Lines.{sync}
-use Rattle.log_grammar.specs.LoggedAttempt.{LoggedAttempt}
 use Rattle.log_grammar.specs.Places.{Place, between}
 use Rattle.log_grammar.specs.Demands.{Demands}
 use Rattle.log_grammar.specs.Sessions.{Part, Farewell, parting, Quit, quitting, AfterOk, after_ok, AfterFinal, after_final, AfterChallenge}
@@ -20,7 +20,7 @@ use Rattle.log_grammar.proofs.lemmas.state_machine.Within.{with_first_is_within,
 
 -- a part of a session continues with one line, which leads to this place and records these replies
 pub record Grown {X : Type 0} (d : Demands) (part : X → Part) (old : X) (line : LogLine) (next : Place)
-    (more : List LoggedAttempt) : Type 0 where
+    (more : List AccountAttempt) : Type 0 where
   -- the part with the line
   pub tree : X
   -- its lines are those of the old part, then this one
@@ -38,15 +38,15 @@ GoesOn d part old line next = ((part old).place ≡ between) ⊎ Grown d part ol
 
 -- if a part continues with a line, so does the part around it
 outer_grows : {X Y : Type 0} (d : Demands) (inner : X → Part) (outer : Y → Part) (wrap : X → Y) → IsWithin d inner outer wrap
-    → (old : X) (line : LogLine) (next : Place) (more : List LoggedAttempt)
+    → (old : X) (line : LogLine) (next : Place) (more : List AccountAttempt)
     → Grown d inner old line next more → Grown d outer (wrap old) line next more
 outer_grows d inner outer wrap w old line next more g = record {
   tree = wrap g.tree;
   lines = (w.around g.tree).0 ∙ ap (λ (l : List LogLine). w.front ++ l) g.lines ∙ sym (append_assoc w.front (inner old).lines (line ∷ []))
       ∙ ap (λ (l : List LogLine). l ++ line ∷ []) (sym ((w.around old).0));
   at = (w.around g.tree).1 ∙ g.at;
-  tells = (w.around g.tree).2 ∙ ap (λ (l : List LoggedAttempt). w.before ++ l) g.tells ∙ sym (append_assoc w.before (inner old).told more)
-      ∙ ap (λ (l : List LoggedAttempt). l ++ more) (sym ((w.around old).2));
+  tells = (w.around g.tree).2 ∙ ap (λ (l : List AccountAttempt). w.before ++ l) g.tells ∙ sym (append_assoc w.before (inner old).told more)
+      ∙ ap (λ (l : List AccountAttempt). l ++ more) (sym ((w.around old).2));
   good = (w.around g.tree).3 g.good;
 }
 

@@ -1,8 +1,8 @@
 -- A log is read in one way: its place and what was told in it follow from its lines. Its first lines are
 -- again lines that a log may begin with.
 use Rattle.std.proofs.Common.{◌≡◌, ℕ, List, [], ◌∷◌, ◌++◌, sym, ◌∙◌, ap, subst, refl}
+use Rattle.account_book.specs.AccountAttempt.{AccountAttempt}
 use Rattle.log_grammar.specs.Lines.{LogLine, heard, bad, gone, abort}
-use Rattle.log_grammar.specs.LoggedAttempt.{LoggedAttempt}
 use Rattle.log_grammar.specs.Places.{Place, offered, waits_first, waits_final, waits_code, leaving, over}
 use Rattle.log_grammar.specs.Demands.{Demands}
 use Rattle.log_grammar.specs.state_machine.Steps.{IsTransition, told_at}
@@ -61,17 +61,17 @@ pub one_next_place : (d : Demands) → OneAccount d → (at : Place) (line : Log
 one_next_place d one at line p q h k = each_transition_holds d (IsOnlyNext d) (each_kind_has_one_next d one) at line p h q k
 
 -- the recorded replies stay equal if equal ones are followed by the same line at the same place
-pub same_line_tells_same : (told other : List LoggedAttempt) (p q : Place) (x y : LogLine) → told ≡ other → p ≡ q → x ≡ y
+pub same_line_tells_same : (told other : List AccountAttempt) (p q : Place) (x y : LogLine) → told ≡ other → p ≡ q → x ≡ y
     → told ++ told_at p x ≡ other ++ told_at q y
 same_line_tells_same told other p q x y a b c =
-    ap (λ (t : List LoggedAttempt). t ++ told_at p x) a ∙ ap (λ (r : Place). other ++ told_at r x) b ∙ ap
+    ap (λ (t : List AccountAttempt). t ++ told_at p x) a ∙ ap (λ (r : Place). other ++ told_at r x) b ∙ ap
     (λ (l : LogLine). other ++ told_at q l) c
 
 -- the place and what was told follow from the lines
-pub lines_have_one_reading : (d : Demands) → OneAccount d → (log : List LogLine) (p q : Place) (told other : List LoggedAttempt)
+pub lines_have_one_reading : (d : Demands) → OneAccount d → (log : List LogLine) (p q : Place) (told other : List AccountAttempt)
     → Begins d log p told → Begins d log q other → (p ≡ q) × (told ≡ other)
 lines_have_one_reading d one = holds_by_last
-    (λ log. (p q : Place) (told other : List LoggedAttempt) → Begins d log p told → Begins d log q other → (p ≡ q) × (told ≡ other))
+    (λ log. (p q : Place) (told other : List AccountAttempt) → Begins d log p told → Begins d log q other → (p ≡ q) × (told ≡ other))
     (λ p q told other s r.
     let a = no_lines_begin_before_all d p told s in
     let b = no_lines_begin_before_all d q other r in
@@ -86,6 +86,6 @@ lines_have_one_reading d one = holds_by_last
     ))
 
 -- without its last line a log still begins as a log may
-pub shorter_log_begins : (d : Demands) (log : List LogLine) (line : LogLine) (p : Place) (told : List LoggedAttempt)
-    → Begins d (log ++ line ∷ []) p told → (q : Place) × (other : List LoggedAttempt) × Begins d log q other
+pub shorter_log_begins : (d : Demands) (log : List LogLine) (line : LogLine) (p : Place) (told : List AccountAttempt)
+    → Begins d (log ++ line ∷ []) p told → (q : Place) × (other : List AccountAttempt) × Begins d log q other
 shorter_log_begins d log line p told begins = let b = log_has_last_transition d log line p told begins in (b.place, b.told, b.begins)

@@ -1,7 +1,7 @@
 -- A log that meets the demands of some accounts has only one reading.
 use Rattle.std.proofs.Common.{◌≡◌, List}
+use Rattle.account_book.specs.AccountAttempt.{AccountAttempt}
 use Rattle.log_grammar.specs.Lines.{LogLine}
-use Rattle.log_grammar.specs.LoggedAttempt.{LoggedAttempt}
 use Rattle.log_grammar.specs.Places.{Place}
 use Rattle.log_grammar.specs.Demands.{Accounts, demands}
 use Rattle.log_grammar.specs.Begins.{Begins}
@@ -15,7 +15,7 @@ challenge_has_one_account accounts m first account other text a b =
     (challenged_first_is_of_name accounts m first other text b)
 
 -- the law: the place after a log's lines and the replies that it records follow from the lines
-pub logs_have_one_reading : (accounts : Accounts) (log : List LogLine) (place other : Place) (told also : List LoggedAttempt)
+pub logs_have_one_reading : (accounts : Accounts) (log : List LogLine) (place other : Place) (told also : List AccountAttempt)
     → Begins (demands accounts) log place told → Begins (demands accounts) log other also → (place ≡ other) × (told ≡ also)
 logs_have_one_reading accounts log place other told also begins begins' =
     lines_have_one_reading (demands accounts) (challenge_has_one_account accounts) log place other told also begins begins'

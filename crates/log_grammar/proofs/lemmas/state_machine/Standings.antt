@@ -3,9 +3,9 @@ use Rattle.std.proofs.Common.{◌≡◌, ◌⊎◌, inl, inr, ℕ, List, [], rev
 use Rattle.mac_core.proofs.lemmas.Decided.{Decided, decided_both, decided_same_text}
 use Rattle.scram_ends.specs.Verdict.{Due}
 use Rattle.otp_core.specs.Attempt.{CodeTexts, one_text, two_texts}
-use Rattle.log_grammar.specs.Lines.{LogLine, header, said, heard, bad, gone, ended, mechs, cont, accepts, refuses, replies, halt, auth, auth_with}
+use Rattle.account_book.specs.AccountAttempt.{AccountAttempt, account_attempt_of}
+use Rattle.log_grammar.specs.Lines.{LogLine, header_one, said, heard, bad, gone, ended, mechs, cont, accepts, refuses, replies, halt, auth, auth_with}
 use Rattle.log_grammar.specs.Lines.{resp, abort, code, sync}
-use Rattle.log_grammar.specs.LoggedAttempt.{LoggedAttempt, logged_attempt_of}
 use Rattle.log_grammar.specs.Places.{Place, before_all, between, offered, asks_bare, waits_first, got_first, waits_final, got_final, waits_code}
 use Rattle.log_grammar.specs.Places.{got_code, leaving, over, halted}
 use Rattle.log_grammar.specs.Words.{offered_names}
@@ -21,26 +21,26 @@ use Rattle.log_grammar.proofs.lemmas.demands.DemandsDecided.{decided_challenged,
 use Rattle.log_grammar.proofs.lemmas.demands.DemandsDecided.{decided_reply_due}
 
 -- a line may stand at a place; if it is a reply to a code, it is the one due
-pub record Follows (accounts : Accounts) (place : Place) (told : List LoggedAttempt) (line : LogLine) : Type 0 where
+pub record Follows (accounts : Accounts) (place : Place) (told : List AccountAttempt) (line : LogLine) : Type 0 where
   pub next : Place
   pub goes : IsTransition (demands accounts) place line next
   pub due : HaveDueReplies (demands accounts) (reverse told) (told_at place line)
 
 -- a line fails: its class is due at the place, but it may not stand there, and it is wrong for this reason
-pub record Fails (accounts : Accounts) (place : Place) (told : List LoggedAttempt) (line : LogLine) : Type 0 where
+pub record Fails (accounts : Accounts) (place : Place) (told : List AccountAttempt) (line : LogLine) : Type 0 where
   pub of_class : IsDueAt place (class_of line)
   pub stuck : Follows accounts place told line → ⊥
   pub why : Why
   pub wrong : IsReasonForLine accounts place told line why
 
 -- a line may stand, is of a class that is not due, or fails
-abbrev pub Standing : Accounts → Place → List LoggedAttempt → LogLine → Type 0
+abbrev pub Standing : Accounts → Place → List AccountAttempt → LogLine → Type 0
 Standing accounts place told line = Follows accounts place told line
     ⊎ ((IsDueAt place (class_of line) → ⊥) ⊎ Fails accounts place told line)
 
 -- if a line may stand if and only if it meets a demand, and it is decidable whether it does, it stands at its place in one of the three
 -- ways
-demand_gives_standing : (accounts : Accounts) (place : Place) (told : List LoggedAttempt) (line : LogLine) (P : Type 0)
+demand_gives_standing : (accounts : Accounts) (place : Place) (told : List AccountAttempt) (line : LogLine) (P : Type 0)
     → IsDueAt place (class_of line) → (why : Why) × IsReasonForLine accounts place told line why → (P → Follows accounts place told line)
     → (Follows accounts place told line → P) → Decided P → Standing accounts place told line
 demand_gives_standing accounts place told line P due why there back (inl meets) = inl (there meets)
@@ -48,7 +48,7 @@ demand_gives_standing accounts place told line P due why there back (inr none) =
     inr (inr (record { of_class = due; stuck = λ f. none (back f); why = why.0; wrong = why.1 }))
 
 -- a line that may not stand at a place where its class is due fails
-stuck_line_fails : (accounts : Accounts) (place : Place) (told : List LoggedAttempt) (line : LogLine) → IsDueAt place (class_of line)
+stuck_line_fails : (accounts : Accounts) (place : Place) (told : List AccountAttempt) (line : LogLine) → IsDueAt place (class_of line)
     → (why : Why) × IsReasonForLine accounts place told line why → (Follows accounts place told line → ⊥)
     → Standing accounts place told line
 stuck_line_fails accounts place told line due why stuck =
@@ -95,16 +95,16 @@ some_why_after_first accounts m first = elim (decided_first_message m first) [
 ]
 
 -- after a code there is a reason for which a reply is wrong
-some_why_after_code : (accounts : Accounts) (account : List ℕ) (sent : CodeTexts) (told : List LoggedAttempt) (moment : ℕ)
+some_why_after_code : (accounts : Accounts) (account : List ℕ) (sent : CodeTexts) (told : List AccountAttempt) (moment : ℕ)
     → (why : Why) × IsReasonForReply accounts (got_code account sent) told moment why
 some_why_after_code accounts account sent told moment =
     let due = some_reply (accounts.token account) (attempts_of account (reverse told)) moment sent in
     (other_reply moment due.0, (due.0, due.1, refl))
 
-module _ (accounts : Accounts) (told : List LoggedAttempt) where
+module _ (accounts : Accounts) (told : List AccountAttempt) where
   -- before all lines, a line stands in one of the three ways
   before_all_gives_standing : (line : LogLine) → Standing accounts before_all told line
-  before_all_gives_standing header = inl (record { next = between; goes = refl; due = tt })
+  before_all_gives_standing header_one = inl (record { next = between; goes = refl; due = tt })
   -- (for the prover: docs/PROVING.md, "A last clause over a variable")
   before_all_gives_standing (said halt) = inr (inl (λ is. cc is))
   before_all_gives_standing (heard abort) = inr (inl (λ is. cc is))
@@ -200,7 +200,7 @@ module _ (accounts : Accounts) (told : List LoggedAttempt) where
   over_gives_standing (heard abort) = inr (inl (λ is. cc is))
   over_gives_standing line = inr (inl (λ is. cc is))
 
-module _ (accounts : Accounts) (told : List LoggedAttempt) where
+module _ (accounts : Accounts) (told : List AccountAttempt) where
   -- after a client-first message, a line stands in one of the three ways
   got_first_gives_standing : (m first : List ℕ) (line : LogLine) → Standing accounts (got_first m first) told line
   got_first_gives_standing m first (said (refuses text)) =
@@ -243,7 +243,7 @@ module _ (accounts : Accounts) (told : List LoggedAttempt) where
   got_code_gives_standing : (account : List ℕ) (sent : CodeTexts) (line : LogLine) → Standing accounts (got_code account sent) told line
   got_code_gives_standing account sent (said (replies moment reply)) =
       demand_gives_standing accounts (got_code account sent) told (said (replies moment reply))
-      (HasDueReply accounts (reverse told) (logged_attempt_of account moment sent reply))
+      (HasDueReply accounts (reverse told) (account_attempt_of account moment sent reply))
       refl (some_why_after_code accounts account sent told moment)
       (λ is. record { next = waits_code account; goes = refl; due = (is, tt) }) (λ f. f.due.0)
       (decided_reply_due (accounts.token account) (attempts_of account (reverse told)) moment sent reply)
@@ -252,7 +252,7 @@ module _ (accounts : Accounts) (told : List LoggedAttempt) where
   got_code_gives_standing account sent line = inr (inl (λ is. cc is))
 
 -- at each place to which lines of a log lead, a line stands in one of the three ways
-pub line_has_standing : (accounts : Accounts) (place : Place) (told : List LoggedAttempt) (line : LogLine)
+pub line_has_standing : (accounts : Accounts) (place : Place) (told : List AccountAttempt) (line : LogLine)
     → ChallengeMeetsDemand (demands accounts) place → Standing accounts place told line
 line_has_standing accounts before_all told line opened = before_all_gives_standing accounts told line
 line_has_standing accounts between told line opened = between_gives_standing accounts told line

@@ -3,8 +3,8 @@ use Rattle.std.proofs.Common.{◌≡◌, ℕ, List, [], ◌∷◌, ◌++◌, ref
 use Rattle.std.specs.declared.option.Option.{Option}
 use Rattle.otp_core.specs.Attempt.{CodeTexts}
 use Rattle.otp_core.specs.declared.token.reply.Reply.{Reply}
+use Rattle.account_book.specs.AccountAttempt.{AccountAttempt, account_attempt_of}
 use Rattle.log_grammar.specs.Lines.{LogLine, said, heard, bad, mechs, cont, accepts, replies, auth, auth_with, resp, abort, code_line}
-use Rattle.log_grammar.specs.LoggedAttempt.{LoggedAttempt, logged_attempt_of}
 use Rattle.log_grammar.specs.Demands.{Demands}
 use Rattle.log_grammar.specs.Sessions.{Part, parting, quitting, after_ok, after_final, after_challenge, after_first, after_empty, after_auth}
 use Rattle.log_grammar.specs.Sessions.{after_mechs, session_part, aborts, sends_bad, quits_codes, replied, granted, quits_final, sends_final}
@@ -14,7 +14,7 @@ use Rattle.log_grammar.specs.Sessions.{challenged, quits_first, sends_first, inv
 -- part meets the demands, so does the outer one
 pub record IsWithin {X Y : Type 0} (d : Demands) (inner : X → Part) (outer : Y → Part) (wrap : X → Y) : Type 0 where
   pub front : List LogLine
-  pub before : List LoggedAttempt
+  pub before : List AccountAttempt
   pub around : (t : X) → ((outer (wrap t)).lines ≡ front ++ (inner t).lines) × ((outer (wrap t)).place ≡ (inner t).place)
       × ((outer (wrap t)).told ≡ before ++ (inner t).told) × ((inner t).Meets d → (outer (wrap t)).Meets d)
 
@@ -37,7 +37,7 @@ module _ (d : Demands) where
   replied_is_within account sent moment reply =
       record {
         front = heard (code_line sent) ∷ said (replies moment reply) ∷ [];
-        before = logged_attempt_of account moment sent reply ∷ [];
+        before = account_attempt_of account moment sent reply ∷ [];
         around = λ t. (refl, refl, refl, λ m. m);
       }
 

@@ -4,9 +4,9 @@ use Rattle.std.specs.Prelude.{if◌then◌else◌, decimal, flat_map}
 use Rattle.std.specs.List.{AllByRecursion, AllZip}
 use Rattle.std.proofs.lemmas.Bool.{cases_Bool}
 use Rattle.std.specs.Str.{byte}
-use Rattle.log_grammar.specs.Lines.{LogLine, header, header_two, log_line_text, IsLogLine, IsWritable}
+use Rattle.account_book.specs.AccountAttempt.{AccountAttempt}
+use Rattle.log_grammar.specs.Lines.{LogLine, header_one, header_two, log_line_text, IsLogLine, IsLogLineWritable}
 use Rattle.log_grammar.specs.Bytes.{LacksLf}
-use Rattle.log_grammar.specs.LoggedAttempt.{LoggedAttempt}
 use Rattle.log_grammar.specs.Places.{Place}
 use Rattle.log_grammar.specs.Demands.{Demands}
 use Rattle.log_grammar.specs.Sessions.{Session, session_lines, session}
@@ -24,7 +24,7 @@ use Rattle.log_grammar.proofs.lemmas.many_sessions.LinesOfNumber.{equal_parts_ar
 use Rattle.scram_text.proofs.lemmas.ListEnds.{same_head_and_tail, same_cons}
 use Rattle.log_grammar.proofs.lemmas.ListEnds.{appended_lists_keep_all, front_keeps_all}
 use Rattle.log_grammar.proofs.lemmas.lines.TextBytes.{lacks_lf-append}
-use Rattle.log_grammar.proofs.lemmas.lines.Words.{after_space, after_space-word, number_is_spaceless}
+use Rattle.log_grammar.proofs.lemmas.lines.Words.{after_space, after_space-word, number_lacks_space}
 
 -- each of these lines may have a number
 abbrev AllMayHaveNumber : List LogLine → Type 0
@@ -32,7 +32,7 @@ AllMayHaveNumber lines = AllByRecursion IsNoFirstLine lines
 
 -- an inner line of a session may have a number
 inner_line_may_have_number : (line : LogLine) → IsInnerLine line → IsNoFirstLine line
-inner_line_may_have_number header inner = inner
+inner_line_may_have_number header_one inner = inner
 inner_line_may_have_number header_two inner = inner
 inner_line_may_have_number line inner = tt
 
@@ -59,10 +59,10 @@ sessions_may_have_numbers (s ∷ sessions) =
     (sessions_may_have_numbers sessions)
 
 -- each line of a log of version 1 after its first may have a number: none is a first line again
-pub log_may_have_numbers : (d : Demands) (lines : List LogLine) (place : Place) (told : List LoggedAttempt)
-    → IsLogUpTo d (header ∷ lines) place told → AllMayHaveNumber lines
+pub log_may_have_numbers : (d : Demands) (lines : List LogLine) (place : Place) (told : List AccountAttempt)
+    → IsLogUpTo d (header_one ∷ lines) place told → AllMayHaveNumber lines
 log_may_have_numbers d lines place told s =
-    subst AllMayHaveNumber (sym (same_head_and_tail header header lines (flat_map session_lines s.sessions) s.lines).1)
+    subst AllMayHaveNumber (sym (same_head_and_tail header_one header_one lines (flat_map session_lines s.sessions) s.lines).1)
     (sessions_may_have_numbers s.sessions)
 
 -- the number of the next line is this one, or one more
@@ -92,7 +92,7 @@ lines_fit_from_one : (lines : List LogLine) → CanBeUpgraded lines → FitNumbe
 lines_fit_from_one lines can = (omega arith, omega (arith, can.few.1))
 
 -- the texts of lines with numbers that fit them are read as these numbered lines, if each can be written and none is a first line
-numbered_texts_are_read : (n : ℕ) (lines : List LogLine) → FitNumbers n lines → AllByRecursion IsWritable lines
+numbered_texts_are_read : (n : ℕ) (lines : List LogLine) → FitNumbers n lines → AllByRecursion IsLogLineWritable lines
     → AllByRecursion IsNoFirstLine lines → AllZip IsNumberedLine (map numbered_text (with_numbers n lines)) (with_numbers n lines)
 numbered_texts_are_read n [] few each have = tt
 numbered_texts_are_read n (line ∷ lines) few each have = (
@@ -107,7 +107,7 @@ pub upgraded_texts_are_read : (lines : List LogLine) → CanBeUpgraded lines →
 upgraded_texts_are_read lines can have = numbered_texts_are_read 1 lines (lines_fit_from_one lines can) can.each have
 
 -- the texts of lines with numbers that fit them have no LF, if each line can be written
-numbered_texts_lack_lf : (n : ℕ) (lines : List LogLine) → FitNumbers n lines → AllByRecursion IsWritable lines
+numbered_texts_lack_lf : (n : ℕ) (lines : List LogLine) → FitNumbers n lines → AllByRecursion IsLogLineWritable lines
     → AllByRecursion LacksLf (map numbered_text (with_numbers n lines))
 numbered_texts_lack_lf n [] few each = tt
 numbered_texts_lack_lf n (line ∷ lines) few each = (
@@ -122,12 +122,12 @@ pub upgraded_texts_lack_lf : (lines : List LogLine) → CanBeUpgraded lines
 upgraded_texts_lack_lf lines can = (refl, numbered_texts_lack_lf 1 lines (lines_fit_from_one lines can) can.each)
 
 -- a text of an upgraded log is read as no other than its number and its line
-pub upgraded_text_has_one_line : (n : ℕ) (line : LogLine) (x : Numbered LogLine) → IsSessionNumber n → IsWritable line
+pub upgraded_text_has_one_line : (n : ℕ) (line : LogLine) (x : Numbered LogLine) → IsSessionNumber n → IsLogLineWritable line
     → IsNumberedLine (numbered_text (numbered n line)) x → x ≡ numbered n line
 upgraded_text_has_one_line n line x number is read =
     let same_number = numbered_text_shows_number n (log_line_text line) x number read in
-    let word = number_is_spaceless n (omega (arith, number.1)) in
-    let also = number_is_spaceless x.number (omega (arith, read.number.1)) in
+    let word = number_lacks_space n (omega (arith, number.1)) in
+    let also = number_lacks_space x.number (omega (arith, read.number.1)) in
     let same : log_line_text line ≡ log_line_text x.value = sym
     (after_space-word (decimal n) (log_line_text line) word) ∙ ap after_space read.spelled ∙ after_space-word (decimal x.number)
     (log_line_text x.value) also in
@@ -137,7 +137,7 @@ upgraded_text_has_one_line n line x number is read =
 
 -- the texts of an upgraded log are read as no other than their numbers and their lines
 numbered_texts_have_one_reading : (n : ℕ) (lines : List LogLine) (log : List (Numbered LogLine)) → FitNumbers n lines
-    → AllByRecursion IsWritable lines → AllZip IsNumberedLine (map numbered_text (with_numbers n lines)) log → log ≡ with_numbers n lines
+    → AllByRecursion IsLogLineWritable lines → AllZip IsNumberedLine (map numbered_text (with_numbers n lines)) log → log ≡ with_numbers n lines
 numbered_texts_have_one_reading n [] [] few each read = refl
 numbered_texts_have_one_reading n [] (x ∷ log) few each read = absurd read
 numbered_texts_have_one_reading n (line ∷ lines) [] few each read = absurd read
@@ -156,7 +156,7 @@ upgraded_texts_have_one_reading lines log can read =
 -- the first of lines that can be numbered can be
 pub first_lines_can_be_numbered : (front back : List LogLine) → CanBeUpgraded (front ++ back) → CanBeUpgraded front
 first_lines_can_be_numbered front back can = record {
-  each = front_keeps_all IsWritable front back can.each;
+  each = front_keeps_all IsLogLineWritable front back can.each;
   few = (omega arith, omega (arith, can.few.1, length-append front back));
 }
 

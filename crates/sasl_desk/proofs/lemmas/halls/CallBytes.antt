@@ -9,8 +9,7 @@ use Rattle.log_grammar.specs.NumberedLines.{numbered_text}
 use Rattle.log_grammar.proofs.lemmas.many_sessions.LinesOfNumber.{of_number-append, of_number-own_items, of_number-other_items}
 use Rattle.log_grammar.proofs.lemmas.lines.Cuts.{ended_by_lf-append}
 use Rattle.sasl_desk.specs.Halls.{hall_lines, hall_bytes, numbered_bytes}
-use Rattle.sasl_desk.specs.Runs.{Call, wire_bytes}
-use Rattle.sasl_desk.specs.Serves.{call_lines}
+use Rattle.sasl_desk.specs.Runs.{Call, wire_bytes, call_lines}
 use Rattle.sasl_desk.proofs.lemmas.turns.TurnBytes.{wire_bytes-append}
 
 -- the bytes of a hall's log with one more call are those before it, and then those of the call's lines

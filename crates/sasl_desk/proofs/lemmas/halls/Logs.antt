@@ -13,7 +13,7 @@ use Rattle.log_grammar.specs.Lines.{LogLine, header_two, said, halt, log_line_te
 use Rattle.log_grammar.specs.Places.{Place}
 use Rattle.log_grammar.specs.Demands.{Accounts, demands}
 use Rattle.log_grammar.specs.Numbered.{Numbered, numbered, of_number, IsNumberedLogUpTo, MayEndNumbered}
-use Rattle.log_grammar.specs.NumberedLines.{numbered_text, IsNumberedLine, IsNumberedWritable}
+use Rattle.log_grammar.specs.NumberedLines.{numbered_text, IsNumberedLine, IsNumberedLineWritable}
 use Rattle.log_grammar.proofs.lemmas.many_sessions.WithoutLast.{numbered_log_has_last_transition}
 use Rattle.log_grammar.proofs.lemmas.lines.NumberedReadBack.{numbered_line_lacks_lf}
 use Rattle.log_grammar.proofs.lemmas.lines.ReadAndWritten.{writable_lines_are_read, writable_lines_lack_lf}
@@ -27,7 +27,7 @@ use Rattle.sasl_desk.proofs.lemmas.runs.HeldBooks.{failed_store_means_halted}
 use Rattle.sasl_desk.proofs.lemmas.halls.Phases.{number_without_open_session_is_between}
 
 -- the log of a hall is cut into its first line and the texts of its calls' lines, if these can be written
-hall_log_is_split : (calls : List (Numbered Call)) → AllByRecursion IsNumberedWritable (hall_lines calls)
+hall_log_is_split : (calls : List (Numbered Call)) → AllByRecursion IsNumberedLineWritable (hall_lines calls)
     → IsSplit (hall_bytes calls) (log_line_text header_two ∷ map numbered_text (hall_lines calls)) []
 hall_log_is_split calls written = record {
   bytes_are = sym (append-nil (ended_by_lf (log_line_text header_two ∷ map numbered_text (hall_lines calls)))
@@ -68,7 +68,7 @@ module _ {S : Type 0} {facts : S → StoreFacts} {IsStored : List ℕ → Type 0
       s.places,
       s.told,
       writable_lines_are_read IsNumberedLine numbered_text (hall_lines calls) s.writable,
-      s.spelled,
+      s.begins,
     ),
   )
 
@@ -83,7 +83,7 @@ module _ {S : Type 0} {facts : S → StoreFacts} {IsStored : List ℕ → Type 0
       s.places,
       s.told,
       writable_lines_are_read IsNumberedLine numbered_text (hall_lines calls) s.writable,
-      s.spelled,
+      s.begins,
       ends,
     ),
   )
@@ -107,5 +107,5 @@ module _ {S : Type 0} {facts : S → StoreFacts} {IsStored : List ℕ → Type 0
   log_is_clean_halted lines n last =
       let d = demands (accounts_in start) in
       let b = numbered_log_has_last_transition max_open_sessions d lines n (said halt) s.places s.told
-      (subst (λ (l : List (Numbered LogLine)). IsNumberedLogUpTo max_open_sessions d l s.places s.told) last s.spelled) in
+      (subst (λ (l : List (Numbered LogLine)). IsNumberedLogUpTo max_open_sessions d l s.places s.told) last s.begins) in
       ended_hall_log_is_clean (inr (n, visit_halt_leads_to_halted d (b.before n) (said halt) (s.places n) refl b.goes.goes))

@@ -1,23 +1,30 @@
--- Where each number stands in a hall: between sessions if it has no open session; and the phase of each open session is that of its place.
-use Rattle.std.proofs.Common.{◌≡◌, inl, inr, Bool, true, false, ℕ, List, refl, sym, ◌∙◌, subst, arith}
+-- Where each number stands in a hall: between sessions if it has no open session; and the phase of each open session is that of its place
+-- and the one that its last call returned.
+use Rattle.std.proofs.Common.{◌≡◌, ◌↔◌, inl, inr, Bool, true, false, ℕ, List, refl, sym, ◌∙◌, ap, subst, arith}
 use Rattle.std.specs.List.{find}
 use Rattle.std.specs.declared.option.Option.{Option}
 use Rattle.std.specs.declared.option.Option.TheVariants.{None, Some}
 use Rattle.std.proofs.lemmas.Bool.{cases_Bool, eqb-true}
+use Rattle.std.proofs.lemmas.Option.{same_Some}
 use Rattle.book_format.specs.Book.{BookFields}
 use Rattle.account_book.specs.Store.{StoreFacts}
 use Rattle.log_grammar.specs.Books.{accounts_in}
-use Rattle.log_grammar.specs.Places.{Place, before_all, between, is_closed}
+use Rattle.log_grammar.specs.Places.{Place, before_all, between, offered, waits_first, waits_final, waits_code, is_closed}
 use Rattle.log_grammar.specs.Demands.{Accounts}
 use Rattle.log_grammar.specs.Numbered.{Numbered, of_number}
 use Rattle.sasl_desk.specs.Desks.{session_phase}
 use Rattle.sasl_desk.specs.OpenSessions.{is_of}
-use Rattle.sasl_desk.specs.Halls.{HallFields, IsSessionRun, IsOpenSessionAt, IsHallAfter, open_session_phase, phase_in, IsPhaseOf, IsPhaseIn}
+use Rattle.sasl_desk.specs.Halls.{HallFields, IsSessionRun, IsOpenSessionAt, IsHallAfter, open_session_phase, phase_in, open_phase, IsPhaseOf, IsPhaseIn}
 use Rattle.sasl_desk.specs.Runs.{Call, IsAtRest}
+use Rattle.sasl_desk.specs.Sessions.{IsSessionAt}
 use Rattle.sasl_desk.specs.declared.hall.open_session.OpenSession.{OpenSession}
+use Rattle.sasl_desk.specs.declared.session.Session.{Session}
+use Rattle.sasl_desk.specs.declared.session.Session.TheVariants.{WaitAuth, WaitFirst, WaitFinal, WaitCode}
+use Rattle.sasl_desk.specs.declared.session.phase.Phase.{Phase}
+use Rattle.sasl_desk.specs.declared.session.phase.Phase.TheVariants as phase
 use Rattle.sasl_desk.proofs.lemmas.Lists.{none_is_counted_if_none_found, found_has_property, found_is_counted}
 use Rattle.sasl_desk.proofs.lemmas.runs.RestingRuns.{run_rests}
-use Rattle.sasl_desk.proofs.lemmas.halls.Calls.{session_phase_fits_place}
+use Rattle.sasl_desk.proofs.lemmas.runs.Calls.{open_session_is_not_halted}
 use Rattle.sasl_desk.proofs.lemmas.halls.Working.{open_place_counts_one, closed_place_counts_none}
 
 -- after a run of a hall's session, nothing is left to be said at the place
@@ -30,6 +37,51 @@ resting_closed_is_between : (at : Place) → is_closed at ≡ true → IsAtRest 
 resting_closed_is_between before_all is rests = absurd rests.1
 resting_closed_is_between between is rests = refl
 resting_closed_is_between at is rests = absurd (cc is)
+
+-- an open session's phase is that of the place at which it stands
+pub session_phase_fits_place : (accounts : Accounts) (at : Place) (session : Session) → IsSessionAt accounts at session
+    → IsPhaseOf at (session_phase session)
+session_phase_fits_place accounts at WaitAuth is = is
+session_phase_fits_place accounts at (WaitFirst mechanism) is = (_, is)
+session_phase_fits_place accounts at (WaitFinal waiting) (first, challenge, is, stands) = (_, _, first, challenge, is)
+session_phase_fits_place accounts at (WaitCode name) is = (name, is)
+
+-- the phase that fits a place, unless it is Halted
+phase_at : Place → Phase
+phase_at between = phase.Closed
+phase_at offered = phase.WaitAuth
+phase_at (waits_first mechanism) = phase.WaitFirst
+phase_at (waits_final mechanism account client_first server_first) = phase.WaitFinal
+phase_at (waits_code account) = phase.WaitCode
+phase_at at = phase.Halted
+
+-- at most one phase that is not Halted fits a place
+fitting_phase_is_one : (at : Place) (p : Phase) → IsPhaseOf at p → (p ≡ phase.Halted → ⊥) → phase_at at ≡ p
+unfolding phase_at
+fitting_phase_is_one at phase.Closed is apart = rw is refl
+fitting_phase_is_one at phase.WaitAuth is apart = rw is refl
+fitting_phase_is_one at phase.WaitFirst (mechanism, is) apart = rw is refl
+fitting_phase_is_one at phase.WaitFinal (mechanism, account, client_first, server_first, is) apart = rw is refl
+fitting_phase_is_one at phase.WaitCode (account, is) apart = rw is refl
+fitting_phase_is_one at phase.Halted is apart = absurd (apart refl)
+
+-- a session that is kept, and not in the phase Halted, is in the phase that fits its place; none is kept between sessions
+kept_phase_fits_place : (at : Place) (kept : Option Phase) → IsPhaseIn at kept → (kept ≡ Some phase.Halted → ⊥)
+    → kept ≡ open_phase (phase_at at)
+unfolding phase_at
+kept_phase_fits_place at None is apart = rw is refl
+kept_phase_fits_place at (Some phase.Closed) (within, is) apart = absurd (within is)
+kept_phase_fits_place at (Some phase.WaitAuth) (within, is) apart = rw is refl
+kept_phase_fits_place at (Some phase.WaitFirst) (within, (mechanism, is)) apart = rw is refl
+kept_phase_fits_place at (Some phase.WaitFinal) (within, (mechanism, account, client_first, server_first, is)) apart = rw is refl
+kept_phase_fits_place at (Some phase.WaitCode) (within, (account, is)) apart = rw is refl
+kept_phase_fits_place at (Some phase.Halted) (within, is) apart = absurd (apart refl)
+
+-- while a hall works, none of its sessions is in the phase Halted
+working_session_is_not_halted : (open_session : Option OpenSession) → open_session_phase false open_session ≡ Some phase.Halted → ⊥
+working_session_is_not_halted None is = absurd (cc is)
+working_session_is_not_halted (Some open_session) is =
+    open_session_is_not_halted open_session.session (same_Some (session_phase open_session.session) phase.Halted is)
 
 -- a hall that has answered these calls, and a number
 module _ {S : Type 0} {facts : S → StoreFacts} {IsStored : List ℕ → Type 0} {start : BookFields} {calls : List (Numbered Call)}
@@ -72,3 +124,22 @@ module _ {S : Type 0} {facts : S → StoreFacts} {IsStored : List ℕ → Type 0
   -- the law: the phase of the number's session is that of its place, and there is none if and only if no session of it is open
   pub phases_are_those_of_places : IsPhaseIn (s.places n) (phase_in hall n)
   phases_are_those_of_places = open_session_phase_fits_place hall.is_halted refl (find (is_of n) hall.open_sessions) refl
+
+  -- while the hall works, a phase that fits the session's place is the one in which the session is kept
+  fitting_phase_is_kept : hall.is_halted ≡ false → (p : Phase) → IsPhaseOf (s.places n) p → (p ≡ phase.Halted → ⊥)
+      → phase_in hall n ≡ open_phase p
+  fitting_phase_is_kept working p is apart =
+      let open_session = find (is_of n) hall.open_sessions in
+      kept_phase_fits_place (s.places n) (phase_in hall n) phases_are_those_of_places
+      (λ halted. working_session_is_not_halted open_session
+      (subst (λ (b : Bool). open_session_phase b open_session ≡ Some phase.Halted) working halted))
+      ∙ ap open_phase (fitting_phase_is_one (s.places n) p is apart)
+
+-- the phase that a call returns is the one in which its session is kept, while the hall works
+pub returned_phase_is_kept : {S : Type 0} {facts : S → StoreFacts} {IsStored : List ℕ → Type 0} {start : BookFields}
+    {calls : List (Numbered Call)} {new : HallFields S} (n : ℕ) (answered : Phase)
+    → ((answered ≡ phase.Halted) ↔ (new.is_halted ≡ true))
+    → ((after : IsHallAfter facts IsStored start calls new) × IsPhaseOf (after.places n) answered)
+    → new.is_halted ≡ false → phase_in new n ≡ open_phase answered
+returned_phase_is_kept n answered shows_halt (after, is) working =
+    fitting_phase_is_kept after n working answered is (λ halted. absurd (cc (shows_halt.0 halted, working)))

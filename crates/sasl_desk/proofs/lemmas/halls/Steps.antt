@@ -6,9 +6,9 @@ use Rattle.otp_core.specs.Attempt.{CodeTexts}
 use Rattle.book_format.specs.Book.{BookFields}
 use Rattle.account_book.specs.SavedBooks.{needs_save}
 use Rattle.account_book.specs.Store.{StoreFacts}
+use Rattle.account_book.specs.AccountAttempt.{account_attempt_of}
 use Rattle.log_grammar.specs.Books.{accounts_in}
-use Rattle.log_grammar.specs.Lines.{LogLine, heard, code_line, IsWritable}
-use Rattle.log_grammar.specs.LoggedAttempt.{logged_attempt_of}
+use Rattle.log_grammar.specs.Lines.{LogLine, heard, code_line, IsLogLineWritable}
 use Rattle.log_grammar.specs.Places.{Place, waits_code, halted}
 use Rattle.log_grammar.specs.Demands.{Accounts, demands}
 use Rattle.log_grammar.specs.Numbered.{Numbered, of_number}
@@ -19,17 +19,18 @@ use Rattle.sasl_desk.specs.Desks.{IsBookAfterReplies}
 use Rattle.sasl_desk.specs.Events.{ClientEvent}
 use Rattle.sasl_desk.specs.OpenSessions.{open_session_of}
 use Rattle.sasl_desk.specs.Halls.{hall_of, hall_lines, IsHallAfter}
-use Rattle.book_keeper.specs.Keeper.{IsCodeOutcome}
+use Rattle.book_keeper.specs.Keeper.{IsCodeJudged}
 use Rattle.sasl_desk.specs.Runs.{hears, Call, call_of, server_nonce_of}
-use Rattle.sasl_desk.specs.SessionTurns.{IsLeftAt, IsCodeDue, turn_lines}
-use Rattle.sasl_desk.specs.TurnResults.{after_turn_of, judged_lines, after_judged, SessionAnswers, IsTurnOf}
+use Rattle.sasl_desk.specs.inner.SessionTurns.{IsLeftAt, IsCodeDue, turn_lines}
+use Rattle.sasl_desk.specs.inner.TurnResults.{after_turn_of, judged_lines, after_judged, SessionAnswers, IsTurnOf}
 use Rattle.sasl_desk.specs.declared.hall.open_session.OpenSession.{OpenSession}
 use Rattle.book_keeper.specs.declared.keeper.Keeper.{Keeper}
 use Rattle.book_keeper.specs.declared.keeper.CodeJudged.{CodeJudged}
 use Rattle.book_keeper.specs.declared.keeper.CodeJudged.TheVariants.{Replied, NotSaved}
 use Rattle.sasl_desk.specs.declared.session.Session.{Session}
 use Rattle.sasl_desk.specs.declared.turn.AfterTurn.{AfterTurn}
-use Rattle.sasl_desk.proofs.lemmas.turns.Keepers.{judged_reply_is_due, judged_reply_is_in_range}
+use Rattle.sasl_log.proofs.lemmas.steps.Tokens.{book_reply_is_due}
+use Rattle.sasl_desk.proofs.lemmas.turns.Keepers.{judged_reply_is_in_range}
 use Rattle.sasl_desk.proofs.lemmas.turns.Paths.{session_has_client_turn, left_place_is_not_halted, turn_has_no_reply}
 use Rattle.sasl_desk.proofs.lemmas.turns.Taken.{session_turn_is_taken, reply_turn_is_taken, halt_turn_is_taken}
 use Rattle.sasl_desk.proofs.lemmas.runs.HeldBooks.{held_book_fits_place, kept_store_holds_book, lost_save_fits_halt}
@@ -69,7 +70,7 @@ module _ {S : Type 0} {facts : S → StoreFacts} {IsStored : List ℕ → Type 0
         next = next;
         told = s.told;
         taken = taken;
-        spelled = numbered_goes_on_by_path max_open_sessions (demands accounts) (hall_lines calls) s.places s.told n lines next s.spelled
+        begins = numbered_goes_on_by_path max_open_sessions (demands accounts) (hall_lines calls) s.places s.told n lines next s.begins
             (turn_has_turn_lines t.turn t.message)
             (turn_has_no_reply accounts server_nonce event (s.places n) t.turn t.message turn)
             (λ line to goes. any_line_follows_log s refl n line) taken.path;
@@ -85,20 +86,20 @@ module _ {S : Type 0} {facts : S → StoreFacts} {IsStored : List ℕ → Type 0
 
   -- a turn in which the keeper judged a code, or two in a row, or lost the save for it, is a step of the hall
   code_is_hall_step : (name : List ℕ) (sent : CodeTexts) (new : Keeper S) → IsCodeDue event (s.places n) name sent
-      → IsWritable (heard (code_line sent)) → (judged : CodeJudged)
-      → IsCodeOutcome IsStored old.book (facts old.store) name moment sent judged new.book (facts new.store)
+      → IsLogLineWritable (heard (code_line sent)) → (judged : CodeJudged)
+      → IsCodeJudged IsStored old.book (facts old.store) name moment sent judged new.book (facts new.store)
       → IsHallStep s event moment (judged_lines moment sent judged) (after_judged name judged) new
   code_is_hall_step name sent new due written (Replied reply) (one, kept) =
       let accounts = accounts_in start in
-      let t = logged_attempt_of name moment sent reply in
+      let t = account_attempt_of name moment sent reply in
       record {
         next = waits_code name;
         told = s.told ++ t ∷ [];
         taken = reply_turn_is_taken accounts (server_nonce_of (of_number n calls)) event moment (s.places n) name sent reply due;
-        spelled = numbered_goes_on_by_reply s.spelled n name sent moment reply (any_line_follows_log s refl n) due.place
-            (judged_reply_is_due old.book new.book t one accounts s.told (book_after_told start s.told old.book s.is_book));
+        begins = numbered_goes_on_by_reply s.begins n name sent moment reply (any_line_follows_log s refl n) due.place
+            (book_reply_is_due accounts s.told old.book t new.book one (book_after_told start s.told old.book s.is_book));
         turns = (tt, (tt, tt));
-        writable = (written, (reply_is_writable moment reply one.is_moment (judged_reply_is_in_range old.book name moment sent reply new.book one), tt));
+        writable = (written, (reply_is_writable moment reply one.is_moment (judged_reply_is_in_range old.book t new.book one), tt));
         leaves = (refl, refl);
         is_book = reply_adds_to_book start old.book new.book s.told t s.is_book one;
         stored = kept_store_holds_book IsStored (needs_save reply) old.book new.book (facts old.store) (facts new.store) kept
@@ -114,7 +115,7 @@ module _ {S : Type 0} {facts : S → StoreFacts} {IsStored : List ℕ → Type 0
         next = halted;
         told = s.told;
         taken = taken;
-        spelled = numbered_goes_on_by_path max_open_sessions (demands accounts) (hall_lines calls) s.places s.told n lines halted s.spelled
+        begins = numbered_goes_on_by_path max_open_sessions (demands accounts) (hall_lines calls) s.places s.told n lines halted s.begins
             (tt, (tt, tt)) (tt, (tt, tt)) (λ line to goes. any_line_follows_log s refl n line) taken.path;
         turns = (tt, (tt, tt));
         writable = (written, (halt_is_writable, tt));

@@ -34,7 +34,7 @@ module _ {S : Type 0} {facts : S → StoreFacts} {IsStored : List ℕ → Type 0
 
   -- the law: the book to which the replies in a hall's log lead was saved
   pub log_is_saved : AreLinesSaved IsStored start (hall_lines calls)
-  log_is_saved = record { places = s.places; told = s.told; spelled = s.spelled; saved = told_is_saved hall_holds_told }
+  log_is_saved = record { places = s.places; told = s.told; begins = s.begins; saved = told_is_saved hall_holds_told }
 
   -- the run of a hall may leave the hall's book, and that book with one more attempt
   pub hall_run_may_leave : (left : BookFields) → MayLeave hall.keeper.book left → IsHallRunLeaving facts IsStored start calls left

@@ -4,13 +4,13 @@ use Rattle.std.specs.Prelude.{count_by}
 use Rattle.std.specs.List.{AllByRecursion}
 use Rattle.book_format.specs.Book.{BookFields}
 use Rattle.account_book.specs.Store.{StoreFacts}
+use Rattle.account_book.specs.AccountAttempt.{AccountAttempt}
 use Rattle.log_grammar.specs.Books.{accounts_in}
 use Rattle.log_grammar.specs.Lines.{LogLine}
-use Rattle.log_grammar.specs.LoggedAttempt.{LoggedAttempt}
 use Rattle.log_grammar.specs.Places.{Place, open_at}
 use Rattle.log_grammar.specs.Demands.{demands}
 use Rattle.log_grammar.specs.Numbered.{Numbered, numbered, of_number, closed_in, IsNumberedLogUpTo}
-use Rattle.log_grammar.specs.NumberedLines.{IsSessionNumber, IsNumberedWritable}
+use Rattle.log_grammar.specs.NumberedLines.{IsSessionNumber, IsNumberedLineWritable}
 use Rattle.log_grammar.specs.Versions.{max_open_sessions}
 use Rattle.log_grammar.specs.state_machine.NumberedSteps.{put}
 use Rattle.log_grammar.proofs.lemmas.many_sessions.OpenCounts.{open_number_is_in_range}
@@ -40,7 +40,7 @@ use Rattle.sasl_desk.proofs.lemmas.halls.Working.{open_place_counts_one, client_
 
 -- lines of a turn that can be written can be written under a session's number too
 pub numbered_turn_is_writable : (n : ℕ) → IsSessionNumber n → (lines : List LogLine) → AllByRecursion IsTurnLine lines → CanBeWritten lines
-    → AllByRecursion IsNumberedWritable (map (numbered n) lines)
+    → AllByRecursion IsNumberedLineWritable (map (numbered n) lines)
 numbered_turn_is_writable n number [] turns written = tt
 numbered_turn_is_writable n number (line ∷ lines) turns written = (
   record {
@@ -61,11 +61,11 @@ module _ {S : Type 0} {facts : S → StoreFacts} {IsStored : List ℕ → Type 0
     -- the place to which the turn leads
     pub next : Place
     -- the replies that the hall's log records, with those of the turn
-    pub told : List LoggedAttempt
+    pub told : List AccountAttempt
     -- the lines are the turn that the session takes on the event
     pub taken : IsTurnTaken (accounts_in start) (server_nonce_of (of_number n calls)) event moment (s.places n) lines next
     -- the hall's log with these lines is one of version 2, which may be cut short, with the number at that place and the others as before
-    pub spelled : IsNumberedLogUpTo max_open_sessions (demands (accounts_in start)) (hall_lines calls ++ map (numbered n) lines)
+    pub begins : IsNumberedLogUpTo max_open_sessions (demands (accounts_in start)) (hall_lines calls ++ map (numbered n) lines)
         (put n next s.places) told
     -- no line is the first of a log or of a session
     pub turns : AllByRecursion IsTurnLine lines
@@ -93,7 +93,7 @@ module _ {S : Type 0} {facts : S → StoreFacts} {IsStored : List ℕ → Type 0
       let here = put_sets_own n step.next s.places in
       let is = s.standing refl in
       let is_open = client_turn_is_open (s.places n) (session_has_client_turn accounts (s.places n) session is.0.0) in
-      let range = open_number_is_in_range max_open_sessions (demands accounts) (hall_lines calls) s.places s.told s.spelled n is_open in
+      let range = open_number_is_in_range max_open_sessions (demands accounts) (hall_lines calls) s.places s.told s.begins n is_open in
       let number : IsSessionNumber n = (range.0, omega (arith, range.1, s.given, s.last_number)) in
       let counted = own_open_session_counts n open_session others refl in
       let alone : count_by (is_of n) others ≡ 0 = omega (arith, counted, s.open_sessions n, open_place_counts_one (s.places n) is_open) in
@@ -109,8 +109,8 @@ module _ {S : Type 0} {facts : S → StoreFacts} {IsStored : List ℕ → Type 0
               s.session_runs;
           fresh = λ m more. other_item_is_skipped n m call calls (λ same. omega (arith, same, more, range.1, none, all_begun))
               ∙ s.fresh m (omega (arith, more, none, all_begun));
-          spelled = step.spelled;
-          writable = appended_lists_keep_all IsNumberedWritable (hall_lines calls) (map (numbered n) lines) s.writable
+          begins = step.begins;
+          writable = appended_lists_keep_all IsNumberedLineWritable (hall_lines calls) (map (numbered n) lines) s.writable
               (numbered_turn_is_writable n number lines step.turns step.writable);
           given = omega (arith, s.given, none, all_begun);
           last_number = s.last_number;

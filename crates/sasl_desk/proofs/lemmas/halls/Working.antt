@@ -1,5 +1,5 @@
 -- What is known of a hall that has not halted: which sessions are open, what may follow in its log, and what its store holds.
-use Rattle.std.proofs.Common.{◌≡◌, ◌⊎◌, inl, inr, Bool, true, false, ℕ, List, [], ◌∷◌, refl, ◌∙◌, subst, arith}
+use Rattle.std.proofs.Common.{◌≡◌, ◌⊎◌, inl, inr, Bool, true, false, ℕ, List, [], ◌∷◌, refl, sym, ◌∙◌, subst, arith}
 use Rattle.std.specs.List.Sorted.{IsPermutation}
 use Rattle.std.proofs.lemmas.List.Sorted.{length_permutation}
 use Rattle.std.proofs.lemmas.Bool.{cases_Bool, false≢true, true≢false}
@@ -52,24 +52,21 @@ open_session_has_run accounts calls at is_open (inr (turned, same)) =
 abbrev pub IsClosedOrClientTurn : Place → Type 0
 IsClosedOrClientTurn at = (is_closed at ≡ true) ⊎ (is_client_turn at ≡ true)
 
--- a place where the log is halted is neither closed nor a client's turn
-halted_place_is_neither_closed_nor_turn : (at : Place) → at ≡ halted → IsClosedOrClientTurn at → ⊥
-halted_place_is_neither_closed_nor_turn at is (inl closed) = false≢true (subst (λ (p : Place). is_closed p ≡ true) is closed)
-halted_place_is_neither_closed_nor_turn at is (inr turn) = false≢true (subst (λ (p : Place). is_client_turn p ≡ true) is turn)
-
--- a place where `E` is due is neither closed nor a client's turn
-over_place_is_neither_closed_nor_turn : (at : Place) → at ≡ over → IsClosedOrClientTurn at → ⊥
-over_place_is_neither_closed_nor_turn at is (inl closed) = false≢true (subst (λ (p : Place). is_closed p ≡ true) is closed)
-over_place_is_neither_closed_nor_turn at is (inr turn) = false≢true (subst (λ (p : Place). is_client_turn p ≡ true) is turn)
+-- where a session is open and it is not its client's turn, something is left to be said
+open_place_out_of_turn_is_neither : (p at : Place) → is_closed p ≡ false → is_client_turn p ≡ false → at ≡ p → IsClosedOrClientTurn at → ⊥
+open_place_out_of_turn_is_neither p at is_open unturned is (inl closed) =
+    false≢true (sym is_open ∙ subst (λ (q : Place). is_closed q ≡ true) is closed)
+open_place_out_of_turn_is_neither p at is_open unturned is (inr turn) =
+    false≢true (sym unturned ∙ subst (λ (q : Place). is_client_turn q ≡ true) is turn)
 
 -- any line may follow one that leads to a place where nothing is left to be said
 any_line_may_follow : (d : Demands) (at next : Place) (n m : ℕ) (line more : LogLine) → IsVisitTransition d at line next
     → IsClosedOrClientTurn next
     → MayFollow n line m more
 any_line_may_follow d at next n m (said halt) more goes rests =
-    halted_place_is_neither_closed_nor_turn next (visit_halt_leads_to_halted d at (said halt) next refl goes) rests
+    open_place_out_of_turn_is_neither halted next refl refl (visit_halt_leads_to_halted d at (said halt) next refl goes) rests
 any_line_may_follow d at next n m (said busy) more goes rests =
-    absurd (over_place_is_neither_closed_nor_turn next (visit_busy_leads_to_over d at (said busy) next refl goes) rests)
+    absurd (open_place_out_of_turn_is_neither over next refl refl (visit_busy_leads_to_over d at (said busy) next refl goes) rests)
 any_line_may_follow d at next n m line more goes rests = tt
 
 -- after calls of which none halted, the store holds the book
@@ -105,7 +102,7 @@ module _ {S : Type 0} {facts : S → StoreFacts} {IsStored : List ℕ → Type 0
   any_line_follows_log n line before x same =
       let d = demands (accounts_in start) in
       let b = numbered_log_has_last_transition max_open_sessions d before x.number x.value s.places s.told
-      (subst (λ (l : List (Numbered LogLine)). IsNumberedLogUpTo max_open_sessions d l s.places s.told) same s.spelled) in
+      (subst (λ (l : List (Numbered LogLine)). IsNumberedLogUpTo max_open_sessions d l s.places s.told) same s.begins) in
       any_line_may_follow d (b.before x.number) (s.places x.number) x.number n x.value line b.goes.goes
       (each_place_is_closed_or_client_turn x.number)
 
@@ -113,7 +110,7 @@ module _ {S : Type 0} {facts : S → StoreFacts} {IsStored : List ℕ → Type 0
   pub working_hall_holds_book : HoldsBook IsStored hall.keeper.book (facts hall.keeper.store)
   working_hall_holds_book =
       unhalted_hall_holds_book IsStored (accounts_in start) calls s.places hall.keeper.book (facts hall.keeper.store)
-      (λ n is. halted_place_is_neither_closed_nor_turn (s.places n) is (each_place_is_closed_or_client_turn n)) s.is_stored
+      (λ n is. open_place_out_of_turn_is_neither halted (s.places n) refl refl is (each_place_is_closed_or_client_turn n)) s.is_stored
 
 module _ {S : Type 0} {facts : S → StoreFacts} {IsStored : List ℕ → Type 0} {start : BookFields} {calls : List (Numbered Call)}
     {keeper : Keeper S} {open_sessions others : List OpenSession} {given : ℕ} {is_halted : Bool}
@@ -126,7 +123,7 @@ module _ {S : Type 0} {facts : S → StoreFacts} {IsStored : List ℕ → Type 0
     told = s.told;
     session_runs = s.session_runs;
     fresh = s.fresh;
-    spelled = s.spelled;
+    begins = s.begins;
     writable = s.writable;
     given = s.given;
     last_number = s.last_number;

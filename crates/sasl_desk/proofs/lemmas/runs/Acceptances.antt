@@ -3,7 +3,7 @@ use Rattle.std.proofs.Common.{◌≡◌, true, false, Bool, List, [], ◌∷◌,
 use Rattle.std.specs.List.{list_any}
 use Rattle.std.proofs.lemmas.Bool.{or_left, or_right}
 use Rattle.std.proofs.lemmas.List.Folds.{list_any-append}
-use Rattle.log_grammar.specs.Lines.{LogLine, header, header_two, said, heard, bad, gone, ended, accepts}
+use Rattle.log_grammar.specs.Lines.{LogLine, header_one, header_two, said, heard, bad, gone, ended, accepts}
 use Rattle.sasl_desk.specs.Alone.{up_to_acceptance}
 
 -- the line is an acceptance
@@ -34,7 +34,7 @@ unfolding has_acceptance
 acceptance_cuts_rest [] more is = absurd (cc is)
 acceptance_cuts_rest (said (accepts message) ∷ lines) more is = refl
 acceptance_cuts_rest (said line ∷ lines) more is = cc (acceptance_cuts_rest lines more is)
-acceptance_cuts_rest (header ∷ lines) more is = cc (acceptance_cuts_rest lines more is)
+acceptance_cuts_rest (header_one ∷ lines) more is = cc (acceptance_cuts_rest lines more is)
 acceptance_cuts_rest (header_two ∷ lines) more is = cc (acceptance_cuts_rest lines more is)
 acceptance_cuts_rest (heard line ∷ lines) more is = cc (acceptance_cuts_rest lines more is)
 acceptance_cuts_rest (bad ∷ lines) more is = cc (acceptance_cuts_rest lines more is)

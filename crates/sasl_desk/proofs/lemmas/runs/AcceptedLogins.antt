@@ -13,8 +13,7 @@ use Rattle.log_grammar.proofs.lemmas.outcome_laws.ServerLines.{refusal_is_due}
 use Rattle.log_grammar.proofs.lemmas.login_laws.ValidLogins.{granted_messages_are_login, ok_completes_login}
 use Rattle.sasl_desk.specs.AcceptedLogins.{BeginWithOutcome, LinesAcceptExactlyValid}
 use Rattle.sasl_desk.specs.Halls.{busy_lines, IsSessionRun}
-use Rattle.sasl_desk.specs.Runs.{Call, run_lines, IsAtRest, IsRun}
-use Rattle.sasl_desk.specs.Serves.{call_lines}
+use Rattle.sasl_desk.specs.Runs.{Call, run_lines, IsAtRest, IsRun, call_lines}
 use Rattle.sasl_desk.proofs.lemmas.runs.RestingRuns.{run_rests}
 use Rattle.sasl_desk.proofs.lemmas.runs.PathLines.{paths_lead, run_is_path, log_is_path}
 

@@ -5,7 +5,7 @@ use Rattle.mac_core.specs.declared.mechanism.Mechanism.{Mechanism}
 use Rattle.scram_ends.specs.Login.{IsAuthentic}
 use Rattle.scram_ends.specs.Verdict.{accept, refuse, due_text}
 use Rattle.scram_ends.specs.declared.verdict.Refusal.{Refusal}
-use Rattle.log_grammar.specs.Lines.{LogLine, header, header_two, said, heard, bad, gone, ended, mechs, cont, accepts, refuses}
+use Rattle.log_grammar.specs.Lines.{LogLine, header_one, header_two, said, heard, bad, gone, ended, mechs, cont, accepts, refuses}
 use Rattle.log_grammar.specs.Places.{Place, between, offered, asks_bare, waits_first, got_first, waits_final, got_final, waits_code, leaving, over}
 use Rattle.log_grammar.specs.Demands.{Accounts, Demands, NamesMechanism, IsTakenUpFor, IsChallenged, IsVerdictDue, demands}
 use Rattle.log_grammar.specs.state_machine.Steps.{IsTransition}
@@ -44,7 +44,7 @@ module _ (d : Demands) where
   -- no line of an answer may stand at a client's turn
   no_answer_stands_at_client_turn : (at next : Place) (line : LogLine) → is_client_turn at ≡ true → IsAnswerLine line
       → IsTransition d at line next → ⊥
-  no_answer_stands_at_client_turn at next header turn is goes = is
+  no_answer_stands_at_client_turn at next header_one turn is goes = is
   no_answer_stands_at_client_turn at next header_two turn is goes = is
   no_answer_stands_at_client_turn at next (heard line) turn is goes = is
   no_answer_stands_at_client_turn at next bad turn is goes = is

@@ -3,42 +3,41 @@ use Rattle.std.proofs.Common.{ℕ, List, [], ◌∷◌, ◌++◌, reverse, sym, 
 use Rattle.std.proofs.lemmas.Grind.{reverse_onto}
 use Rattle.std.proofs.lemmas.List.{reverse-append, reverse-reverse}
 use Rattle.book_format.specs.Book.{BookFields}
+use Rattle.account_book.specs.AccountAttempt.{AccountAttempt}
+use Rattle.account_book.specs.Tokens.{IsBookAttempt}
 use Rattle.log_grammar.specs.Books.{accounts_in}
-use Rattle.log_grammar.specs.LoggedAttempt.{LoggedAttempt}
-use Rattle.sasl_log.specs.Tokens.{IsBookAfter}
+use Rattle.sasl_log.specs.inner.Tokens.{IsBookAfter}
 use Rattle.sasl_log.proofs.lemmas.audits.AuditedLineByLine.{book_follows_no_replies}
 use Rattle.sasl_desk.specs.Desks.{IsBookAfterReplies, spent_by_all}
-use Rattle.sasl_desk.specs.JudgedAttempts.{IsAttemptJudged}
 use Rattle.sasl_desk.specs.Spent.{AreSpent, spent_by}
-use Rattle.sasl_desk.proofs.lemmas.LawsBelow.{begins_with_itself}
-use Rattle.sasl_desk.proofs.lemmas.turns.Keepers.{judged_book_is_after}
+use Rattle.sasl_log.proofs.lemmas.steps.Tokens.{book_follows_attempt}
 use Rattle.sasl_desk.proofs.lemmas.runs.Spent.{spent_stays_spent}
 
 module _ (start : BookFields) where
   -- the book after replies, of which the latest is given first, is the one that is due after them
-  book_with_is_book_after : (before : List LoggedAttempt) (book : BookFields) → IsBookAfterReplies start before book
+  book_with_is_book_after : (before : List AccountAttempt) (book : BookFields) → IsBookAfterReplies start before book
       → IsBookAfter (accounts_in start) (reverse before) book
   book_with_is_book_after [] book is = subst (λ (b : BookFields). IsBookAfter (accounts_in start) [] b) (sym is)
-      (book_follows_no_replies begins_with_itself start)
+      (book_follows_no_replies start)
   book_with_is_book_after (t ∷ before) book (old, with_old, one) =
-      subst (λ (l : List LoggedAttempt). IsBookAfter (accounts_in start) l book) (sym (reverse_onto before t []))
-      (judged_book_is_after old book t one (accounts_in start) (reverse before) (book_with_is_book_after before old with_old))
+      subst (λ (l : List AccountAttempt). IsBookAfter (accounts_in start) l book) (sym (reverse_onto before t []))
+      (book_follows_attempt (accounts_in start) (reverse before) old t book one (book_with_is_book_after before old with_old))
 
   -- the book after replies, given in their order, is the one that is due after them
-  pub book_after_told : (told : List LoggedAttempt) (book : BookFields) → IsBookAfterReplies start (reverse told) book
+  pub book_after_told : (told : List AccountAttempt) (book : BookFields) → IsBookAfterReplies start (reverse told) book
       → IsBookAfter (accounts_in start) told book
   book_after_told told book is =
-      subst (λ (l : List LoggedAttempt). IsBookAfter (accounts_in start) l book) (reverse-reverse told)
+      subst (λ (l : List AccountAttempt). IsBookAfter (accounts_in start) l book) (reverse-reverse told)
       (book_with_is_book_after (reverse told) book is)
 
 -- the book after one reply more is the book after all of them
-pub reply_adds_to_book : (start old new : BookFields) (told : List LoggedAttempt) (t : LoggedAttempt)
-    → IsBookAfterReplies start (reverse told) old → IsAttemptJudged old t new → IsBookAfterReplies start (reverse (told ++ t ∷ [])) new
+pub reply_adds_to_book : (start old new : BookFields) (told : List AccountAttempt) (t : AccountAttempt)
+    → IsBookAfterReplies start (reverse told) old → IsBookAttempt old t new → IsBookAfterReplies start (reverse (told ++ t ∷ [])) new
 reply_adds_to_book start old new told t before one =
-    subst (λ (l : List LoggedAttempt). IsBookAfterReplies start l new) (sym (reverse-append told (t ∷ []))) (old, before, one)
+    subst (λ (l : List AccountAttempt). IsBookAfterReplies start l new) (sym (reverse-append told (t ∷ []))) (old, before, one)
 
 -- the law: what was spent, and what replies used, is spent in the book after them
-pub replies_spend_counters : (start : BookFields) (latest_first : List LoggedAttempt) (last : BookFields)
+pub replies_spend_counters : (start : BookFields) (latest_first : List AccountAttempt) (last : BookFields)
     (ps : List (List ℕ × ℕ))
     → IsBookAfterReplies start latest_first last → AreSpent ps start → AreSpent (spent_by_all latest_first ++ ps) last
 replies_spend_counters start [] last ps same spent = subst (λ (b : BookFields). AreSpent ps b) (sym same) spent

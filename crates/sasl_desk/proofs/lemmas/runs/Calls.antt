@@ -7,10 +7,11 @@ use Rattle.log_grammar.specs.Lines.{said, mechs, log_bytes}
 use Rattle.log_grammar.specs.Words.{offered_names}
 use Rattle.sasl_desk.specs.Events.{ClientEvent}
 use Rattle.sasl_desk.specs.Runs.{greets, hears, wire_bytes}
-use Rattle.sasl_desk.specs.TurnResults.{IsTurnWritten}
-use Rattle.sasl_desk.specs.Desks.{IsDeskAfter, Answers, phase_of, session_phase, desk_of, state_after}
+use Rattle.sasl_desk.specs.inner.TurnResults.{IsTurnWritten}
+use Rattle.sasl_desk.specs.Desks.{IsDeskAfter, Answers, state_phase, session_phase, desk_of, state_after}
 use Rattle.sasl_desk.specs.declared.turn.AfterTurn.{AfterTurn}
-use Rattle.sasl_desk.specs.declared.turn.AfterTurn.TheVariants.{Going, Over, Halted}
+use Rattle.sasl_desk.specs.declared.turn.AfterTurn.TheVariants.{Going, Halted}
+use Rattle.sasl_desk.specs.declared.turn.AfterTurn.TheVariants as after
 use Rattle.book_keeper.specs.declared.keeper.Keeper.{Keeper}
 use Rattle.sasl_desk.specs.declared.desk.Desk.{Desk}
 use Rattle.sasl_desk.specs.declared.desk.state.State.{State}
@@ -29,10 +30,10 @@ open_session_is_not_halted (WaitFinal waiting) is = cc is
 open_session_is_not_halted (WaitCode name) is = cc is
 
 -- a desk whose phase after a turn is Halted was halted by that turn
-halted_phase_shows_halting_turn : (left : AfterTurn) (server_nonce : List ℕ) → phase_of (state_after left server_nonce) ≡ phase.Halted
+halted_phase_shows_halting_turn : (left : AfterTurn) (server_nonce : List ℕ) → state_phase (state_after left server_nonce) ≡ phase.Halted
     → halted_after left ≡ true
 halted_phase_shows_halting_turn (Going session) server_nonce is = absurd (open_session_is_not_halted session is)
-halted_phase_shows_halting_turn Over server_nonce is = absurd (cc is)
+halted_phase_shows_halting_turn after.Closed server_nonce is = absurd (cc is)
 halted_phase_shows_halting_turn (Halted session) server_nonce is = refl
 
 -- a desk with an open session, and what a turn makes of it

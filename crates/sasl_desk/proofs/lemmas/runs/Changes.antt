@@ -2,7 +2,7 @@
 use Rattle.std.proofs.Common.{◌≡◌, inl, inr, ℕ, List, [], ◌∷◌, ◌++◌, reverse, sym, subst, append_assoc}
 use Rattle.book_format.specs.Book.{BookFields}
 use Rattle.account_book.specs.Store.{StoreFacts}
-use Rattle.log_grammar.specs.LoggedAttempt.{LoggedAttempt}
+use Rattle.account_book.specs.AccountAttempt.{AccountAttempt}
 use Rattle.log_grammar.proofs.lemmas.ListEnds.{back_keeps_all}
 use Rattle.sasl_desk.specs.Spent.{AreDifferent, IsCounterSpent, AreSpent, spent_by}
 use Rattle.sasl_desk.specs.Desks.{spent_by_all}
@@ -34,7 +34,7 @@ left_book_keeps_spent_counters kept left ps (inr (t, one)) spent =
 -- what was spent before, and what the replies of a run used, is spent in the book that the run leaves, if this is so of the book that
 -- its desk or hall has
 run_spends_counters : {Server C : Type 0} {IsAfter : BookFields → List C → Server → Type 0}
-    {replies : (start : BookFields) (calls : List C) (server : Server) → IsAfter start calls server → List LoggedAttempt}
+    {replies : (start : BookFields) (calls : List C) (server : Server) → IsAfter start calls server → List AccountAttempt}
     {book : Server → BookFields} (r : RunOf C) (ps : List (List ℕ × ℕ)) {old new : BookFields}
     → IsRunOf IsAfter replies book r × (r.start ≡ old) × (r.left ≡ new)
     → ((start : BookFields) (calls : List C) (server : Server) (s : IsAfter start calls server) → AreSpent ps start
@@ -42,7 +42,7 @@ run_spends_counters : {Server C : Type 0} {IsAfter : BookFields → List C → S
     → AreSpent ps old → AreSpent (spent_by_all (reverse r.told) ++ ps) new
 run_spends_counters {book = book} r ps (run, start, left) spends spent =
     let kept = spends r.start r.calls run.server run.stands (subst (λ (b : BookFields). AreSpent ps b) (sym start) spent) in
-    let told = subst (λ (t : List LoggedAttempt). AreSpent (spent_by_all (reverse t) ++ ps) (book run.server)) (sym run.tells) kept in
+    let told = subst (λ (t : List AccountAttempt). AreSpent (spent_by_all (reverse t) ++ ps) (book run.server)) (sym run.tells) kept in
     subst (λ (b : BookFields). AreSpent (spent_by_all (reverse r.told) ++ ps) b) left
     (left_book_keeps_spent_counters (book run.server) r.left (spent_by_all (reverse r.told) ++ ps) run.leaves told)
 

@@ -6,16 +6,16 @@ use Rattle.book_format.specs.Book.{BookFields}
 use Rattle.book_format.specs.Trees.{IsBookText}
 use Rattle.account_book.specs.SavedBooks.{SavesBook}
 use Rattle.account_book.specs.Store.{StoreFacts}
+use Rattle.account_book.specs.AccountAttempt.{account_attempt_of}
 use Rattle.log_grammar.specs.Lines.{said, halt}
-use Rattle.log_grammar.specs.LoggedAttempt.{logged_attempt_of}
 use Rattle.log_grammar.specs.Places.{Place, waits_code, halted}
 use Rattle.log_grammar.specs.Demands.{Accounts}
 use Rattle.sasl_desk.specs.Desks.{HoldsBook, IsLostAfter, IsStoredAt}
 use Rattle.sasl_desk.specs.DueLines.{is_client_turn}
 use Rattle.sasl_desk.specs.Events.{ClientEvent}
-use Rattle.book_keeper.specs.Keeper.{IsSavedIfChanged, IsCodeOutcome}
+use Rattle.book_keeper.specs.Keeper.{IsSavedIfChanged, IsCodeJudged}
 use Rattle.sasl_desk.specs.Runs.{hears, Call, call_of, IsRun}
-use Rattle.sasl_desk.specs.TurnResults.{judged_lines}
+use Rattle.sasl_desk.specs.inner.TurnResults.{judged_lines}
 use Rattle.book_keeper.specs.declared.keeper.CodeJudged.TheVariants.{NotSaved}
 use Rattle.sasl_desk.proofs.lemmas.turns.Keepers.{store_failed_in_this_save}
 
@@ -65,7 +65,7 @@ module _ (IsStored : List ℕ → Type 0) where
   pub lost_save_fits_halt : (accounts : Accounts) (calls : List Call) (at : Place) (old new : BookFields) (was now : StoreFacts)
       (name : List ℕ) (event : ClientEvent) (moment : ℕ) (sent : CodeTexts)
       → IsRun accounts calls at → at ≡ waits_code name → HoldsBook IsStored old was
-      → IsCodeOutcome IsStored old was name moment sent NotSaved new now
+      → IsCodeJudged IsStored old was name moment sent NotSaved new now
       → IsStoredAt IsStored accounts (call_of (hears event moment) (judged_lines moment sent NotSaved) ∷ calls) halted new now
   lost_save_fits_halt accounts calls at old new was now name event moment sent run here held (same, (next, (reply, needs, one), loses)) =
       let lost = store_failed_in_this_save was now loses.text held.working loses.lost in
@@ -77,7 +77,7 @@ module _ (IsStored : List ℕ → Type 0) where
       (λ (b : BookFields). IsLostAfter IsStored accounts (call_of (hears event moment) (judged_lines moment sent NotSaved) ∷ calls) b now)
       (sym same) (record {
         failed = lost.failed;
-        attempt = logged_attempt_of name moment sent reply;
+        attempt = account_attempt_of name moment sent reply;
         next = next;
         is_latest = (
           at,

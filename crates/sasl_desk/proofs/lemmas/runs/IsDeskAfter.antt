@@ -6,10 +6,10 @@ use Rattle.otp_core.specs.Attempt.{CodeTexts}
 use Rattle.book_format.specs.Book.{BookFields}
 use Rattle.account_book.specs.SavedBooks.{needs_save, SavesBook}
 use Rattle.account_book.specs.Store.{StoreFacts}
+use Rattle.account_book.specs.AccountAttempt.{AccountAttempt, account_attempt_of}
 use Rattle.log_grammar.specs.Books.{accounts_in}
-use Rattle.log_grammar.specs.Lines.{LogLine, header, said, heard, mechs, code_line, IsWritable}
+use Rattle.log_grammar.specs.Lines.{LogLine, header_one, said, heard, mechs, code_line, IsLogLineWritable}
 use Rattle.log_grammar.specs.Words.{offered_names}
-use Rattle.log_grammar.specs.LoggedAttempt.{LoggedAttempt, logged_attempt_of}
 use Rattle.log_grammar.specs.Places.{Place, before_all, between, offered, waits_code, halted}
 use Rattle.log_grammar.specs.Demands.{Accounts, demands}
 use Rattle.log_grammar.specs.Begins.{Begins}
@@ -18,10 +18,10 @@ use Rattle.log_grammar.proofs.lemmas.ListEnds.{appended_lists_keep_all}
 use Rattle.log_grammar.proofs.lemmas.state_machine.LogSteps.{log_goes_on}
 use Rattle.log_grammar.proofs.lemmas.lines.Written.{offer_is_writable, header_is_writable, halt_is_writable}
 use Rattle.sasl_desk.specs.Events.{ClientEvent}
-use Rattle.book_keeper.specs.Keeper.{IsCodeOutcome}
-use Rattle.sasl_desk.specs.SessionTurns.{IsLeftAt, IsCodeDue, turn_lines}
+use Rattle.book_keeper.specs.Keeper.{IsCodeJudged}
+use Rattle.sasl_desk.specs.inner.SessionTurns.{IsLeftAt, IsCodeDue, turn_lines}
 use Rattle.sasl_desk.specs.Runs.{greets, hears, Call, call_of, run_lines, server_nonce_of}
-use Rattle.sasl_desk.specs.TurnResults.{after_turn_of, judged_lines, after_judged, SessionAnswers, IsTurnOf}
+use Rattle.sasl_desk.specs.inner.TurnResults.{after_turn_of, judged_lines, after_judged, SessionAnswers, IsTurnOf}
 use Rattle.sasl_desk.specs.Desks.{IsStateAt, HoldsBook, IsStoredAt, IsBookAfterReplies, IsDeskAfter, desk_of, state_after}
 use Rattle.book_keeper.specs.declared.keeper.Keeper.{Keeper}
 use Rattle.book_keeper.specs.declared.keeper.CodeJudged.{CodeJudged}
@@ -31,7 +31,8 @@ use Rattle.sasl_desk.specs.declared.desk.state.State.TheVariants.{Closed, Open, 
 use Rattle.sasl_desk.specs.declared.session.Session.{Session}
 use Rattle.sasl_desk.specs.declared.session.Session.TheVariants.{WaitAuth}
 use Rattle.sasl_desk.specs.declared.turn.AfterTurn.{AfterTurn}
-use Rattle.sasl_desk.proofs.lemmas.turns.Keepers.{judged_reply_is_due, judged_reply_is_in_range}
+use Rattle.sasl_log.proofs.lemmas.steps.Tokens.{book_reply_is_due}
+use Rattle.sasl_desk.proofs.lemmas.turns.Keepers.{judged_reply_is_in_range}
 use Rattle.sasl_desk.proofs.lemmas.turns.Paths.{session_has_client_turn, left_place_is_not_halted, turn_has_no_reply, log_goes_on_by_path}
 use Rattle.sasl_desk.proofs.lemmas.turns.Paths.{log_goes_on_by_reply}
 use Rattle.sasl_desk.proofs.lemmas.turns.Taken.{session_turn_is_taken, reply_turn_is_taken, halt_turn_is_taken}
@@ -53,7 +54,7 @@ new_desk_stands_for_book facts IsStored book keeper was same holds = record {
   place = between;
   told = [];
   is_run = refl;
-  begins = log_goes_on (demands (accounts_in book)) [] before_all [] header between (inl (refl, refl, refl)) refl tt;
+  begins = log_goes_on (demands (accounts_in book)) [] before_all [] header_one between (inl (refl, refl, refl)) refl tt;
   writable = (header_is_writable, tt);
   is_state = refl;
   is_book = same;
@@ -76,9 +77,9 @@ module _ {S : Type 0} {facts : S → StoreFacts} {IsStored : List ℕ → Type 0
         place = offered;
         told = s.told;
         is_run = (s.place, s.is_run, record { from = s.is_state; says = refl; waits = refl });
-        begins = subst (λ (t : List LoggedAttempt). Begins (demands accounts) (run_lines calls ++ line ∷ []) offered t) (append-nil s.told)
+        begins = subst (λ (t : List AccountAttempt). Begins (demands accounts) (run_lines calls ++ line ∷ []) offered t) (append-nil s.told)
             on;
-        writable = appended_lists_keep_all IsWritable (run_lines calls) (line ∷ []) s.writable (offer_is_writable, tt);
+        writable = appended_lists_keep_all IsLogLineWritable (run_lines calls) (line ∷ []) s.writable (offer_is_writable, tt);
         is_state = (refl, refl);
         is_book = s.is_book;
         is_stored = subst (λ (p : Place). IsStoredAt IsStored accounts calls p keeper.book (facts keeper.store)) s.is_state s.is_stored;
@@ -113,7 +114,7 @@ module _ {S : Type 0} {facts : S → StoreFacts} {IsStored : List ℕ → Type 0
           is_run = (s.place, s.is_run, taken);
           begins = log_goes_on_by_path accounts (run_lines calls) s.place s.told lines next s.begins taken.path
               (turn_has_no_reply accounts server_nonce event s.place t.turn t.message turn);
-          writable = appended_lists_keep_all IsWritable (run_lines calls) lines s.writable (rw t.lines_are at t.writable);
+          writable = appended_lists_keep_all IsLogLineWritable (run_lines calls) lines s.writable (rw t.lines_are at t.writable);
           is_state = left_desk_fits_place accounts (server_nonce_of calls) server_nonce next t.turn.answer.session same
               turn.is_answer.left;
           is_book = s.is_book;
@@ -123,22 +124,22 @@ module _ {S : Type 0} {facts : S → StoreFacts} {IsStored : List ℕ → Type 0
 
     -- when the keeper has judged a code, or two in a row, or has lost the save for it, the desk stands for one call more
     code_adds_desk_call : (name : List ℕ) (sent : CodeTexts) (new : Keeper S) → IsCodeDue event s.place name sent
-        → IsWritable (heard (code_line sent)) → (judged : CodeJudged)
-        → IsCodeOutcome IsStored old.book (facts old.store) name moment sent judged new.book (facts new.store)
+        → IsLogLineWritable (heard (code_line sent)) → (judged : CodeJudged)
+        → IsCodeJudged IsStored old.book (facts old.store) name moment sent judged new.book (facts new.store)
         → IsDeskAfter facts IsStored start (call_of (hears event moment) (judged_lines moment sent judged) ∷ calls)
         (desk_of new (state_after (after_judged name judged) server_nonce))
     code_adds_desk_call name sent new due written (Replied reply) (one, kept) =
         let accounts = accounts_in start in
-        let t = logged_attempt_of name moment sent reply in
+        let t = account_attempt_of name moment sent reply in
         record {
           place = waits_code name;
           told = s.told ++ t ∷ [];
           is_run = (s.place, s.is_run, reply_turn_is_taken accounts (server_nonce_of calls) event moment s.place name sent reply due);
           begins = log_goes_on_by_reply accounts (run_lines calls) name s.told moment sent reply
               (subst (λ (p : Place). Begins (demands accounts) (run_lines calls) p s.told) due.place s.begins)
-              (judged_reply_is_due old.book new.book t one accounts s.told (book_after_told start s.told old.book s.is_book));
-          writable = appended_lists_keep_all IsWritable (run_lines calls) (judged_lines moment sent (Replied reply)) s.writable
-              (written, (reply_is_writable moment reply one.is_moment (judged_reply_is_in_range old.book name moment sent reply new.book one), tt));
+              (book_reply_is_due accounts s.told old.book t new.book one (book_after_told start s.told old.book s.is_book));
+          writable = appended_lists_keep_all IsLogLineWritable (run_lines calls) (judged_lines moment sent (Replied reply)) s.writable
+              (written, (reply_is_writable moment reply one.is_moment (judged_reply_is_in_range old.book t new.book one), tt));
           is_state = (refl, s.is_state.1);
           is_book = reply_adds_to_book start old.book new.book s.told t s.is_book one;
           is_stored = kept_store_holds_book IsStored (needs_save reply) old.book new.book (facts old.store) (facts new.store) kept
@@ -153,7 +154,7 @@ module _ {S : Type 0} {facts : S → StoreFacts} {IsStored : List ℕ → Type 0
           told = s.told;
           is_run = (s.place, s.is_run, taken);
           begins = log_goes_on_by_path accounts (run_lines calls) s.place s.told lines halted s.begins taken.path (tt, (tt, tt));
-          writable = appended_lists_keep_all IsWritable (run_lines calls) lines s.writable (written, (halt_is_writable, tt));
+          writable = appended_lists_keep_all IsLogLineWritable (run_lines calls) lines s.writable (written, (halt_is_writable, tt));
           is_state = tt;
           is_book = subst (λ (b : BookFields). IsBookAfterReplies start (reverse s.told) b) (sym judged.0) s.is_book;
           is_stored = lost_save_fits_halt IsStored accounts calls s.place old.book new.book (facts old.store) (facts new.store) name event

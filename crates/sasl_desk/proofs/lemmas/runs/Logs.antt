@@ -15,7 +15,7 @@ use Rattle.log_grammar.proofs.lemmas.lines.LackLf.{lines_lack_lf}
 use Rattle.log_grammar.proofs.lemmas.lines.ReadAndWritten.{writable_lines_are_read, writable_lines_lack_lf}
 use Rattle.sasl_desk.specs.Sessions.{CanBeWritten}
 use Rattle.sasl_desk.specs.Runs.{Call, run_lines}
-use Rattle.sasl_desk.specs.Desks.{IsStateAt, IsDeskAfter, phase_of, session_phase}
+use Rattle.sasl_desk.specs.Desks.{IsStateAt, IsDeskAfter, state_phase, session_phase}
 use Rattle.sasl_desk.specs.declared.desk.Desk.{Desk}
 use Rattle.sasl_desk.specs.declared.desk.state.State.{State}
 use Rattle.sasl_desk.specs.declared.desk.state.State.TheVariants.{Closed, Open, Halted}
@@ -46,7 +46,7 @@ open_session_is_not_closed (WaitCode name) is = cc is
 -- at a desk that is Closed a log may end
 closed_desk_may_end : (start : BookFields) (server_nonce : List ℕ) (place : Place) (state : State)
     → IsStateAt (accounts_in start) server_nonce place state
-    → phase_of state ≡ phase.Closed
+    → state_phase state ≡ phase.Closed
     → MayEnd place
 closed_desk_may_end start server_nonce place Closed at is = rw at tt
 closed_desk_may_end start server_nonce place (Open session own) at is = absurd (open_session_is_not_closed session is)
@@ -68,7 +68,7 @@ module _ {S : Type 0} {facts : S → StoreFacts} {IsStored : List ℕ → Type 0
       (bytes_are_lines (run_lines calls) s.writable) s.begins
 
   -- the law: the log of a desk is clean when no session is open, or when the store has failed
-  pub log_is_clean_closed : (phase_of desk.state ≡ phase.Closed) ⊎ ((facts desk.keeper.store).failed ≡ true)
+  pub log_is_clean_closed : (state_phase desk.state ≡ phase.Closed) ⊎ ((facts desk.keeper.store).failed ≡ true)
       → IsClean (accounts_in start) (log_bytes (run_lines calls))
   log_is_clean_closed (inl closed) = ended_desk_log_is_clean (closed_desk_may_end start _ s.place desk.state s.is_state closed)
   log_is_clean_closed (inr failed) =

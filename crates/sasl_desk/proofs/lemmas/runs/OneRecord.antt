@@ -9,7 +9,7 @@ use Rattle.sasl_desk.specs.Events.{ClientEvent, sends, goes_away}
 use Rattle.sasl_desk.specs.Sessions.{IsRecord}
 use Rattle.sasl_desk.specs.DueLines.{is_due, place_after_line, place_after_record}
 use Rattle.sasl_desk.proofs.lemmas.turns.HeardLines.{from_client_is_injective}
-use Rattle.sasl_desk.proofs.lemmas.turns.DueRecords.{standing_client_line_is_due, bad_stands_in_turn, gone_stands_in_turn}
+use Rattle.sasl_desk.proofs.lemmas.turns.DueRecords.{standing_client_line_is_due, bad_and_gone_stand_in_turn}
 use Rattle.sasl_desk.proofs.lemmas.runs.AnswerShapes.{IsAnswerDue}
 
 -- what is recorded of an event at a place is one line
@@ -48,8 +48,10 @@ pub record_awaits_answer : (d : Demands) (event : ClientEvent) (at middle : Plac
 record_awaits_answer d (sends text) at middle (heard line) is goes apart =
     let due = standing_client_line_is_due d line at middle goes in subst IsAnswerDue (sym due.1)
     (heard_line_awaits_answer at line due.0 apart)
-record_awaits_answer d (sends text) at middle bad is goes apart = subst IsAnswerDue (sym (bad_stands_in_turn d at middle goes).1) tt
-record_awaits_answer d goes_away at middle gone is goes apart = subst IsAnswerDue (sym (gone_stands_in_turn d at middle goes).1) tt
+record_awaits_answer d (sends text) at middle bad is goes apart =
+    subst IsAnswerDue (sym ((bad_and_gone_stand_in_turn d at middle).0 goes).1) tt
+record_awaits_answer d goes_away at middle gone is goes apart =
+    subst IsAnswerDue (sym ((bad_and_gone_stand_in_turn d at middle).1 goes).1) tt
 record_awaits_answer d (sends text) at middle kept is goes apart = absurd is
 record_awaits_answer d goes_away at middle kept is goes apart = absurd is
 
@@ -58,7 +60,7 @@ pub record_leads_to_place : (d : Demands) (event : ClientEvent) (at middle : Pla
     → IsTransition d at kept middle
     → middle ≡ place_after_record at kept
 record_leads_to_place d (sends text) at middle (heard line) is goes = (standing_client_line_is_due d line at middle goes).1
-record_leads_to_place d (sends text) at middle bad is goes = (bad_stands_in_turn d at middle goes).1
-record_leads_to_place d goes_away at middle gone is goes = (gone_stands_in_turn d at middle goes).1
+record_leads_to_place d (sends text) at middle bad is goes = ((bad_and_gone_stand_in_turn d at middle).0 goes).1
+record_leads_to_place d goes_away at middle gone is goes = ((bad_and_gone_stand_in_turn d at middle).1 goes).1
 record_leads_to_place d (sends text) at middle kept is goes = absurd is
 record_leads_to_place d goes_away at middle kept is goes = absurd is

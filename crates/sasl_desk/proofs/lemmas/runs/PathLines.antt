@@ -1,13 +1,12 @@
 -- The lines of a run are a path from the place before them.
-use Rattle.std.proofs.Common.{◌≡◌, ◌⊎◌, inl, ℕ, List, [], ◌∷◌, ◌++◌, refl, sym, ap, subst}
+use Rattle.std.proofs.Common.{◌≡◌, ◌⊎◌, inl, ℕ, List, [], ◌∷◌, ◌++◌, refl, sym, subst}
 use Rattle.log_grammar.specs.Words.{offered_names}
-use Rattle.log_grammar.specs.Lines.{LogLine, header, said, mechs}
+use Rattle.log_grammar.specs.Lines.{LogLine, said, mechs}
 use Rattle.log_grammar.specs.Places.{Place, before_all, between, offered}
 use Rattle.log_grammar.specs.Demands.{Accounts, Demands, demands}
 use Rattle.log_grammar.specs.state_machine.Steps.{IsTransition}
 use Rattle.log_grammar.proofs.lemmas.outcome_laws.LeadingLines.{LeadByLast}
-use Rattle.sasl_desk.specs.Runs.{Request, greets, hears, Call, run_lines, server_nonce_of, IsAnsweredBy, IsRun}
-use Rattle.sasl_desk.specs.Serves.{call_lines}
+use Rattle.sasl_desk.specs.Runs.{Request, greets, hears, Call, run_lines, server_nonce_of, IsAnsweredBy, IsRun, call_lines}
 use Rattle.sasl_desk.specs.Sessions.{IsPath}
 
 module _ (d : Demands) where
@@ -55,14 +54,7 @@ run_is_path accounts (c ∷ before) place (middle, run, answered) =
     paths_join (demands accounts) between (call_lines before) middle c.lines place (run_is_path accounts before middle run)
     (call_is_path accounts (server_nonce_of before) c.request middle c.lines place answered)
 
--- a desk's log has the first line, and then the lines of its calls
-pub run_lines-calls : (calls : List Call) → run_lines calls ≡ header ∷ call_lines calls
-run_lines-calls [] = refl
-run_lines-calls (c ∷ before) = ap (λ (l : List LogLine). l ++ c.lines) (run_lines-calls before)
-
 -- the lines of a desk's log are a path
 pub log_is_path : (accounts : Accounts) (calls : List Call) (place : Place) → IsRun accounts calls place
     → IsPath (demands accounts) before_all (run_lines calls) place
-log_is_path accounts calls place run =
-    subst (λ (l : List LogLine). IsPath (demands accounts) before_all l place) (sym (run_lines-calls calls))
-    (between, refl, run_is_path accounts calls place run)
+log_is_path accounts calls place run = (between, refl, run_is_path accounts calls place run)

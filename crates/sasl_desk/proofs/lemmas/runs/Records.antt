@@ -6,7 +6,7 @@ use Rattle.std.proofs.lemmas.List.Sums.{sum_by-append}
 use Rattle.account_book.specs.Store.{StoreFacts}
 use Rattle.book_format.specs.Book.{BookFields}
 use Rattle.log_grammar.specs.Books.{accounts_in}
-use Rattle.log_grammar.specs.Lines.{LogLine, header, header_two, said, heard, bad, gone, ended, mechs}
+use Rattle.log_grammar.specs.Lines.{LogLine, header_one, header_two, said, heard, bad, gone, ended, mechs}
 use Rattle.log_grammar.specs.Places.{Place}
 use Rattle.log_grammar.specs.Demands.{Accounts}
 use Rattle.log_grammar.specs.Counts.{is_offer}
@@ -22,7 +22,7 @@ answer_records_nothing : (lines : List LogLine) → AllByRecursion IsAnswerLine 
 answer_records_nothing [] all = refl
 answer_records_nothing (said line ∷ lines) all = answer_records_nothing lines all.1
 answer_records_nothing (ended ∷ lines) all = answer_records_nothing lines all.1
-answer_records_nothing (header ∷ lines) all = absurd all.0
+answer_records_nothing (header_one ∷ lines) all = absurd all.0
 answer_records_nothing (header_two ∷ lines) all = absurd all.0
 answer_records_nothing (heard line ∷ lines) all = absurd all.0
 answer_records_nothing (bad ∷ lines) all = absurd all.0
@@ -34,7 +34,7 @@ answer_offers_nothing [] all = refl
 answer_offers_nothing (said (mechs names) ∷ lines) all = absurd all.0
 answer_offers_nothing (said line ∷ lines) all = answer_offers_nothing lines all.1
 answer_offers_nothing (ended ∷ lines) all = answer_offers_nothing lines all.1
-answer_offers_nothing (header ∷ lines) all = absurd all.0
+answer_offers_nothing (header_one ∷ lines) all = absurd all.0
 answer_offers_nothing (header_two ∷ lines) all = absurd all.0
 answer_offers_nothing (heard line ∷ lines) all = absurd all.0
 answer_offers_nothing (bad ∷ lines) all = absurd all.0
@@ -48,13 +48,10 @@ record_counts_as_record (sends text) at kept is = absurd is
 record_counts_as_record goes_away at gone is = refl
 record_counts_as_record goes_away at kept is = absurd is
 
--- the line that records an event is not an offer
-record_is_no_offer : (event : ClientEvent) (at : Place) (kept : LogLine) → IsRecord event at kept → is_offer kept ≡ false
-record_is_no_offer (sends text) at (heard line) is = refl
-record_is_no_offer (sends text) at bad is = refl
-record_is_no_offer (sends text) at kept is = absurd is
-record_is_no_offer goes_away at gone is = refl
-record_is_no_offer goes_away at kept is = absurd is
+-- a line that records what a client did is no offer
+record_is_no_offer : (line : LogLine) → is_record line ≡ true → is_offer line ≡ false
+record_is_no_offer (said line) is = absurd (cc is)
+record_is_no_offer line is = refl
 
 -- the lines of a turn have one record, the event's
 turn_has_one_record : (accounts : Accounts) (server_nonce : List ℕ) (event : ClientEvent) (moment : ℕ) (at : Place) (lines : List LogLine)
@@ -72,7 +69,8 @@ call_offers_if_it_greets : (accounts : Accounts) (server_nonce : List ℕ) (requ
 call_offers_if_it_greets accounts server_nonce (greets new) at lines next answered = ap (count_by is_offer) answered.says
 call_offers_if_it_greets accounts server_nonce (hears event moment) at lines next turn =
     ap (count_by is_offer) turn.lines_are
-    ∙ rw (record_is_no_offer event at turn.recorded turn.is_record) (answer_offers_nothing turn.answered turn.answers)
+    ∙ rw (record_is_no_offer turn.recorded (record_counts_as_record event at turn.recorded turn.is_record))
+    (answer_offers_nothing turn.answered turn.answers)
 
 -- the records in the lines of a call are what its request adds
 call_adds_its_record : (accounts : Accounts) (before : List Call) (request : Request) (at : Place) (lines : List LogLine) (next : Place)

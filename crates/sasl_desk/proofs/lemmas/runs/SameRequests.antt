@@ -10,8 +10,7 @@ use Rattle.log_grammar.specs.Places.{Place, between, got_first, waits_final, got
 use Rattle.log_grammar.specs.Demands.{Accounts, IsVerdictDue, demands}
 use Rattle.log_grammar.specs.state_machine.Steps.{IsTransition}
 use Rattle.sasl_desk.specs.Alone.{IsSameRequest, HaveSameRequests, up_to_acceptance, HaveSameEntries}
-use Rattle.sasl_desk.specs.Runs.{Request, greets, hears, Call, server_nonce_after, server_nonce_of, IsAnsweredBy, IsRun}
-use Rattle.sasl_desk.specs.Serves.{call_lines}
+use Rattle.sasl_desk.specs.Runs.{Request, greets, hears, Call, server_nonce_after, server_nonce_of, IsAnsweredBy, IsRun, call_lines}
 use Rattle.sasl_desk.specs.Sessions.{IsPath, IsChallengeWith}
 use Rattle.sasl_desk.proofs.lemmas.runs.Acceptances.{has_acceptance, front_brings_acceptance, rest_brings_acceptance, acceptance_cuts_rest}
 use Rattle.sasl_desk.proofs.lemmas.runs.OneAnswer.{one_answer_to_call}

@@ -6,7 +6,7 @@ use Rattle.std.proofs.lemmas.Slice.Eq.{bytes_eq-Decides}
 use Rattle.std.proofs.lemmas.Option.{same_Some}
 use Rattle.otp_core.specs.Attempt.{Attempt, CodeTexts, one_text, two_texts, used_in, used_in_reply, attempt_of}
 use Rattle.otp_core.specs.Ranges.{IsMoment}
-use Rattle.otp_core.specs.Window.{IsAbove}
+use Rattle.otp_core.specs.Window.{IsAbove, CanPass}
 use Rattle.otp_core.specs.Reply.{IsFitting, IsDueReply}
 use Rattle.otp_core.specs.History.{IsAfter, IsLegal}
 use Rattle.otp_core.specs.declared.token.reply.Reply.{Reply}
@@ -16,16 +16,15 @@ use Rattle.otp_core.proofs.lemmas.Joins.{legal_histories_join}
 use Rattle.otp_core.proofs.lemmas.Used.{candidates_are_new}
 use Rattle.book_format.specs.Book.{BookFields}
 use Rattle.account_book.specs.Tokens.{token_at}
+use Rattle.account_book.specs.AccountAttempt.{AccountAttempt, account_attempt_of}
 use Rattle.log_grammar.specs.Books.{accounts_in}
-use Rattle.log_grammar.specs.LoggedAttempt.{LoggedAttempt, logged_attempt_of}
 use Rattle.log_grammar.specs.Demands.{attempts_of, IsReplyDueBy}
-use Rattle.sasl_log.specs.Tokens.{LeadsTo, IsBookAfter}
+use Rattle.sasl_log.specs.inner.Tokens.{LeadsTo, IsBookAfter}
 use Rattle.log_grammar.proofs.lemmas.ListEnds.{front_keeps_all, back_keeps_all}
 use Rattle.sasl_log.proofs.lemmas.audits.AuditedLineByLine.{book_follows_no_replies}
 use Rattle.sasl_desk.proofs.lemmas.Lists.{each_follows}
-use Rattle.sasl_desk.proofs.lemmas.LawsBelow.{begins_with_itself}
-use Rattle.sasl_desk.proofs.lemmas.turns.Keepers.{judged_reply_is_due, judged_book_is_after}
-use Rattle.sasl_desk.specs.Spent.{CanPass, IsBelow, IsCounterSpent, AreSpent, used_by_reply, of_account, SpentStaysSpent}
+use Rattle.sasl_log.proofs.lemmas.steps.Tokens.{book_reply_is_due, book_follows_attempt}
+use Rattle.sasl_desk.specs.Spent.{IsBelow, IsCounterSpent, AreSpent, used_by_reply, of_account, SpentStaysSpent}
 
 -- attempts that lead from a token lead to a token after them
 attempts_lead_to_token : (start : TokenFields) (attempts : List Attempt) (o : Option TokenFields) → LeadsTo (Some start) attempts o
@@ -67,7 +66,7 @@ candidate_is_above_used start a token after history moment c is legal can =
     (above_all_is_above_earlier history (a ∷ []) c (candidates_are_new start (history ++ a ∷ []) moment c before.1))
 
 -- the attempts that an account's own reply adds are that one
-reply_is_one_attempt : (t : LoggedAttempt) (r : Reply) → t.reply ≡ Some r
+reply_is_one_attempt : (t : AccountAttempt) (r : Reply) → t.reply ≡ Some r
     → attempts_of t.account (t ∷ []) ≡ attempt_of t.moment t.sent r ∷ []
 reply_is_one_attempt t r is = rw ((bytes_eq-Decides t.account t.account).1 refl, is) refl
 
@@ -86,7 +85,7 @@ counter_above_candidate_is_not_spent old name start counter c moment has is can 
     omega (arith, apart, at, counters)
 
 -- a book before and after one more reply
-module _ (old new : BookFields) (t : LoggedAttempt) (after : IsBookAfter (accounts_in old) (t ∷ []) new) where
+module _ (old new : BookFields) (t : AccountAttempt) (after : IsBookAfter (accounts_in old) (t ∷ []) new) where
   -- a counter that is spent stays so when one more reply is given
   reply_keeps_spent_counter : (name : List ℕ) (counter : ℕ) → IsCounterSpent old name counter → IsCounterSpent new name counter
   reply_keeps_spent_counter name counter used =
@@ -108,12 +107,12 @@ module _ (old new : BookFields) (name : List ℕ) (moment : ℕ) (start : TokenF
     (has : token_at old name ≡ Some start) (is : IsMoment moment) (ps : List (List ℕ × ℕ)) (spent : AreSpent ps old) (c : ℕ) where
   -- after a pass the account still has a token, and what can pass with it is above the counters that the pass used
   pass_leaves_higher_candidates : (sent : CodeTexts)
-      → IsBookAfter (accounts_in old) (logged_attempt_of name moment sent (Some (Pass c)) ∷ []) new
+      → IsBookAfter (accounts_in old) (account_attempt_of name moment sent (Some (Pass c)) ∷ []) new
       → (token : TokenFields) × (token_at new name ≡ Some token)
       × ((history : List Attempt) (later k : ℕ) → IsMoment later → IsLegal token history
       → CanPass token history later k → IsAbove (used_in_reply sent (Pass c)) k)
   pass_leaves_higher_candidates sent after =
-      let t = logged_attempt_of name moment sent (Some (Pass c)) in
+      let t = account_attempt_of name moment sent (Some (Pass c)) in
       let a = attempt_of moment sent (Pass c) in
       let leads = subst (λ (o : Option TokenFields). LeadsTo o (attempts_of name (t ∷ [])) (token_at new name)) has (after.tokens name) in
       let by_attempt = subst (λ (attempts : List Attempt). LeadsTo (Some start) attempts (token_at new name))
@@ -130,7 +129,7 @@ module _ (old new : BookFields) (name : List ℕ) (moment : ℕ) (start : TokenF
 
   -- the counter of a pass of one code is spent after it
   code_pass_spends_counter : (text : List ℕ) → IsFitting start [] moment (one_text text) c
-      → IsBookAfter (accounts_in old) (logged_attempt_of name moment (one_text text) (Some (Pass c)) ∷ []) new
+      → IsBookAfter (accounts_in old) (account_attempt_of name moment (one_text text) (Some (Pass c)) ∷ []) new
       → AreSpent ((name, c) ∷ ps) new
   code_pass_spends_counter text fits after =
       let token = pass_leaves_higher_candidates (one_text text) after in
@@ -145,7 +144,7 @@ module _ (old new : BookFields) (name : List ℕ) (moment : ℕ) (start : TokenF
 
   -- both counters of a pass of two codes in a row are spent after it
   pair_pass_spends_counters : (first second : List ℕ) → IsFitting start [] moment (two_texts first second) c
-      → IsBookAfter (accounts_in old) (logged_attempt_of name moment (two_texts first second) (Some (Pass c)) ∷ []) new
+      → IsBookAfter (accounts_in old) (account_attempt_of name moment (two_texts first second) (Some (Pass c)) ∷ []) new
       → AreSpent ((name, c) ∷ (name, c - 1) ∷ ps) new
   pair_pass_spends_counters first second (w, next, can, one, two) after =
       let token = pass_leaves_higher_candidates (two_texts first second) after in
@@ -184,7 +183,7 @@ module _ (old new : BookFields) (name : List ℕ) (moment : ℕ) (is : IsMoment 
     (ps : List (List ℕ × ℕ)) (spent : AreSpent ps old) where
   -- after a reply that is due, what it used is spent, and what was spent before
   due_reply_spends_counters : (sent : CodeTexts) (reply : Option Reply) (o : Option TokenFields) → token_at old name ≡ o
-      → IsReplyDueBy o [] moment sent reply → IsBookAfter (accounts_in old) (logged_attempt_of name moment sent reply ∷ []) new
+      → IsReplyDueBy o [] moment sent reply → IsBookAfter (accounts_in old) (account_attempt_of name moment sent reply ∷ []) new
       → AreSpent (of_account name (used_by_reply sent reply) ++ ps) new
   due_reply_spends_counters sent None o has due after = reply_keeps_spent_counters old new _ after ps spent
   due_reply_spends_counters sent (Some Fail) o has due after = reply_keeps_spent_counters old new _ after ps spent
@@ -201,6 +200,6 @@ module _ (old new : BookFields) (name : List ℕ) (moment : ℕ) (is : IsMoment 
 pub spent_stays_spent : SpentStaysSpent
 spent_stays_spent old new t ps one spent =
     let accounts = accounts_in old in
-    let self = book_follows_no_replies begins_with_itself old in
+    let self = book_follows_no_replies old in
     due_reply_spends_counters old new t.account t.moment one.is_moment ps spent t.sent t.reply (token_at old t.account) refl
-    (judged_reply_is_due old new t one accounts [] self) (judged_book_is_after old new t one accounts [] self)
+    (book_reply_is_due accounts [] old t new one self) (book_follows_attempt accounts [] old t new one self)

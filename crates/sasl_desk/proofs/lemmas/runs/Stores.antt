@@ -5,12 +5,12 @@ use Rattle.book_format.specs.Book.{BookFields}
 use Rattle.book_format.specs.Trees.{IsBookText}
 use Rattle.account_book.specs.SavedBooks.{HasStoredText}
 use Rattle.account_book.specs.Store.{StoreFacts}
+use Rattle.account_book.specs.AccountAttempt.{AccountAttempt}
+use Rattle.account_book.specs.Tokens.{IsBookAttempt}
 use Rattle.log_grammar.specs.Books.{accounts_in}
 use Rattle.log_grammar.specs.Lines.{log_bytes}
-use Rattle.log_grammar.specs.LoggedAttempt.{LoggedAttempt}
 use Rattle.log_grammar.specs.Places.{Place, halted}
 use Rattle.log_grammar.specs.Demands.{Accounts}
-use Rattle.sasl_desk.specs.JudgedAttempts.{IsAttemptJudged}
 use Rattle.sasl_desk.specs.Runs.{Call, run_lines}
 use Rattle.sasl_desk.specs.Saved.{IsToldSaved, IsLogSaved, IsTextOfSpent, AreToldCountersSaved}
 use Rattle.sasl_desk.specs.Spent.{AreSpent}
@@ -27,7 +27,7 @@ abbrev pub IsTextLeft : (book : BookFields) → (text : List ℕ) → Type 0
 IsTextLeft book text = (left : BookFields) × MayLeave book left × IsBookText text left
 
 -- a desk or a hall that began with the book `start`, has told these replies, and has the book `kept` in this store
-pub record HoldsTold (IsStored : List ℕ → Type 0) (start : BookFields) (told : List LoggedAttempt) (kept : BookFields)
+pub record HoldsTold (IsStored : List ℕ → Type 0) (start : BookFields) (told : List AccountAttempt) (kept : BookFields)
     (store : StoreFacts) : Type 0 where
   -- the replies lead to its book
   pub is_book : IsBookAfterReplies start (reverse told) kept
@@ -61,7 +61,7 @@ module _ (IsStored : List ℕ → Type 0) (book : BookFields) (store : StoreFact
   )
 
   -- replies that lead to the book, and a store that is as it has to be at a place of a log
-  module _ {start : BookFields} {told : List LoggedAttempt} (is_book : IsBookAfterReplies start (reverse told) book)
+  module _ {start : BookFields} {told : List AccountAttempt} (is_book : IsBookAfterReplies start (reverse told) book)
       (accounts : Accounts) (calls : List Call) where
     -- at each place of a log, the replies lead to the book that the store holds
     pub store_holds_told : (place : Place) → IsStoredAt IsStored accounts calls place book store
@@ -72,7 +72,7 @@ module _ (IsStored : List ℕ → Type 0) (book : BookFields) (store : StoreFact
         record { is_book = is_book; stored = (store.saved, held.saved, held.stored); texts = held_text_may_be_left held }
 
 -- a desk or a hall
-module _ {IsStored : List ℕ → Type 0} {start : BookFields} {told : List LoggedAttempt} {kept : BookFields} {store : StoreFacts}
+module _ {IsStored : List ℕ → Type 0} {start : BookFields} {told : List AccountAttempt} {kept : BookFields} {store : StoreFacts}
     (holds : HoldsTold IsStored start told kept store) where
   -- a text of the book to which its replies lead was stored
   pub told_is_saved : IsToldSaved IsStored start told
@@ -98,7 +98,7 @@ module _ {IsStored : List ℕ → Type 0} {start : BookFields} {told : List Logg
   )
 
   -- a text that the store may hold while it saves a text of the book with one more attempt is one that a run may leave
-  text_within_save_may_be_left : (t : LoggedAttempt) (next : BookFields) (asked text : List ℕ) → IsAttemptJudged kept t next
+  text_within_save_may_be_left : (t : AccountAttempt) (next : BookFields) (asked text : List ℕ) → IsBookAttempt kept t next
       → IsBookText asked next → MayHoldWithinSave store asked text → IsTextLeft kept text
   text_within_save_may_be_left t next asked text one is_text (inl may) = holds.texts text may
   text_within_save_may_be_left t next asked text one is_text (inr same) =

@@ -13,7 +13,7 @@ use Rattle.otp_core.specs.History.{IsLegal}
 use Rattle.otp_core.proofs.lemmas.Used.{candidates_are_new}
 use Rattle.otp_core.specs.State.{unlocked}
 use Rattle.otp_core.specs.declared.token.reply.Reply.{Reply}
-use Rattle.otp_core.specs.declared.token.reply.Reply.TheVariants.{Pass, Fail, Locked}
+use Rattle.otp_core.specs.declared.token.reply.Reply.TheVariants.{Pass}
 use Rattle.otp_core.specs.declared.token.kinds.TokenFields.{TokenFields}
 use Rattle.otp_core.specs.declared.token.kinds.TokenFields.TheVariants.{Hotp, Totp}
 use Rattle.book_format.specs.Account.{AccountFields}
@@ -22,34 +22,31 @@ use Rattle.account_book.specs.Accounts.{account_at, with_account, with_changed, 
 use Rattle.account_book.proofs.lemmas.Maps.{added_is_apart}
 use Rattle.account_book.proofs.lemmas.Tokens.{tokens_are_apart}
 use Rattle.account_book.specs.Tokens.{token_at, with_token, IsUnlocked}
-use Rattle.sasl_desk.specs.Spent.{CanPass, IsBelow, IsCounterSpent, AreSpent}
+use Rattle.sasl_desk.specs.Spent.{IsBelow, IsCounterSpent, AreSpent}
+use Rattle.otp_core.specs.Window.{CanPass}
 use Rattle.sasl_desk.proofs.lemmas.Lists.{each_follows}
 
 -- a counter is below each that can pass after a history
 abbrev IsBelowAfter : TokenFields → List Attempt → ℕ → Type 0
 IsBelowAfter token history counter = (moment c : ℕ) → IsMoment moment → CanPass token history moment c → counter < c
 
--- what can pass after FAIL could pass before it
-fail_admits_no_more : (token : TokenFields) (before : List Attempt) (at : ℕ) (sent : CodeTexts) (moment c : ℕ)
-    → CanPass token (attempt_of at sent Fail ∷ before) moment c → CanPass token before moment c
-fail_admits_no_more (Hotp t) before at sent moment c can = can
-fail_admits_no_more (Totp t) before at sent moment c can = can
+-- the reply is no PASS
+abbrev IsNoPass : Reply → Type 0
+IsNoPass (Pass w) = ⊥
+IsNoPass reply = Unit {0}
 
--- what can pass after LOCKED could pass before it
-locked_admits_no_more : (token : TokenFields) (before : List Attempt) (at : ℕ) (sent : CodeTexts) (moment c : ℕ)
-    → CanPass token (attempt_of at sent Locked ∷ before) moment c → CanPass token before moment c
-locked_admits_no_more (Hotp t) before at sent moment c can = can
-locked_admits_no_more (Totp t) before at sent moment c can = can
+-- what can pass after a reply that is no PASS could pass before it
+no_pass_admits_no_more : (token : TokenFields) (before : List Attempt) (at : ℕ) (sent : CodeTexts) (reply : Reply) (moment c : ℕ)
+    → IsNoPass reply → CanPass token (attempt_of at sent reply ∷ before) moment c → CanPass token before moment c
+no_pass_admits_no_more token before at sent (Pass w) moment c none can = absurd none
+no_pass_admits_no_more (Hotp t) before at sent reply moment c none can = can
+no_pass_admits_no_more (Totp t) before at sent reply moment c none can = can
 
 -- a counter below each that can pass before an attempt is below each that can pass after it
 attempt_keeps_below : (token : TokenFields) (counter : ℕ) (before : List Attempt) (at : ℕ) (sent : CodeTexts)
     (reply : Reply)
     → IsMoment at → IsDueReply token before at sent reply → IsBelowAfter token before counter
     → IsBelowAfter token (attempt_of at sent reply ∷ before) counter
-attempt_keeps_below token counter before at sent Fail is due below moment c later can = below moment c later
-    (fail_admits_no_more token before at sent moment c can)
-attempt_keeps_below token counter before at sent Locked is due below moment c later can = below moment c later
-    (locked_admits_no_more token before at sent moment c can)
 attempt_keeps_below token counter before at (one_text text) (Pass w) is due below moment c later can =
     let passed : counter < w = below at w is (inl due.1.0) in
     let apart = (candidates_are_new token (attempt_of at (one_text text) (Pass w) ∷ before) moment c can).0 in omega (arith, passed, apart)
@@ -58,6 +55,8 @@ attempt_keeps_below token counter before at (two_texts first second) (Pass w) is
     let passed : counter < first_one = below at first_one is (inr can_pair) in
     let apart = (candidates_are_new token (attempt_of at (two_texts first second) (Pass w) ∷ before) moment c can).0 in
     omega (arith, passed, next, apart)
+attempt_keeps_below token counter before at sent reply is due below moment c later can =
+    below moment c later (no_pass_admits_no_more token before at sent reply moment c tt can)
 
 -- a counter below each that can pass now is below each that can pass ever
 history_keeps_below : (token : TokenFields) (counter : ℕ) → IsBelowAfter token [] counter → (history : List Attempt)

@@ -4,7 +4,7 @@ use Rattle.std.specs.List.{AllByRecursion}
 use Rattle.std.specs.declared.option.Option.{Option}
 use Rattle.std.specs.declared.option.Option.TheVariants.{None, Some}
 use Rattle.log_grammar.specs.Lines.{LogLine, said, ended, cont, accepts, refuses}
-use Rattle.sasl_desk.specs.SessionTurns.{said_lines, end_lines}
+use Rattle.sasl_desk.specs.inner.SessionTurns.{said_lines, end_lines}
 use Rattle.sasl_desk.specs.declared.session.Session.{Session}
 use Rattle.sasl_desk.specs.declared.session.event.Saying.{Saying}
 use Rattle.sasl_desk.specs.declared.session.event.Saying.TheVariants.{Nothing, Continues, Accepts, Refuses}

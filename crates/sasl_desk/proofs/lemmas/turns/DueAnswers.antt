@@ -19,7 +19,7 @@ use Rattle.log_grammar.specs.Places.{Place, between, asks_bare, waits_first, got
 use Rattle.log_grammar.specs.Demands.{Accounts, NamesMechanism, IsTakenUpFor}
 use Rattle.sasl_log.proofs.lemmas.steps.Logins.{stands_for_equal_login, login_is_challenged}
 use Rattle.sasl_desk.specs.ChallengedLogin.{challenged_login_of}
-use Rattle.sasl_desk.specs.SessionTurns.{answer_of, verdict_answer, IsBareNoDue, IsAnswer}
+use Rattle.sasl_desk.specs.inner.SessionTurns.{answer_of, verdict_answer, IsBareNoDue, IsAnswer}
 use Rattle.sasl_desk.specs.declared.session.Session.TheVariants.{WaitFirst, WaitFinal}
 use Rattle.sasl_desk.specs.declared.session.event.Saying.TheVariants.{Nothing, Continues, Refuses}
 

@@ -56,37 +56,25 @@ due_line_may_be_heard at line due = (place_after_line at line, due_line_may_stan
 pub heard_line_is_due : (at : Place) (line : ClientLine) → MayBeHeard at line → is_due at line ≡ true
 heard_line_is_due at line (next, goes) = (standing_client_line_is_due no_demands line at next goes).0
 
--- `C BAD` may stand when it is the client's turn
-pub bad_may_stand : (d : Demands) (at : Place) → is_client_turn at ≡ true → IsTransition d at bad leaving
-bad_may_stand d offered turn = refl
-bad_may_stand d (waits_first mechanism) turn = refl
-bad_may_stand d (waits_final mechanism account first challenge) turn = refl
-bad_may_stand d (waits_code account) turn = refl
-bad_may_stand d at turn = absurd (cc turn)
+-- `C BAD` and `C GONE` may stand when it is the client's turn
+pub bad_and_gone_may_stand : (d : Demands) (at : Place) → is_client_turn at ≡ true
+    → IsTransition d at bad leaving × IsTransition d at gone over
+bad_and_gone_may_stand d offered turn = (refl, refl)
+bad_and_gone_may_stand d (waits_first mechanism) turn = (refl, refl)
+bad_and_gone_may_stand d (waits_final mechanism account first challenge) turn = (refl, refl)
+bad_and_gone_may_stand d (waits_code account) turn = (refl, refl)
+bad_and_gone_may_stand d at turn = absurd (cc turn)
 
--- `C BAD` stands only when it is the client's turn, and leads to where a bare `S NO` is due
-pub bad_stands_in_turn : (d : Demands) (at next : Place) → IsTransition d at bad next → (is_client_turn at ≡ true) × (next ≡ leaving)
-bad_stands_in_turn d offered next goes = (refl, goes)
-bad_stands_in_turn d (waits_first mechanism) next goes = (refl, goes)
-bad_stands_in_turn d (waits_final mechanism account first challenge) next goes = (refl, goes)
-bad_stands_in_turn d (waits_code account) next goes = (refl, goes)
-bad_stands_in_turn d at next goes = absurd goes
-
--- `C GONE` may stand when it is the client's turn
-pub gone_may_stand : (d : Demands) (at : Place) → is_client_turn at ≡ true → IsTransition d at gone over
-gone_may_stand d offered turn = refl
-gone_may_stand d (waits_first mechanism) turn = refl
-gone_may_stand d (waits_final mechanism account first challenge) turn = refl
-gone_may_stand d (waits_code account) turn = refl
-gone_may_stand d at turn = absurd (cc turn)
-
--- `C GONE` stands only when it is the client's turn, and leads to where the session is over
-pub gone_stands_in_turn : (d : Demands) (at next : Place) → IsTransition d at gone next → (is_client_turn at ≡ true) × (next ≡ over)
-gone_stands_in_turn d offered next goes = (refl, goes)
-gone_stands_in_turn d (waits_first mechanism) next goes = (refl, goes)
-gone_stands_in_turn d (waits_final mechanism account first challenge) next goes = (refl, goes)
-gone_stands_in_turn d (waits_code account) next goes = (refl, goes)
-gone_stands_in_turn d at next goes = absurd goes
+-- `C BAD` and `C GONE` stand only when it is the client's turn; the one leads to where a bare `S NO` is due, the other to where the
+-- session is over
+pub bad_and_gone_stand_in_turn : (d : Demands) (at next : Place)
+    → (IsTransition d at bad next → (is_client_turn at ≡ true) × (next ≡ leaving))
+    × (IsTransition d at gone next → (is_client_turn at ≡ true) × (next ≡ over))
+bad_and_gone_stand_in_turn d offered next = (λ goes. (refl, goes), λ goes. (refl, goes))
+bad_and_gone_stand_in_turn d (waits_first mechanism) next = (λ goes. (refl, goes), λ goes. (refl, goes))
+bad_and_gone_stand_in_turn d (waits_final mechanism account first challenge) next = (λ goes. (refl, goes), λ goes. (refl, goes))
+bad_and_gone_stand_in_turn d (waits_code account) next = (λ goes. (refl, goes), λ goes. (refl, goes))
+bad_and_gone_stand_in_turn d at next = (λ goes. absurd goes, λ goes. absurd goes)
 
 -- the law: a line of the client may stand if and only if it is due, and leads to the place after it
 pub due_lines_stand : DueLinesStand
@@ -99,13 +87,15 @@ due_lines_stand accounts at line next = (
 -- the law: `C BAD` may stand if and only if it is the client's turn
 pub bad_lines_stand : BadLinesStand
 bad_lines_stand accounts at next = (
-  bad_stands_in_turn (demands accounts) at next,
-  λ due. subst (λ (p : Place). IsTransition (demands accounts) at bad p) (sym due.1) (bad_may_stand (demands accounts) at due.0),
+  (bad_and_gone_stand_in_turn (demands accounts) at next).0,
+  λ due. subst (λ (p : Place). IsTransition (demands accounts) at bad p) (sym due.1)
+      (bad_and_gone_may_stand (demands accounts) at due.0).0,
 )
 
 -- the law: `C GONE` may stand if and only if it is the client's turn
 pub gone_clients_stand : GoneClientsStand
 gone_clients_stand accounts at next = (
-  gone_stands_in_turn (demands accounts) at next,
-  λ due. subst (λ (p : Place). IsTransition (demands accounts) at gone p) (sym due.1) (gone_may_stand (demands accounts) at due.0),
+  (bad_and_gone_stand_in_turn (demands accounts) at next).1,
+  λ due. subst (λ (p : Place). IsTransition (demands accounts) at gone p) (sym due.1)
+      (bad_and_gone_may_stand (demands accounts) at due.0).1,
 )

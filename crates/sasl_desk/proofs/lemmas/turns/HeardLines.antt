@@ -1,18 +1,15 @@
 -- What is recorded of a line, and what came of it, is recorded of the event by which the line was sent, and came of that event.
 use Rattle.std.proofs.Common.{◌≡◌, true, false, ℕ, List, refl, sym, ◌∙◌, subst, arith}
 use Rattle.std.proofs.lemmas.Bool.{false≢true}
-use Rattle.otp_core.specs.Attempt.{CodeTexts, one_text, two_texts}
+use Rattle.otp_core.specs.Attempt.{CodeTexts, one_text, two_texts, texts_of}
 use Rattle.log_grammar.specs.Lines.{LogLine, heard, bad, ClientLine, code_line, from_client, IsLine}
 use Rattle.log_grammar.specs.Places.{Place}
 use Rattle.log_grammar.specs.Demands.{Accounts}
 use Rattle.log_grammar.proofs.lemmas.lines.ReadBack.{one_line}
 use Rattle.sasl_desk.specs.Events.{ClientEvent, sends, goes_away}
-use Rattle.otp_core.specs.SentCodes.{texts_of}
 use Rattle.sasl_desk.specs.DueLines.{is_due}
-use Rattle.sasl_desk.specs.Sessions.{IsLineOf, IsRecord, TakesMemory}
-use Rattle.sasl_desk.specs.SessionTurns.{IsRecordOfLine, ComesOfEvent, ComesOfLine, JudgesOnlyLine}
-use Rattle.sasl_desk.specs.Sessions.{SentWhatTakesMemory, LongTextsAreBad}
-use Rattle.sasl_desk.specs.SessionTurns.{JudgesOnlyWhatWasSent}
+use Rattle.sasl_desk.specs.Sessions.{IsLineOf, IsRecord, TakesMemory, SentWhatTakesMemory, LongTextsAreBad}
+use Rattle.sasl_desk.specs.inner.SessionTurns.{IsRecordOfLine, ComesOfEvent, ComesOfLine, JudgesOnlyLine, JudgesOnlyWhatWasSent}
 use Rattle.sasl_desk.specs.declared.session.event.HearResult.{HearResult}
 use Rattle.sasl_desk.specs.declared.session.event.HearResult.TheVariants.{Answered, ToJudge}
 use Rattle.sasl_desk.proofs.lemmas.turns.DueRecords.{due_line_may_be_heard, heard_line_is_due}

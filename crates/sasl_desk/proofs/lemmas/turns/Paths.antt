@@ -4,8 +4,8 @@ use Rattle.std.specs.List.{AllByRecursion}
 use Rattle.std.proofs.lemmas.Bool.{false≢true}
 use Rattle.otp_core.specs.Attempt.{CodeTexts}
 use Rattle.otp_core.specs.declared.token.reply.Reply.{Reply}
+use Rattle.account_book.specs.AccountAttempt.{AccountAttempt, account_attempt_of}
 use Rattle.log_grammar.specs.Lines.{LogLine, said, heard, bad, gone, replies, code_line}
-use Rattle.log_grammar.specs.LoggedAttempt.{LoggedAttempt, logged_attempt_of}
 use Rattle.log_grammar.specs.Places.{Place, got_code, between, offered, waits_first, waits_final, waits_code, over, halted}
 use Rattle.log_grammar.specs.Demands.{Accounts, Demands, demands, HaveDueReplies, HasDueReply}
 use Rattle.log_grammar.specs.state_machine.Steps.{IsTransition, told_at}
@@ -15,12 +15,12 @@ use Rattle.log_grammar.proofs.lemmas.state_machine.Shortening.{code_may_stand}
 use Rattle.sasl_desk.specs.Events.{ClientEvent, sends, goes_away}
 use Rattle.sasl_desk.specs.DueLines.{is_client_turn, place_after_record}
 use Rattle.sasl_desk.specs.Sessions.{IsSessionAt, IsRecord, IsPath}
-use Rattle.sasl_desk.specs.SessionTurns.{IsTurnOnEvent, recorded_shown, turn_lines, IsLeftAt}
+use Rattle.sasl_desk.specs.inner.SessionTurns.{IsTurnOnEvent, recorded_shown, turn_lines, IsLeftAt}
 use Rattle.sasl_desk.specs.declared.session.Session.{Session}
 use Rattle.sasl_desk.specs.declared.session.Session.TheVariants.{WaitAuth, WaitFirst, WaitFinal, WaitCode}
 use Rattle.sasl_desk.specs.declared.session.event.Turn.{Turn}
 use Rattle.sasl_desk.proofs.lemmas.turns.AnswerLines.{answer_lines_have}
-use Rattle.sasl_desk.proofs.lemmas.turns.DueRecords.{due_line_may_stand, heard_line_is_due, bad_may_stand, gone_may_stand}
+use Rattle.sasl_desk.proofs.lemmas.turns.DueRecords.{due_line_may_stand, heard_line_is_due, bad_and_gone_may_stand}
 use Rattle.std.specs.declared.option.Option.{Option}
 use Rattle.std.specs.declared.option.Option.TheVariants.{None, Some}
 use Rattle.sasl_desk.specs.Runs.{IsAtRest}
@@ -59,8 +59,8 @@ pub record_may_stand : (d : Demands) (at : Place) (event : ClientEvent) (recorde
     → IsRecord event at recorded
     → IsTransition d at recorded (place_after_record at recorded)
 record_may_stand d at (sends text) (heard line) turn is = due_line_may_stand d line at (heard_line_is_due at line is.1)
-record_may_stand d at (sends text) bad turn is = bad_may_stand d at turn
-record_may_stand d at goes_away gone turn is = gone_may_stand d at turn
+record_may_stand d at (sends text) bad turn is = (bad_and_gone_may_stand d at turn).0
+record_may_stand d at goes_away gone turn is = (bad_and_gone_may_stand d at turn).1
 record_may_stand d at event recorded turn is = absurd is
 
 -- the lines of a turn are a path from the session's place to the one after the turn
@@ -103,7 +103,7 @@ no_reply_tells_nothing (got_code account sent) line no_reply = refl
 no_reply_tells_nothing at line no_reply = refl
 
 -- a log goes on by a path without replies, and tells nothing new
-pub log_goes_on_by_path : (accounts : Accounts) (log : List LogLine) (at : Place) (told : List LoggedAttempt)
+pub log_goes_on_by_path : (accounts : Accounts) (log : List LogLine) (at : Place) (told : List AccountAttempt)
     (lines : List LogLine) (next : Place)
     → Begins (demands accounts) log at told → IsPath (demands accounts) at lines next → AllByRecursion IsNoReply lines
     → Begins (demands accounts) (log ++ lines) next told
@@ -112,26 +112,26 @@ log_goes_on_by_path accounts log at told [] next begins path no_replies =
     subst (λ (l : List LogLine). Begins (demands accounts) l next told) (sym (append-nil log)) here
 log_goes_on_by_path accounts log at told (line ∷ lines) next begins (middle, goes, path) no_replies =
     let quiet = no_reply_tells_nothing at line no_replies.0 in
-    let due = subst (λ (t : List LoggedAttempt). HaveDueReplies (demands accounts) (reverse told) t) (sym quiet) tt in
+    let due = subst (λ (t : List AccountAttempt). HaveDueReplies (demands accounts) (reverse told) t) (sym quiet) tt in
     let step = log_goes_on (demands accounts) log at told line middle begins goes due in
-    let told_here = subst (λ (t : List LoggedAttempt). Begins (demands accounts) (log ++ line ∷ []) middle (told ++ t)) quiet step in
-    let here = subst (λ (t : List LoggedAttempt). Begins (demands accounts) (log ++ line ∷ []) middle t) (append-nil told) told_here in
+    let told_here = subst (λ (t : List AccountAttempt). Begins (demands accounts) (log ++ line ∷ []) middle (told ++ t)) quiet step in
+    let here = subst (λ (t : List AccountAttempt). Begins (demands accounts) (log ++ line ∷ []) middle t) (append-nil told) told_here in
     subst (λ (l : List LogLine). Begins (demands accounts) l next told) (append_assoc log (line ∷ []) lines)
     (log_goes_on_by_path accounts (log ++ line ∷ []) middle told lines next here path no_replies.1)
 
 -- a log goes on by a code, or two in a row, and its reply
-pub log_goes_on_by_reply : (accounts : Accounts) (log : List LogLine) (name : List ℕ) (told : List LoggedAttempt)
+pub log_goes_on_by_reply : (accounts : Accounts) (log : List LogLine) (name : List ℕ) (told : List AccountAttempt)
     (moment : ℕ) (sent : CodeTexts) (reply : Option Reply)
     → Begins (demands accounts) log (waits_code name) told
-    → HasDueReply accounts (reverse told) (logged_attempt_of name moment sent reply)
+    → HasDueReply accounts (reverse told) (account_attempt_of name moment sent reply)
     → Begins (demands accounts) (log ++ heard (code_line sent) ∷ said (replies moment reply) ∷ []) (waits_code name)
-    (told ++ logged_attempt_of name moment sent reply ∷ [])
+    (told ++ account_attempt_of name moment sent reply ∷ [])
 log_goes_on_by_reply accounts log name told moment sent reply begins due =
     let line = heard (code_line sent) in
     let first = log_goes_on (demands accounts) log (waits_code name) told line (got_code name sent) begins (code_may_stand name sent) tt in
-    let quiet = subst (λ (t : List LoggedAttempt). Begins (demands accounts) (log ++ line ∷ []) (got_code name sent) t)
+    let quiet = subst (λ (t : List AccountAttempt). Begins (demands accounts) (log ++ line ∷ []) (got_code name sent) t)
     (append-nil told) first in
     let second = log_goes_on (demands accounts) (log ++ line ∷ []) (got_code name sent) told (said (replies moment reply)) (waits_code name) quiet refl
     (due, tt) in
-    subst (λ (l : List LogLine). Begins (demands accounts) l (waits_code name) (told ++ logged_attempt_of name moment sent reply ∷ []))
+    subst (λ (l : List LogLine). Begins (demands accounts) l (waits_code name) (told ++ account_attempt_of name moment sent reply ∷ []))
     (append_assoc log (line ∷ []) (said (replies moment reply) ∷ [])) second

@@ -7,19 +7,19 @@ use Rattle.otp_core.specs.declared.token.reply.Reply.TheVariants.{Pass, Fail, Lo
 use Rattle.book_format.specs.Book.{BookFields}
 use Rattle.book_format.specs.Trees.{IsBookText}
 use Rattle.account_book.specs.Store.{StoreFacts}
+use Rattle.account_book.specs.AccountAttempt.{AccountAttempt, account_attempt_of}
+use Rattle.account_book.specs.Tokens.{IsBookAttempt}
 use Rattle.log_grammar.specs.Lines.{LogLine, said, replies, halt}
-use Rattle.log_grammar.specs.LoggedAttempt.{LoggedAttempt, logged_attempt_of}
 use Rattle.log_grammar.specs.Places.{Place, waits_code}
 use Rattle.log_grammar.specs.Demands.{Accounts}
 use Rattle.sasl_desk.specs.Desks.{HoldsBook}
 use Rattle.sasl_desk.specs.Events.{ClientEvent}
-use Rattle.book_keeper.specs.Keeper.{IsCodeOutcome}
-use Rattle.sasl_desk.specs.JudgedAttempts.{IsAttemptJudged}
+use Rattle.book_keeper.specs.Keeper.{IsCodeJudged}
 use Rattle.sasl_desk.specs.Runs.{hears}
 use Rattle.sasl_desk.specs.SavedCalls.{is_saving, IsAttemptOf, CountsSaves, AsksToSaveAttempt, IsQuiet, LeavesFailedStore}
 use Rattle.sasl_desk.specs.Sessions.{IsSessionAt}
-use Rattle.sasl_desk.specs.SessionTurns.{recorded_shown, turn_lines}
-use Rattle.sasl_desk.specs.TurnResults.{after_turn_of, judged_lines, after_judged, IsTurnOf}
+use Rattle.sasl_desk.specs.inner.SessionTurns.{recorded_shown, turn_lines}
+use Rattle.sasl_desk.specs.inner.TurnResults.{after_turn_of, judged_lines, after_judged, IsTurnOf}
 use Rattle.book_keeper.specs.declared.keeper.Keeper.{Keeper}
 use Rattle.book_keeper.specs.declared.keeper.CodeJudged.{CodeJudged}
 use Rattle.book_keeper.specs.declared.keeper.CodeJudged.TheVariants.{Replied, NotSaved}
@@ -28,7 +28,7 @@ use Rattle.sasl_desk.specs.declared.session.event.Recorded.{Recorded}
 use Rattle.sasl_desk.specs.declared.session.event.Recorded.TheVariants as recorded
 use Rattle.sasl_desk.specs.declared.session.event.Turn.{Turn}
 use Rattle.sasl_desk.specs.declared.turn.AfterTurn.{AfterTurn}
-use Rattle.sasl_desk.specs.declared.turn.AfterTurn.TheVariants.{Going, Over, Halted}
+use Rattle.sasl_desk.specs.declared.turn.AfterTurn.TheVariants.{Going, Closed, Halted}
 use Rattle.sasl_desk.proofs.lemmas.Lists.{filter_keeps_none_if_none_passes}
 use Rattle.sasl_desk.proofs.lemmas.turns.AnswerLines.{answer_lines_have}
 use Rattle.sasl_desk.proofs.lemmas.turns.Keepers.{store_failed_in_this_save, lost_store_has_failed}
@@ -50,7 +50,7 @@ session_turn_saves_nothing turn message = filter_keeps_none_if_none_passes is_sa
 -- whether a turn that leaves its session so has halted its desk or its hall
 abbrev pub halted_after : AfterTurn → Bool
 halted_after (Going session) = false
-halted_after Over = false
+halted_after Closed = false
 halted_after (Halted session) = true
 
 -- a session that goes on or has ended halts neither a desk nor a hall
@@ -61,7 +61,7 @@ left_session_halts_nothing None is = cc is
 -- what came of a code, or of two in a row: the book and the store before it was judged, and after
 module _ (IsStored : List ℕ → Type 0) (name : List ℕ) (moment : ℕ) (sent : CodeTexts) (old new : BookFields) (was now : StoreFacts) where
   -- a code makes one save if the answer is PASS, FAIL or HALT, and none for another answer
-  code_counts_saves : (judged : CodeJudged) → HoldsBook IsStored old was → IsCodeOutcome IsStored old was name moment sent judged new now
+  code_counts_saves : (judged : CodeJudged) → HoldsBook IsStored old was → IsCodeJudged IsStored old was name moment sent judged new now
       → now.saves ≡ was.saves + length (filter is_saving (judged_lines moment sent judged))
   code_counts_saves (Replied (Some (Pass c))) held (one, kept) = kept.saved.begun.counted
   code_counts_saves (Replied (Some Fail)) held (one, kept) = kept.saved.begun.counted
@@ -72,11 +72,11 @@ module _ (IsStored : List ℕ → Type 0) (name : List ℕ) (moment : ℕ) (sent
 
   -- a code that needs a save is an attempt, and the store was asked to save the book with it
   code_asks_for_save : (event : ClientEvent) (at : Place) (judged : CodeJudged) → at ≡ waits_code name → HoldsBook IsStored old was
-      → IsCodeOutcome IsStored old was name moment sent judged new now → (filter is_saving (judged_lines moment sent judged) ≡ [] → ⊥)
-      → (t : LoggedAttempt) × (next : BookFields) × IsAttemptOf (hears event moment) at (judged_lines moment sent judged) t
-      × IsAttemptJudged old t next × IsBookText now.asked next
+      → IsCodeJudged IsStored old was name moment sent judged new now → (filter is_saving (judged_lines moment sent judged) ≡ [] → ⊥)
+      → (t : AccountAttempt) × (next : BookFields) × IsAttemptOf (hears event moment) at (judged_lines moment sent judged) t
+      × IsBookAttempt old t next × IsBookText now.asked next
   code_asks_for_save event at (Replied (Some (Pass c))) here held (one, kept) some = (
-    logged_attempt_of name moment sent (Some (Pass c)),
+    account_attempt_of name moment sent (Some (Pass c)),
     new,
     record {
       event = event;
@@ -90,7 +90,7 @@ module _ (IsStored : List ℕ → Type 0) (name : List ℕ) (moment : ℕ) (sent
     subst (λ (t : List ℕ). IsBookText t new) (sym kept.saved.begun.asked) kept.is_text,
   )
   code_asks_for_save event at (Replied (Some Fail)) here held (one, kept) some = (
-    logged_attempt_of name moment sent (Some Fail),
+    account_attempt_of name moment sent (Some Fail),
     new,
     record { event = event; answer = said (replies moment (Some Fail)); is_request = refl; place = here; lines_are = refl; to_save = refl },
     one,
@@ -99,7 +99,7 @@ module _ (IsStored : List ℕ → Type 0) (name : List ℕ) (moment : ℕ) (sent
   code_asks_for_save event at (Replied (Some Locked)) here held judged some = absurd (some refl)
   code_asks_for_save event at (Replied None) here held judged some = absurd (some refl)
   code_asks_for_save event at NotSaved here held (same, (next, (reply, needs, one), loses)) some = (
-    logged_attempt_of name moment sent reply,
+    account_attempt_of name moment sent reply,
     next,
     record { event = event; answer = said halt; is_request = refl; place = here; lines_are = refl; to_save = needs },
     one,
@@ -108,7 +108,7 @@ module _ (IsStored : List ℕ → Type 0) (name : List ℕ) (moment : ℕ) (sent
   )
 
   -- if nothing is saved for a code, the book and the store stay as they were
-  code_is_quiet : (judged : CodeJudged) → IsCodeOutcome IsStored old was name moment sent judged new now
+  code_is_quiet : (judged : CodeJudged) → IsCodeJudged IsStored old was name moment sent judged new now
       → filter is_saving (judged_lines moment sent judged) ≡ [] → (new ≡ old) × (now ≡ was)
   code_is_quiet (Replied (Some (Pass c))) judged none = absurd (cc none)
   code_is_quiet (Replied (Some Fail)) judged none = absurd (cc none)
@@ -117,7 +117,7 @@ module _ (IsStored : List ℕ → Type 0) (name : List ℕ) (moment : ℕ) (sent
   code_is_quiet NotSaved judged none = absurd (cc none)
 
   -- if a code halts a desk or a hall, the store has failed, and the book stays as it was
-  halting_code_failed_saving : (judged : CodeJudged) → IsCodeOutcome IsStored old was name moment sent judged new now
+  halting_code_failed_saving : (judged : CodeJudged) → IsCodeJudged IsStored old was name moment sent judged new now
       → halted_after (after_judged name judged) ≡ true → (now.failed ≡ true) × (new ≡ old)
   halting_code_failed_saving (Replied reply) judged is = absurd (cc is)
   halting_code_failed_saving NotSaved (same, (next, (reply, needs, one), loses)) is =

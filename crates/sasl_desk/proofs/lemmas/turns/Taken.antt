@@ -10,8 +10,8 @@ use Rattle.log_grammar.proofs.lemmas.state_machine.Shortening.{code_may_stand}
 use Rattle.sasl_desk.specs.Events.{ClientEvent}
 use Rattle.sasl_desk.specs.Runs.{BearsMoment, IsAnswerLine, IsTurnTaken}
 use Rattle.sasl_desk.specs.Sessions.{IsSessionAt, IsPath, IsChallengeWith}
-use Rattle.sasl_desk.specs.SessionTurns.{IsCodeDue, IsTurnOnEvent, recorded_shown, lines_of_answer, turn_lines}
-use Rattle.sasl_desk.specs.TurnResults.{judged_lines}
+use Rattle.sasl_desk.specs.inner.SessionTurns.{IsCodeDue, IsTurnOnEvent, recorded_shown, lines_of_answer, turn_lines}
+use Rattle.sasl_desk.specs.inner.TurnResults.{judged_lines}
 use Rattle.book_keeper.specs.declared.keeper.CodeJudged.TheVariants.{Replied, NotSaved}
 use Rattle.sasl_desk.specs.declared.session.Session.{Session}
 use Rattle.sasl_desk.specs.declared.session.event.Turn.{Turn}

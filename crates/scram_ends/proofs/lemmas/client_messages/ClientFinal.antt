@@ -15,7 +15,7 @@ use Rattle.scram_text.specs.declared.client_final.ClientFinalWithoutProof.{Clien
 use Rattle.scram_text.proofs.lemmas.Base64.{length-base64, bytes_are_field}
 use Rattle.scram_text.proofs.lemmas.Texts.{empty_is_text}
 use Rattle.scram_ends.specs.declared.lengths.TheConstants.{MAX_HEADER_LEN}
-use Rattle.scram_ends.proofs.lemmas.Digests.{AreBytes}
+use Rattle.mac_core.proofs.lemmas.Digests.{AreBytes}
 use Rattle.scram_ends.proofs.lemmas.client_messages.WriteFaults.{write_fault_is_memory}
 
 -- a header and a nonce within their bounds can be written before the proof

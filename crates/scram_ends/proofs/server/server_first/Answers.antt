@@ -2,7 +2,7 @@ use Rattle.std.proofs.Common.{rules, ◌≡◌, ◌-◌, ℕ, List, [], ◌++◌
 use Rattle.scram_text.specs.Messages.{server_first_text, IsServerFirst}
 use Rattle.scram_text.specs.Written.{server_first_of}
 use Rattle.scram_ends.specs.Entry.{entry_of}
-use Rattle.scram_ends.specs.TakenFirst.{ShowsOpening}
+use Rattle.scram_ends.specs.inner.TakenFirst.{ShowsOpening}
 use Rattle.scram_ends.proofs.lemmas.Servers.{challenge_opens}
 use Rattle.scram_ends.proofs.lemmas.Written.{slice_after_front_is_text}
 use Rattle.scram_ends.proofs.server.server_first.Goals as goal

@@ -10,5 +10,5 @@ returns-then-not-is_extension-clause-fault c =
 pub loop-left-preserved : goal.loop-left-preserved
 loop-left-preserved c =
     let leads = rw (c.in-Some.is, c.cut.ensures.parts) at c.loop-left.invariant in
-    rw c.is_mext-mandatory.ensures
+    rw c.is_named-mandatory.ensures
     (RestShowsAll-next _ _ _ _ _ _ leads (c.is_extension.ensures.0 c.if-not-is_extension.false))

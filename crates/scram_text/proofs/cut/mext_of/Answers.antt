@@ -3,7 +3,7 @@ use Rattle.std.specs.declared.option.Option.TheVariants.{Some}
 use Rattle.std.specs.Str.{byte}
 use Rattle.scram_text.specs.Parts.{parts, is_named}
 use Rattle.scram_text.specs.Faults.{first_of, fault}
-use Rattle.scram_text.specs.Pieces.{IsMextMisfit}
+use Rattle.scram_text.specs.inner.Pieces.{IsMextMisfit}
 use Rattle.scram_text.specs.declared.fault.TextWhy.TheVariants.{Mandatory}
 use Rattle.scram_text.proofs.lemmas.MextAndRest.{unfit_mext_is_misfit}
 use Rattle.scram_text.proofs.cut.mext_of.Goals as goal

@@ -12,7 +12,7 @@ use Rattle.scram_text.specs.Parts.{parts, joined, authzid_text, mext_parts, AreE
 use Rattle.scram_text.specs.Messages.{ClientFirstParts, gs2_header, client_first_bare, bare_parts, client_first_text, IsClientFirst}
 use Rattle.scram_text.specs.Faults.{places, places_with_mext, client_first_places}
 use Rattle.scram_text.specs.Laws.{ClientFirstIsDecided}
-use Rattle.scram_text.specs.Pieces.{IsMextAndRest}
+use Rattle.scram_text.specs.inner.Pieces.{IsMextAndRest}
 use Rattle.scram_text.specs.declared.fault.TextWhy.{TextWhy}
 use Rattle.scram_text.specs.declared.fault.TextWhy.TheVariants.{Flag, Authzid, Name, Nonce}
 use Rattle.scram_text.proofs.lemmas.Places.{AllFit, first_part_fits, fitting_are_extensions}

@@ -9,7 +9,7 @@ use Rattle.scram_text.specs.Parts.{parts}
 use Rattle.scram_text.specs.Messages.{ServerFirstParts, IsServerFirst}
 use Rattle.scram_text.specs.Faults.{places, server_first_places}
 use Rattle.scram_text.specs.Laws.{ServerFirstIsDecided}
-use Rattle.scram_text.specs.Pieces.{IsMextAndRest}
+use Rattle.scram_text.specs.inner.Pieces.{IsMextAndRest}
 use Rattle.scram_text.specs.declared.fault.TextWhy.{TextWhy}
 use Rattle.scram_text.specs.declared.fault.TextWhy.TheVariants.{Nonce, Salt, Count}
 use Rattle.scram_text.proofs.lemmas.Places.{AllFit, first_part_fits, fitting_are_extensions}

@@ -1,5 +1,5 @@
 use Rattle.std.proofs.Common.{◌≤◌, length, lit≤, sym, subst}
-use Rattle.mac_core.specs.Mechanism.{length_by}
+use Rattle.mac_core.specs.Mechanism.{digest_len_by}
 use Rattle.mac_core.specs.declared.mechanism.Mechanism.TheVariants.{ScramSha1, ScramSha256}
 use Rattle.book_format.specs.Account.{AreKeys, max_names}
 use Rattle.account_book.proofs.lemmas.Ranges.{insertion_keeps_ranges, fact_holds_for_some}
@@ -12,8 +12,8 @@ invariant_of-self-inside c =
       accounts = insertion_keeps_ranges c.insert.result _ _ _ _ _ c.insert.ensures.entries c.insert.ensures.err
           c.self-inside.invariant.accounts
           (record {
-            sha1 = fact_holds_for_some (AreKeys (length_by ScramSha1)) _ c.made_keys.ensures.range;
-            sha256 = fact_holds_for_some (AreKeys (length_by ScramSha256)) _ c.made_keys-2.ensures.range;
+            sha1 = fact_holds_for_some (AreKeys (digest_len_by ScramSha1)) _ c.made_keys.ensures.range;
+            sha256 = fact_holds_for_some (AreKeys (digest_len_by ScramSha256)) _ c.made_keys-2.ensures.range;
             names = subst (λ names. length names ≤ max_names) (sym c.new.ensures.items) (lit≤ tt);
           });
     }

@@ -1,9 +1,9 @@
 use Rattle.std.proofs.Common.{◌≡◌, ◌⊎◌, List, ℕ, Result, Ok, Err, inl, inr, sym, ◌∙◌}
 use Rattle.std.specs.Result.{IfOk, IfErr, IsErrAnd}
 use Rattle.book_format.specs.Book.{BookFields}
-use Rattle.book_format.specs.reading.Books.{book_in}
-use Rattle.book_format.specs.reading.Steps.{IsReadOrFault}
-use Rattle.book_format.specs.FirstFault.{IsFirstFault}
+use Rattle.book_format.specs.inner.Books.{book_in}
+use Rattle.book_format.specs.inner.Steps.{IsReadOrFault}
+use Rattle.book_format.specs.FirstFault.{IsBookFault}
 use Rattle.book_format.specs.Trees.{IsBookText}
 use Rattle.book_format.specs.declared.fault.BookFault.{BookFault}
 use Rattle.book_format.specs.declared.fault.BookWhy.TheVariants.{NoMemory}
@@ -28,14 +28,14 @@ result_is_only_book bytes (Err fault) (inr read) book text =
 
 -- if reading some bytes gave a fault, it is their first, or memory ran out
 result_fault_is_first : (bytes : List ℕ) (r : Result BookFields BookFault) → IsReadOrFault (λ b. b) r (book_in bytes)
-    → IfErr r (λ f. (f.why ≡ NoMemory) ⊎ IsFirstFault bytes f)
+    → IfErr r (λ f. (f.why ≡ NoMemory) ⊎ IsBookFault bytes f)
 result_fault_is_first bytes (Ok book) h = tt
 result_fault_is_first bytes (Err fault) (inl memory) = inl memory
 result_fault_is_first bytes (Err fault) (inr read) = inr (text_fault_is_first bytes fault read)
 
 -- if some bytes have a first fault, reading them gave this fault, or memory ran out
 result_is_only_fault : (bytes : List ℕ) (r : Result BookFields BookFault) → IsReadOrFault (λ b. b) r (book_in bytes) → (fault : BookFault)
-    → IsFirstFault bytes fault → IsErrAnd r (λ f. (f.why ≡ NoMemory) ⊎ (f ≡ fault))
+    → IsBookFault bytes fault → IsErrAnd r (λ f. (f.why ≡ NoMemory) ⊎ (f ≡ fault))
 result_is_only_fault bytes (Ok book) h fault first =
     let both = sym h ∙ text_first_fault_is_read bytes fault first in
     absurd (cc both)

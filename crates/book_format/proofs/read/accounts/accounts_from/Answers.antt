@@ -7,8 +7,8 @@ use Rattle.std.specs.String.{string_cmp}
 use Rattle.toml.specs.Data.{Data, Members, member}
 use Rattle.toml.specs.View.{view}
 use Rattle.toml.proofs.Views.{Entry}
-use Rattle.book_format.specs.reading.Books.{accounts_from, named_account_of}
-use Rattle.book_format.specs.reading.Steps.{◌>>=◌}
+use Rattle.book_format.specs.inner.Books.{accounts_from, named_account_of}
+use Rattle.book_format.specs.inner.Steps.{◌>>=◌}
 use Rattle.book_format.specs.declared.fault.BookFault.{BookFault}
 use Rattle.book_format.proofs.lemmas.Steps.{fact_holds_unless_err}
 use Rattle.book_format.proofs.lemmas.InOrder.{Named, HaveKeys-last, inserted_account_goes_last}

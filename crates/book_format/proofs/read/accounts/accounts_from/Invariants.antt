@@ -1,8 +1,8 @@
 use Rattle.std.proofs.Common.{◌≡◌, ◌+◌, ◌++◌, List, Ok, length}
 use Rattle.toml.specs.View.{members_view}
 use Rattle.toml.proofs.Views.{Entry}
-use Rattle.book_format.specs.reading.Books.{accounts_from}
-use Rattle.book_format.specs.reading.Steps.{◌>>=◌}
+use Rattle.book_format.specs.inner.Books.{accounts_from}
+use Rattle.book_format.specs.inner.Steps.{◌>>=◌}
 use Rattle.book_format.proofs.lemmas.InOrder.{HaveKeys}
 use Rattle.book_format.proofs.read.accounts.accounts_from.Given as goal
 

@@ -1,7 +1,7 @@
 use Rattle.std.proofs.Common.{◌≡◌, ◌++◌, drop, Ok}
 use Rattle.toml.specs.View.{items_view}
-use Rattle.book_format.specs.reading.Values.{names_in}
-use Rattle.book_format.specs.reading.Steps.{◌>>=◌}
+use Rattle.book_format.specs.inner.Values.{names_in}
+use Rattle.book_format.specs.inner.Steps.{◌>>=◌}
 use Rattle.book_format.proofs.read.accounts.names_in.Given as goal
 
 -- the names so far, and those that are left

@@ -2,16 +2,16 @@ use Rattle.std.proofs.Common.{◌≢◌, ◌∷◌, ◌++◌, ℕ, List}
 use Rattle.std.specs.Prelude.{decimal}
 use Rattle.std.specs.Str.{byte}
 use Rattle.otp_core.specs.Ranges.{IsMoment}
-use Rattle.sasl_log.proofs.lemmas.texts.Spaces.{text_is_spaceless, spaceless_text_is_not_cut}
+use Rattle.log_grammar.proofs.lemmas.lines.Words.{moment_fits_64_bits}
+use Rattle.sasl_log.proofs.lemmas.texts.Spaces.{front_is_decimal, spaceless_text_is_not_cut}
 use Rattle.sasl_log.proofs.lemmas.texts.WithSpaces.{if_none_holds}
-use Rattle.commands.proofs.lemmas.EventWords.{text_before_space_is_moment}
 use Rattle.commands.proofs.hall.event.after_moment.Goals as goal
 
 pub returns-in_err-seconds-clause-none : goal.returns-in_err-seconds-clause-none
 returns-in_err-seconds-clause-none c =
     let none : (n : ℕ) (rest : List ℕ) → IsMoment n → c.args.text.now ≢ decimal n ++ byte " " ∷ rest =
     λ n rest is.
-    spaceless_text_is_not_cut c.args.text.now (decimal n) rest (text_is_spaceless c.args.text.now c.in_err-seconds.ensures) in
+    spaceless_text_is_not_cut c.args.text.now (decimal n) rest c.in_err-seconds.ensures in
     if_none_holds _ none
 
 pub returns-in_err-moment-clause-none : goal.returns-in_err-moment-clause-none
@@ -19,6 +19,6 @@ returns-in_err-moment-clause-none c =
     let none : (n : ℕ) (rest : List ℕ) → IsMoment n → c.args.text.now ≢ decimal n ++ byte " " ∷ rest =
     λ n rest is whole.
     c.in_err-moment.ensures.none n is
-    (text_before_space_is_moment c.args.text.now c.in_ok-seconds.seconds.now c.in_ok-seconds.rest.now c.in_ok-seconds.ensures n is rest
-    whole) in
+    (front_is_decimal c.args.text.now c.in_ok-seconds.seconds.now c.in_ok-seconds.rest.now c.in_ok-seconds.ensures n
+    (moment_fits_64_bits n is) rest whole) in
     if_none_holds _ none

@@ -1,6 +1,6 @@
 use Rattle.otp_core.specs.Attempt.CodeTexts.{two_texts}
 use Rattle.otp_core.specs.Reply.{IsFitting}
-use Rattle.otp_core.specs.Passes.{IsLeast}
+use Rattle.otp_core.specs.inner.Passes.{IsLeast}
 use Rattle.otp_core.specs.declared.token.kinds.TokenFields.{TokenFields}
 use Rattle.std.proofs.Common.{[], sym, subst}
 use Rattle.otp_core.proofs.lemmas.LeastFound.{least_pair_fits}

@@ -1,7 +1,7 @@
 use Rattle.std.proofs.Common.{[], sym, subst}
 use Rattle.log_grammar.specs.Places.{Place}
 use Rattle.sasl_log.specs.Shown.{client_shown}
-use Rattle.sasl_desk.specs.SessionTurns.{IsTurnOnLine, ComesOfLine}
+use Rattle.sasl_desk.specs.inner.SessionTurns.{IsTurnOnLine, ComesOfLine}
 use Rattle.sasl_desk.proofs.session.Session.hear_line.Goals as goal
 
 pub returns-in_ok-hear_auth-in-WaitAuth-clause-heard : goal.returns-in_ok-hear_auth-in-WaitAuth-clause-heard

@@ -1,15 +1,12 @@
 use Rattle.std.proofs.Common.{refl}
 use Rattle.sasl_desk.proofs.lemmas.turns.NotDue.{only_resp_is_due}
-use Rattle.log_grammar.proofs.lemmas.lines.Written.{heard_line_is_writable}
 use Rattle.sasl_desk.proofs.session.hear.hear_final.Goals as goal
 
 pub returns-in-Ok-clause-turn : goal.returns-in-Ok-clause-turn
 returns-in-Ok-clause-turn g c = λ accounts server_nonce at is.
     let (client_first, server_first, place, stands) = is in
-    rw (c.in-Resp.is, place) (record {
-      is_record = (refl, refl);
-      is_answer = c.in-Ok.ensures.due accounts server_nonce client_first server_first stands;
-    })
+    c.answered_line.ensures.turn accounts server_nonce at _ (rw (c.in-Resp.is, place) refl)
+    (rw (c.in-Resp.is, place) (c.in-Ok.ensures.due accounts server_nonce client_first server_first stands))
 
 pub returns-in-Abort-clause-turn : goal.returns-in-Abort-clause-turn
 returns-in-Abort-clause-turn g c = λ accounts server_nonce at is.
@@ -17,7 +14,7 @@ returns-in-Abort-clause-turn g c = λ accounts server_nonce at is.
     rw (c.in-Abort.is, c.requires.empty) (c.abort_turn.ensures.line accounts server_nonce at (rw place refl))
 
 pub returns-in-Ok-clause-lines : goal.returns-in-Ok-clause-lines
-returns-in-Ok-clause-lines g c = (heard_line_is_writable _ c.requires.line, c.in-Ok.ensures.lines)
+returns-in-Ok-clause-lines g c = c.answered_line.ensures.lines _ c.in-Ok.ensures.lines
 
 pub returns-in-Abort-clause-lines : goal.returns-in-Abort-clause-lines
 returns-in-Abort-clause-lines g c = rw c.requires.empty c.abort_turn.ensures.lines

@@ -2,8 +2,13 @@ use Rattle.std.proofs.Common.{refl}
 use Rattle.mac_core.specs.Mechanism.{name_of}
 use Rattle.log_grammar.specs.Places.{waits_first}
 use Rattle.sasl_desk.proofs.lemmas.turns.NotDue.{only_resp_is_due}
-use Rattle.log_grammar.proofs.lemmas.lines.Written.{heard_line_is_writable}
 use Rattle.sasl_desk.proofs.session.hear.hear_first.Goals as goal
+
+pub returns-in-Ok-clause-turn : goal.returns-in-Ok-clause-turn
+returns-in-Ok-clause-turn g c = λ accounts keeps.
+    let name = name_of c.args.mechanism in
+    c.answered_line.ensures.turn accounts c.args.server_nonce.now (waits_first name) _ (rw c.in-Resp.is refl)
+    (rw c.in-Resp.is (c.in-Ok.ensures.due accounts name keeps refl))
 
 pub returns-in-Abort-clause-turn : goal.returns-in-Abort-clause-turn
 returns-in-Abort-clause-turn g c = λ accounts keeps.
@@ -11,7 +16,7 @@ returns-in-Abort-clause-turn g c = λ accounts keeps.
     (waits_first (name_of c.args.mechanism)) refl)
 
 pub returns-in-Ok-clause-lines : goal.returns-in-Ok-clause-lines
-returns-in-Ok-clause-lines g c = (heard_line_is_writable _ c.requires.line, c.in-Ok.ensures.lines)
+returns-in-Ok-clause-lines g c = c.answered_line.ensures.lines _ c.in-Ok.ensures.lines
 
 pub returns-in-Abort-clause-lines : goal.returns-in-Abort-clause-lines
 returns-in-Abort-clause-lines g c = rw c.requires.empty c.abort_turn.ensures.lines

@@ -1,7 +1,7 @@
 use Rattle.std.proofs.Common.{◌≡◌, sym, subst, rules, List, ℕ}
 use Rattle.std.proofs.lemmas.Result.{IfOk-weaker}
 use Rattle.log_grammar.specs.Lines.{IsLine, from_server, mechs, cont, accepts}
-use Rattle.commands.specs.ClientSteps.{ShowsKeys}
+use Rattle.commands.specs.inner.ClientSteps.{ShowsKeys}
 use Rattle.commands.specs.declared.login.client_end.Stage.{Stage}
 use Rattle.commands.specs.declared.login.client_end.Stage.TheVariants.{Silent, Begun, Proved}
 use Rattle.commands.proofs.lemmas.ClientLines.{beginning_may_be_said, answer_may_be_said, silence_may_be_kept, no_line_makes_client_leave}

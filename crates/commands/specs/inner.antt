@@ -1,0 +1,5 @@
+-- The steps of `login` and `hall`. For private functions only: no public contract cites these files.
+pub mod ClientSteps
+pub mod DeskLogSteps
+pub mod TurnFaults
+pub mod HallSteps

@@ -1,5 +1,0 @@
-use Rattle.log_grammar.proofs.lemmas.lines.Cuts.{some_split}
-use Rattle.log_grammar.proofs.laws.bytes_have_a_split.Goals as goal
-
-pub returns : goal.returns
-returns c = some_split

@@ -1,5 +1,0 @@
-use Rattle.log_grammar.proofs.lemmas.demands.EachAccount.{each_account_has_its_history}
-use Rattle.log_grammar.proofs.laws.each_account_has_its_history.Goals as goal
-
-pub returns : goal.returns
-returns c = each_account_has_its_history

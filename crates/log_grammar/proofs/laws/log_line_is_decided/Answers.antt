@@ -1,5 +1,0 @@
-use Rattle.log_grammar.proofs.lemmas.lines.LinesDecided.{log_line_is_decided}
-use Rattle.log_grammar.proofs.laws.log_line_is_decided.Goals as goal
-
-pub returns : goal.returns
-returns c = log_line_is_decided

@@ -1,5 +1,0 @@
-use Rattle.log_grammar.proofs.lemmas.session_laws.MomentRanges.{moments_are_in_range}
-use Rattle.log_grammar.proofs.laws.moments_are_in_range.Goals as goal
-
-pub returns : goal.returns
-returns c = moments_are_in_range
