@@ -4,6 +4,8 @@ DESTDIR ?=
 # The oldest processors that the program is built for: x86-64, x86-64-v2 or x86-64-v3.
 CPU ?= x86-64-v2
 JOBS ?= $(shell nproc)
+# The gate tries about one of so many wrong bodies: SHARE=1 tries all, as before a release.
+SHARE ?= 3
 PROGRAM = crates/scramotp/out/scramotp
 # The kit with which all was last proved, as rt version prints it; README.md and docs/PROMISES.md name it too.
 KIT = rattle-kit-13f logic dac8208d650f15bf
@@ -28,7 +30,8 @@ help:
 	@echo 'make libraries  proves the libraries, for a server of your own'
 	@echo 'make install    copies the built program to $$(DESTDIR)$$(PREFIX)/bin,'
 	@echo '                and its tools to $$(DESTDIR)$$(PREFIX)/share/scramotp'
-	@echo 'make test       the gate: proves all, sees that wrong bodies are refused, builds the program and runs all tests'
+	@echo 'make test       the gate: proves all, sees that wrong bodies are refused, builds the program and runs all tests;'
+	@echo '                SHARE=1 tries all wrong bodies, and not about a third'
 	@echo 'make coverage   measures how much of the built program the tests run; needs objdump and readelf too'
 	@echo 'make fuzz       gives the built program random input, for some minutes'
 	@echo 'make bench      compares speeds with OpenSSL, with Python, and with oathtool'
@@ -84,22 +87,25 @@ test: this_kit needed
 	python3 tests/documents.py
 	rt ci
 	@rm -f crates/scramotp/out/built_for
-	python3 tests/edits.py --built
+	python3 tests/edits.py --built --share $(SHARE)
 	$(MAKE) build
-	python3 tests/planted.py --unbuilt
-	python3 tests/run.py $(PROGRAM)
+	python3 tests/planted.py --unbuilt --jobs $(JOBS)
+	JOBS=$(JOBS) python3 tests/run.py $(PROGRAM)
 
 # Measures what the scripts run of the program, which takes them longer than usual. It judges nothing.
 coverage: needed build
 	@for it in objdump readelf; do command -v $$it >/dev/null || { echo "This needs $$it on your PATH" >&2; exit 1; }; done
 	python3 tests/coverage.py $(PROGRAM)
 
-# Each run begins from another seed, which it prints: make fuzz SEED=7 tries the same input again.
+# What the other scripts choose at random: which runs they kill, and in which order they do things.
+RANDOM = hall.py sessions.py hall_kill.py login_kill.py books.py machine.py
+# Each run begins from another seed, which it prints: make fuzz SEED=7 tries the same again.
 SEED := $(or $(SEED),$(shell date +%s))
 COUNT ?= 5000
 fuzz: needed build
 	@echo 'SEED=$(SEED) COUNT=$(COUNT)'
 	SEED=$(SEED) COUNT=$(COUNT) python3 tests/fuzz.py $(PROGRAM)
+	SEED=$(SEED) JOBS=$(JOBS) python3 tests/run.py $(PROGRAM) $(RANDOM)
 
 bench: build
 	cd crates/bench && rt run -- hotp 1 12345678901234567890

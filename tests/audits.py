@@ -134,7 +134,9 @@ def audit_at_a_terminal(wait):
 def progress_on_a_terminal(folder):
     """If standard error is a terminal, a run of two seconds shows its progress there, and clears it at the end."""
     shown, _ = audit_at_a_terminal(2.2)
-    equal(shown, f"\r7 lines, {len(HEADER + SESSION_LEFT * 2)} bytes\r\x1b[K".encode(), "what is shown at the terminal")
+    counts = f"\r7 lines, {len(HEADER + SESSION_LEFT * 2)} bytes".encode()
+    # They are shown once more if a second ends before the end of the log is read.
+    equal(shown.replace(counts * 2, counts), counts + b"\r\x1b[K", "what is shown at the terminal")
 
 
 def no_progress_of_a_short_run(folder):

@@ -6,9 +6,9 @@ files that take the book's place, and how paths are shown.
 Usage: books.py PROGRAM [TEST ..]
 
 Twenty runs at once with one code, of which one passes; six at once that make one book, of which two are killed; two hundred runs that are
-killed at any moment. A book that another run holds, and that it is held until the last save; files, links and pipes that take its place
-while a run waits; keys that are made before the book is held; a text that is too long; paths with control characters; and a reply that is
-printed while the input is still open.
+killed before one of their calls. A book that another run holds, and that it is held until the last save; files, links and pipes that take
+its place while a run waits; keys that are made before the book is held; a text that is too long; paths with control characters; and a reply
+that is printed while the input is still open. Needs `cc`.
 """
 import ctypes
 import errno
@@ -24,8 +24,8 @@ import time
 
 import suite
 from checks import equal, holds
-from kills import kill_at_any_moment
-from processes import Running, ran, taken, until, whole
+from kills import kill_before_any_call
+from processes import LIMIT_OF_LINES, Running, ran, taken, until, whole
 from suite import (
     BOOK_OF_USER, CODES, MOST_BYTES, PROGRAM, BookFolder, code, each, fault_text, hotp, is_locked, prints, read_book, seen, verify_words,
 )
@@ -77,15 +77,15 @@ def twenty_at_once(folder):
         here.has_only("book", "link")
 
 
-def killed_at_any_moment(folder):
-    """Runs are killed at any moment, and each next one goes on from the book that they leave."""
+def killed_before_any_call(folder):
+    """Runs are killed before any of their calls, and each next one goes on from the book that they leave."""
     here = BookFolder(folder, BOOK)
 
-    def started(at, output):
+    def started(at, **how):
         codes = [code(counter) for counter in range(max(at - 2, 0), at + 10)]
-        return whole(verify_words(here.book), "".join(f"{it}\n" for it in codes), stdout=output)
+        return whole(verify_words(here.book), "".join(f"{it}\n" for it in codes), **how)
 
-    kill_at_any_moment(here, started, 200, [0, 1], is_log=False)
+    kill_before_any_call(here, started, 200, 0, is_log=False)
     counter = here.token()["next"]
     here.verifies(code(counter), 0, f"PASS 5 {counter}\n")
     here.has_only("book")
@@ -148,7 +148,7 @@ def locked_by_another(folder):
     begun = time.monotonic()
     here.verifies(FIRST_CODE, 3, "", f"other runs held {here.book} for 30 seconds\nscramotp: cannot read {here.book}")
     waited = time.monotonic() - begun
-    holds(29 < waited < 60, "the run did not wait for 30 seconds, but for", waited)
+    holds(29 < waited < 30 + LIMIT_OF_LINES, "the run did not wait for 30 seconds, but for", waited)
     run = whole(verify_words(here.book), FIRST_CODE)
     run.waits()
     time.sleep(0.5)
@@ -158,13 +158,14 @@ def locked_by_another(folder):
 
 
 def locked_folder(folder):
-    """A run does not wait for a lock on the folder, or on another book in it."""
+    """A run does not wait for a run on another book in the folder, or for a lock on the folder."""
     here = BookFolder(folder, BOOK)
     other = here.folder / "other"
     other.write_text(BOOK)
-    lock = locked(folder)
     waiting = waiting_verify(other)
     here.verifies(FIRST_CODE, *PASSES)
+    lock = locked(folder)
+    here.verifies(CODES[1], 0, "PASS 5 1\n")
     waiting.ends(*PASSES, FIRST_CODE)
     os.close(lock)
 
@@ -276,6 +277,7 @@ def made_at_once(folder):
             run.process.kill()
         statuses = [run.end().status for run in runs]
         killed += statuses[:2].count(-signal.SIGKILL)
+        equal({*statuses} - {0, -signal.SIGKILL}, set(), f"turn {turn}: other statuses", statuses)
         equal(statuses[2:], [0] * 4, f"turn {turn}: the statuses of the runs that are not killed")
         here.verifies("", 1, "", "no such account")
         here.has_only("book")
@@ -293,13 +295,15 @@ def pipes(folder):
     here.book.rename(file)
     os.mkfifo(pipe)
     pipe.chmod(0o666)
-    is_over = threading.Event()
+    is_over, turns = threading.Event(), 0
 
     def turn():
+        nonlocal turns
         while not is_over.is_set():
             for path in [file, pipe]:
                 os.link(path, following)
                 following.rename(here.book)
+            turns += 1
 
     turning = threading.Thread(target=turn)
     turning.start()
@@ -307,7 +311,7 @@ def pipes(folder):
         for number in range(300):
             answer, refused = ran(verify_words(here.book)), (3, "", fault_text(f"cannot read {here.book}"))
             holds(answer in [(0, "", ""), refused], f"run {number} has another answer than {refused}, or than none", answer)
-        holds(turning.is_alive(), "the file and the pipe no longer take turns")
+        holds(turning.is_alive() and turns > 300, "the file and the pipe take too few turns", turns)
     finally:
         is_over.set()
         turning.join()
@@ -370,7 +374,7 @@ def told_at_once(folder):
 
 TESTS = [
     twenty_at_once,
-    killed_at_any_moment,
+    killed_before_any_call,
     modes,
     access_lists,
     unwritable,

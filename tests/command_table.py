@@ -17,7 +17,7 @@ from suite import CODES, KEYS_OF_PENCIL, PROGRAM, PUBLISHED, SALT, SECRET
 
 # RFC 5802's user with RFC 4226's token, at which two codes have failed.
 BOOK = (AUDITS / "hotp.toml").read_text().replace("failures = 0", "failures = 2")
-# The same with a token that is locked after 100 failures, not after three.
+# This book with a token that is locked after 100 failures, not after three.
 LIMIT_100 = BOOK.replace("limit = 3", "limit = 100")
 LOG = ACCEPTED + GONE
 RANDOM = bytes(range(64))
@@ -49,17 +49,15 @@ def new_account(salts):
     return tables
 
 
-def with_account(book):
-    """The book after `enrol` has added the account `new`: RANDOM begins with its salts."""
+def with_account(book, name="new"):
+    """The book after `enrol` has added an account with the salts with which RANDOM begins. A book that was not there is made, and then
+    RANDOM begins with its decoy key."""
+    if book is None:
+        accounts = {name: new_account([RANDOM[32:48], RANDOM[48:]])}
+        return {"format": 1, "decoy_key": RANDOM[:32].hex(), "decoy_count": 4096, "accounts": accounts}
     changed = copy.deepcopy(book)
-    changed["accounts"]["new"] = new_account([RANDOM[:16], RANDOM[16:32]])
+    changed["accounts"][name] = new_account([RANDOM[:16], RANDOM[16:32]])
     return changed
-
-
-def made_book():
-    """The book that `enrol` makes if there is none: RANDOM begins with its decoy key, and the salts follow."""
-    accounts = {"new": new_account([RANDOM[32:48], RANDOM[48:]])}
-    return {"format": 1, "decoy_key": RANDOM[:32].hex(), "decoy_count": 4096, "accounts": accounts}
 
 
 def after_codes(book, count):
@@ -130,7 +128,7 @@ def command_of(name, count=2):
 
 def new_book():
     """`enrol` for a book that does not exist yet."""
-    return command_of("enrol")._replace(books=[None, made_book()])
+    return command_of("enrol")._replace(books=[None, with_account(None)])
 
 
 def prepare(folder, command, mode=0o600):

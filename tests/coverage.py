@@ -180,7 +180,7 @@ def places(which):
 
 
 class Notes:
-    """What was seen of a program's functions: the table that note_jumps.c reads, and the notes behind it."""
+    """What was seen of a program's functions: the table that note_jumps.c reads, and the notes that follow it."""
 
     def __init__(self, path, program):
         self.functions = functions(program)

@@ -6,19 +6,20 @@ Usage: documents.py [CHECK ..]
 
 With names, only these of the functions below are used. By default all are.
 
-Each link between pages leads to a page and a section in it. Each path between backquotes is in the repository, and each source file or
-edit that is named is there. Each block of code, definitions, proofs or an edit that a page shows stands in one as it is, or in the head of
-a library. The sources have each signature in docs/EMBEDDING.md. Each name that a page of promises has between backquotes is in the
-sources. Each name without a space in a page for maintainers, in docs/FAULTS.md, docs/SECURITY.md or docs/TESTING.md is in the sources or
-in a script. A name that a page gives together with a file, as in `name` of `file.rt` or `file.rt` (`name`, `other`), is in that file. So
-is each law of docs/LOG_PROMISES.md in one of the files that are named before its table. run.py runs each script in this folder that takes
-a program, and docs/TESTING.md names each script. A script that runs a list of tests uses all of its functions. The sizes in
-docs/PROMISES.md and README.md are about those of the sources, and docs/TESTING.md says how many rows the tables of vectors and of faulty
-books have. docs/PROMISES.md says how many lines of definitions there are to be read for a promise. docs/ARCHITECTURE.md says about how
-large each library is. The kit that the Makefile names is that in docs/PROMISES.md and README.md. No source has a word by which something
-is taken unproved. docs/MUTATIONS.md says how many edits each crate has, how many tests of scripts there are, and for how many of these a
-bug is planted. tests/data/planted.csv has a row for each edit that a test has to refuse, with what the test says then. docs/TIMES.md names
-each library. No line of a page has over 140 columns, outside tables and code blocks. Each fault has a line, and the status is then 1.
+Each link between pages leads to a page and a section in it. Each path between backquotes is in the repository, and each source file or edit
+that is named is there. Each block of code, definitions, proofs or an edit that a page shows stands in one as it is, or in the head of a
+library. The sources have each signature in docs/EMBEDDING.md. Each name that a page of promises has between backquotes is in the sources.
+Each name without a space in a page for maintainers, in docs/FAULTS.md, docs/SECURITY.md or docs/TESTING.md is in the sources or in a
+script. A name that a page gives together with a file, as in `name` of `file.rt` or `file.rt` (`name`, `other`), is in that file. So is each
+law of docs/LOG_PROMISES.md in one of the files that are named before its table. run.py runs each script in this folder that takes a
+program, and docs/TESTING.md names each script. A script that runs a list of tests uses all of its functions. The sizes in docs/PROMISES.md
+and README.md are about those of the sources, and docs/TESTING.md says how many rows the tables of vectors and of faulty books have.
+docs/PROMISES.md says how many lines of definitions there are to be read for a promise. docs/ARCHITECTURE.md says about how large each
+library is. The kit that the Makefile names is that in docs/PROMISES.md and README.md. No source has a word by which something is taken
+unproved. No contract of a public function cites a definition of specs/inner. docs/MUTATIONS.md says how many edits each crate has, how many
+tests of scripts there are, and for how many of these a bug is planted. tests/data/planted.csv has a row for each edit that a test has to
+refuse, with what the test says then. Each wrong body in must-fail/ and edits/ applies. docs/TIMES.md names each library. No line of a page
+has over 140 columns, outside tables and code blocks. Each fault has a line, and the status is then 1.
 """
 import ast
 import csv
@@ -27,7 +28,7 @@ import sys
 from pathlib import Path
 
 import run
-from edit_sources import TOP, Unusable, planted_edits, planted_rows, read_planted
+from edit_sources import TOP, Unusable, edits_of, planted_edits, planted_rows, read_edit, read_planted
 
 PAGES = [TOP / "README.md", TOP / "CONTRIBUTING.md", TOP / "CHANGELOG.md", *sorted(TOP.glob("docs/*.md")), TOP / "bench" / "README.md"]
 PROMISES = ["PROMISES.md", "LOG_PROMISES.md", "COMMAND_PROMISES.md", "CONTRACTS.md"]
@@ -49,6 +50,9 @@ NOT_OF_THE_REPOSITORY |= {"i32", "self-test", "df"}
 
 # What docs/PROMISES.md says that no source has: raw pointers, a C function, whose contract is trusted, and a statement without proof.
 UNPROVED = re.compile(r"\b(?:unsafe|extern|axiom)\b")
+
+# The planted bugs that any test refuses which compares what is printed: no fault is told, or the last character but one is another.
+PLAIN_BUGS = {"fault_is_not_told", "last_digit_is_another"}
 
 # The fewest characters that a row of planted.csv has of what a test says: fewer might stand in the output for another reason.
 LEAST_SAID = 12
@@ -260,6 +264,7 @@ def stale_sizes():
     definitions, proofs = lines_of("crates/*/specs/**/*.antt"), lines_of("crates/*/proofs/**/*.antt")
     bugs = len(planted_edits(TOP))
     tests, planted = {*tests_of_scripts()}, {(row.by, row.test) for row in planted_rows(TOP)}
+    plain = tests - {(row.by, row.test) for row in planted_rows(TOP) if row.bug not in PLAIN_BUGS}
     for name, form, size, most_off in [
         ("../README.md", r"some (\d+) lines of definitions", definitions, definitions // 50),
         ("../README.md", r"Some (\d+) \[bugs", edits, edits // 50),
@@ -267,8 +272,10 @@ def stale_sizes():
         ("PROMISES.md", r"some (\d+) of code", code, code // 50),
         ("PROMISES.md", r"The (\d+) lines of proofs", proofs, proofs // 50),
         ("PROMISES.md", r"some (\d+) wrong bodies", edits, edits // 50),
-        ("MUTATIONS.md", r"of the (\d+) tests of scripts", len(tests), 0),
-        ("MUTATIONS.md", r"scripts, (\d+) have a bug", len(tests & planted), 0),
+        ("MUTATIONS.md", r"each of the (\d+) tests of scripts has a bug", len(tests), 0),
+        ("MUTATIONS.md", r"each of the (\d+) tests of scripts has a bug", len(tests & planted), 0),
+        ("MUTATIONS.md", r"(\d+) of these only one", len(plain), 0),
+        ("MUTATIONS.md", r"test functions of crates (\d+) have a bug", sum(by.endswith("_tests") for by, _ in planted), 0),
         ("TESTING.md", r"some (\d+) lines of proofs", proofs, proofs // 50),
         ("TESTING.md", r"some (\d+) lines of code", code, code // 50),
         ("TESTING.md", r"some (\d+) wrong bodies", edits, edits // 50),
@@ -355,6 +362,19 @@ def taken_unproved():
                 yield f"{path}:{number}: {line.strip()}"
 
 
+def cited_inner():
+    """The public functions whose contracts cite a definition of specs/inner, which docs/ARCHITECTURE.md lets a reader skip."""
+    for file in sorted(TOP.glob("crates/*/src/**/*.rt")):
+        text = file.read_text(encoding="utf-8")
+        inner = re.findall(r"ghost use Rattle\.\w+\.specs\.inner\.\w+\.\{([^}]*)\}", text)
+        names = {name.strip() for names in inner for name in names.split(",")}
+        for function in re.finditer(r"\n\s*pub fn (\w+)", text):
+            # Its contract ends where its body begins, in a line of its own.
+            contract = re.split(r"\n\s*\{\}?\n", text[function.start():], maxsplit=1)[0]
+            for name in sorted(names & set(re.findall(r"\w+", contract))):
+                yield f"{function[1]} of {file.relative_to(TOP)} cites {name}"
+
+
 def stale_bugs():
     """The rows of planted.csv that have no edit, no test or too little of what the test says, and the edits in a folder planted/ that have
     no row or do not apply."""
@@ -400,6 +420,16 @@ def miscounted_edits():
     yield from (f"it should not have: {line}" for line in sorted(told - due))
 
 
+def stale_edits():
+    """Finds the edits in must-fail/ and edits/ that do not apply."""
+    for crate in sorted(TOP.glob("crates/*")):
+        for path in edits_of(crate):
+            try:
+                read_edit(path, crate, [])
+            except Unusable as fault:
+                yield f"{path.relative_to(TOP)}: {fault}"
+
+
 def checks():
     """Each check of the documents or of the lists of tests: its kind of fault, its function's name, and the faults."""
     texts = sources()
@@ -435,6 +465,8 @@ def checks():
         ("docs/TIMES.md gives no time of this library", untimed_crates),
         ("run.py does not run this script, or docs/TESTING.md does not name it", untold_tests),
         ("its script never uses this function", unused_functions),
+        ("a public contract cites specs/inner", cited_inner),
+        ("a wrong body does not apply", stale_edits),
         ("planted.csv and the folders planted/ do not fit", stale_bugs),
         ("the table of edits in docs/MUTATIONS.md", miscounted_edits),
     ]:

@@ -3,7 +3,7 @@ refuse planted bugs.
 
 An edit has the form that `rt help` describes. That of a crate changes src/ or specs/, and one of a definition in specs/ belongs to no
 function. The edits in tests/planted/ change what no crate has: a tool, a page with blocks that a test runs, the Makefile, a C file through
-which the program makes calls, kills.py or power_model.py.
+which the program makes calls, or power_model.py.
 """
 import csv
 import re
@@ -19,7 +19,7 @@ FOLDERS = ("must-fail", "edits")
 # Where in a crate an edit may make changes; and where in the repository one in tests/planted/ may.
 EDITED = ("src/", "specs/")
 EDITED_BY_TESTS = ("tools/", "docs/", "Makefile", "tests/refuse_", "tests/note_files.c", "tests/turn_clock.c", "tests/pass_calls.c")
-EDITED_BY_TESTS += ("tests/kills.py", "tests/power_model.py")
+EDITED_BY_TESTS += ("tests/power_model.py",)
 
 FUNCTION = re.compile(r"( *)(?:pub(?:\([a-z ]+\))? )?(?:(?:const|unsafe) )*fn (\w+)")
 IMPL = re.compile(r"impl(?:<.*?>)? (?:(?:\w+::)*(\w+)(?:<(.*?)>)? for )?(?:\w+::)*(\w+)")

@@ -2,7 +2,7 @@
 """Tries the wrong bodies in crates/NAME/must-fail/ and crates/NAME/edits/: the contract of what each one changes has to refuse it.
 By default it takes the crates that have a folder edits/. rt ci tries those in must-fail/ one by one.
 
-Usage: edits.py [--jobs N] [--anew] [--built] [--self-test] [CRATE..]
+Usage: edits.py [--jobs N] [--anew] [--built] [--share N] [--self-test] [CRATE..]
 
 A function is proved from its own body and the contracts of what it calls, so a wrong body fails only its own function. Edits of
 different functions are therefore put into one copy of their crate and judged by one check of these functions and of those that they
@@ -18,6 +18,10 @@ older files that it kept. `rt ci` shows whether the crates are proved without ed
 
 Refusals are kept on this machine, as `rt ci` keeps what it proved: by the checksum of everything that the trial read, which is the kit,
 this script, the edit, and the sources of its crate and of those below. A later run tries the other edits, and with --anew all.
+
+With --share N a run tries about one of N edits, and sees of the others only that they apply. The same checksums choose them, so the same
+sources have the same share, and a change of a crate gives another share to it and to the crates above it.
+
 Each run begins with a test of the script in the smallest of its crates, unless that has only edits of definitions: an edit without a
 change is let through, and an edit whose text is gone, or with a line that would not be read, is unusable.
 """
@@ -113,6 +117,10 @@ class Refusals:
             return Outcome(True, self.place(edit).read_text(encoding="utf-8"))
         except OSError:
             return None
+
+    def is_in_share(self, edit: Edit, share: int) -> bool:
+        """Returns whether this edit is one of those that a run with --share tries."""
+        return int(self.place(edit).name, 16) % share == 0
 
     def keep(self, edit: Edit, outcome: Outcome) -> None:
         """Keeps a refusal for later runs, if the folder can be written."""
@@ -228,11 +236,12 @@ def refused(edit: Edit, report: Report) -> Outcome:
 
 @dataclass
 class Count:
-    """How many edits were refused, how many of those in an earlier run, and how many were not refused."""
+    """How many edits were refused, how many of those in an earlier run, how many were not refused, and how many were not tried."""
 
     refused: int = 0
     before: int = 0
     failed: int = 0
+    left: int = 0
 
 
 def read_all(room: Room) -> tuple[list[Edit], dict[str, str]]:
@@ -269,6 +278,9 @@ def try_crate(room: Room, is_first: bool, options: argparse.Namespace) -> Count:
         self_test(room, edits)
     if options.self_test:
         return count
+    usable = len(edits)
+    edits = [it for it in edits if room.refusals.is_in_share(it, options.share)]
+    count.left = usable - len(edits)
     for edit in [] if options.anew else edits:
         if outcome := room.refusals.kept(edit):
             tell(edit.name, outcome, " before, with the same sources")
@@ -393,9 +405,12 @@ def main() -> int:
     parser.add_argument("--jobs", type=int, default=default_jobs(), metavar="N", help="checks side by side (%(default)s)")
     parser.add_argument("--anew", action="store_true", help="also what an earlier run refused with the same sources")
     parser.add_argument("--built", action="store_true", help="the libraries in out/ are those of these sources: rt ci has just left them")
+    parser.add_argument("--share", type=int, default=1, metavar="N", help="about one of N edits, chosen by the sources (all)")
     parser.add_argument("--self-test", action="store_true", help="only the test of this script, in the smallest crate")
     parser.add_argument("crates", nargs="*", metavar="CRATE", help="the edits of these crates (those of each that has a folder edits/)")
     options = parser.parse_args()
+    if options.share < 1:
+        parser.error("--share takes a number from 1")
     uses = read_uses()
     listed = options.crates or [it for it in uses if (TOP / "crates" / it / "edits").is_dir()]
     edits = {it: len(edits_of(TOP / "crates" / it)) for it in listed}
@@ -411,8 +426,9 @@ def main() -> int:
         rooms = [Room(it, uses, base, Path(temp) / it) for it in names]
         tried = [pool.submit(try_crate, it, it.crate == first, options) for it in rooms]
         counts = [it.result() for it in tried]
-    failed, before = sum(it.failed for it in counts), sum(it.before for it in counts)
-    said = f"{sum(it.refused for it in counts)} refused, {failed} let through" + f"; {before} of them before" * bool(before)
+    refused, failed, before, left = (sum(getattr(it, of) for it in counts) for of in ("refused", "failed", "before", "left"))
+    said = f"{refused} refused" + f" ({before} of them before)" * bool(before) + f", {failed} let through"
+    said += f", {left} not tried" * bool(left)
     print("the script's own test passed" if options.self_test else said)
     return 1 if failed else 0
 

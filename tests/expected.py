@@ -60,7 +60,7 @@ DECOY_KEY = bytes(range(32))
 
 
 def decoy_salt(name):
-    """The salt in the SCRAM-SHA-1 challenge for a name without an account. The form is this project's own, given in docs/PROMISES.md."""
+    """The salt in the SCRAM-SHA-1 challenge for a name without an account. The form is this project's own, given in docs/FORMATS.md."""
     return hmac.digest(DECOY_KEY, b"SCRAM-SHA-1\0" + name.encode(), "sha256")[:16]
 
 

@@ -225,8 +225,9 @@ def who_has_logged_in(folder):
 
 def every_block(folder):
     """No block of the documents is left out."""
-    equal([text for *_, text in blocks_of(DOCUMENT)], [BOOK, LOG, NUMBERED, GRAMMAR, COMMANDS], "the blocks of the page")
-    equal([text for *_, text in blocks_of(SERVING)], [TRANSCRIPT, LETS_IN], "the blocks of docs/SERVING.md")
+    for trial, (page, taken) in each([(DOCUMENT, [BOOK, LOG, NUMBERED, GRAMMAR, COMMANDS]), (SERVING, [TRANSCRIPT, LETS_IN])]):
+        with trial:
+            equal([text for *_, text in blocks_of(page) if text not in taken], [], "blocks that no test takes")
 
 
 suite.run_all([the_book, the_logs, many_logs, the_grammar, a_session_of_a_hall, who_has_logged_in, every_block])

@@ -24,14 +24,11 @@ import subprocess
 import tempfile
 import tomllib
 
-# Before `suite` takes another seed: each run of this script tries the same input, unless it is given a seed.
-SEED = int(os.environ.setdefault("SEED", "1"))
-
 import suite
 from checks import equal, fail, holds
 from expected import AUDITS, AUTH, BOOK_FAULTS, MECHS, RESP, code, keys_of, numbered
 from processes import LIMIT, processor_time
-from suite import BOOK_OF_USER, MEMORY, PROGRAM
+from suite import BOOK_OF_USER, MEMORY, PROGRAM, SEED
 from token_model import MOST_COUNTER, code_of, firsts_of_pairs, judged, step_at, window
 
 COUNT = int(os.environ.get("COUNT") or 300)

@@ -1,11 +1,11 @@
 #!/usr/bin/env python3
-"""Halls over one book that are killed at any moment, while many sessions send codes of one account: no counter passes twice in
+"""Halls over one book that are killed before any of their calls, while many sessions send codes of one account: no counter passes twice in
 all their logs, the book can always be read, and each log is the beginning of a clean one.
 
 Usage: hall_kill.py PROGRAM [TEST ..]
 
 Two thousand halls, in each of which 64 sessions log in, and 24 of them send 12 codes, each code by two. RUNS in the environment is another
-number of halls.
+number of halls. Needs `cc`.
 """
 import random
 
@@ -13,7 +13,7 @@ import clients
 import suite
 from clients import Account, book, logged_in
 from hall_support import Hall
-from kills import kill_at_any_moment
+from kills import kill_before_any_call
 from processes import whole
 
 RUNS = 2000
@@ -34,14 +34,14 @@ def codes_from(account, at):
     return "".join(f"line {sender} 5 CODE {text}\n" for sender, text in zip(senders, sent))
 
 
-def killed_at_any_moment(folder):
-    """Halls are killed at any moment, and each next one goes on from the book that they leave."""
+def killed_before_any_call(folder):
+    """Halls are killed before any of their calls, and each next one goes on from the book that they leave."""
     account = Account("user", "SCRAM-SHA-1")
     here = Hall(folder, book([account]))
     events = clients.dealt([which for _ in range(3) for which in range(OPEN)], visits(account))[0]
-    kill_at_any_moment(here, lambda at, output: whole(here.words, events + codes_from(account, at), stdout=output), RUNS, [0])
+    kill_before_any_call(here, lambda at, **how: whole(here.words, events + codes_from(account, at), **how), RUNS, 0)
     here.prints("", 0, clients.FIRST_LINE)
     here.has_only("book")
 
 
-suite.run_all([killed_at_any_moment])
+suite.run_all([killed_before_any_call])

@@ -1,17 +1,19 @@
-"""What the scripts that kill runs share: runs over one book that are killed at any moment, and what has to be true of their output and
-of the book that they leave."""
-import math
+"""What the scripts that kill runs share: runs over one book that are killed before any of their calls, and what has to be true of their
+output and of the book that they leave."""
 import os
+import pathlib
 import random
 import re
 import signal
 import tempfile
-import time
 
+import shims
 from checks import equal, holds
+from wrong_calls import CHANGES, call_of
 
-# How many runs are not killed: the quickest of them shows how long a run takes.
-WHOLE = 3
+# Calls of a save before which the book has its old text, and one before which it has the new text, of which nothing is reported yet.
+BEFORE = {("write", "book.new"), ("fsync", "book.new"), ("rename", "book")}
+AFTER = {("fsync", ".")}
 
 
 def used(printed):
@@ -25,54 +27,62 @@ def used(printed):
             yield counter
 
 
-def ended(here, started, wait):
-    """Starts a run, and kills it after `wait` seconds, unless that is None. Returns its status, its output, its faults, and how many
-    seconds it took."""
-    with tempfile.TemporaryFile("w+") as output:
-        run = started(here.token()["next"], output)
-        began = time.monotonic()
-        if wait is not None:
-            time.sleep(wait)
-            run.process.kill()
-        status, _, faults = run.end()
-        seconds = time.monotonic() - began
-        output.seek(0)
-        return status, output.read(), faults, seconds
+def ended(here, started, number):
+    """Starts a run, and kills it before its call of CHANGES with this number, unless that is 0. Returns its answer, how many such calls it
+    made, and the one before which it was killed, or None."""
+    with tempfile.TemporaryDirectory() as folder:
+        counted, printed = pathlib.Path(folder, "counted"), pathlib.Path(folder, "printed")
+        more = {"CALLS": CHANGES, "REFUSED": str(number), "HOW": f"signal {int(signal.SIGKILL)}", "COUNTED": str(counted)}
+        with open(printed, "wb") as output:
+            run = started(here.token()["next"], stdout=output, env={**os.environ, "LD_PRELOAD": shims.built("refuse_io"), **more})
+            answer = run.end()._replace(output=printed.read_text())
+        count, name, file = counted.read_text().split(" ", 2)
+        return answer, int(count), None if name == "none" else call_of(name, file, here.folder)
 
 
-def kill_at_any_moment(here, started, count, statuses, is_log=True):
-    """Makes `count` runs, or RUNS of the environment, one after another, over the book in a folder, and kills each but the first WHOLE at
-    a random moment. If no code has passed in a killed run by then, it makes more, at most four times as many in all, and waits for up to
-    twice as long, since the runs may have become slower. `started` is given the next counter of `user` and an open file; it starts a run
-    that is sent codes around that counter and prints to that file. A run that is not killed ends with one of these statuses, and lets a
-    code pass. No run reports a fault, and its output, if that is a log, is the beginning of a clean one. The book can be read after each
-    run, the counters that were reported as passed are spent in it, and none passes twice."""
-    passed, killed, passed_in_killed, duration = set(), 0, 0, math.inf
-    count = int(os.environ.get("RUNS") or count)
-    for number in range(4 * count):
-        if number >= count and passed_in_killed:
-            break
-        is_whole, what = number < WHOLE, f"run {number}"
+class Kills:
+    """Runs over the book in a folder, the counters that have passed in them, and the calls before which they were killed. `started` starts
+    a run that is sent codes around a counter, and prints to `stdout`."""
+
+    def __init__(self, here, started, is_log):
+        self.here, self.started, self.is_log = here, started, is_log
+        self.passed, self.passed_in_killed, self.landed = set(), 0, set()
+
+    def run(self, number, status):
+        """Makes a run, which ends with this status, and is killed before its call of CHANGES with this number, unless that is 0. Returns how
+        many such calls it made."""
+        what, here = f"a run that is to be killed before its call {number}", self.here
         here.before = here.book.read_text()
-        most = duration if number < count else 2 * duration
-        status, printed, faults, seconds = ended(here, started, None if is_whole else random.uniform(0, most))
-        holds(here.book.exists(), what, "there is no book after it", status, printed)
-        found = [*used(printed)]
-        if is_whole:
-            duration = min(duration, seconds)
-        if status == -signal.SIGKILL and not is_whole:
-            killed += 1
-            passed_in_killed += len(found)
-        else:
-            holds(status in statuses, what, f"it ended with another status than {statuses}", status, printed)
-            holds(found, what, "it lets no code pass", printed)
-        equal(faults, "", what, "its faults")
-        for front in {printed, printed[:printed.rfind("\n") + 1]} if is_log else ():
+        answer, count, call = ended(here, self.started, number)
+        equal((answer.status, answer.faults), (status, ""), what, answer.output, "its status and its faults")
+        holds(here.book.exists(), what, "there is no book after it", answer)
+        found, printed = [*used(answer.output)], answer.output
+        for front in {printed, printed[:printed.rfind("\n") + 1]} if self.is_log else ():
             here.begins_clean(front)
-        equal(sorted({*found} & passed), [], what, "counters that have passed before", printed)
+        equal(sorted({*found} & self.passed), [], what, "counters that have passed before", printed)
         equal(len({*found}), len(found), what, "how many different counters pass, of all that pass", printed)
-        passed.update(found)
-        after = here.token()["next"]
-        holds(after > max(passed, default=-1), what, f"the next counter is {after}, and not past those that have passed", found, printed)
-    holds(killed > count // 10, f"at most {count // 10} runs were killed", killed, duration)
-    holds(passed_in_killed, "no code passes in a run that is killed", killed, duration)
+        self.passed.update(found)
+        after, most = here.token()["next"], max(self.passed, default=-1)
+        holds(after > most, what, f"the next counter is {after}, and not past those that have passed", found, printed)
+        self.passed_in_killed += len(found) if number else 0
+        self.landed.add(call)
+        return count
+
+
+def kill_before_any_call(here, started, count, status, is_log=True):
+    """Makes `count` runs, or RUNS of the environment, one after another, over the book in a folder, after one that ends with this status and
+    lets a code pass. They are killed before their calls of CHANGES, which are spread evenly over those of the first run, and come in a
+    random order. No run reports a fault, and its output, if that is a log, is the beginning of a clean one. The book can be read after each
+    run, the counters that were reported as passed are spent in it, and none passes twice. Runs are killed before a save has put the new
+    text in place, right after that, and after a code has passed."""
+    count, kills = int(os.environ.get("RUNS") or count), Kills(here, started, is_log)
+    calls = kills.run(0, status)
+    holds(kills.passed, "no code passes in a whole run", calls)
+    numbers = [1 + calls * at // count for at in range(count)]
+    random.shuffle(numbers)
+    for number in numbers:
+        kills.run(number, -signal.SIGKILL)
+    for what, due in [("before", BEFORE), ("right after", AFTER)]:
+        holds(due & kills.landed, f"no run was killed {what} a new text was put in place", kills.landed)
+    holds(kills.passed_in_killed, "no code passes in a run that is killed", calls, count)
+    print(f"kills.py: {count} runs are killed, before {min(count, calls)} of {calls} calls; {kills.passed_in_killed} codes have passed in them")

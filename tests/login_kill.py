@@ -1,10 +1,10 @@
 #!/usr/bin/env python3
-"""Logins over one book that are killed at any moment, or run at the same time: no counter passes twice in all their logs, the
+"""Logins over one book that are killed before any of their calls, or run at the same time: no counter passes twice in all their logs, the
 book can always be read, and each log is the beginning of a clean one.
 
 Usage: login_kill.py PROGRAM [TEST ..]
 
-Two thousand logins. RUNS in the environment is another number of them.
+Two thousand logins. RUNS in the environment is another number of them. Needs `cc`.
 """
 import pathlib
 import re
@@ -12,7 +12,7 @@ import re
 import suite
 from checks import equal, holds
 from expected import AUDITS
-from kills import kill_at_any_moment
+from kills import kill_before_any_call
 from processes import Running, whole
 from suite import BookFolder, code, hotp, login_words
 
@@ -38,16 +38,16 @@ def lines_from(at):
     return [*singles, *pairs, code(at + 16), code(at + 17)]
 
 
-def killed_at_any_moment(folder):
-    """Logins are killed at any moment, and each next one goes on from the book that they leave."""
+def killed_before_any_call(folder):
+    """Logins are killed before any of their calls, and each next one goes on from the book that they leave."""
     here = BookFolder(folder, BOOK)
 
-    def started(at, output):
+    def started(at, **how):
         here.socket.unlink(missing_ok=True)
-        return start_login(here, lines_from(at), stdout=output)
+        return start_login(here, lines_from(at), **how)
 
     # A code of a pair has passed before, so a whole run ends with status 1.
-    kill_at_any_moment(here, started, RUNS, [1])
+    kill_before_any_call(here, started, RUNS, 1)
     here.socket.unlink(missing_ok=True)
     status, log, faults = start_login(here, [code(here.token()["next"])]).end()
     equal((status, faults), (0, ""), log)
@@ -86,4 +86,4 @@ def twenty_at_once(folder):
         here.has_only("book")
 
 
-suite.run_all([killed_at_any_moment, left_sockets, twenty_at_once])
+suite.run_all([killed_before_any_call, left_sockets, twenty_at_once])

@@ -4,10 +4,10 @@
 Usage: machine.py PROGRAM [TEST ..]
 
 A full device, streams that are closed, a pipe that nobody reads, a folder in which nothing can be written, a device without room for the
-book, a clock that is set back, or is before 1970 or after the year 9999, a random file that ends, and too few descriptors. In 120 runs of
-each command, TERM, INT, HUP or KILL at a random moment; twenty runs of each command at once, and ten times twenty of all together. Each
-run ends with the status and the fault in the table, has printed what it says, and leaves that book and no other file. When root runs
-the script, the program runs as the user nobody in tests of permissions. Needs `cc`.
+book, a clock that is set back, or is before 1970 or after the year 9999, a random file that ends, and too few descriptors. TERM, INT, HUP
+and KILL before each call by which a command changes what others see, and while it waits for input; twenty runs of each command at once, and
+ten times twenty of all together. Each run ends with the status and the fault in the table, has printed what it says, and leaves that book
+and no other file. When root runs the script, the program runs as the user nobody in tests of permissions. Needs `cc`.
 """
 import collections
 import concurrent.futures
@@ -20,7 +20,6 @@ import re
 import resource
 import shutil
 import signal
-import time
 from collections.abc import Callable
 from typing import NamedTuple
 
@@ -29,11 +28,12 @@ import suite
 from checks import equal, holds
 from command_table import (
     BOOK, LIMIT_100, audited, book_of, command_of, commands, is_front, is_kept, left, login_log, new_book, prepare, printed_begins_clean,
-    run,
+    run, with_account,
 )
-from expected import numbered
-from processes import Running, whole
+from expected import GONE, numbered
+from processes import Answer, Running
 from suite import NONCES, PROGRAM, ROOT, as_nobody, each, fault_text, nobody, totp
+from wrong_calls import CHANGES, Turns
 
 
 class Due(NamedTuple):
@@ -116,9 +116,15 @@ class Machine:
             os.chown(self.folder, 0, 0)
         return answer
 
-    def no_room(self, command):
-        """Runs a command that can write no byte to a file. Pipes are not files."""
-        limit = functools.partial(resource.setrlimit, resource.RLIMIT_FSIZE, (0, 0))
+    def waitless_input(self, command):
+        """Runs a command whose input has nothing yet, and of which a read does not wait, but fails at once (EAGAIN)."""
+        reader, writer = os.pipe2(os.O_NONBLOCK)
+        with open(reader, "rb"), open(writer, "wb"):
+            return run(command, self.folder, stdin=reader)
+
+    def no_room(self, command, room=0):
+        """Runs a command that can write no more than so many bytes to a file. Pipes are not files."""
+        limit = functools.partial(resource.setrlimit, resource.RLIMIT_FSIZE, (room, room))
         return run(command, self.folder, preexec_fn=limit, restore_signals=False)
 
     def set_clock(self, second):
@@ -178,7 +184,9 @@ TABLE = [
     (closed(1, 2), LOST_OUTPUT),
     (closed(0, 1, 2), LOST_OUTPUT | LOST_INPUT | {"hall": printless(1)}),
     (Disturbance("a folder in which nothing can be written", Machine.sealed), LOST_SAVE | {"login": Due(3, "", "socket fault", 0)}),
+    (Disturbance("an input that does not wait", Machine.waitless_input), LOST_INPUT),
     (Disturbance("a device without room for the book", Machine.no_room), LOST_SAVE),
+    (Disturbance("a device with room for a part of the book", functools.partial(Machine.no_room, room=100)), LOST_SAVE),
     # Before 1970, and after the year 9999
     (clock_at(-1), {}),
     (clock_at(253402300800), {}),
@@ -239,53 +247,71 @@ def few_descriptors(folder):
     print(f"machine.py: {refused} runs with too few descriptors")
 
 
-# The signals that each command gets, and how often it gets each of them.
 SIGNALS = [signal.SIGTERM, signal.SIGINT, signal.SIGHUP, signal.SIGKILL]
-TIMES = 30
 
 
-def interrupted(here, command, number, wait):
-    """Sends a run a signal after so many seconds, unless it ends before. Returns its answer."""
-    run_of_command = whole(command.in_folder(here.folder), command.text)
-    time.sleep(wait)
-    run_of_command.process.send_signal(number)
-    return run_of_command.end()
+def made_by(calls):
+    """The files that a run has made by these calls and has not removed, and how many saves it has made."""
+    files, saves = set(), 0
+    for name, file in calls:
+        saves += name in ("rename", "link")
+        if (name, file) in [("open", "book.new"), ("bind", "socket")]:
+            files.add(file)
+        elif name == "rename":
+            files.remove("book.new")
+        elif name == "unlink":
+            files.remove(file)
+    return files, saves
 
 
-def ended_by(here, command, number, wait):
-    """Sends a run a signal after so many seconds, checks what it leaves, and that the next command can go on. Returns its status."""
-    prepare(here.folder, command)
-    status, printed, fault = answer = interrupted(here, command, number, wait)
-    what = (command.name, number, answer)
-    holds((status, fault) in [(0, ""), (-number, "")], what, "it ended neither by the signal nor well, or with a fault")
-    holds(is_front(command, printed), what, "its output is no beginning of", command.printed)
-    holds(status or printed == command.printed, what, "it ended well, but did not print", command.printed)
-    holds(is_kept(here.folder, command, printed), what, "the book is not whole, or lacks what was reported", book_of(here.folder))
-    holds(left(here.folder) <= ({"book.new", "socket"} if status else set()), what, "files are left", left(here.folder))
-    is_log = command.name in ("login", "hall")
-    holds(not is_log or printed_begins_clean(here.folder, printed), what, "a line of the log is at fault")
+def goes_on(here, book, files):
+    """The next run, which adds an account to what the book states, or to no book, does all its work. It leaves only the socket."""
     enrol = command_of("enrol")
     other = enrol._replace(words=[word.replace("new", "other") for word in enrol.words])
-    pathlib.Path(here.folder, "random").write_bytes(bytes(64))
-    equal(run(other, here.folder), (0, "enrolled other\n", ""), "the next command after", what)
-    holds(left(here.folder) <= {"socket"}, what, "files are left after the next command", left(here.folder))
-    return status
+    equal(run(other, here.folder), (0, "enrolled other\n", ""), "the next command")
+    equal(book_of(here.folder), with_account(book, "other"), "the book after the next command")
+    equal(left(here.folder), files - {"book.new"}, "the files that are left after the next command")
 
 
 def signals(folder):
-    """A signal at any moment ends a command: its output is the beginning of what is due, the book is whole and has what was reported, and
-    the next command finds nothing in its way but a socket."""
-    here, ended = Machine(folder), collections.Counter()
-    for trial, (name, command) in each(named().items()):
+    """Whichever signal ends a run, and before whichever of its calls, the status is that of the signal. The run has printed the beginning
+    of what is due and no fault. The book has the saves that were made by then, and the run leaves no file but the next text and the socket,
+    if it had made these. The next command does all its work."""
+    here, count = Turns(folder), 0
+    for trial, ((name, command), number) in each(itertools.product(named().items(), SIGNALS)):
         with trial:
+            for inner, (what, _, answer) in each(here.turns(command, CHANGES, f"signal {number}")):
+                with inner:
+                    files, saves = made_by(here.before)
+                    equal(answer, Answer(-number, answer.output, ""), what)
+                    holds(is_front(command, answer.output), what, "its output is no beginning of", command.printed)
+                    equal(book_of(here.folder), command.books[saves], what, "the book")
+                    holds(is_kept(here.folder, command, answer.output), what, "the book lacks what was reported", command.books[saves])
+                    equal(left(here.folder), files, what, "the files that are left")
+                    is_log = name in ("login", "hall")
+                    holds(not is_log or printed_begins_clean(here.folder, answer.output), what, "a line of the log is at fault")
+                    goes_on(here, command.books[saves], files)
+                    count += 1
+    print(f"machine.py: {count} runs ended by a signal")
+
+
+def signals_while_waiting(folder):
+    """A signal ends a run that waits for its next line. The code that it has replied to is spent, and the next command does all its
+    work."""
+    here, of_one_code = Machine(folder), {command.name: command for command in commands(1)}
+    ends = {"verify": ("", "", set()), "login": ("", GONE, {"socket"}), "hall": ("gone 1 5\n", "1 C GONE\n1 E\n", set())}
+    for trial, ((name, (text, printed, files)), number) in each(itertools.product(ends.items(), SIGNALS)):
+        with trial:
+            command = of_one_code[name]
             prepare(here.folder, command)
-            began = time.monotonic()
-            equal(run(command, here.folder), (0, command.printed, ""), name)
-            duration = time.monotonic() - began
-            ended.update(ended_by(here, command, number, random.uniform(0, duration)) for number in SIGNALS * TIMES)
-    killed = sum(ended[-number] for number in SIGNALS)
-    holds(all(ended[-number] > TIMES for number in SIGNALS), f"a signal ended at most {TIMES} runs", ended)
-    print(f"machine.py: {killed} runs ended by a signal, of {ended.total()}")
+            run_of_command = Running(command.in_folder(here.folder))
+            run_of_command.prints(command.printed.removesuffix(printed), command.text.removesuffix(text))
+            run_of_command.waits()
+            run_of_command.process.send_signal(number)
+            run_of_command.ends(-number)
+            equal(book_of(here.folder), command.books[-1], "the book")
+            equal(left(here.folder), files, "the files that are left")
+            goes_on(here, command.books[-1], files)
 
 
 def together(here, started):
@@ -402,7 +428,8 @@ def clocks_that_go_back(folder):
 
 
 def moments_that_fall(folder):
-    """The same with moments that are given to `verify` and to a hall, whose log is clean."""
+    """When the moments that `verify` and a hall are given go back, no code passes again, and none of an earlier step. The hall's log is
+    clean."""
     here = Clocks(folder)
     (then, first, code), (now, second, next_code), (_, _, old_code) = BEFORE, AFTER, EARLY
     verify = here.named["verify"]
@@ -433,6 +460,7 @@ TESTS = [
     socket_elsewhere,
     few_descriptors,
     signals,
+    signals_while_waiting,
     twenty_at_once,
     all_at_once,
     clocks_that_go_back,

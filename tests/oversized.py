@@ -37,7 +37,7 @@ NO_AND_END = ["S NO :", "E"]
 
 
 def decoy(name):
-    """The challenge's salt and count for a name without an account (this project's own form, given in docs/PROMISES.md)."""
+    """The challenge's salt and count for a name without an account (this project's own form, given in docs/FORMATS.md)."""
     return f"s={base(expected.decoy_salt(name))},i={clients.COUNT}"
 
 
@@ -151,25 +151,21 @@ def lengths_of_words(folder):
 def lengths_of_files(folder):
     """A book of 16777216 bytes is read, and one of one more byte is not. So is a password's line: with 16777216 bytes it is read, and is
     a bad password."""
-    tried = 0
-    for command in commands():
-        if command.name in ("login", "hall"):
-            unread = (3, "", f"scramotp: cannot read {folder}/book\n")
-            for trial, (size, want) in each([(MOST_BYTES, (0, command.printed, "")), (MOST_BYTES + 1, unread)]):
-                with trial:
-                    prepare(folder, command)
-                    pathlib.Path(folder, "book").write_text(BOOK + "#" * (size - len(BOOK)))
-                    equal(ran(command.in_folder(folder), command.text.encode()), want, command.name, size)
-                tried += 1
-        if command.name == "enrol":
-            unread = (3, "", "scramotp: cannot read input\n")
-            for trial, (size, want) in each([(MOST_BYTES, (2, "", "scramotp: bad password\n")), (MOST_BYTES + 1, unread)]):
-                with trial:
-                    prepare(folder, command)
-                    equal(ran(command.in_folder(folder), b"a" * size), want, f"a password of {size} bytes")
-                    equal(pathlib.Path(folder, "book").read_text(), BOOK, f"the book after a password of {size} bytes")
-                tried += 1
-    print_count("books and passwords", tried)
+    for trial, (name, size) in each(itertools.product(["login", "hall"], [MOST_BYTES, MOST_BYTES + 1])):
+        with trial:
+            command = command_of(name)
+            prepare(folder, command)
+            pathlib.Path(folder, "book").write_text(BOOK + "#" * (size - len(BOOK)))
+            read, unread = (0, command.printed, ""), (3, "", f"scramotp: cannot read {folder}/book\n")
+            equal(ran(command.in_folder(folder), command.text), read if size == MOST_BYTES else unread, name, size)
+    bad, unread = (2, "", "scramotp: bad password\n"), (3, "", "scramotp: cannot read input\n")
+    enrol = command_of("enrol")
+    for trial, (size, want) in each([(MOST_BYTES, bad), (MOST_BYTES + 1, unread)]):
+        with trial:
+            prepare(folder, enrol)
+            equal(ran(enrol.in_folder(folder), b"a" * size), want, f"a password of {size} bytes")
+            equal(pathlib.Path(folder, "book").read_text(), BOOK, f"the book after a password of {size} bytes")
+    print_count("books and passwords", 6)
 
 
 class Fed:
@@ -293,24 +289,23 @@ def endless_codes(folder):
         "login": (b"pencil\n", f"{pair}\n", login_log(0).removesuffix("C GONE\nE\n"), f"C {pair}\nS FAIL 5\n", f"C {pair}\nS LOCKED 5\n"),
         "hall": (EVENTS.encode(), f"line 1 5 {pair}\n", LOGGED, f"1 C {pair}\n1 S FAIL 5\n", f"1 C {pair}\n1 S LOCKED 5\n"),
     }
-    for trial, command in each(commands(0)):
+    for trial, (name, (begin, line, printed, failed, locked)) in each(rows.items()):
         with trial:
-            if command.name in rows:
-                begin, line, printed, failed, locked = rows[command.name]
-                prepare(folder, command)
-                pathlib.Path(folder, "book").write_text(BOOK.replace("failures = 2", "failures = 0"))
-                data, whole = line.encode(), (MOST_BYTES - len(begin)) // len(line)
-                run = Fed(command.in_folder(folder))
-                holds(run.feed([begin, *[data] * 1000]), "the run has ended early", command.name)
-                early = run.most_memory()
-                holds(run.feed(itertools.repeat(data, whole - 1000)), "the run has ended early", command.name)
-                late = run.most_memory()
-                holds(not run.feed(itertools.repeat(data)), "the run reads codes that never end", command.name)
-                status, output, faults = run.end()
-                equal((status, faults), (3, "scramotp: cannot read input\n"), command.name)
-                equal(output, printed + failed * 3 + locked * (whole - 3), command.name)
-                holds(late - early <= MORE, f"it takes over {MORE} KiB more memory late than early", command.name, early, late)
-                print(f"oversized.py: {whole} codes by {command.name}, which took {late - early} KiB more than the first 1000")
+            command = command_of(name, 0)
+            prepare(folder, command)
+            pathlib.Path(folder, "book").write_text(BOOK.replace("failures = 2", "failures = 0"))
+            data, whole = line.encode(), (MOST_BYTES - len(begin)) // len(line)
+            run = Fed(command.in_folder(folder))
+            holds(run.feed([begin, *[data] * 1000]), "the run has ended early", name)
+            early = run.most_memory()
+            holds(run.feed(itertools.repeat(data, whole - 1000)), "the run has ended early", name)
+            late = run.most_memory()
+            holds(not run.feed(itertools.repeat(data)), "the run reads codes that never end", name)
+            status, output, faults = run.end()
+            equal((status, faults), (3, "scramotp: cannot read input\n"), name)
+            equal(output, printed + failed * 3 + locked * (whole - 3), name)
+            holds(late - early <= MORE, f"it takes over {MORE} KiB more memory late than early", name, early, late)
+            print(f"oversized.py: {whole} codes by {name}, which took {late - early} KiB more than the first 1000")
 
 
 TESTS = [

@@ -12,8 +12,8 @@ in the form that `rt help` describes:
 - of a crate, in crates/NAME/planted/: a bug for which there is a test, in most cases since no contract can speak of it. The test is in a
   test crate, and `rt try --test` runs it with all others of that crate; or it is in a script of tests/, and is run on a program that
   `rt try` makes of the edited sources. Nothing is proved.
-- in tests/planted/: of a tool, of a page in docs/, of the Makefile, or of what a script makes runs and their calls go wrong with, a C file,
-  kills.py or power_model.py: it then makes nothing go wrong, or in another way. Or of pass_calls.c: the program itself then has the bug, in
+- in tests/planted/: of a tool, of a page in docs/, of the Makefile, or of what a script makes runs and their calls go wrong with, a C
+  file or power_model.py: it then makes nothing go wrong, or in another way. Or of pass_calls.c: the program itself then has the bug, in
   how it calls the C library. The test is in a script, and is run on the programs that `make build` and `make bench` made. Nothing is built.
 
 The script works in temporary copies of the repository, whose sources must not change meanwhile. Without an edit, each test has to pass. A

@@ -6,8 +6,9 @@ Usage: power_loss.py PROGRAM [TEST ..]
 
 Runs of `verify`, `login`, `hall`, `unlock` and `enrol`, also of a new book. In each state that a loss may leave before their first call or
 after any, the book is whole: it has each save that was reported by then, and at most one more. It still is if the power goes again in the
-next run. The program goes on from there: a code that was reported as passed fails when it is sent again, one that was reported as failed is
-counted, a name that was reported as enrolled is taken, a token that was reported as unlocked takes a code, and no other file is left.
+next run. The program goes on from there, and saves what is due: a code that was reported as passed fails when it is sent again, one that was
+reported as failed is counted, a name that was reported as enrolled is taken, a token that was reported as unlocked takes a code, and no
+other file is left.
 Needs `cc`.
 """
 import os
@@ -114,9 +115,10 @@ def place_of(here, command, loss):
     return command.books.index(book, loss.saved)
 
 
-def goes_on(here, again, status, printed, fault=""):
-    """Runs a command on what a loss has left, and compares its answer. It leaves no other file."""
+def goes_on(here, again, book, status, printed, fault=""):
+    """Runs a command on what a loss has left, and compares its answer and the book that it leaves. It leaves no other file."""
     equal(run(again, here.folder), (status, printed, fault_text(fault)), "the next run")
+    equal(book_of(here.folder), book, "the book after the next run")
     equal(left(here.folder), set(), "the files that the next run leaves")
 
 
@@ -139,7 +141,9 @@ def codes_are_sent_again(here, command):
             place = place_of(here, command, loss)
             after = command.books[place]["accounts"]["user"]["token"]["next"]
             replies = "".join(f"PASS 5 {at}\n" if at >= after else "FAIL 5\n" for at in range(2))
-            goes_on(here, again, 1 if after else 0, replies)
+            # A code that passes clears the failures.
+            book = with_token(command.books[place], next=2, failures=2 if after == 2 else 0)
+            goes_on(here, again, book, 1 if after else 0, replies)
     is_shown(command, losses)
 
 
@@ -212,15 +216,17 @@ def verify(folder):
 
 
 def failed_codes(folder):
-    """A code for which `verify` has printed FAIL is counted."""
+    """A code for which `verify` has printed FAIL is counted, and so is one that is sent after the loss."""
     here, book = Losses(folder), parsed_book(LIMIT_100)
     books = [with_token(book, failures=2 + at) for at in range(3)]
     command = command_of("verify")._replace(text="000000\n" * 2, printed="FAIL 5\n" * 2, books=books)
+    again = command._replace(text="000000\n")
     losses = here.of(command, LIMIT_100)
     for trial, loss in each(losses):
         with trial:
             here.put(loss)
-            place_of(here, command, loss)
+            place = place_of(here, command, loss)
+            goes_on(here, again, with_token(book, failures=3 + place), 1, "FAIL 5\n")
     is_shown(command, losses)
     print(f"power_loss.py: {here.count} states after verify with codes that fail")
 
@@ -259,8 +265,7 @@ def enrol(folder):
                 with inner:
                     here.put(loss)
                     answer = (1, "", "name is taken") if place_of(here, command, loss) else (0, command.printed)
-                    goes_on(here, command, *answer)
-                    equal(book_of(here.folder), command.books[-1], "the book after the next run")
+                    goes_on(here, command, command.books[-1], *answer)
             is_shown(command, losses)
     print(f"power_loss.py: {here.count} states after enrol")
 
@@ -274,8 +279,10 @@ def unlock(folder):
     for trial, loss in each(losses):
         with trial:
             here.put(loss)
-            is_unlocked = place_of(here, command, loss) == 1
-            goes_on(here, again, 1, "FAIL 5\nPASS 5 0\n" if is_unlocked else "LOCKED 5\nLOCKED 5\n")
+            if place_of(here, command, loss):
+                goes_on(here, again, with_token(book, next=1, failures=0), 1, "FAIL 5\nPASS 5 0\n")
+            else:
+                goes_on(here, again, book, 1, "LOCKED 5\nLOCKED 5\n")
     is_shown(command, losses)
     print(f"power_loss.py: {here.count} states after unlock")
 

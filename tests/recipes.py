@@ -30,9 +30,10 @@ import suite
 from book_cases import cases
 from checks import equal, holds
 from expected import AUDITS, VECTORS, keys_of, rows_of
-from processes import until
+from processes import LIMIT_OF_LINES, sleeps, until, whole
 from suite import (
     BOOK_OF_USER, CODES, ROOT, code, document, each, hotp, is_awaited, is_locked, is_root, nobody, program_on_path, read_book, seen, totp,
+    verify_words,
 )
 from tool_runs import TOOLS, book_of, does, ran, start, with_tools
 
@@ -249,9 +250,14 @@ def an_edit_waits(folder):
 def a_run_waits(folder):
     """A run that waits for an edit then uses the file that the edit has put in the book's place."""
     book = with_tools(folder, BOOK_OF_USER + hotp(look_ahead=3, limit=3))
-    slow = start(folder, "tools/edit-book book.toml sh -c 'sed s/4096/4097/; sleep 1'")
+    slow = start(folder, "tools/edit-book book.toml sh -c 'sed s/4096/4097/; until [ -e done ]; do sleep 0.1; done'")
     until(lambda: is_locked(book), "the edit should hold the book")
-    does(folder, verify("user", CODES[0]), printed="PASS 5 0\n")
+    run = whole(verify_words(book), f"{CODES[0]}\n")
+    until(lambda: sleeps(run.process.pid) or run.process.poll() is not None, "the run should wait for the edit")
+    time.sleep(0.5)
+    run.goes_on()
+    Path(folder, "done").touch()
+    run.ends(0, "PASS 5 0\n")
     slow.ends(0)
     has_both_changes(folder)
 
@@ -274,8 +280,11 @@ def an_edit_gives_up(folder):
     book = with_tools(folder, BOOK_OF_USER)
     with open(book, "rb") as file:
         fcntl.flock(file, fcntl.LOCK_EX)
+        began = time.monotonic()
         found = ran(folder, "tools/edit-book book.toml sed s/4096/4097/")
+        waited = time.monotonic() - began
     equal(found, (1, "", f"edit-book: {os.path.realpath(book)} is in use\n"), "an edit of a book that is held")
+    holds(waited > 29, "the edit gives up after seconds", waited)
     equal(book.read_text(), BOOK_OF_USER, "the book after an edit that gave up")
 
 
@@ -830,16 +839,29 @@ def units(folder):
         [command] = re.findall(r"^ExecStart=(.*)$", unit, re.M)
         answers.append(suite.ran(shlex.split(command), env=program_on_path(folder, **where)))
     equal(answers, [(0, "enrolled user\n", ""), (0, "clean sessions=1 accepted=1 codes=0\n", "")], "the answers of the two commands")
-    keys = read_book(state / "book.toml")["accounts"]["user"]["sha256"]
-    stored, _ = keys_of("sha256", b"pencil", bytes.fromhex(keys["salt"]), keys["count"])
-    equal(keys["stored"], stored, "the stored key of the account that the unit made")
+    account = read_book(state / "book.toml")["accounts"]["user"]
+    for name in ("sha1", "sha256"):
+        keys = account[name]
+        due = keys_of(name, b"pencil", bytes.fromhex(keys["salt"]), keys["count"])
+        equal((keys["stored"], keys["server"]), due, f"the keys of the account that the unit made: {name}")
+
+
+def put_logs(folder, logs):
+    """Puts these logs into the folder instead of those there, by the names that the unit gives, each with its book. Returns their names."""
+    for path in Path(folder).glob("hall-*"):
+        path.unlink()
+    names = [f"hall-{1700000000 + number}.log" for number in range(len(logs))]
+    for name, log in zip(names, logs):
+        shutil.copy(AUDITS / f"{log}.log", Path(folder, name))
+        shutil.copy(AUDITS / BOOKS_OF_LOGS[log], Path(folder, f"{name}.toml"))
+    return names
 
 
 def ended_logs(folder):
     """Each log but the newest is audited by the book beside it. The status is 1 if one is not clean, and 0 if there is only one log or
     none."""
     environment = program_on_path(folder)
-    [audits] = blocks("Audit a log")
+    audits, _ = blocks("Audit a log")
     clean = "clean sessions=1 accepted=1 codes=0"
     for trial, (logs, status, printed) in each([
         ([], 0, []),
@@ -848,14 +870,21 @@ def ended_logs(folder):
         (["twice", "sha1", "sha256"], 1, ["line 10: reply, due FAIL 6", clean]),
     ]):
         with trial:
-            for path in Path(folder).glob("hall-*"):
-                path.unlink()
-            names = [f"hall-{1700000000 + number}.log" for number in range(len(logs))]
-            for name, log in zip(names, logs):
-                shutil.copy(AUDITS / f"{log}.log", Path(folder, name))
-                shutil.copy(AUDITS / BOOKS_OF_LOGS[log], Path(folder, f"{name}.toml"))
-            due = "".join(f"{name}: {answer}\n" for name, answer in zip(names, printed))
+            due = "".join(f"{name}: {answer}\n" for name, answer in zip(put_logs(folder, logs), printed))
             equal(suite.ran(["bash", "-c", audits], cwd=folder, env=environment), (status, due, ""), logs)
+
+
+def removed_logs(folder):
+    """Each clean log but the newest is removed with the book beside it. One at fault stays, and so does its book."""
+    environment = program_on_path(folder)
+    _, removes = blocks("Audit a log")
+    equal(suite.ran(["bash", "-c", removes], cwd=folder, env=environment), (0, "", ""), "without a log")
+    clean, fault = "clean sessions=1 accepted=1 codes=0", "line 10: reply, due FAIL 6"
+    names = put_logs(folder, ["sha1", "twice", "sha256", "sha1"])
+    due = "".join(f"{name}: {answer}\n" for name, answer in zip(names, [clean, fault, clean]))
+    equal(suite.ran(["bash", "-c", removes], cwd=folder, env=environment), (0, due, ""), "with four logs")
+    left = sorted(path.name for path in Path(folder).glob("hall-*"))
+    equal(left, [name + end for name in (names[1], names[3]) for end in ("", ".toml")], "what is left")
 
 
 def a_new_log_each_night(folder):
@@ -908,7 +937,7 @@ def a_unit_of_a_hall(folder):
         command = command.replace(old, new)
     serving = start(folder, f"exec {command}")
     with socket.socket(socket.AF_UNIX) as client:
-        client.settimeout(20)
+        client.settimeout(LIMIT_OF_LINES)
         until(lambda: client.connect_ex(f"{folder}/hall.sock") == 0, "a client should be able to connect")
         equal(client.recv(1), b"M", "the beginning of the greeting")
     serving.process.send_signal(signal.SIGTERM)
@@ -978,6 +1007,7 @@ TESTS = [
     every_tool,
     all_in_order,
     ended_logs,
+    removed_logs,
     units,
     a_new_log_each_night,
     units_are_known,

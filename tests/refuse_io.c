@@ -5,14 +5,16 @@
      late         the call is made, and is then said to have failed with EIO
      interrupted  the call is not made, and fails with EINTR
      short        a read or a write moves one byte
+     signal N     the program gets the signal with this number before the call
 
-   How many such calls there were, which one went wrong, and which file it was of, is written to the file that COUNTED names. A file is
-   given by its path, as the call or the system has it, or is `input`, `output` or `faults`; the clock is `clock`. Where TORN names a file,
-   reading its end fails. */
+   How many such calls there were, which one went wrong, and which file it was of, is written to the file that COUNTED names, when the
+   program ends or just before that signal. A file is given by its path, as the call or the system has it, or is `input`, `output` or
+   `faults`; the clock is `clock`. Where TORN names a file, reading its end fails. */
 #define _GNU_SOURCE
 #include <dlfcn.h>
 #include <errno.h>
 #include <fcntl.h>
+#include <signal.h>
 #include <stdarg.h>
 #include <stdio.h>
 #include <stdlib.h>
@@ -23,7 +25,7 @@
 #include <time.h>
 #include <unistd.h>
 
-enum turn { GOES_ON, REFUSED, LATE, SHORT };
+enum turn { GOES_ON, REFUSED, LATE, SHORT, SIGNALLED };
 
 /* Neither count nor descriptor is kept from other threads: a program has one. */
 static unsigned long calls;
@@ -60,9 +62,26 @@ static const char *of(int fd)
     return file;
 }
 
+/* Writes what COUNTED is to have. */
+__attribute__((destructor)) static void tell(void)
+{
+    char text[sizeof wrong_file + 64];
+    const char *path = getenv("COUNTED");
+    int fd = path ? (int)syscall(SYS_openat, AT_FDCWD, path, O_WRONLY | O_CREAT | O_TRUNC, 0600) : -1;
+    if (fd >= 0)
+        syscall(SYS_write, fd, text, snprintf(text, sizeof text, "%lu %s %s", calls, wrong, wrong_file));
+}
+
+/* Notes the file of the call that goes wrong, and sends the signal if one is due. */
 static void note(const char *file)
 {
+    const char *how = getenv("HOW");
+    int number;
     snprintf(wrong_file, sizeof wrong_file, "%s", file);
+    if (how && sscanf(how, "signal %d", &number) == 1) {
+        tell();
+        raise(number);
+    }
 }
 
 static enum turn next_turn(const char *name)
@@ -74,6 +93,8 @@ static enum turn next_turn(const char *name)
     if (!how)
         how = "refused";
     errno = strcmp(how, "interrupted") ? EIO : EINTR;
+    if (!strncmp(how, "signal", 6))
+        return SIGNALLED;
     return !strcmp(how, "late") ? LATE : !strcmp(how, "short") ? SHORT : REFUSED;
 }
 
@@ -204,13 +225,4 @@ int openat(int folder, const char *path, int flags, ...)
     mode_t mode = mode_after(flags, more);
     va_end(more);
     return opened("openat", folder, path, flags, mode);
-}
-
-__attribute__((destructor)) static void tell(void)
-{
-    char text[sizeof wrong_file + 64];
-    const char *path = getenv("COUNTED");
-    int fd = path ? (int)syscall(SYS_openat, AT_FDCWD, path, O_WRONLY | O_CREAT | O_TRUNC, 0600) : -1;
-    if (fd >= 0)
-        syscall(SYS_write, fd, text, snprintf(text, sizeof text, "%lu %s %s", calls, wrong, wrong_file));
 }

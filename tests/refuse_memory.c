@@ -1,5 +1,5 @@
-/* Loaded before the C library: refuses one request for memory, the one whose number the variable REFUSED gives, counted from 1,
-   and says on standard error at the end how many there were. */
+/* Loaded before the C library: refuses one request for memory, the one whose number the variable REFUSED gives, counted from 1, or, if
+   the variable LASTING is set, that one and all after it. It says on standard error at the end how many there were. */
 #include <stdio.h>
 #include <stdlib.h>
 
@@ -11,7 +11,9 @@ static unsigned long requests;
 static int is_refused(void)
 {
     const char *number = getenv("REFUSED");
-    return ++requests == (number ? strtoul(number, NULL, 10) : 0);
+    unsigned long first = number ? strtoul(number, NULL, 10) : 0;
+    requests++;
+    return first && (requests == first || (requests > first && getenv("LASTING")));
 }
 
 void *malloc(size_t size)

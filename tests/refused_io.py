@@ -6,24 +6,19 @@ Usage: refused_io.py PROGRAM [TEST ..]
 A call that fails, whether or not it was made, leaves the book whole, with each change that was reported and at most one more. The output
 is the beginning of what is due, or the log of a desk that halted. The fault is the one of docs/FAULTS.md for the file of the call, and for
 what the command was doing with it: FAULTS has them. It is reported with status 3, except that of a call that NOT_TOLD names, which loses
-nothing. A read or a write that is interrupted, or moves only one of several bytes, changes nothing. What the program takes from the C
-library can all go wrong here or in refused_memory.py, or is listed as harmless. Needs `cc` and `nm`.
+nothing. A read or a write that is interrupted, or moves only one of several bytes, changes nothing. Another call that is interrupted is
+made again, or is reported like one that fails. What the program takes from the C library can all go wrong here or in refused_memory.py, or
+is listed as harmless. Needs `cc` and `nm`.
 """
 import os
-import pathlib
-from typing import NamedTuple
 
 import shims
 import suite
 from checks import equal, holds
-from command_table import book_of, commands, is_done, is_front, is_kept, left, new_book, prepare, printed_begins_clean, run
+from command_table import book_of, commands, is_done, is_front, is_kept, left, new_book, printed_begins_clean
 from suite import PROGRAM, each, fault_text
+from wrong_calls import MOVES, OTHERS, SOCKETS, Turns
 
-# The calls that move bytes, and the other calls that are refused.
-MOVES = "read,write,recv,send"
-FILES = "open,openat,fsync,fdatasync,ftruncate,flock,fchmod,fchown,lseek,rename,link,unlink,realpath,statx"
-SOCKETS = "socket,bind,listen,connect,accept4,shutdown"
-OTHERS = f"{FILES},{SOCKETS},ioctl,clock_gettime"
 # What else the program may take from the C library. None of it can fail in a way that a command would have to report.
 HARMLESS = {
     # The beginning and the end of a program
@@ -37,6 +32,9 @@ HARMLESS = {
     # A file is closed after its last sync. A stream that can't be asked is no terminal. A wait can only end early.
     "close", "isatty", "nanosleep",
 }
+# The calls that note_files.c does not note: they change no byte, length or name of a plain file, make none durable, and tell nobody anything.
+NOT_NOTED = {"read", "recv", "flock", "fchmod", "fchown", "lseek", "realpath", "statx", "ioctl", "clock_gettime", "malloc", "realloc"}
+NOT_NOTED |= {*SOCKETS.split(",")}
 # The calls whose failure is not told, by their command or as those of any, and why: the command does all its work without them.
 NOT_TOLD = {
     ("any", "lseek"): "only what reads standard input after the command would find it at another place",
@@ -59,13 +57,6 @@ FAULTS = {
 OF_THE_BOOK = {"book", "book.new", ".", "clock"}
 
 
-class Call(NamedTuple):
-    """A call of a run, and its file: its path from the folder of the run, a stream's name, `clock`, or `socket`."""
-
-    name: str
-    file: str
-
-
 def saves(before, call):
     """Whether a call of a run, after these, is of a save, and not of holding and reading the book. A run that has looked for the book's
     real path begins to hold it. It goes to the start of the text to read it, and saves after that; or there is no book, and it makes the
@@ -84,54 +75,6 @@ def due(folder, before, call):
     if call.file in OF_THE_BOOK:
         return f"cannot {'write' if saves(before, call) else 'read'} {folder}/book"
     return FAULTS[call.file].format(folder)
-
-
-class Turns:
-    """A folder for runs in which calls go wrong, how many calls the last run made, and which calls were made before the one that went wrong
-    there."""
-
-    def __init__(self, folder):
-        self.folder = os.path.join(folder, "files")
-        os.mkdir(self.folder)
-        self.shim = shims.built("refuse_io")
-        self.counted = pathlib.Path(folder, "counted")
-        self.calls = 0
-        self.before = []
-
-    def call(self, name, file):
-        """The call with this name, of the file as refuse_io.c gives it."""
-        if file.startswith("socket:"):
-            return Call(name, "socket")
-        # A file that was open when its name was removed.
-        path = file.removesuffix(" (deleted)")
-        return Call(name, os.path.relpath(path, self.folder) if path.startswith("/") else path)
-
-    def turn(self, command, number, calls, how):
-        """Makes a run whose call with this number goes wrong. Returns its answer, and that call, or None if there were not so many
-        calls."""
-        prepare(self.folder, command)
-        self.counted.unlink(missing_ok=True)
-        more = {"LD_PRELOAD": self.shim, "CALLS": calls, "REFUSED": str(number), "HOW": how, "COUNTED": str(self.counted)}
-        answer = run(command, self.folder, env={**os.environ, **more})
-        holds(self.counted.exists(), command.name, "call", number, "the run ended before it could say which call went wrong", answer)
-        count, name, file = self.counted.read_text().split(" ", 2)
-        self.calls = int(count)
-        holds((name == "none") == (self.calls < number), command.name, "call", number, "of", count, "went wrong:", name)
-        return answer, None if name == "none" else self.call(name, file)
-
-    def turns(self, command, calls, how):
-        """Makes each call go wrong in turn, and yields it and the run's answer. Ends with a run in which none goes wrong, which has to do
-        all its work."""
-        self.before = []
-        number, call = 1, ()
-        while call is not None:
-            answer, call = self.turn(command, number, calls, how)
-            if call is not None:
-                yield (command.name, number, *call, answer), call, answer
-                self.before.append(call)
-            number += 1
-        equal(answer, (0, command.printed, ""), command.name, number)
-        holds(is_done(self.folder, command), command.name, number, answer, "the command has not saved all", book_of(self.folder))
 
 
 def harmless(here, command, how):
@@ -158,7 +101,8 @@ def all_harmless(folder, how):
 
 
 def every_call_is_known(folder):
-    """The program takes nothing from the C library that neither this script nor refused_memory.py lets fail, except what is harmless."""
+    """The program takes nothing from the C library that neither this script nor refused_memory.py lets fail, except what is harmless; and
+    nothing by which it could change a file or tell something that note_files.c does not note for power_loss.py."""
     shims_of_tests = [shims.built(name) for name in ("refuse_io", "refuse_memory")]
     refused = set().union(*map(shims.wrapped, shims_of_tests))
     # coverage.py gives the scripts a program that becomes the one it measures.
@@ -167,6 +111,9 @@ def every_call_is_known(folder):
     equal(taken - refused - HARMLESS, set(), "what no test lets fail")
     named = {*f"{MOVES},{OTHERS}".split(","), "__write", "malloc", "realloc"}
     equal(refused, named, "what the C files let fail, and what the tests name")
+    noted = shims.wrapped(shims.built("note_files"))
+    equal(refused - noted - NOT_NOTED, set(), "what note_files.c does not note")
+    equal(noted - (refused - NOT_NOTED), set(), "what note_files.c notes, and no test lets fail")
 
 
 def reads_and_writes_that_are_interrupted(folder):
@@ -189,7 +136,7 @@ def is_told(command, answer, fault):
 
 def may_be_left(how, name):
     """What a run may leave if this call failed: what it could not remove, or what was made by a call that was then reported as failed."""
-    if how == "refused":
+    if how != "late":
         return {"book.new", "socket"} if name == "unlink" else set()
     return {"open": {"book.new"}, "openat": {"book.new"}}.get(name, set())
 
@@ -202,7 +149,7 @@ def failures(here, command, how, calls):
             kind = "new book" if command.books[0] is None else command.name
             untold = ("any" if ("any", name) in NOT_TOLD else kind, name)
             if answer == (0, command.printed, ""):
-                holds(untold in NOT_TOLD, what, "it ended well, but NOT_TOLD does not have this call")
+                holds(untold in NOT_TOLD or how == "interrupted", what, "it ended well, but NOT_TOLD does not have this call")
             else:
                 fault = due(here.folder, here.before, call)
                 holds(is_told(command, answer, fault), what, "it neither ended well nor reported its fault, after what was due", fault)
@@ -238,9 +185,23 @@ def calls_that_are_late(folder):
     all_told(folder, "late", OTHERS)
 
 
+def other_calls_that_are_interrupted(folder):
+    """Any other call that is interrupted is made again, or is told as one that failed, unless NOT_TOLD has it. The book is whole."""
+    here, told, again = Turns(folder), 0, 0
+    for trial, command in each([*commands(), new_book()]):
+        with trial:
+            runs = [(untold, here.calls) for untold in failures(here, command, "interrupted", OTHERS)]
+            for untold, calls in runs:
+                is_again = calls > here.calls
+                holds(untold is None or untold in NOT_TOLD or is_again, untold, "it is neither made again nor told")
+                told, again = told + (untold is None), again + is_again
+    print(f"refused_io.py: {told + again} other calls interrupted, of which {told} are told and {again} made again")
+
+
 TESTS = [
     every_call_is_known,
     reads_and_writes_that_are_interrupted,
+    other_calls_that_are_interrupted,
     reads_and_writes_that_move_one_byte,
     calls_that_are_refused,
     calls_that_are_late,

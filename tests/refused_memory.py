@@ -1,10 +1,11 @@
 #!/usr/bin/env python3
-"""Refuses each request for memory of each command in turn, one in each run. `audit` and `upgrade`, with logs of both versions, end with
-status 3 if a request that they need is refused; an audit of version 2 needs one more than an audit of version 1. Every command ends with
-`no memory` if it can't end well, and the book is whole and has what was reported before. Needs `cc`.
+"""Refuses each request for memory of each command in turn: in one run it alone, in another also all after it. `audit` and `upgrade`, with
+logs of both versions, end with status 3 if a request that they need is refused; an audit of version 2 needs one more than an audit of
+version 1. Every command ends with `no memory` if it can't end well, and the book is whole and has what was reported before. Needs `cc`.
 
 Usage: refused_memory.py PROGRAM [TEST ..]
 """
+import itertools
 import os
 import pathlib
 
@@ -71,24 +72,26 @@ def upgrades_are_refused(folder):
     each_is_told(folder, ["upgrade", "--log", "log"], "SCRAMLOG 2\n1 S BUSY\n1 E\n2 E\n")
 
 
-def refused(command, folder, shim, number):
-    """The answer of a command for which the request with this number is refused, and how many requests it made."""
+def refused(command, folder, shim, number, lasting):
+    """The answer of a command for which the request with this number is refused, with all after it if `lasting` says so by a variable of
+    the shim. Also how many requests it made."""
     prepare(folder, command)
-    status, printed, faults = run(command, folder, env={**os.environ, "LD_PRELOAD": shim, "REFUSED": str(number)})
+    status, printed, faults = run(command, folder, env={**os.environ, "LD_PRELOAD": shim, "REFUSED": str(number), **lasting})
     faults, requests = split(faults, command.name, "request", number, "status", status)
     return (status, printed, faults), requests
 
 
-def requests_told(command, here, shim):
-    """Refuses each request of a command in turn. Returns how many requests there are, and how many of them are told."""
-    whole, requests = refused(command, here, shim, 0)
+def requests_told(command, here, shim, lasting):
+    """Refuses each request of a command in turn, by itself or with all after it. Returns how many requests there are, and how many of
+    them are told."""
+    whole, requests = refused(command, here, shim, 0, lasting)
     equal(whole, (0, command.printed, ""), command.name)
     holds(is_done(here, command), "the command has not saved all", command.name, whole)
     told = 0
     for trial, number in each(range(1, requests + 1)):
         with trial:
-            answer, _ = refused(command, here, shim, number)
-            what = (command.name, number, answer)
+            answer, _ = refused(command, here, shim, number, lasting)
+            what = (command.name, number, *lasting, answer)
             holds(is_kept(here, command, answer[1]), what, "the book is not whole, or lacks what was reported", book_of(here))
             equal(left(here), set(), what, "the files that are left")
             holds(command.name not in ("login", "hall") or printed_begins_clean(here, answer[1]), what, "a line of the log is at fault")
@@ -100,12 +103,13 @@ def requests_told(command, here, shim):
 
 
 def commands_are_refused(folder):
-    """Whichever request of a command is refused, it ends well, or with a fault after what it could print; what it reported is saved."""
+    """Whichever request of a command is refused, by itself or with all after it, it ends well, or with a fault after what it could print;
+    what it reported is saved."""
     here, shim, told, count = os.path.join(folder, "files"), shims.built("refuse_memory"), 0, 0
     os.mkdir(here)
-    for trial, command in each([*commands(), new_book()]):
+    for trial, (command, lasting) in each(itertools.product([*commands(), new_book()], [{}, {"LASTING": "1"}])):
         with trial:
-            requests, of_command = requests_told(command, here, shim)
+            requests, of_command = requests_told(command, here, shim, lasting)
             count, told = count + requests, told + of_command
     holds(2 * told > count, "at most half of the requests are told", told, count)
     print(f"refused_memory.py: {count} requests of all commands are refused, of which {told} are told")

@@ -88,8 +88,8 @@ async def ran(test, program, slots):
 
 
 async def all_ran(program, tests):
-    """Runs these tests, as many at once as there are processors, and returns for each what `ran` does."""
-    slots = asyncio.Semaphore(len(os.sched_getaffinity(0)))
+    """Runs these tests, as many at once as JOBS in the environment says or as there are processors. Returns for each what `ran` does."""
+    slots = asyncio.Semaphore(int(os.environ.get("JOBS") or len(os.sched_getaffinity(0))))
     async with asyncio.TaskGroup() as group:
         tasks = [group.create_task(ran(test, program, slots)) for test in tests]
     return [task.result() for task in tasks]

@@ -22,12 +22,12 @@ import clients
 import suite
 from checks import equal, holds
 from expected import MECHS
-from processes import until
+from processes import LIMIT, LIMIT_OF_LINES, until
 from suite import BOOK_OF_USER, blocks_of, each, seen
 from tool_runs import TOOLS, book_of, does, ran, start, with_tools
 
 # What `line_of` returns for a client that waits in vain.
-NOTHING = "nothing in 20 seconds"
+NOTHING = "nothing in time"
 OPERATING = TOOLS.parent / "docs" / "OPERATING.md"
 [SERVE] = [block for title, _, block in blocks_of(OPERATING) if title == "Serve logins with `serve-hall`"]
 # Its commands without the parentheses, and with the tool replacing the shell, so that signals reach it.
@@ -51,7 +51,7 @@ def line_of(client):
 def connected(folder):
     """A client connected to the program that serves in this folder; waits until that listens."""
     client = socket.socket(socket.AF_UNIX)
-    client.settimeout(20)
+    client.settimeout(LIMIT_OF_LINES)
 
     def is_connected():
         try:
@@ -79,7 +79,9 @@ def begins_login(client, account):
 def logs_in(client, account):
     """The client receives the challenge of that login, answers it, and is let in."""
     challenge = line_of(client).removeprefix("CONT :")
-    own = re.match(r"r=fyko([^,]{24}),", challenge)[1]
+    found = re.match(r"r=fyko([^,]{24}),", challenge)
+    holds(found, "no challenge", challenge)
+    own = found[1]
     it = account.exchange("fyko", own)
     equal(challenge, it.challenge, "the challenge")
     client.sendall(f"RESP :{it.final}\n".encode())
@@ -214,7 +216,9 @@ def a_slow_client(folder):
     quick = Path(folder, "quick")
     quick.write_text(text.replace("\nPATIENCE = 60 ", "\nPATIENCE = 3 "), encoding="utf-8")
     quick.chmod(0o755)
-    serving, began = serving_hall(folder, BOOK_OF_USER, "./quick"), time.monotonic()
+    serving = serving_hall(folder, BOOK_OF_USER, "./quick")
+    greeted(folder).close()
+    began = time.monotonic()
     slow = greeted(folder)
     slow.settimeout(0.02)
 
@@ -230,7 +234,7 @@ def a_slow_client(folder):
     until(is_cut_off, "a client that sends no whole line should be cut off")
     waited = time.monotonic() - began
     holds(waited >= 3, "the client was cut off before three seconds had passed", waited)
-    serves_until(serving, signal.SIGINT, folder, "clean sessions=1 accepted=0 codes=0")
+    serves_until(serving, signal.SIGINT, folder, "clean sessions=2 accepted=0 codes=0")
 
 
 def a_client_that_does_not_read(folder):
@@ -249,7 +253,7 @@ def a_client_that_does_not_read(folder):
         nonlocal sent
         try:
             deaf.sendall(b"CODE 755224\n" * 20)
-        except OSError:
+        except (BrokenPipeError, ConnectionResetError):
             return True
         sent += 1
         other.sendall(b"CODE 755224\n")
@@ -270,7 +274,7 @@ def a_client_that_ends_no_line(folder):
     account = clients.Account("user", "SCRAM-SHA-256")
     serving = serving_hall(folder, clients.book([account]))
     endless, other = greeted(folder), greeted(folder)
-    endless.settimeout(60)
+    endless.settimeout(LIMIT)
     begins_login(other, account)
     with ThreadPoolExecutor(1) as pool:
         sending = pool.submit(endless.sendall, b"x" * (16 << 20))

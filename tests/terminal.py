@@ -14,7 +14,7 @@ from pathlib import Path
 import suite
 from checks import equal
 from expected import ACCEPTED, AUDITS, GONE, MECHS
-from processes import Running
+from processes import LIMIT_OF_LINES, Running
 from suite import BOOK_OF_USER, KEYS_OF_PENCIL, PROGRAM, PUBLISHED, SALT, each, hotp
 
 PASSWORD = "Type the password and press Enter; it is shown as you type.\r\n"
@@ -84,7 +84,7 @@ class Terminal:
     def all_shown(self):
         """All that has been shown, once the program can show nothing more."""
         os.write(self.end, b"!")
-        self.see(20)
+        self.see(LIMIT_OF_LINES)
         return self.shown.removesuffix("!")
 
 
@@ -100,7 +100,7 @@ def both_are_terminals(folder):
             prepare(folder, words)
             with Terminal() as terminal:
                 run = start(words, stdin=terminal.end, stderr=terminal.end)
-                until = time.monotonic() + 20
+                until = time.monotonic() + LIMIT_OF_LINES
                 while terminal.shown != said and time.monotonic() < until:
                     terminal.see(0.05)
                 equal(terminal.shown, said, words, "what is shown before anything is typed")
