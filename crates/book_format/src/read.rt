@@ -18,7 +18,7 @@ mod field;
 mod mech;
 mod token;
 
-use crate::account::Account;
+use crate::account::{Account, SHA256_KEY_LEN};
 use crate::contents::Contents;
 use crate::fault::{BookFault, BookWhy};
 use accounts::accounts_from;
@@ -114,7 +114,13 @@ fn top_of(table: &Table) -> Result<Top<'_>, BookWhy>
         return Err(BookWhy::Format);
     }
     check_keys(table, &["format", "decoy_key", "decoy_count", "accounts"])?;
-    let decoy_key = bytes_at(table, "decoy_key", 32, 32, BookWhy::KeyLength)?;
+    let decoy_key = bytes_at(
+        table,
+        "decoy_key",
+        SHA256_KEY_LEN,
+        SHA256_KEY_LEN,
+        BookWhy::KeyLength,
+    )?;
     let most = u64::from(MAX_ITERATION_COUNT);
     let decoy_count = number_at(table, "decoy_count", 1, most, BookWhy::Count)?;
     let accounts = table_if_any(table, "accounts")?;
