@@ -56,13 +56,13 @@ challenge_faults_in_order = Mandatory ∷ NonceNotMine ∷ NonceNotLonger ∷ Co
 
 -- what each of these rows asks of the parts of a challenge, for a client with these limits and this nonce of its own: no mandatory
 -- extension; a nonce that begins with the client's; a nonce longer than the client's; a count within the limits. Any other fault is
--- not a row, and asks nothing.
+-- not a row: nothing would meet it.
 abbrev pub AsksOfChallenge : ClientFault → Limits → (client_nonce : List ℕ) → ServerFirstParts → Type 0
 AsksOfChallenge Mandatory limits client_nonce challenge = server_first_mandatory challenge ≡ false
 AsksOfChallenge NonceNotMine limits client_nonce challenge = (more : List ℕ) × (challenge.nonce ≡ client_nonce ++ more)
 AsksOfChallenge NonceNotLonger limits client_nonce challenge = length client_nonce < length challenge.nonce
 AsksOfChallenge CountOutside limits client_nonce challenge = (limits.least ≤ challenge.count) × (challenge.count ≤ limits.most)
-AsksOfChallenge other limits client_nonce challenge = Unit {0}
+AsksOfChallenge other limits client_nonce challenge = ⊥
 
 -- a client with these limits and this nonce of its own answers the challenge: its parts meet every row
 pub record IsAnswerable (limits : Limits) (client_nonce server_first : List ℕ) (challenge : ServerFirstParts) : Type 0 where
@@ -102,12 +102,12 @@ abbrev pub last_faults_in_order : List ClientFault
 last_faults_in_order = Mandatory ∷ ServerRefused ∷ WrongSignature ∷ []
 
 -- what each of these rows asks of the parts of server-final, for a client that expects this signature: no mandatory extension; a
--- verifier, and no `e=`; this signature as the verifier. Any other fault is not a row, and asks nothing.
+-- verifier, and no `e=`; this signature as the verifier. Any other fault is not a row: nothing would meet it.
 abbrev pub AsksOfLast : ClientFault → (signature : List ℕ) → ServerFinalParts → Type 0
 AsksOfLast Mandatory signature last = server_final_mandatory last ≡ false
 AsksOfLast ServerRefused signature last = (sent : List ℕ) × (last.outcome ≡ verifier sent)
 AsksOfLast WrongSignature signature last = last.outcome ≡ verifier signature
-AsksOfLast other signature last = Unit {0}
+AsksOfLast other signature last = ⊥
 
 -- why a client that expects this signature does not accept the server as authentic: Text, if the text is not a server-final message,
 -- with its first fault; else the first row that its parts do not meet

@@ -25,9 +25,9 @@ abbrev pub first_faults_in_order : List FirstFault
 first_faults_in_order = Mandatory ∷ BindingAsked ∷ OutsideProfile ∷ []
 
 -- what each of these rows asks of the parts of client-first: no mandatory extension; a flag that asks for no channel binding; plain
--- names. Text is not a row, and asks nothing.
+-- names. Text is not a row: nothing would meet it.
 abbrev pub AsksOfFirst : FirstFault → ClientFirstParts → Type 0
-AsksOfFirst (Text fault) first = Unit {0}
+AsksOfFirst (Text fault) first = ⊥
 AsksOfFirst Mandatory first = client_first_mandatory first ≡ false
 AsksOfFirst BindingAsked first = IsUnbound first.flag
 AsksOfFirst OutsideProfile first =

@@ -14,19 +14,19 @@ use Rattle.scram_ends.specs.declared.signing.Signing.{Signing}
 use Rattle.scram_ends.specs.declared.server.ServerWait.{ServerWait}
 
 -- the value signs with these keys and this mechanism: it keeps StoredKey, and its two running MACs, one with StoredKey and one with
--- ServerKey, have read the text `front`
-pub record IsSigning (signing : Signing) (used : Mechanism) (keys : Keys) (front : List ℕ) : Type 0 where
+-- ServerKey, have read the text `read`
+pub record IsSigning (signing : Signing) (used : Mechanism) (keys : Keys) (read : List ℕ) : Type 0 where
   pub mechanism : signing.mechanism ≡ used
   pub stored : signing.stored.items ≡ keys.stored
-  pub client : IsScramMac used signing.client keys.stored front
-  pub server : IsScramMac used signing.server keys.server front
+  pub client : IsScramMac used signing.client keys.stored read
+  pub server : IsScramMac used signing.server keys.server read
 
--- if there are keys, there is a value that signs with them and whose MACs have read `front`; if there are none, there is no value
+-- if there are keys, there is a value that signs with them and whose MACs have read `read`; if there are none, there is no value
 abbrev pub IsSigningFor : Option Signing → Mechanism → Option Keys → List ℕ → Type 0
-IsSigningFor None mechanism None front = Unit {0}
-IsSigningFor (Some signing) mechanism (Some keys) front = IsSigning signing mechanism keys front
-IsSigningFor None mechanism (Some keys) front = ⊥
-IsSigningFor (Some signing) mechanism None front = ⊥
+IsSigningFor None mechanism None read = Unit {0}
+IsSigningFor (Some signing) mechanism (Some keys) read = IsSigning signing mechanism keys read
+IsSigningFor None mechanism (Some keys) read = ⊥
+IsSigningFor (Some signing) mechanism None read = ⊥
 
 -- the server stands for this login: it has sent the login's challenge, and waits for client-final
 pub record StandsForChallenged (wait : ServerWait) (login : Challenged) : Type 0 where

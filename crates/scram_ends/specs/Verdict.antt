@@ -25,9 +25,9 @@ refusals_in_order = ExtensionsNotSupported ∷ OtherNonce ∷ Channel ∷ Invali
 
 -- what each row asks of the parts of client-final, given the opening: no mandatory extension; the nonce that was sent; the
 -- gs2-header of client-first as channel binding; a proof for keys that the account has; a name to act as that is allowed.
--- InvalidEncoding is not a row, and asks nothing.
+-- InvalidEncoding is not a row: nothing would meet it.
 abbrev pub AsksOfFinal : Refusal → Challenged → Opening → ClientFinalParts → Type 0
-AsksOfFinal InvalidEncoding login opening final = Unit {0}
+AsksOfFinal InvalidEncoding login opening final = ⊥
 AsksOfFinal ExtensionsNotSupported login opening final = client_final_mandatory final ≡ false
 AsksOfFinal OtherNonce login opening final = final.nonce ≡ opening.challenge.nonce
 AsksOfFinal Channel login opening final = final.channel ≡ gs2_header opening.first

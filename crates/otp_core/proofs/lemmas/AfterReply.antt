@@ -70,7 +70,7 @@ IsPairCandidateAfter : TokenFields → (passed c : ℕ) → Type 0
 IsPairCandidateAfter (Hotp t) passed c = IsInHotpWindow (passed + 1) t.sync_ahead c × (c + 1 ≤ max_counter)
 IsPairCandidateAfter (Totp t) passed c = ⊥
 
--- the same counters can pass after two pasts, by themselves and as the first of a pair
+-- after two pasts the same counters can pass, by themselves and as the first of a pair
 abbrev CanPassAlike : (start : TokenFields) (history : List Attempt) (other : TokenFields) (since : List Attempt) → Type 0
 CanPassAlike start history other since =
     ((moment c : ℕ) → IsMoment moment → IsCandidate start history moment c ↔ IsCandidate other since moment c)
@@ -119,7 +119,7 @@ can_pass_alike_is_reflexive : (s : TokenFields) (history : List Attempt) → Can
 can_pass_alike_is_reflexive s history = ((λ moment c is. ((λ can. can), (λ can. can))), (λ c. ((λ can. can), (λ can. can))))
 
 -- a reply that passes no counter
-abbrev IsNoPass : Reply → Type 0
+abbrev pub IsNoPass : Reply → Type 0
 IsNoPass (Pass p) = ⊥
 IsNoPass Fail = Unit {0}
 IsNoPass Locked = Unit {0}

@@ -59,7 +59,7 @@ decided_proof_by_held m (Some keys) auth proof =
 
 -- it is decidable whether the parts meet a row
 decided_row : (r : Refusal) (l : Challenged) (o : Opening) (p : ClientFinalParts) → Decided (AsksOfFinal r l o p)
-decided_row InvalidEncoding l o p = inl tt
+decided_row InvalidEncoding l o p = inr (λ none. none)
 decided_row ExtensionsNotSupported l o p = elim (cases_Bool (client_final_mandatory p)) [
   | inl asks ↦ inr (λ none. both_ways (client_final_mandatory p) none asks)
   | inr none ↦ inl none

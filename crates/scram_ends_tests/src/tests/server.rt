@@ -335,7 +335,7 @@ fn refused_memory_for_an_outcome(rt: HostRuntime) -> Result<(), Fail> {
     };
     check(&rt, &fault, &WriteFault::NoMemory, "no memory");
     check(&rt, &none.len(), &0, "nothing is written");
-    // The same call again, with room.
+    // Once more, with room.
     let mut out = Vec::new(rt.alloc());
     let verdict = wait.finish(last.as_bytes(), &mut out).ok();
     check(&rt, &verdict, &Some(Verdict::Accepted), "with room");
