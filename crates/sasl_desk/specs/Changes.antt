@@ -58,7 +58,7 @@ pub record IsRunOf {Server C : Type 0} (IsAfter : BookFields → List C → Serv
   pub server : Server
   pub stands : IsAfter run.start run.calls server
   -- its log has these replies
-  pub tells : run.told ≡ replies run.start run.calls server stands
+  pub told_are : run.told ≡ replies run.start run.calls server stands
   -- it may leave this book when it stops, between two calls or within one. A stop within `begin` leaves the text from before, or
   -- that of the same book, and is not a run.
   pub leaves : MayLeave (book server) run.left

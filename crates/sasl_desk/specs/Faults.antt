@@ -11,19 +11,19 @@ use Rattle.sasl_desk.specs.declared.fault.ServeFault.{ServeFault}
 use Rattle.sasl_desk.specs.declared.fault.ServeFault.TheVariants as serve
 
 -- the number of each fault of a desk
-abbrev pub desk_number : DeskFault → ℕ
-desk_number Halted = 72
-desk_number Unwritable = 73
-desk_number NoNumber = 76
-desk_number NoMemory = 99
+abbrev pub desk_fault_number : DeskFault → ℕ
+desk_fault_number Halted = 72
+desk_fault_number Unwritable = 73
+desk_fault_number NoNumber = 76
+desk_fault_number NoMemory = 99
 
 -- the number of a fault in serving
-abbrev pub serve_number : ServeFault → ℕ
-serve_number serve.Halted = 72
-serve_number serve.Unwritable = 73
-serve_number serve.NoMemory = 99
-serve_number serve.WriteFault = 74
-serve_number serve.LogFault = 75
+abbrev pub serve_fault_number : ServeFault → ℕ
+serve_fault_number serve.Halted = 72
+serve_fault_number serve.Unwritable = 73
+serve_fault_number serve.NoMemory = 99
+serve_fault_number serve.WriteFault = 74
+serve_fault_number serve.LogFault = 75
 
 -- the fault of a desk or a hall whose first save has this fault
 abbrev pub fault_of_save : SaveFault → DeskFault

@@ -1,6 +1,6 @@
 //! Why a desk does not do what it was asked, and why a client is not served.
 ghost use Rattle.std.specs.Prelude.{◌≡◌, ◌≢◌};
-ghost use Rattle.sasl_desk.specs.Faults.{desk_number, fault_of_save, serve_number};
+ghost use Rattle.sasl_desk.specs.Faults.{desk_fault_number, fault_of_save, serve_fault_number};
 
 use book_keeper::SaveFault;
 use thiserror::Error;
@@ -28,7 +28,7 @@ pub enum DeskFault {
 impl DeskFault {
     /// The number of the fault: 72, 73, 76 or 99.
     pub fn number(&self) -> u16
-        ensures { result ≡ desk_number self.now }
+        ensures { result ≡ desk_fault_number self.now }
     {
         match self {
             DeskFault::Halted => 72,
@@ -76,7 +76,7 @@ pub enum ServeFault {
 impl ServeFault {
     /// The number of the fault: 72 to 75, or 99.
     pub fn number(&self) -> u16
-        ensures { result ≡ serve_number self.now }
+        ensures { result ≡ serve_fault_number self.now }
     {
         match self {
             ServeFault::Halted => 72,
@@ -90,7 +90,7 @@ impl ServeFault {
     /// The fault of serving that has the same number as this fault of a desk.
     pub(crate) fn from_desk(fault: DeskFault) -> ServeFault
         requires { fault ≢ DeskFault.NoNumber }
-        ensures { serve_number result ≡ desk_number fault }
+        ensures { serve_fault_number result ≡ desk_fault_number fault }
     {
         match fault {
             DeskFault::Halted => ServeFault::Halted,

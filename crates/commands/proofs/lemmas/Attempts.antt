@@ -26,19 +26,12 @@ use Rattle.sasl_desk.proofs.lemmas.runs.Changes.{rest_is_spent}
 use Rattle.clap.specs.declared.parser.matches.ArgMatches.{ArgMatches}
 use Rattle.command_line.specs.declared.fault.Fault.{Fault}
 use Rattle.command_line.specs.declared.fault.Fault.TheVariants.{CannotWrite, CannotWriteOutput}
+use Rattle.log_grammar.proofs.lemmas.ListEnds.{related_lists-append}
 use Rattle.command_io.specs.HeldBook.{HeldFacts, IsReplySaved, IsStoreAfterFault}
 use Rattle.command_io.specs.Input.{AreLinesOf, EachInTurn, LinesInTurn}
 use Rattle.commands.specs.Attempts.{MakesAttempt, printed_replies, PrintsUntil, HoldsItsBook, MakesAttempts, SavesNextLine}
 use Rattle.commands.specs.SentCodes.{SaysCodes}
 use Rattle.commands.specs.Verify.{VerifyRun, AnswersLine, AnswersFirstLines, BeginsToVerify, FailsAtLine, IsUnprinted}
-
--- if two lists agree in each place, they do so with one more element each
-one_more_agrees : {A B : Type 0} (R : A → B → Type 0) (xs : List A) (ys : List B) (x : A) (y : B) → AllZip R xs ys → R x y
-    → AllZip R (xs ++ x ∷ []) (ys ++ y ∷ [])
-one_more_agrees R [] [] x y all one = (one, tt)
-one_more_agrees R [] (z ∷ ys) x y all one = absurd all
-one_more_agrees R (z ∷ xs) [] x y all one = absurd all
-one_more_agrees R (w ∷ xs) (z ∷ ys) x y (same, all) one = (same, one_more_agrees R xs ys x y all one)
 
 -- a store that saved a book holds its text
 saved_book_is_held : (IsStored : List ℕ → Type 0) (old new : HeldFacts) → SavesBook IsStored old.store new.book new.store → HoldsItsBook new
@@ -180,7 +173,7 @@ module _ (IsStored : List ℕ → Type 0) (name : List ℕ) (moment : ℕ) where
     lines = makes.lines ++ line ∷ [];
     are = subst (λ (all : List (List ℕ)). IfSome input (λ bytes. AreLinesOf bytes all))
         (sym (append_assoc makes.lines (line ∷ []) last)) makes.are;
-    made = one_more_agrees (MakesAttempt name moment) makes.lines attempts line attempt makes.made made;
+    made = related_lists-append (MakesAttempt name moment) makes.lines (line ∷ []) attempts (attempt ∷ []) makes.made (made, tt);
     leads = reply_adds_to_book old middle next attempts attempt makes.leads one;
   }
 

@@ -30,7 +30,7 @@ pub record HasLastNumberedTransition (limit : ℕ) (d : Demands) (log : List (Nu
   pub spells : IsNumberedLogUpTo limit d log before told
   pub goes : IsNumberedTransition limit d log before told n line (places n)
   pub others : (m : ℕ) → (n ≡ m → ⊥) → places m ≡ before m
-  pub tells : all ≡ told ++ told_at (before n) line
+  pub told_are : all ≡ told ++ told_at (before n) line
 
 -- a log continues in no other way: the lines before its last one are a log, after which the number of the last line may have that line
 abbrev pub GoesOnByNoOtherNumberedLine : Type 0

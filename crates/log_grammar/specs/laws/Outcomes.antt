@@ -86,7 +86,7 @@ pub record IsReplied (accounts : Accounts) (log : List LogLine) (moment : ℕ) (
   pub told : List AccountAttempt
   pub after : Begins (demands accounts) log (got_code account sent) told
   pub due : HasDueReply accounts (reverse told) (account_attempt_of account moment sent reply)
-  pub tells : all ≡ told ++ account_attempt_of account moment sent reply ∷ []
+  pub told_are : all ≡ told ++ account_attempt_of account moment sent reply ∷ []
   pub is_next : next ≡ waits_code account
 
 -- PASS, FAIL, LOCKED and NOCODE may stand in a log if and only if they are that reply

@@ -95,7 +95,7 @@ fn check_failed_save(rt: &(impl Abort + AllocGlobal), when: FailurePoint) -> Res
     service.check_after_login(alloc, "HALT\n", "C CODE 755224\nS HALT\n", 0)
 }
 
-/// The same end, whether the store then holds the old text or the new one.
+/// A failed save ends serving so, whether the store then holds the old text or the new one.
 #[test]
 fn a_failed_save_ends_serving(rt: HostRuntime) -> Result<(), Fail> {
     check_failed_save(&rt, FailurePoint::Before)?;

@@ -7,7 +7,7 @@ use std::alloc::Global;
 use std::io::Read;
 use std::test::Fail;
 
-// The same login as a log of version 2.
+// That login as a log of version 2.
 const UPGRADED: [&str; 8] = [
     "SCRAMLOG 2",
     "1 S MECHS SCRAM-SHA-256 SCRAM-SHA-1",

@@ -23,7 +23,7 @@ last_line_stands : (accounts : Accounts) (log : List LogLine) (place : Place) (t
     → StandsAndTells accounts place told line next all
 last_line_stands accounts log place told line next all s at also =
     subst (λ (t : List AccountAttempt). StandsAndTells accounts place t line next all) also
-    (subst (λ (p : Place). StandsAndTells accounts p s.told line next all) at (s.goes, s.due, s.tells))
+    (subst (λ (p : Place). StandsAndTells accounts p s.told line next all) at (s.goes, s.due, s.told_are))
 
 -- a log continues with a line that may stand at its place
 standing_line_goes_on : (accounts : Accounts) (log : List LogLine) (place : Place) (told : List AccountAttempt)

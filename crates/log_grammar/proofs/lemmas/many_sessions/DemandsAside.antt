@@ -48,7 +48,7 @@ numbers_of-accountless (t ∷ numbered_told) = ap (λ (l : List ℕ). t.number �
 -- lines of a log of version 2 that meet the demands are also lines of a log without demands, at the same places but with no account named
 pub numbered_log_begins_aside : (limit : ℕ) (d : Demands) (log : List (Numbered LogLine)) (places : ℕ → Place) (told : List AccountAttempt)
     → IsNumberedLogUpTo limit d log places told
-    → (tells : List AccountAttempt) × IsNumberedLogUpTo limit no_demands log (λ n. accountless_place (places n)) tells
+    → (told_are : List AccountAttempt) × IsNumberedLogUpTo limit no_demands log (λ n. accountless_place (places n)) told_are
 numbered_log_begins_aside limit d log places told s = (
   values_of (accountless_numbered_told s.numbered_told),
   record {
@@ -63,7 +63,7 @@ numbered_log_begins_aside limit d log places told s = (
           (visit_is_same_aside (s.visit n)).told;
       order = numbers_of-accountless s.numbered_told ∙ s.sessions.order;
     };
-    tells = refl;
+    told_are = refl;
     replies = any_replies_are_due [] (values_of (accountless_numbered_told s.numbered_told));
     after = λ n. ap accountless_place (s.after n) ∙ sym (visit_is_same_aside (s.visit n)).place;
   },

@@ -31,7 +31,7 @@ pub empty_log_tells_nothing : (limit : ℕ) (d : Demands) (places : ℕ → Plac
     → IsNumberedLogUpTo limit d [] places told → ((n : ℕ) → places n ≡ between) × (told ≡ [])
 empty_log_tells_nothing limit d places told s = (
   λ n. s.after n ∙ empty_visit_is_between (s.visit n) (sym (s.sessions.lines n)),
-  s.tells ∙ ap values_of
+  s.told_are ∙ ap values_of
       (nothing_is_told_without_numbers s.numbered_told s.sessions.order),
 )
 
@@ -56,7 +56,7 @@ numbered_lines_have_one_reading limit d one = holds_by_last
     let moved = subst (λ (r : Place). IsVisitTransition d r line (q n)) (sym (same.0 n)) b.goes.goes in (
       one_and_others_cover_each (λ (m : ℕ). p m ≡ q m) n (one_next_visit_place d one (a.before n) line (p n) (q n) a.goes.goes moved)
           (λ m differ. a.others m differ ∙ same.0 m ∙ sym (b.others m differ)),
-      a.tells ∙ same_line_tells_same a.told b.told (a.before n) (b.before n) line line same.1 (same.0 n) refl ∙ sym b.tells,
+      a.told_are ∙ same_line_tells_same a.told b.told (a.before n) (b.before n) line line same.1 (same.0 n) refl ∙ sym b.told_are,
     ))
 
 -- these lines are a log of version 2, and their replies are the first of these replies
@@ -65,7 +65,7 @@ pub record Front (limit : ℕ) (d : Demands) (log : List (Numbered LogLine)) (to
   pub earlier : List AccountAttempt
   pub rest : List AccountAttempt
   pub spells : IsNumberedLogUpTo limit d log places earlier
-  pub tells : told ≡ earlier ++ rest
+  pub told_are : told ≡ earlier ++ rest
 
 -- the first lines of a log of version 2 are such a log, and their replies come first
 pub front_told_comes_first : (limit : ℕ) (d : Demands) (log more : List (Numbered LogLine)) (p : ℕ → Place) (told : List AccountAttempt)
@@ -77,7 +77,7 @@ front_told_comes_first limit d log = holds_by_last
       earlier = told;
       rest = [];
       spells = subst (λ (l : List (Numbered LogLine)). IsNumberedLogUpTo limit d l p told) (append-nil log) s;
-      tells = sym (append-nil told);
+      told_are = sym (append-nil told);
     })
     (λ more x before p told s.
     let b = numbered_log_has_last_transition limit d (log ++ more) x.number x.value p told
@@ -89,7 +89,7 @@ front_told_comes_first limit d log = holds_by_last
       earlier = f.earlier;
       rest = f.rest ++ this;
       spells = f.spells;
-      tells = b.tells ∙ ap (λ (t : List AccountAttempt). t ++ this) f.tells ∙ append_assoc f.earlier f.rest this;
+      told_are = b.told_are ∙ ap (λ (t : List AccountAttempt). t ++ this) f.told_are ∙ append_assoc f.earlier f.rest this;
     })
 
 -- if the challenge at a number's place meets its demand, so does the one at the place to which a line leads from there

@@ -85,7 +85,7 @@ module _ (limit : ℕ) (accounts : Accounts) (log : List (Numbered LogLine)) (n 
         b.before,
         record {
           spelled = subst (λ (t : List AccountAttempt). IsNumberedLogUpTo limit d log b.before t)
-              (sym (quiet_line_keeps_replies (b.before n) line told b.told quiet b.tells)) b.spells;
+              (sym (quiet_line_keeps_replies (b.before n) line told b.told quiet b.told_are)) b.spells;
           follows = b.goes.next;
           others = λ m other. b.others m (λ e. other (sym e));
         },

@@ -27,8 +27,8 @@ use Rattle.log_grammar.proofs.lemmas.outcome_laws.PlaceMessages.{lines_have_thei
 use Rattle.scram_ends.proofs.lemmas.Verdicts.{at_most_one_verdict_is_due, accepts_exactly_valid}
 
 -- replies that come first still do when more are added at the end
-told_first_stays_first : (told before rest tells : List AccountAttempt) → before ≡ told ++ rest → before ++ tells ≡ told ++ (rest ++ tells)
-told_first_stays_first told before rest tells same = ap (λ (l : List AccountAttempt). l ++ tells) same ∙ append_assoc told rest tells
+told_first_stays_first : (told before rest told_are : List AccountAttempt) → before ≡ told ++ rest → before ++ told_are ≡ told ++ (rest ++ told_are)
+told_first_stays_first told before rest told_are same = ap (λ (l : List AccountAttempt). l ++ told_are) same ∙ append_assoc told rest told_are
 
 -- the law: the first lines of what a log may begin with also begin a log, and their replies come first
 pub first_lines_begin_logs : FirstLinesBeginLogs
@@ -47,8 +47,8 @@ first_lines_begin_logs accounts log = holds_by_last
     let s = log_has_last_transition (demands accounts) (log ++ more) line place told
     (subst (λ (l : List LogLine). Begins (demands accounts) l place told) (sym (append_assoc log more (line ∷ []))) begins) in
     let (at, before, rest, front, same) = earlier s.place s.told s.begins in
-    let tells = told_at s.place line in
-    (at, before, rest ++ tells, front, s.tells ∙ told_first_stays_first before s.told rest tells same))
+    let told_are = told_at s.place line in
+    (at, before, rest ++ told_are, front, s.told_are ∙ told_first_stays_first before s.told rest told_are same))
 
 module _ (accounts : Accounts) (log : List LogLine) where
   -- `S MECHS` may stand only between sessions, with the names that are demanded, and leads to the place after an offer
@@ -83,7 +83,7 @@ module _ (accounts : Accounts) (log : List LogLine) where
       → HaveDueReplies (demands accounts) (reverse told) (told_at at (said (replies moment reply))) → Begins (demands accounts) log at told
       → IsTransition (demands accounts) at (said (replies moment reply)) next → IsReplied accounts log moment reply next all
   reply_is_due moment reply next (got_code account sent) all told same due b goes =
-      record { account = account; sent = sent; told = told; after = b; due = due.0; tells = same; is_next = goes }
+      record { account = account; sent = sent; told = told; after = b; due = due.0; told_are = same; is_next = goes }
   reply_is_due moment reply next at all told same due b goes = absurd goes
 
 -- the law: `S MECHS` may stand if and only if it is between sessions and has the names of the two mechanisms
@@ -91,7 +91,7 @@ pub each_offer_is_due : EachOfferIsDue
 each_offer_is_due accounts log names next told = (
   λ begins.
       let s = log_has_last_transition (demands accounts) log (said (mechs names)) next told begins in
-      offer_is_due accounts log names next s.place told s.told s.tells s.begins s.goes,
+      offer_is_due accounts log names next s.place told s.told s.told_are s.begins s.goes,
   λ is. log_goes_on_quietly accounts log between told (said (mechs names)) next refl is.0 (is.1, is.2),
 )
 
@@ -101,7 +101,7 @@ pub each_challenge_is_due : EachChallengeIsDue
 each_challenge_is_due accounts log text next told = (
   λ begins.
       let s = log_has_last_transition (demands accounts) log (said (cont text)) next told begins in
-      challenge_is_due accounts log text next s.place told s.told s.tells s.begins s.goes,
+      challenge_is_due accounts log text next s.place told s.told s.told_are s.begins s.goes,
   λ is. due_challenge_may_stand accounts log text next told is,
 )
 
@@ -163,7 +163,7 @@ each_refusal_is_due accounts log text next told =
           let s = log_has_last_transition d log line next told begins in
           let due = refusal_is_due accounts (logs_lead d) log text s.place next
           (record { told = s.told; begins = s.begins }) (inl s.goes) in
-          (s.place, quiet_line_keeps_told accounts log s.place line told s.told refl s.tells s.begins, due.0, due.1),
+          (s.place, quiet_line_keeps_told accounts log s.place line told s.told refl s.told_are s.begins, due.0, due.1),
       λ is.
           log_goes_on_quietly accounts log is.0 told line next refl is.1
           (subst (λ (p : Place). IsTransition d is.0 line p) (sym is.3) (due_refusal_may_stand accounts text is.0 is.2)),
@@ -174,9 +174,9 @@ pub each_reply_is_due : EachReplyIsDue
 each_reply_is_due accounts log moment reply next all = (
   λ begins.
       let s = log_has_last_transition (demands accounts) log (said (replies moment reply)) next all begins in
-      reply_is_due accounts log moment reply next s.place all s.told s.tells s.due s.begins s.goes,
+      reply_is_due accounts log moment reply next s.place all s.told s.told_are s.due s.begins s.goes,
   λ r.
-      subst (λ (t : List AccountAttempt). Begins (demands accounts) (log ++ said (replies moment reply) ∷ []) next t) (sym r.tells)
+      subst (λ (t : List AccountAttempt). Begins (demands accounts) (log ++ said (replies moment reply) ∷ []) next t) (sym r.told_are)
       (log_goes_on (demands accounts) log (got_code r.account r.sent) r.told (said (replies moment reply)) next r.after r.is_next
       (r.due, tt)),
 )
@@ -199,7 +199,7 @@ pub each_halt_ends_a_code : EachHaltEndsACode
 each_halt_ends_a_code accounts log next told = (
   λ begins.
       let s = log_has_last_transition (demands accounts) log (said halt) next told begins in
-      halt_ends_code accounts log next s.place told s.told s.tells s.begins
+      halt_ends_code accounts log next s.place told s.told s.told_are s.begins
       s.goes,
   λ is. log_goes_on_quietly accounts log (got_code is.0 is.1) told (said halt) next refl is.2 is.3,
 )

@@ -60,11 +60,11 @@ numbered_counters_rise limit accounts log more account n moment counter m at gre
     let f = front_told_comes_first limit (demands accounts) first more two.places two.told two.after in
     let same = (numbered_lines_have_one_reading limit (demands accounts) (challenge_has_one_account accounts)
     first f.places places f.earlier told f.spells s).1 in
-    let told_here = one.tells ∙ ap (λ (p : Place). one.told ++ told_at p line) was in
-    let tells = f.tells ∙ ap (λ (l : List AccountAttempt). l ++ f.rest) (same ∙ told_here) in
+    let told_here = one.told_are ∙ ap (λ (p : Place). one.told ++ told_at p line) was in
+    let told_are = f.told_are ∙ ap (λ (l : List AccountAttempt). l ++ f.rest) (same ∙ told_here) in
     let whose : mine ≡ two.account = cc (sym next ∙ at_n ∙ sym at_m ∙ two.is_next) in
     later_pass_is_greater two.token two.account two.sent two.told at greater two.fits mine moment counter sent one.told f.rest whose
-    tells
+    told_are
 
 -- the law: the counters that an account's codes use in a log of version 2 rise, so that none is used twice
 pub no_numbered_counter_is_used_twice : NoNumberedCounterIsUsedTwice

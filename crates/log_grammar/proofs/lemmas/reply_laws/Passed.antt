@@ -132,10 +132,10 @@ pub later_pass_is_greater : (token : TokenFields) (account : List ℕ) (last : C
     → IsFitting token (attempts_of account (reverse told)) at last d
     → (mine : List ℕ) (moment counter : ℕ) (sent : CodeTexts) (before rest : List AccountAttempt)
     → mine ≡ account → told ≡ (before ++ account_attempt_of mine moment sent (Some (Pass counter)) ∷ []) ++ rest → counter < d
-later_pass_is_greater token account last told at d fits mine moment counter sent before rest same tells =
+later_pass_is_greater token account last told at d fits mine moment counter sent before rest same told_are =
     let t = account_attempt_of mine moment sent (Some (Pass counter)) in
     let above = fitting_counter_is_above token (attempts_of account (reverse told)) at last d fits in
-    let split = tells ∙ append_assoc before (t ∷ []) rest in
+    let split = told_are ∙ append_assoc before (t ∷ []) rest in
     let turned = subst (λ (l : List AccountAttempt). IsAbove (used_in (attempts_of account (reverse l))) d) split above in
     let here = subst (λ (l : List AccountAttempt). IsAbove (used_in (attempts_of account l)) d) (reverse-append_element before rest t)
     turned in
@@ -152,10 +152,10 @@ counters_rise accounts log more account moment counter at greater told all begin
     (subst (λ (l : List LogLine). Begins (demands accounts) l (waits_code account) all) split both) in
     let front = first_lines_begin_logs accounts first more (got_code two.account two.sent) two.told two.after in
     let same = (logs_have_one_reading accounts first front.0 (waits_code account) front.1 told front.3 begins).1 in
-    let tells = front.4 ∙ ap (λ (l : List AccountAttempt). l ++ front.2) (same ∙ one.tells) in
+    let told_are = front.4 ∙ ap (λ (l : List AccountAttempt). l ++ front.2) (same ∙ one.told_are) in
     let mine : one.account ≡ two.account = cc (sym one.is_next ∙ two.is_next) in
     later_pass_is_greater two.token two.account two.sent two.told at greater two.fits one.account moment counter one.sent one.told
-    front.2 mine tells
+    front.2 mine told_are
 
 -- a digit can be a character of a code
 digit_is_vchar : (c : ℕ) → IsAsciiDigit c → is_vchar c ≡ true

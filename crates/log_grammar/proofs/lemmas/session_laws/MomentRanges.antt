@@ -67,4 +67,4 @@ pub moments_are_in_range : (accounts : Accounts) (bytes : List ℕ) (lines : Lis
 moments_are_in_range accounts bytes lines rest place told are (inl none) = subst Timed (sym none.2) tt
 moments_are_in_range accounts bytes lines rest place told are (inr s) =
     let all = subst Ranged s.lines (read_lines_are_in_range are.0 lines are.2) in
-    subst Timed (sym s.tells) (sessions_tell_in_time s.sessions all.1)
+    subst Timed (sym s.told_are) (sessions_tell_in_time s.sessions all.1)

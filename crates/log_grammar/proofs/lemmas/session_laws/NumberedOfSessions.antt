@@ -119,8 +119,8 @@ clean_numbered_log_has_sessions limit accounts bytes [] cut ends = absurd ends
 clean_numbered_log_has_sessions limit accounts bytes (first ∷ texts) cut (is, log, places, told, are, s, may) =
     let written = read_lines_are_writable IsNumberedLine numbered_text (λ t x is. is.spelled) texts log are in
     let moments = numbered_log_tells_in_time log s.visit s.numbered_told written s.sessions.lines s.sessions.told_of_each in
-    let replies = subst (λ (t : List AccountAttempt). (account : List ℕ) → IsHistory (accounts.token account) account t) s.tells
-    ((each_account_has_its_history accounts told (subst Timed (sym s.tells) moments)).0 s.replies) in
+    let replies = subst (λ (t : List AccountAttempt). (account : List ℕ) → IsHistory (accounts.token account) account t) s.told_are
+    ((each_account_has_its_history accounts told (subst Timed (sym s.told_are) moments)).0 s.replies) in
     let finished = elim may as (λ m. ((n : ℕ) → IsClosedVisit (s.visit n)) ⊎ ((n : ℕ) × IsHaltedVisit (s.visit n))) [
       | inl all ↦ inl (λ n. visit_between_is_closed (s.visit n) (sym (s.after n) ∙ all n))
       | inr halts ↦ inr (halts.0, visit_at_halt_is_halted (s.visit halts.0) (sym (s.after halts.0) ∙ halts.1))
@@ -157,7 +157,7 @@ numbered_log_of_sessions_is_clean limit accounts bytes log l =
       visit = l.visit;
       numbered_told = l.numbered_told;
       sessions = l.sessions;
-      tells = refl;
+      told_are = refl;
       replies = (each_account_has_its_history accounts told moments).1 l.histories;
       after = λ n. refl;
     } in

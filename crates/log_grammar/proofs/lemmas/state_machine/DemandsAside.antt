@@ -7,7 +7,7 @@ use Rattle.log_grammar.specs.Lines.{LogLine, header_one, said, heard, bad, gone,
 use Rattle.log_grammar.specs.Places.{Place, before_all, between, offered, asks_bare, waits_first, got_first, waits_final, got_final, waits_code}
 use Rattle.log_grammar.specs.Places.{got_code, leaving, over, halted}
 use Rattle.log_grammar.specs.Demands.{Demands, no_demands, HaveDueReplies}
-use Rattle.log_grammar.specs.Sessions.{Part, next_line, due_line, telling_line, closing, refusal, Farewell, parting, Quit, quitting, AfterOk}
+use Rattle.log_grammar.specs.Sessions.{Part, next_line, due_line, line_with_reply, closing, refusal, Farewell, parting, Quit, quitting, AfterOk}
 use Rattle.log_grammar.specs.Sessions.{after_ok, AfterFinal, after_final, AfterChallenge, after_challenge, AfterFirst, after_first, AfterEmpty}
 use Rattle.log_grammar.specs.Sessions.{after_empty, AfterAuth, after_auth, AfterMechs, after_mechs, Session, session_part, session_lines}
 use Rattle.log_grammar.specs.Sessions.{session_told, SessionMeets, no_farewell, farewell, goes_away, aborts, sends_bad, no_code, quits_codes}
@@ -89,7 +89,7 @@ due_line_is_same_aside B Own l b own due is =
 
 -- if a part stays the same with no account named, so does the part with a line before it that records a reply
 telling_line_is_same_aside : (t : AccountAttempt) (l : LogLine) (b own : Part) → IsAccountlessOf b own
-    → IsAccountlessOf (telling_line (accountless_reply t) l b) (telling_line t l own)
+    → IsAccountlessOf (line_with_reply (accountless_reply t) l b) (line_with_reply t l own)
 telling_line_is_same_aside t l b own is =
     record {
       lines = ap (λ (ls : List LogLine). l ∷ ls) is.lines;
@@ -221,7 +221,7 @@ any_replies_are_due before (t ∷ told) = (tt, any_replies_are_due (t ∷ before
 
 -- if a log may begin with some lines, it may also begin with them without the demands, up to the same place with no account named
 pub log_begins_aside : (d : Demands) (log : List LogLine) (place : Place) (told : List AccountAttempt) → Begins d log place told
-    → (tells : List AccountAttempt) × Begins no_demands log (accountless_place place) tells
+    → (told_are : List AccountAttempt) × Begins no_demands log (accountless_place place) told_are
 log_begins_aside d log place told (inl nothing) = ([], inl (nothing.0, ap accountless_place nothing.1, refl))
 log_begins_aside d log place told (inr s) = (
   flat_map session_told (map accountless_session s.sessions),
@@ -230,7 +230,7 @@ log_begins_aside d log place told (inr s) = (
     lines = s.lines ∙ ap (λ (l : List LogLine). header_one ∷ l) (sym (sessions_have_same_lines s.sessions));
     closed = only_last_stays_open_aside s.sessions s.closed;
     good = sessions_meet_no_demands s.sessions;
-    tells = refl;
+    told_are = refl;
     replies = any_replies_are_due [] (flat_map session_told (map accountless_session s.sessions));
     after = ap accountless_place s.after ∙ sym (sessions_lead_to_same_place_aside s.sessions);
   }),

@@ -28,7 +28,7 @@ pub record Grown {X : Type 0} (d : Demands) (part : X → Part) (old : X) (line 
   -- it leads to this place
   pub at : (part tree).place ≡ next
   -- its recorded replies are those of the old part, then these
-  pub tells : (part tree).told ≡ (part old).told ++ more
+  pub told_are : (part tree).told ≡ (part old).told ++ more
   -- it meets the demands
   pub good : (part tree).Meets d
 
@@ -45,7 +45,7 @@ outer_grows d inner outer wrap w old line next more g = record {
   lines = (w.around g.tree).0 ∙ ap (λ (l : List LogLine). w.front ++ l) g.lines ∙ sym (append_assoc w.front (inner old).lines (line ∷ []))
       ∙ ap (λ (l : List LogLine). l ++ line ∷ []) (sym ((w.around old).0));
   at = (w.around g.tree).1 ∙ g.at;
-  tells = (w.around g.tree).2 ∙ ap (λ (l : List AccountAttempt). w.before ++ l) g.tells ∙ sym (append_assoc w.before (inner old).told more)
+  told_are = (w.around g.tree).2 ∙ ap (λ (l : List AccountAttempt). w.before ++ l) g.told_are ∙ sym (append_assoc w.before (inner old).told more)
       ∙ ap (λ (l : List AccountAttempt). l ++ more) (sym ((w.around old).2));
   good = (w.around g.tree).3 g.good;
 }
@@ -63,11 +63,11 @@ module _ (d : Demands) where
   farewell_goes_on : (t : Farewell) (line : LogLine) (next : Place) → (parting t).Meets d → IsTransition d (parting t).place line next
       → GoesOn d parting t line next
   farewell_goes_on no_farewell (said (refuses text)) next meets h =
-      inr (record { tree = farewell text false; lines = refl; at = sym h.1; tells = refl; good = h.0 })
+      inr (record { tree = farewell text false; lines = refl; at = sym h.1; told_are = refl; good = h.0 })
   farewell_goes_on no_farewell line next meets h = absurd h
   farewell_goes_on (farewell text true) line next meets h = inl refl
   farewell_goes_on (farewell text false) ended next meets h =
-      inr (record { tree = farewell text true; lines = refl; at = sym h; tells = refl; good = meets })
+      inr (record { tree = farewell text true; lines = refl; at = sym h; told_are = refl; good = meets })
   farewell_goes_on (farewell text false) line next meets h = absurd h
 
   -- the end of a session by its client goes on with a line that may stand at its place, or has ended
@@ -78,7 +78,7 @@ module _ (d : Demands) where
     tree = goes_away true;
     lines = refl;
     at = sym h;
-    tells = refl;
+    told_are = refl;
     good = meets;
   })
   quit_goes_on (goes_away false) line next meets h = absurd h
@@ -89,22 +89,22 @@ module _ (d : Demands) where
   after_ok_goes_on : (account : List ℕ) (t : AfterOk) (line : LogLine) (next : Place) → (after_ok account t).Meets d
       → IsTransition d (after_ok account t).place line next → GoesOn d (after_ok account) t line next
   after_ok_goes_on account no_code (heard (code text)) next meets h =
-      inr (record { tree = unreplied (one_text text); lines = refl; at = sym h; tells = refl; good = tt })
+      inr (record { tree = unreplied (one_text text); lines = refl; at = sym h; told_are = refl; good = tt })
   after_ok_goes_on account no_code (heard (sync first second)) next meets h =
-      inr (record { tree = unreplied (two_texts first second); lines = refl; at = sym h; tells = refl; good = tt })
+      inr (record { tree = unreplied (two_texts first second); lines = refl; at = sym h; told_are = refl; good = tt })
   after_ok_goes_on account no_code (heard abort) next meets h =
-      inr (record { tree = quits_codes (aborts no_farewell); lines = refl; at = sym h; tells = refl; good = tt })
+      inr (record { tree = quits_codes (aborts no_farewell); lines = refl; at = sym h; told_are = refl; good = tt })
   after_ok_goes_on account no_code bad next meets h =
-      inr (record { tree = quits_codes (sends_bad no_farewell); lines = refl; at = sym h; tells = refl; good = tt })
+      inr (record { tree = quits_codes (sends_bad no_farewell); lines = refl; at = sym h; told_are = refl; good = tt })
   after_ok_goes_on account no_code gone next meets h =
-      inr (record { tree = quits_codes (goes_away false); lines = refl; at = sym h; tells = refl; good = tt })
+      inr (record { tree = quits_codes (goes_away false); lines = refl; at = sym h; told_are = refl; good = tt })
   after_ok_goes_on account no_code line next meets h = absurd h
   after_ok_goes_on account (quits_codes q) line next meets h =
       outer_goes_on d (quits_codes_is_within d account) q line next (quit_goes_on q line next meets h)
   after_ok_goes_on account (unreplied sent) (said (replies moment reply)) next meets h =
-      inr (record { tree = replied sent moment reply no_code; lines = refl; at = sym h; tells = refl; good = tt })
+      inr (record { tree = replied sent moment reply no_code; lines = refl; at = sym h; told_are = refl; good = tt })
   after_ok_goes_on account (unreplied sent) (said halt) next meets h =
-      inr (record { tree = halted_at sent; lines = refl; at = sym h; tells = refl; good = tt })
+      inr (record { tree = halted_at sent; lines = refl; at = sym h; told_are = refl; good = tt })
   after_ok_goes_on account (unreplied sent) line next meets h = absurd h
   after_ok_goes_on account (replied sent moment reply more) line next meets h =
       outer_goes_on d (replied_is_within d account sent moment reply) more line next (after_ok_goes_on account more line next meets h)
@@ -116,13 +116,13 @@ module _ (d : Demands) where
       → IsTransition d (after_final m account first challenge last t).place line next
       → GoesOn d (after_final m account first challenge last) t line next
   after_final_goes_on m account first challenge last no_verdict (said (refuses text)) next meets h =
-      inr (record { tree = denied text false; lines = refl; at = sym h.1; tells = refl; good = h.0 })
+      inr (record { tree = denied text false; lines = refl; at = sym h.1; told_are = refl; good = h.0 })
   after_final_goes_on m account first challenge last no_verdict (said (accepts text)) next meets h =
-      inr (record { tree = granted text no_code; lines = refl; at = sym h.1; tells = refl; good = (h.0, tt) })
+      inr (record { tree = granted text no_code; lines = refl; at = sym h.1; told_are = refl; good = (h.0, tt) })
   after_final_goes_on m account first challenge last no_verdict line next meets h = absurd h
   after_final_goes_on m account first challenge last (denied text true) line next meets h = inl refl
   after_final_goes_on m account first challenge last (denied text false) ended next meets h =
-      inr (record { tree = denied text true; lines = refl; at = sym h; tells = refl; good = meets })
+      inr (record { tree = denied text true; lines = refl; at = sym h; told_are = refl; good = meets })
   after_final_goes_on m account first challenge last (denied text false) line next meets h = absurd h
   after_final_goes_on m account first challenge last (granted text c) line next meets h =
       outer_goes_on d (granted_is_within d m account first challenge last text meets.0) c line next
@@ -133,13 +133,13 @@ module _ (d : Demands) where
       → (after_challenge m account first challenge t).Meets d → IsTransition d (after_challenge m account first challenge t).place line next
       → GoesOn d (after_challenge m account first challenge) t line next
   after_challenge_goes_on m account first challenge no_final (heard (resp last)) next meets h =
-      inr (record { tree = sends_final last no_verdict; lines = refl; at = sym h; tells = refl; good = tt })
+      inr (record { tree = sends_final last no_verdict; lines = refl; at = sym h; told_are = refl; good = tt })
   after_challenge_goes_on m account first challenge no_final (heard abort) next meets h =
-      inr (record { tree = quits_final (aborts no_farewell); lines = refl; at = sym h; tells = refl; good = tt })
+      inr (record { tree = quits_final (aborts no_farewell); lines = refl; at = sym h; told_are = refl; good = tt })
   after_challenge_goes_on m account first challenge no_final bad next meets h =
-      inr (record { tree = quits_final (sends_bad no_farewell); lines = refl; at = sym h; tells = refl; good = tt })
+      inr (record { tree = quits_final (sends_bad no_farewell); lines = refl; at = sym h; told_are = refl; good = tt })
   after_challenge_goes_on m account first challenge no_final gone next meets h =
-      inr (record { tree = quits_final (goes_away false); lines = refl; at = sym h; tells = refl; good = tt })
+      inr (record { tree = quits_final (goes_away false); lines = refl; at = sym h; told_are = refl; good = tt })
   after_challenge_goes_on m account first challenge no_final line next meets h = absurd h
   after_challenge_goes_on m account first challenge (quits_final q) line next meets h =
       outer_goes_on d (quits_final_is_within d m account first challenge) q line next (quit_goes_on q line next meets h)
@@ -151,13 +151,13 @@ module _ (d : Demands) where
   after_first_goes_on : (m first : List ℕ) (t : AfterFirst) (line : LogLine) (next : Place) → (after_first m first t).Meets d
       → IsTransition d (after_first m first t).place line next → GoesOn d (after_first m first) t line next
   after_first_goes_on m first no_answer (said (refuses text)) next meets h =
-      inr (record { tree = refused text false; lines = refl; at = sym h.1; tells = refl; good = h.0 })
+      inr (record { tree = refused text false; lines = refl; at = sym h.1; told_are = refl; good = h.0 })
   after_first_goes_on m first no_answer (said (cont text)) next meets h =
-      inr (record { tree = challenged h.0 text no_final; lines = refl; at = sym h.2; tells = refl; good = (h.1, tt) })
+      inr (record { tree = challenged h.0 text no_final; lines = refl; at = sym h.2; told_are = refl; good = (h.1, tt) })
   after_first_goes_on m first no_answer line next meets h = absurd h
   after_first_goes_on m first (refused text true) line next meets h = inl refl
   after_first_goes_on m first (refused text false) ended next meets h =
-      inr (record { tree = refused text true; lines = refl; at = sym h; tells = refl; good = meets })
+      inr (record { tree = refused text true; lines = refl; at = sym h; told_are = refl; good = meets })
   after_first_goes_on m first (refused text false) line next meets h = absurd h
   after_first_goes_on m first (challenged account text p) line next meets h =
       outer_goes_on d (challenged_is_within d m first account text meets.0) p line next
@@ -167,13 +167,13 @@ module _ (d : Demands) where
   after_empty_goes_on : (m : List ℕ) (t : AfterEmpty) (line : LogLine) (next : Place) → (after_empty m t).Meets d
       → IsTransition d (after_empty m t).place line next → GoesOn d (after_empty m) t line next
   after_empty_goes_on m no_first (heard (resp first)) next meets h =
-      inr (record { tree = sends_first first no_answer; lines = refl; at = sym h; tells = refl; good = tt })
+      inr (record { tree = sends_first first no_answer; lines = refl; at = sym h; told_are = refl; good = tt })
   after_empty_goes_on m no_first (heard abort) next meets h =
-      inr (record { tree = quits_first (aborts no_farewell); lines = refl; at = sym h; tells = refl; good = tt })
+      inr (record { tree = quits_first (aborts no_farewell); lines = refl; at = sym h; told_are = refl; good = tt })
   after_empty_goes_on m no_first bad next meets h =
-      inr (record { tree = quits_first (sends_bad no_farewell); lines = refl; at = sym h; tells = refl; good = tt })
+      inr (record { tree = quits_first (sends_bad no_farewell); lines = refl; at = sym h; told_are = refl; good = tt })
   after_empty_goes_on m no_first gone next meets h =
-      inr (record { tree = quits_first (goes_away false); lines = refl; at = sym h; tells = refl; good = tt })
+      inr (record { tree = quits_first (goes_away false); lines = refl; at = sym h; told_are = refl; good = tt })
   after_empty_goes_on m no_first line next meets h = absurd h
   after_empty_goes_on m (quits_first q) line next meets h =
       outer_goes_on d (quits_first_is_within d m) q line next (quit_goes_on q line next meets h)
@@ -184,13 +184,13 @@ module _ (d : Demands) where
   after_auth_goes_on : (m : List ℕ) (t : AfterAuth) (line : LogLine) (next : Place) → (after_auth m t).Meets d
       → IsTransition d (after_auth m t).place line next → GoesOn d (after_auth m) t line next
   after_auth_goes_on m no_invitation (said (refuses text)) next meets h =
-      inr (record { tree = unoffered text false; lines = refl; at = sym h.1; tells = refl; good = h.0 })
+      inr (record { tree = unoffered text false; lines = refl; at = sym h.1; told_are = refl; good = h.0 })
   after_auth_goes_on m no_invitation (said (cont text)) next meets h =
-      inr (record { tree = invited text no_first; lines = refl; at = sym h.1; tells = refl; good = (h.0, tt) })
+      inr (record { tree = invited text no_first; lines = refl; at = sym h.1; told_are = refl; good = (h.0, tt) })
   after_auth_goes_on m no_invitation line next meets h = absurd h
   after_auth_goes_on m (unoffered text true) line next meets h = inl refl
   after_auth_goes_on m (unoffered text false) ended next meets h =
-      inr (record { tree = unoffered text true; lines = refl; at = sym h; tells = refl; good = meets })
+      inr (record { tree = unoffered text true; lines = refl; at = sym h; told_are = refl; good = meets })
   after_auth_goes_on m (unoffered text false) line next meets h = absurd h
   after_auth_goes_on m (invited text f) line next meets h =
       outer_goes_on d (invited_is_within d m text meets.0) f line next (after_empty_goes_on m f line next meets.1 h)
@@ -199,15 +199,15 @@ module _ (d : Demands) where
   after_mechs_goes_on : (t : AfterMechs) (line : LogLine) (next : Place) → (after_mechs t).Meets d
       → IsTransition d (after_mechs t).place line next → GoesOn d after_mechs t line next
   after_mechs_goes_on no_login (heard (auth m)) next meets h =
-      inr (record { tree = without_first m no_invitation; lines = refl; at = sym h; tells = refl; good = tt })
+      inr (record { tree = without_first m no_invitation; lines = refl; at = sym h; told_are = refl; good = tt })
   after_mechs_goes_on no_login (heard (auth_with m first)) next meets h =
-      inr (record { tree = with_first m first no_answer; lines = refl; at = sym h; tells = refl; good = tt })
+      inr (record { tree = with_first m first no_answer; lines = refl; at = sym h; told_are = refl; good = tt })
   after_mechs_goes_on no_login (heard abort) next meets h =
-      inr (record { tree = quits_login (aborts no_farewell); lines = refl; at = sym h; tells = refl; good = tt })
+      inr (record { tree = quits_login (aborts no_farewell); lines = refl; at = sym h; told_are = refl; good = tt })
   after_mechs_goes_on no_login bad next meets h =
-      inr (record { tree = quits_login (sends_bad no_farewell); lines = refl; at = sym h; tells = refl; good = tt })
+      inr (record { tree = quits_login (sends_bad no_farewell); lines = refl; at = sym h; told_are = refl; good = tt })
   after_mechs_goes_on no_login gone next meets h =
-      inr (record { tree = quits_login (goes_away false); lines = refl; at = sym h; tells = refl; good = tt })
+      inr (record { tree = quits_login (goes_away false); lines = refl; at = sym h; told_are = refl; good = tt })
   after_mechs_goes_on no_login line next meets h = absurd h
   after_mechs_goes_on (quits_login q) line next meets h =
       outer_goes_on d (quits_login_is_within d) q line next (quit_goes_on q line next meets h)

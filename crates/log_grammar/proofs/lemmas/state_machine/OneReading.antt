@@ -82,7 +82,7 @@ lines_have_one_reading d one = holds_by_last
     let same = earlier a.place b.place a.told b.told a.begins b.begins in
     let moved = subst (λ (at : Place). IsTransition d at line q) (sym same.0) b.goes in (
       one_next_place d one a.place line p q a.goes moved,
-      a.tells ∙ same_line_tells_same a.told b.told a.place b.place line line same.1 same.0 refl ∙ sym b.tells,
+      a.told_are ∙ same_line_tells_same a.told b.told a.place b.place line line same.1 same.0 refl ∙ sym b.told_are,
     ))
 
 -- without its last line a log still begins as a log may

@@ -38,4 +38,4 @@ module _ {S : Type 0} {facts : S → StoreFacts} {IsStored : List ℕ → Type 0
 
   -- the run of a hall may leave the hall's book, and that book with one more attempt
   pub hall_run_may_leave : (left : BookFields) → MayLeave hall.keeper.book left → IsHallRunLeaving facts IsStored start calls left
-  hall_run_may_leave left leaves = (s.told, record { server = hall; stands = s; tells = refl; leaves = leaves })
+  hall_run_may_leave left leaves = (s.told, record { server = hall; stands = s; told_are = refl; leaves = leaves })

@@ -42,7 +42,7 @@ run_spends_counters : {Server C : Type 0} {IsAfter : BookFields → List C → S
     → AreSpent ps old → AreSpent (spent_by_all (reverse r.told) ++ ps) new
 run_spends_counters {book = book} r ps (run, start, left) spends spent =
     let kept = spends r.start r.calls run.server run.stands (subst (λ (b : BookFields). AreSpent ps b) (sym start) spent) in
-    let told = subst (λ (t : List AccountAttempt). AreSpent (spent_by_all (reverse t) ++ ps) (book run.server)) (sym run.tells) kept in
+    let told = subst (λ (t : List AccountAttempt). AreSpent (spent_by_all (reverse t) ++ ps) (book run.server)) (sym run.told_are) kept in
     subst (λ (b : BookFields). AreSpent (spent_by_all (reverse r.told) ++ ps) b) left
     (left_book_keeps_spent_counters (book run.server) r.left (spent_by_all (reverse r.told) ++ ps) run.leaves told)
 

@@ -135,4 +135,4 @@ module _ {S : Type 0} {facts : S → StoreFacts} {IsStored : List ℕ → Type 0
 
   -- the run of a desk may leave the desk's book, and that book with one more attempt
   pub desk_run_may_leave : (left : BookFields) → MayLeave desk.keeper.book left → IsDeskRunLeaving facts IsStored start calls left
-  desk_run_may_leave left leaves = (s.told, record { server = desk; stands = s; tells = refl; leaves = leaves })
+  desk_run_may_leave left leaves = (s.told, record { server = desk; stands = s; told_are = refl; leaves = leaves })

@@ -10,6 +10,7 @@ use Rattle.otp_core.specs.Attempt.{Attempt, CodeTexts, one_text, two_texts, atte
 use Rattle.otp_core.specs.Ranges.{IsMoment}
 use Rattle.otp_core.specs.Reply.{IsDueReply}
 use Rattle.otp_core.specs.History.{IsLegal}
+use Rattle.otp_core.proofs.lemmas.AfterReply.{IsNoPass}
 use Rattle.otp_core.proofs.lemmas.Used.{candidates_are_new}
 use Rattle.otp_core.specs.State.{unlocked}
 use Rattle.otp_core.specs.declared.token.reply.Reply.{Reply}
@@ -29,11 +30,6 @@ use Rattle.sasl_desk.proofs.lemmas.Lists.{each_follows}
 -- a counter is below each that can pass after a history
 abbrev IsBelowAfter : TokenFields → List Attempt → ℕ → Type 0
 IsBelowAfter token history counter = (moment c : ℕ) → IsMoment moment → CanPass token history moment c → counter < c
-
--- the reply is no PASS
-abbrev IsNoPass : Reply → Type 0
-IsNoPass (Pass w) = ⊥
-IsNoPass reply = Unit {0}
 
 -- what can pass after a reply that is no PASS could pass before it
 no_pass_admits_no_more : (token : TokenFields) (before : List Attempt) (at : ℕ) (sent : CodeTexts) (reply : Reply) (moment c : ℕ)

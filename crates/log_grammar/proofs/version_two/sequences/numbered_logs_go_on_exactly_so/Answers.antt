@@ -31,7 +31,7 @@ last_line_stands : (limit : ℕ) (d : Demands) (log : List (Numbered LogLine)) (
 last_line_stands limit d log places told n line next all s same also = (
   own_place_decides_transition limit d log s.before places s.told told n line (next n) s.goes (same n) also,
   λ m other. s.others m (λ e. other (sym e)) ∙ same m,
-  s.tells ∙ ap (λ (t : List AccountAttempt). t ++ told_at (s.before n) line) also ∙ ap (λ (p : Place). told ++ told_at p line) (same n),
+  s.told_are ∙ ap (λ (t : List AccountAttempt). t ++ told_at (s.before n) line) also ∙ ap (λ (p : Place). told ++ told_at p line) (same n),
 )
 
 -- a log continues with a line that may stand at its number
