@@ -9,10 +9,14 @@ use Rattle.clap.specs.declared.parser.matches.ArgMatches.{ArgMatches}
 use Rattle.command_line.specs.declared.option_name.OptionName.TheVariants as option
 use Rattle.command_words.specs.Values.{value_of}
 
--- the nonce is the one that is given, and takes no random bytes; or it is the base64 text of 18 of them
+-- how many random bytes a nonce is made of
+abbrev pub nonce_bytes : ℕ
+nonce_bytes = 18
+
+-- the nonce is the one that is given, and takes no random bytes; or it is the base64 text of random bytes
 abbrev pub IsNonceOf : (given : Option (List ℕ)) → (random nonce : List ℕ) → Type 0
 IsNonceOf (Some given) random nonce = (random ≡ []) × (nonce ≡ given)
-IsNonceOf None random nonce = (length random ≡ 18) × (nonce ≡ base64 random)
+IsNonceOf None random nonce = (length random ≡ nonce_bytes) × (nonce ≡ base64 random)
 
 -- a source of random bytes gives those of a nonce
 abbrev pub TakesNonce : (old : Option (List ℕ)) → (given : Option (List ℕ)) → (nonce : List ℕ) → (new : Option (List ℕ)) → Type 0
@@ -24,7 +28,7 @@ abbrev pub TakesNonces : (old : Option (List ℕ)) → (given_client given_serve
 TakesNonces old given_client given_server client server new =
     (middle : Option (List ℕ)) × TakesNonce old given_client client middle × TakesNonce middle given_server server new
 
--- the client's nonce and the server's part of it are both given; or each that is not is the base64 text of the next 18 bytes of a
+-- the client's nonce and the server's part of it are both given; or each that is not is the base64 text of the next random bytes of a
 -- file, the client's first
 abbrev pub AreGivenOrFresh : {File : Type 0} → (bytes_of : File → Option (List ℕ)) → (given_client given_server : Option (List ℕ))
     → (client server : List ℕ) → Type 0

@@ -58,7 +58,8 @@ module _ {S : Type 0} {facts : S → StoreFacts} {IsStored : List ℕ → Type 0
 -- a talk that has ended is printed, after the first line of the log
 pub ended_talk_is_printed : (user : User) (nonce password : List ℕ) (input : Option (List ℕ)) (first last : Talked)
     (before given after : Option (List ℕ)) (passed : Bool) → EndsTalk user nonce password input first passed last → given ≡ before
-    → Appends given first.logged (log_bytes (header_one ∷ [])) → after ≡ last.logged → PrintsTalk user nonce password input before passed after
+    → Appends given first.logged (log_bytes (header_one ∷ [])) → after ≡ last.logged
+    → PrintsTalk user nonce password input before passed after
 ended_talk_is_printed user nonce password input first last before given after passed talk was begins is = record {
   first = first;
   last = last;
