@@ -1,5 +1,7 @@
 -- What follows from the definitions in the folder above, and that the state machine agrees with the grammar: each law is promised
 -- by a function that does nothing.
+pub mod FitAccounts
+pub mod LastLines
 pub mod LineLaws
 pub mod Histories
 pub mod KindLaws

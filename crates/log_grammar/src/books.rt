@@ -3,9 +3,10 @@
 ghost use Rattle.std.specs.Prelude.{ℕ, ◌↔◌, List, []};
 ghost use Rattle.book_format.specs.Book.{BookFields, IsBook};
 ghost use Rattle.log_grammar.specs.Bytes.{IsSplit};
-ghost use Rattle.log_grammar.specs.Demands.{AllCanBeChallenged};
+ghost use Rattle.log_grammar.specs.laws.FitAccounts.{AllCanBeChallenged};
 ghost use Rattle.log_grammar.specs.Books.{accounts_in};
-ghost use Rattle.log_grammar.specs.Versions.{IsLogFront, IsFaultLine, BeginsClean, IsFirstOutsideCleanLogs};
+ghost use Rattle.log_grammar.specs.Versions.{IsLogFront, IsFaultLine};
+ghost use Rattle.log_grammar.specs.laws.LogLaws.{BeginsClean, IsFirstOutsideCleanLogs};
 
 /// A challenge can be written for each account of a book, and for each decoy.
 pub fn books_can_be_challenged()

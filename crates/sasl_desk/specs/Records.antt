@@ -2,7 +2,7 @@
 -- client did.
 use Rattle.std.specs.Prelude.{◌≡◌, ◌⊎◌, Bool, true, false, List, [], ◌∷◌, ◌++◌, filter, count_by}
 use Rattle.log_grammar.specs.Lines.{LogLine, heard, bad, gone}
-use Rattle.log_grammar.specs.Counts.{is_offer}
+use Rattle.log_grammar.specs.Counts.{is_mechs}
 use Rattle.log_grammar.specs.Places.{Place}
 use Rattle.log_grammar.specs.Demands.{Accounts}
 use Rattle.sasl_desk.specs.Sessions.{IsRecord}
@@ -39,7 +39,7 @@ AreRecords accounts (call ∷ before) records =
 -- the log of these calls has one offer for each greeting, and its records are those of what clients did: nothing that a client did is
 -- left out, and nothing is invented
 pub record HasItsRecords (accounts : Accounts) (calls : List Call) : Type 0 where
-  pub offers : count_by is_offer (run_lines calls) ≡ count_by (λ call. is_greeting call.request) calls
+  pub offers : count_by is_mechs (run_lines calls) ≡ count_by (λ call. is_greeting call.request) calls
   pub records : AreRecords accounts calls (filter is_record (run_lines calls))
 
 -- the records of a session of a hall: as at a desk; or it was turned away

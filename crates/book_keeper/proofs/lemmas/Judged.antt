@@ -37,7 +37,8 @@ pub locked_attempt_is_judged : (IsStored : List ℕ → Type 0) (old : BookField
     (sent : CodeTexts)
     (reply : Reply) → IsMoment moment
     → token_at old name ≡ Some token → IsTokenAttempt token moment sent reply now → reply ≡ Locked → (was : StoreFacts)
-    → IsBookAttempt old (account_attempt_of name moment sent (Some reply)) old × IsSavedIfChanged IsStored (needs_save (Some reply)) old was old was
+    → IsBookAttempt old (account_attempt_of name moment sent (Some reply)) old
+    × IsSavedIfChanged IsStored (needs_save (Some reply)) old was old was
 locked_attempt_is_judged IsStored old name token now moment sent reply is has attempt locked was =
     let same : now ≡ token = attempt.state ∙ ap (after_reply token moment) locked in
     let stays : old ≡ with_changed old name (with_token now) =

@@ -56,11 +56,11 @@ one_related_list R one (x ∷ xs) (y ∷ ys) (z ∷ zs) a b =
     ap (λ l. l ∷ ys) (one x y z a.0 b.0) ∙ ap (λ l. z ∷ l) (one_related_list R one xs ys zs a.1 b.1)
 
 -- a property that the front of a list has, and that one more element at the end keeps, is true of the whole list
-holds_after_front : {A : Type 0} (P : List A → Type 0) → ((xs : List A) (x : A) → P xs → P (xs ++ x ∷ [])) → (front back : List A)
-    → P front → P (front ++ back)
-holds_after_front P step front [] holds = subst P (sym (append-nil front)) holds
-holds_after_front P step front (x ∷ back) holds =
-    subst P (append_assoc front (x ∷ []) back) (holds_after_front P step (front ++ x ∷ []) back (step front x holds))
+holds_after_front : {A : Type 0} (P : List A → Type 0) → ((xs : List A) (x : A) → P xs → P (xs ++ x ∷ [])) → (before after : List A)
+    → P before → P (before ++ after)
+holds_after_front P step before [] holds = subst P (sym (append-nil before)) holds
+holds_after_front P step before (x ∷ after) holds =
+    subst P (append_assoc before (x ∷ []) after) (holds_after_front P step (before ++ x ∷ []) after (step before x holds))
 
 -- a property that the empty list has, and that one more element at the end keeps, is true of each list
 pub holds_by_last : {A : Type 0} (P : List A → Type 0) → P [] → ((xs : List A) (x : A) → P xs → P (xs ++ x ∷ [])) → (xs : List A) → P xs
@@ -85,23 +85,23 @@ index_has_element (a ∷ xs) (suc n) less =
     (a ∷ before, x, more, ap (λ l. a ∷ l) same, ap suc at)
 
 -- what is true of each element of two lists is true of each element of both appended
-pub appended_lists_keep_all : {A : Type 0} (P : A → Type 0) (front back : List A) → AllByRecursion P front → AllByRecursion P back
-    → AllByRecursion P (front ++ back)
-appended_lists_keep_all P [] back h k = k
-appended_lists_keep_all P (a ∷ front) back h k = (h.0, appended_lists_keep_all P front back h.1 k)
+pub appended_lists_keep_all : {A : Type 0} (P : A → Type 0) (before after : List A) → AllByRecursion P before → AllByRecursion P after
+    → AllByRecursion P (before ++ after)
+appended_lists_keep_all P [] after h k = k
+appended_lists_keep_all P (a ∷ before) after h k = (h.0, appended_lists_keep_all P before after h.1 k)
 
 -- what is true of each element of a list is true of each element of its front
-pub front_keeps_all : {A : Type 0} (P : A → Type 0) (front back : List A) → AllByRecursion P (front ++ back) → AllByRecursion P front
-front_keeps_all P [] back each = tt
-front_keeps_all P (a ∷ front) back each = (each.0, front_keeps_all P front back each.1)
+pub front_keeps_all : {A : Type 0} (P : A → Type 0) (before after : List A) → AllByRecursion P (before ++ after) → AllByRecursion P before
+front_keeps_all P [] after each = tt
+front_keeps_all P (a ∷ before) after each = (each.0, front_keeps_all P before after each.1)
 
 -- what is true of each element of a list is true of each element after a front of it
-pub back_keeps_all : {A : Type 0} (P : A → Type 0) (front back : List A) → AllByRecursion P (front ++ back) → AllByRecursion P back
-back_keeps_all P [] back each = each
-back_keeps_all P (a ∷ front) back each = back_keeps_all P front back each.1
+pub back_keeps_all : {A : Type 0} (P : A → Type 0) (before after : List A) → AllByRecursion P (before ++ after) → AllByRecursion P after
+back_keeps_all P [] after each = each
+back_keeps_all P (a ∷ before) after each = back_keeps_all P before after each.1
 
 -- what is true of each element of a list is true of any single one
-pub all_includes_element : {A : Type 0} (P : A → Type 0) (front : List A) (a : A) (back : List A) → AllByRecursion P (front ++ a ∷ back)
+pub all_includes_element : {A : Type 0} (P : A → Type 0) (before : List A) (a : A) (after : List A) → AllByRecursion P (before ++ a ∷ after)
     → P a
-all_includes_element P [] a back each = each.0
-all_includes_element P (other ∷ front) a back each = all_includes_element P front a back each.1
+all_includes_element P [] a after each = each.0
+all_includes_element P (other ∷ before) a after each = all_includes_element P before a after each.1

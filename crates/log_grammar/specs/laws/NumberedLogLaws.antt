@@ -1,6 +1,7 @@
 -- The laws of a kind of log, of logs of version 2.
 use Rattle.std.specs.Prelude.{ℕ}
-use Rattle.log_grammar.specs.Demands.{Accounts, AllCanBeChallenged}
+use Rattle.log_grammar.specs.Demands.{Accounts}
+use Rattle.log_grammar.specs.laws.FitAccounts.{AllCanBeChallenged}
 use Rattle.log_grammar.specs.VersionTwo.{version_two}
 use Rattle.log_grammar.specs.laws.KindLaws.{EachLogIsJudgedOf, HasOneFaultLineOf, EachFaultHasOneReasonOf, FrontsBeginWithFrontsOf}
 use Rattle.log_grammar.specs.laws.KindLaws.{FrontsBeginCleanOf}

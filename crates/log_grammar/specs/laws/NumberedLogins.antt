@@ -4,7 +4,8 @@ use Rattle.account_book.specs.AccountAttempt.{AccountAttempt}
 use Rattle.log_grammar.specs.Lines.{LogLine, said, accepts, refuses}
 use Rattle.log_grammar.specs.Places.{Place, waits_code, over}
 use Rattle.log_grammar.specs.Demands.{Accounts, demands}
-use Rattle.log_grammar.specs.Numbered.{Numbered, numbered, of_number, FollowsLast, IsNumberedLogUpTo}
+use Rattle.log_grammar.specs.Numbered.{Numbered, numbered, of_number, IsNumberedLogUpTo}
+use Rattle.log_grammar.specs.state_machine.NumberedSteps.{FollowsLast}
 use Rattle.log_grammar.specs.laws.Logins.{CompletesLogin}
 use Rattle.log_grammar.specs.laws.Outcomes.{HasItsMessages, IsRefusalDueAt}
 

@@ -3,9 +3,11 @@
 use Rattle.std.specs.Prelude.{ℕ, ◌≡◌, ◌+◌, List, [], ◌∷◌, ◌++◌, length}
 use Rattle.log_grammar.specs.Lines.{LogLine}
 use Rattle.log_grammar.specs.Bytes.{ended_by_lf, IsSplit}
-use Rattle.log_grammar.specs.Demands.{Accounts, AllCanBeChallenged}
+use Rattle.log_grammar.specs.Demands.{Accounts}
+use Rattle.log_grammar.specs.laws.FitAccounts.{AllCanBeChallenged}
 use Rattle.log_grammar.specs.Why.{Why, other_challenge}
-use Rattle.log_grammar.specs.LogKinds.{IsWhyOf, BeginsCleanOf}
+use Rattle.log_grammar.specs.LogKinds.{IsWhyOf}
+use Rattle.log_grammar.specs.laws.KindLaws.{BeginsCleanOf}
 use Rattle.log_grammar.specs.VersionTwo.{version_two}
 use Rattle.log_grammar.specs.Numbered.{Numbered, numbered}
 use Rattle.log_grammar.specs.NumberedLines.{numbered_text, IsNumberedLine, IsNumberedLineWritable}

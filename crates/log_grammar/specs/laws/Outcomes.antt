@@ -8,7 +8,8 @@ use Rattle.otp_core.specs.Attempt.{CodeTexts}
 use Rattle.otp_core.specs.declared.token.reply.Reply.{Reply}
 use Rattle.account_book.specs.AccountAttempt.{AccountAttempt, account_attempt_of}
 use Rattle.log_grammar.specs.Words.{offered_names}
-use Rattle.log_grammar.specs.Lines.{LogLine, said, heard, mechs, cont, refuses, replies, halt, auth, code_line, EndsWith}
+use Rattle.log_grammar.specs.Lines.{LogLine, said, heard, mechs, cont, refuses, replies, halt, auth, code_line}
+use Rattle.log_grammar.specs.laws.LastLines.{EndsWith}
 use Rattle.log_grammar.specs.Places.{Place, between, offered, asks_bare, waits_first, got_first, waits_final, got_final, waits_code, got_code}
 use Rattle.log_grammar.specs.Places.{leaving, over, halted}
 use Rattle.log_grammar.specs.Demands.{Accounts, NamesMechanism, IsChallenged, IsVerdictDue, HasDueReply, demands, IsUnoffered, IsNotTakenUp}

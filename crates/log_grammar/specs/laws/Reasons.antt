@@ -12,12 +12,14 @@ use Rattle.otp_core.specs.declared.token.kinds.TokenFields.{TokenFields}
 use Rattle.log_grammar.specs.Words.{offered_names}
 use Rattle.log_grammar.specs.Lines.{LogLine, said, mechs, cont, accepts, refuses, replies, log_line_text, IsReplyInRange, IsLogLineWritable}
 use Rattle.log_grammar.specs.Bytes.{ended_by_lf, IsSplit}
-use Rattle.log_grammar.specs.Demands.{Accounts, AllCanBeChallenged, IsReplyDueBy}
+use Rattle.log_grammar.specs.Demands.{Accounts, IsReplyDueBy}
+use Rattle.log_grammar.specs.laws.FitAccounts.{AllCanBeChallenged}
 use Rattle.log_grammar.specs.Why.{Why, is_cut, no_line, out_of_order, other_mechs, other_challenge, other_outcome, other_reply, accepted}
 use Rattle.log_grammar.specs.Why.{refused_with}
 use Rattle.log_grammar.specs.LogKinds.{IsWhyOf}
 use Rattle.log_grammar.specs.VersionOne.{version_one}
-use Rattle.log_grammar.specs.Versions.{IsWhy, BeginsClean}
+use Rattle.log_grammar.specs.Versions.{IsWhy}
+use Rattle.log_grammar.specs.laws.LogLaws.{BeginsClean}
 
 -- the line says what a reason names as due: the names of the two mechanisms; a challenge; an `S OK` with the signature,
 -- or the `S NO` with the message; the reply, at the moment of the line at fault

@@ -16,8 +16,7 @@ use Rattle.log_grammar.specs.Places.{Place, waits_code, got_code}
 use Rattle.log_grammar.specs.Demands.{Accounts, attempts_of, demands}
 use Rattle.log_grammar.specs.Begins.{Begins}
 use Rattle.log_grammar.specs.Versions.{IsClean}
-use Rattle.log_grammar.specs.Upgrades.{original_bytes}
-use Rattle.log_grammar.specs.laws.Logins.{Exchange, IsLoginTo, login_session}
+use Rattle.log_grammar.specs.laws.Logins.{Exchange, IsLoginTo, login_session, original_bytes}
 
 -- the line that lets a code, or two in a row, pass
 abbrev pub pass_line : (moment counter : ℕ) → LogLine

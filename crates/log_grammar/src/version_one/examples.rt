@@ -9,18 +9,17 @@ ghost use Rattle.otp_core.specs.declared.token.kinds.TotpFields.{TotpFields};
 ghost use Rattle.account_book.specs.AccountAttempt.{AccountAttempt};
 ghost use Rattle.log_grammar.specs.Words.{IsCodeWord};
 ghost use Rattle.log_grammar.specs.Lines.{LogLine, header_one, said, heard, gone, ended, mechs, cont, accepts, replies, auth_with, resp, code};
-ghost use Rattle.log_grammar.specs.Lines.{sync};
+ghost use Rattle.log_grammar.specs.Lines.{sync, max_log_line_len};
 ghost use Rattle.log_grammar.specs.Bytes.{LacksLf, ended_by_lf};
 ghost use Rattle.log_grammar.specs.Counts.{counts_of};
 ghost use Rattle.log_grammar.specs.Places.{Place, halted};
 ghost use Rattle.log_grammar.specs.Demands.{Accounts, demands};
-ghost use Rattle.log_grammar.specs.Sessions.{Session, session_lines};
+ghost use Rattle.log_grammar.specs.Sessions.{RecordedSession, session_lines};
 ghost use Rattle.log_grammar.specs.Begins.{Begins};
 ghost use Rattle.log_grammar.specs.Versions.{IsClean, IsWhy};
 ghost use Rattle.log_grammar.specs.Why.{LineClass, IsClassDue, is_cut, no_line, out_of_order, other_mechs, other_challenge, other_outcome};
 ghost use Rattle.log_grammar.specs.Why.{other_reply, refused_with};
-ghost use Rattle.log_grammar.specs.Upgrades.{original_bytes};
-ghost use Rattle.log_grammar.specs.laws.Logins.{Exchange, IsLoginTo, login_session};
+ghost use Rattle.log_grammar.specs.laws.Logins.{Exchange, IsLoginTo, login_session, original_bytes};
 ghost use Rattle.log_grammar.specs.laws.Replies.{pass_line, next_two};
 ghost use Rattle.log_grammar.specs.laws.Examples.{header_one_text, offer_text, first_alone, one_session, bare_no, AreWhole};
 
@@ -103,7 +102,7 @@ pub fn halt_is_last()
 
 /// Bytes without an LF are a log that is cut if there are at most 6202, as many as a line may have; else they are no line.
 pub fn lines_end_with_lf()
-    ensures short { (accounts : Accounts) (rest : List ℕ) → LacksLf rest → length rest ≤ 6202 → IsWhy accounts rest 1 is_cut }
+    ensures short { (accounts : Accounts) (rest : List ℕ) → LacksLf rest → length rest ≤ max_log_line_len → IsWhy accounts rest 1 is_cut }
     ensures long { (accounts : Accounts) (rest : List ℕ) → LacksLf rest → 6203 ≤ length rest → IsWhy accounts rest 1 no_line }
 {}
 
@@ -112,7 +111,7 @@ pub fn lines_end_with_lf()
 pub fn lines_have_6202_bytes_at_most()
     ensures part { (accounts : Accounts) (texts : List (List ℕ)) (log : List LogLine) (place : Place) (told : List AccountAttempt)
         (rest : List ℕ)
-        → AreWhole texts log → Begins (demands accounts) log place told → LacksLf rest → 1 ≤ length rest → length rest ≤ 6202
+        → AreWhole texts log → Begins (demands accounts) log place told → LacksLf rest → 1 ≤ length rest → length rest ≤ max_log_line_len
         → IsWhy accounts (ended_by_lf texts ++ rest) (length texts + 1) is_cut }
     ensures long_part { (accounts : Accounts) (texts : List (List ℕ)) (log : List LogLine) (place : Place) (told : List AccountAttempt)
         (rest : List ℕ)
@@ -126,14 +125,14 @@ pub fn lines_have_6202_bytes_at_most()
         → IsWhy accounts (ended_by_lf (header_one_text ∷ text ∷ [])) 2 no_line }
     ensures second_part { (accounts : Accounts) (rest : List ℕ) → LacksLf rest → 6203 ≤ length rest
         → IsWhy accounts (first_alone ++ rest) 2 no_line }
-    ensures second_cut { (accounts : Accounts) (rest : List ℕ) → LacksLf rest → 1 ≤ length rest → length rest ≤ 6202
+    ensures second_cut { (accounts : Accounts) (rest : List ℕ) → LacksLf rest → 1 ≤ length rest → length rest ≤ max_log_line_len
         → IsWhy accounts (first_alone ++ rest) 2 is_cut }
 {}
 
 /// Each session is counted once, at its first line. In a log of one login, its acceptance is counted, and the code that passed, but
 /// not the one that failed. Two codes in a row that passed are counted once.
 pub fn counted_logs()
-    ensures sessions { (sessions : List Session)
+    ensures sessions { (sessions : List RecordedSession)
         → (counts_of (header_one ∷ flat_map session_lines sessions)).sessions ≡ length sessions }
     ensures each { (names first challenge last message text : List ℕ) (moment counter : ℕ)
         → counts_of (header_one ∷ said (mechs names) ∷ heard (auth_with names first) ∷ said (cont challenge)

@@ -3,10 +3,10 @@ ghost use Rattle.std.specs.Prelude.{ℕ, List, [], ◌∷◌, ◌++◌};
 ghost use Rattle.mac_core.specs.declared.mechanism.Mechanism.{Mechanism};
 ghost use Rattle.scram_text.specs.Class.{IsPlainName};
 ghost use Rattle.log_grammar.specs.Lines.{LogLine, said, halt, log_bytes};
-ghost use Rattle.log_grammar.specs.Demands.{Accounts, CanBeChallenged};
+ghost use Rattle.log_grammar.specs.Demands.{Accounts};
+ghost use Rattle.log_grammar.specs.laws.FitAccounts.{CanBeChallenged};
 ghost use Rattle.log_grammar.specs.Versions.{IsClean};
-ghost use Rattle.log_grammar.specs.Upgrades.{original_bytes};
-ghost use Rattle.log_grammar.specs.laws.Logins.{EachOkEndsALogin, LoginsAreClean, LoginsMayHalt, LoginsAreAnswered, HasPassword};
+ghost use Rattle.log_grammar.specs.laws.Logins.{EachOkEndsALogin, LoginsAreClean, LoginsMayHalt, LoginsAreAnswered, HasPassword, original_bytes};
 ghost use Rattle.log_grammar.specs.laws.Logins.{PasswordsLogIn, RefusedLoginsAreAtFault, OtherRepliesAreAtFault};
 
 /// An `S OK` may stand in a log if and only if the lines before it end with the first three messages of a login, and its message

@@ -5,7 +5,8 @@ use Rattle.scram_ends.specs.Verdict.{Due, accept, refuse, due_text}
 use Rattle.log_grammar.specs.Lines.{LogLine, said, gone, ended, cont, accepts, refuses, IsLogLineWritable}
 use Rattle.log_grammar.specs.Places.{Place, before_all, between, offered, asks_bare, waits_first, got_first, waits_final, got_final, waits_code}
 use Rattle.log_grammar.specs.Places.{got_code, leaving, over, halted}
-use Rattle.log_grammar.specs.Demands.{Accounts, AllCanBeChallenged, IsVerdictDue, demands}
+use Rattle.log_grammar.specs.Demands.{Accounts, IsVerdictDue, demands}
+use Rattle.log_grammar.specs.laws.FitAccounts.{AllCanBeChallenged}
 use Rattle.log_grammar.specs.state_machine.Steps.{IsTransition, told_at}
 use Rattle.log_grammar.specs.Numbered.{Numbered, MayBeNumbered, MayFollow}
 use Rattle.log_grammar.specs.NumberedLines.{IsNoFirstLine}

@@ -6,16 +6,16 @@ use Rattle.account_book.specs.AccountAttempt.{AccountAttempt}
 use Rattle.log_grammar.specs.Lines.{LogLine, said, ended, busy}
 use Rattle.log_grammar.specs.Bytes.{ended_by_lf, IsSplit}
 use Rattle.log_grammar.specs.Places.{Place, between, over, is_closed}
-use Rattle.log_grammar.specs.Demands.{Accounts, AllCanBeChallenged, demands, HaveDueReplies}
+use Rattle.log_grammar.specs.Demands.{Accounts, demands, HaveDueReplies}
+use Rattle.log_grammar.specs.laws.FitAccounts.{AllCanBeChallenged}
 use Rattle.log_grammar.specs.state_machine.Steps.{IsTransition, told_at}
 use Rattle.log_grammar.specs.Numbered.{Numbered, numbered, visit_place, visit_lines, given_in, MayFollow, IsNumberedLogUpTo}
 use Rattle.log_grammar.specs.NumberedLines.{IsSessionNumber, IsNumberedLine}
 use Rattle.log_grammar.specs.state_machine.NumberedSteps.{put}
-use Rattle.log_grammar.specs.LogKinds.{BeginsCleanOf}
 use Rattle.log_grammar.specs.VersionTwo.{version_two}
 use Rattle.log_grammar.proofs.lemmas.lines.Written.{end_is_writable}
 use Rattle.log_grammar.proofs.lemmas.lines.Cuts.{joined_lines_are_split}
-use Rattle.log_grammar.specs.laws.KindLaws.{FrontsBeginCleanOf}
+use Rattle.log_grammar.specs.laws.KindLaws.{FrontsBeginCleanOf, BeginsCleanOf}
 use Rattle.log_grammar.proofs.lemmas.completions.OpenSessions.{IsNumberedCompletable, ended_numbered_log_is_completable}
 use Rattle.log_grammar.proofs.lemmas.completions.OpenSessions.{shorter_numbered_log_is_completable, Free, log_is_free_after, OpenInRange}
 use Rattle.log_grammar.proofs.lemmas.completions.OpenSessions.{closing_all_completes_log}

@@ -10,7 +10,8 @@ use Rattle.account_book.specs.AccountAttempt.{AccountAttempt}
 use Rattle.log_grammar.specs.Lines.{LogLine, said, halt, IsLogLineWritable}
 use Rattle.log_grammar.specs.Bytes.{LacksLf}
 use Rattle.log_grammar.specs.Places.{Place, before_all, between, halted, is_closed}
-use Rattle.log_grammar.specs.Demands.{Accounts, AllCanBeChallenged, Demands, demands, HaveDueReplies}
+use Rattle.log_grammar.specs.Demands.{Accounts, Demands, demands, HaveDueReplies}
+use Rattle.log_grammar.specs.laws.FitAccounts.{AllCanBeChallenged}
 use Rattle.log_grammar.specs.state_machine.Steps.{IsTransition, told_at}
 use Rattle.log_grammar.specs.Numbered.{Numbered, numbered, MayFollow, IsNumberedLogUpTo, MayEndNumbered}
 use Rattle.log_grammar.specs.NumberedLines.{IsSessionNumber, IsNoFirstLine, numbered_text, IsNumberedLine}

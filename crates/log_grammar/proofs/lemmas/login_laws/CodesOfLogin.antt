@@ -7,7 +7,7 @@ use Rattle.account_book.specs.AccountAttempt.{AccountAttempt}
 use Rattle.log_grammar.specs.Lines.{LogLine, header_one, said, heard, mechs, cont, auth, auth_with, resp}
 use Rattle.log_grammar.specs.Places.{Place, MayEnd, offered, asks_bare, waits_first, got_first, got_code}
 use Rattle.log_grammar.specs.Demands.{Demands, Accounts, demands}
-use Rattle.log_grammar.specs.Sessions.{Part, rests, refusal, session_part, Quit, quitting, AfterFirst, after_first, Session, session_lines}
+use Rattle.log_grammar.specs.Sessions.{Part, rests, refusal, session_part, Quit, quitting, AfterFirst, after_first, RecordedSession, session_lines}
 use Rattle.log_grammar.specs.Sessions.{SessionMeets, no_answer, refused, challenged, no_first, quits_first, sends_first, no_invitation, unoffered}
 use Rattle.log_grammar.specs.Sessions.{invited, no_login, quits_login, with_first, without_first, session}
 use Rattle.log_grammar.specs.Begins.{place_after}
@@ -31,25 +31,25 @@ codes_are_of IsAccount = record {
 }
 
 -- the codes of a part of this session are of the login
-abbrev AreCodesOfLogin : Session → Part → Type 0
+abbrev AreCodesOfLogin : RecordedSession → Part → Type 0
 AreCodesOfLogin s part = HoldsOf (AreCodesOf (IsLoginOf s)) part
 
 -- if there is no line yet, and a code that waits is of the login, the codes are of it
-place_codes_are_of_login : (s : Session) (place : Place) → (MayEnd place → ⊥) → CodeIsOf (IsLoginOf s) place
+place_codes_are_of_login : (s : RecordedSession) (place : Place) → (MayEnd place → ⊥) → CodeIsOf (IsLoginOf s) place
     → AreCodesOfLogin s (rests place)
 place_codes_are_of_login s = (codes_are_of (IsLoginOf s)).no_line
 
 -- the codes in the end of a session by its client, of which there are none, are of the login
-quit_codes_are_of_login : (s : Session) (q : Quit) → AreCodesOfLogin s (quitting q)
+quit_codes_are_of_login : (s : RecordedSession) (q : Quit) → AreCodesOfLogin s (quitting q)
 quit_codes_are_of_login s = quit_holds (IsLoginOf s) (AreCodesOf (IsLoginOf s)) (codes_are_of (IsLoginOf s))
 
 -- the codes in a refusal, of which there are none, are of the login
-refusal_codes_are_of_login : (s : Session) (IsDemanded : Demands → Type 0) (text : List ℕ) (closed : Bool)
+refusal_codes_are_of_login : (s : RecordedSession) (IsDemanded : Demands → Type 0) (text : List ℕ) (closed : Bool)
     → AreCodesOfLogin s (refusal IsDemanded text closed)
 refusal_codes_are_of_login s = refusal_holds (IsLoginOf s) (AreCodesOf (IsLoginOf s)) (codes_are_of (IsLoginOf s))
 
 -- if the answer to a client-first message meets its demands, the codes after it are of the login that the message opens
-after_first_codes_are_of_login : (accounts : Accounts) (s : Session) (mechanism first : List ℕ) (a : AfterFirst)
+after_first_codes_are_of_login : (accounts : Accounts) (s : RecordedSession) (mechanism first : List ℕ) (a : AfterFirst)
     → HasFirst s mechanism first → (after_first mechanism first a).Meets (demands accounts)
     → AreCodesOfLogin s (after_first mechanism first a)
 after_first_codes_are_of_login accounts s mechanism first no_answer has meets =
@@ -61,7 +61,7 @@ after_first_codes_are_of_login accounts s mechanism first (challenged account te
     (mechanism, first, has, challenged_first_is_of_name accounts mechanism first account text meets.0) p
 
 -- the codes of a session that meets its demands are of its login
-session_codes_are_of_login : (accounts : Accounts) (s : Session) → SessionMeets (demands accounts) s → AreCodesOfLogin s (session_part s)
+session_codes_are_of_login : (accounts : Accounts) (s : RecordedSession) → SessionMeets (demands accounts) s → AreCodesOfLogin s (session_part s)
 session_codes_are_of_login accounts (session names no_login) meets =
     place_codes_are_of_login (session names no_login) offered (λ none. none) tt
 session_codes_are_of_login accounts (session names (quits_login q)) meets = quit_codes_are_of_login (session names (quits_login q)) q
@@ -87,7 +87,7 @@ pub each_code_is_of_its_login : EachCodeIsOfItsLogin
 each_code_is_of_its_login accounts s meets = (session_codes_are_of_login accounts s meets).0
 
 -- sessions whose last line is a code end in a login of that code's account
-last_session_code_has_login : (accounts : Accounts) (sessions : List Session) (account : List ℕ) (sent : CodeTexts)
+last_session_code_has_login : (accounts : Accounts) (sessions : List RecordedSession) (account : List ℕ) (sent : CodeTexts)
     → AllByRecursion (SessionMeets (demands accounts)) sessions
     → place_after sessions ≡ got_code account sent → EndsInLoginOf (flat_map session_lines sessions) account
 last_session_code_has_login accounts [] account sent good e = absurd (cc e)

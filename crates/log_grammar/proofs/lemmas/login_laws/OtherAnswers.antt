@@ -4,8 +4,7 @@ use Rattle.scram_ends.specs.Verdict.{accept, refuse}
 use Rattle.log_grammar.specs.Lines.{header_one, said, refuses, replies, log_line_text}
 use Rattle.log_grammar.specs.Places.{got_final, got_code}
 use Rattle.log_grammar.specs.Why.{other_outcome, other_reply, accepted, of_login_answers, of_replies}
-use Rattle.log_grammar.specs.Upgrades.{original_bytes}
-use Rattle.log_grammar.specs.laws.Logins.{RefusedLoginsAreAtFault, OtherRepliesAreAtFault}
+use Rattle.log_grammar.specs.laws.Logins.{RefusedLoginsAreAtFault, OtherRepliesAreAtFault, original_bytes}
 use Rattle.log_grammar.proofs.lemmas.state_machine.DueClasses.{classes_follow_the_place}
 use Rattle.log_grammar.proofs.lemmas.kinds.OneWhy.{one_due_verdict, one_due_reply}
 use Rattle.log_grammar.proofs.lemmas.lines.LackLf.{lines_lack_lf, reply_is_writable}

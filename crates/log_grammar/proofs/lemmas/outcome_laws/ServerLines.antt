@@ -27,7 +27,8 @@ use Rattle.log_grammar.proofs.lemmas.outcome_laws.PlaceMessages.{lines_have_thei
 use Rattle.scram_ends.proofs.lemmas.Verdicts.{at_most_one_verdict_is_due, accepts_exactly_valid}
 
 -- replies that come first still do when more are added at the end
-told_first_stays_first : (told before rest told_are : List AccountAttempt) → before ≡ told ++ rest → before ++ told_are ≡ told ++ (rest ++ told_are)
+told_first_stays_first : (told before rest told_are : List AccountAttempt) → before ≡ told ++ rest
+    → before ++ told_are ≡ told ++ (rest ++ told_are)
 told_first_stays_first told before rest told_are same = ap (λ (l : List AccountAttempt). l ++ told_are) same ∙ append_assoc told rest told_are
 
 -- the law: the first lines of what a log may begin with also begin a log, and their replies come first

@@ -5,7 +5,8 @@ use Rattle.scram_ends.specs.Login.{IsAuthentic}
 use Rattle.account_book.specs.AccountAttempt.{AccountAttempt}
 use Rattle.log_grammar.specs.Lines.{LogLine, said, mechs, cont, accepts, refuses, replies, IsLogLine, IsLogLineInRange, IsLogLineWritable}
 use Rattle.log_grammar.specs.Places.{Place, asks_bare, got_first, got_final, waits_code, got_code, leaving}
-use Rattle.log_grammar.specs.Demands.{Accounts, AllCanBeChallenged, demands, HaveDueReplies}
+use Rattle.log_grammar.specs.Demands.{Accounts, demands, HaveDueReplies}
+use Rattle.log_grammar.specs.laws.FitAccounts.{AllCanBeChallenged}
 use Rattle.log_grammar.specs.state_machine.Steps.{IsTransition, told_at}
 use Rattle.log_grammar.specs.state_machine.DueClasses.{IsDueAt}
 use Rattle.log_grammar.specs.Why.{Why, is_cut, no_line, out_of_order, other_mechs, other_challenge, other_outcome, other_reply, accepted}
@@ -78,7 +79,8 @@ due_ok_shows_answer accounts place told line signature wrong = absurd wrong
 -- the only line that says what is due may stand at the place
 only_due_line_follows : (accounts : Accounts) → AllCanBeChallenged accounts
     → (place : Place) (told : List AccountAttempt) (text : List ℕ) (x : LogLine) (why : Why) (line : LogLine) → IsLogLine text x
-    → IsDueAt place (class_of x) → IsReasonForLine accounts place told x why → NamesOneLine why → SaysWhatIsDue why line → IsLogLineWritable line
+    → IsDueAt place (class_of x) → IsReasonForLine accounts place told x why → NamesOneLine why → SaysWhatIsDue why line
+    → IsLogLineWritable line
     → Follows accounts place told line
 only_due_line_follows accounts fit place told text x why line is due wrong single says writable =
     let m = some_line_mends_line accounts fit place told text x why is due (said_due_is_named why line says writable) wrong in

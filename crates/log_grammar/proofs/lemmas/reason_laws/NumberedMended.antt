@@ -6,13 +6,15 @@ use Rattle.account_book.specs.AccountAttempt.{AccountAttempt}
 use Rattle.log_grammar.specs.Lines.{LogLine, header_two, said, mechs, cont, accepts, refuses, replies, log_line_text}
 use Rattle.log_grammar.specs.Bytes.{LacksLf, ended_by_lf, IsSplit}
 use Rattle.log_grammar.specs.Places.{Place, asks_bare, got_first, got_final, got_code, leaving}
-use Rattle.log_grammar.specs.Demands.{Accounts, AllCanBeChallenged, demands}
+use Rattle.log_grammar.specs.Demands.{Accounts, demands}
+use Rattle.log_grammar.specs.laws.FitAccounts.{AllCanBeChallenged}
 use Rattle.log_grammar.specs.state_machine.Steps.{told_at}
 use Rattle.log_grammar.specs.Why.{Why, is_cut, no_line, out_of_order, other_mechs, other_challenge, other_outcome, other_reply, accepted}
 use Rattle.log_grammar.specs.Why.{refused_with, class_of, LineClass, of_mechs, of_login_answers, of_replies, IsReasonForAnswer, IsReasonForReply}
 use Rattle.log_grammar.specs.Why.{IsReasonForLine}
 use Rattle.log_grammar.specs.state_machine.DueClasses.{IsDueAt}
-use Rattle.log_grammar.specs.LogKinds.{IsWhyOf, BeginsCleanOf}
+use Rattle.log_grammar.specs.LogKinds.{IsWhyOf}
+use Rattle.log_grammar.specs.laws.KindLaws.{BeginsCleanOf}
 use Rattle.log_grammar.specs.VersionTwo.{MayBeginVersionTwo, IsReasonAfterFirst, version_two}
 use Rattle.log_grammar.specs.Numbered.{Numbered, numbered, IsNumberedLogUpTo}
 use Rattle.log_grammar.specs.state_machine.NumberedDueClasses.{ClassMayBeNumbered, ClassMayFollow, IsNumberDueAt}

@@ -7,7 +7,7 @@ use Rattle.account_book.specs.AccountAttempt.{AccountAttempt}
 use Rattle.log_grammar.specs.Lines.{LogLine, IsLogLineInRange, IsLogLine}
 use Rattle.log_grammar.specs.Places.{Place}
 use Rattle.log_grammar.specs.Demands.{Accounts, demands}
-use Rattle.log_grammar.specs.Sessions.{Part, closing, Session, session_part, session_lines, session_told, session}
+use Rattle.log_grammar.specs.Sessions.{Part, closing, RecordedSession, session_part, session_lines, session_told, session}
 use Rattle.log_grammar.specs.Begins.{Begins, AreLines}
 use Rattle.log_grammar.proofs.lemmas.session_laws.LaterLines.{HoldsFromTheLast, later_lines_hold}
 use Rattle.log_grammar.proofs.lemmas.ListEnds.{appended_lists_keep_all, front_keeps_all, back_keeps_all}
@@ -40,12 +40,12 @@ later_lines_tell_in_time = record {
 }
 
 -- if the lines of a session are in their ranges, so are the moments of its replies
-pub session_tells_in_time : (s : Session) → InTime (session_part s)
+pub session_tells_in_time : (s : RecordedSession) → InTime (session_part s)
 session_tells_in_time (session names l) h =
     later_lines_hold (λ lines place told. Ranged lines → Timed told) later_lines_tell_in_time l h.1
 
 -- if the lines of sessions, one after another, are in their ranges, so are the moments of their replies
-pub sessions_tell_in_time : (sessions : List Session) → Ranged (flat_map session_lines sessions) → Timed (flat_map session_told sessions)
+pub sessions_tell_in_time : (sessions : List RecordedSession) → Ranged (flat_map session_lines sessions) → Timed (flat_map session_told sessions)
 sessions_tell_in_time [] h = tt
 sessions_tell_in_time (s ∷ sessions) h =
     let own = front_keeps_all IsLogLineInRange (session_lines s) (flat_map session_lines sessions) h in

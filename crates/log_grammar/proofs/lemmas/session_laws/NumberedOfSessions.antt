@@ -7,7 +7,8 @@ use Rattle.std.proofs.lemmas.Bool.Decides.{eqb_tells}
 use Rattle.std.proofs.lemmas.List.{same_from_push}
 use Rattle.otp_core.specs.Ranges.{IsMoment}
 use Rattle.account_book.specs.AccountAttempt.{AccountAttempt}
-use Rattle.log_grammar.specs.Lines.{LogLine, header_two, said, ended, busy, halt, log_line_text, EndsWith}
+use Rattle.log_grammar.specs.Lines.{LogLine, header_two, said, ended, busy, halt, log_line_text}
+use Rattle.log_grammar.specs.laws.LastLines.{EndsWith}
 use Rattle.log_grammar.specs.Bytes.{ended_by_lf, IsSplit}
 use Rattle.log_grammar.specs.Places.{between, halted}
 use Rattle.log_grammar.specs.Demands.{Accounts, demands}
@@ -28,7 +29,8 @@ use Rattle.log_grammar.proofs.lemmas.lines.ReadAndWritten.{texts_spell_lines, re
 use Rattle.log_grammar.proofs.lemmas.lines.ReadAndWritten.{writable_lines_are_read}
 
 -- the lines of a number are in their ranges
-lines_of_number_are_in_range : (n : ℕ) (log : List (Numbered LogLine)) → AllByRecursion IsNumberedLineWritable log → Ranged (of_number n log)
+lines_of_number_are_in_range : (n : ℕ) (log : List (Numbered LogLine)) → AllByRecursion IsNumberedLineWritable log
+    → Ranged (of_number n log)
 lines_of_number_are_in_range n [] all = tt
 lines_of_number_are_in_range n (x ∷ log) all = elim (eqb_tells n x.number) [
   | inl same ↦ rw same.0 (all.0.line.ranges, lines_of_number_are_in_range n log all.1)

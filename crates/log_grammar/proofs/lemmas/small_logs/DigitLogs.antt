@@ -10,7 +10,8 @@ use Rattle.log_grammar.specs.Demands.{Accounts}
 use Rattle.log_grammar.specs.Why.{Why}
 use Rattle.log_grammar.specs.Versions.{IsClean, IsWhy}
 use Rattle.log_grammar.specs.NumberedLines.{IsNoFirstLine, numbered_text}
-use Rattle.log_grammar.specs.Upgrades.{with_numbers, upgraded_bytes, CanBeUpgraded}
+use Rattle.log_grammar.specs.Upgrades.{with_numbers, upgraded_bytes}
+use Rattle.log_grammar.specs.laws.UpgradedLogs.{CanBeUpgraded}
 use Rattle.log_grammar.proofs.lemmas.lines.Written.{offer_is_writable}
 use Rattle.scram_text.proofs.lemmas.ListEnds.{same_cons}
 use Rattle.log_grammar.proofs.lemmas.upgraded_logs.SameClean.{upgraded_logs_are_clean}

@@ -82,7 +82,7 @@ text_with_comma_is_some (c ∷ flag) after rest e = cc e
 -- the empty text is no client-first message
 pub empty_is_no_client_first : (p : ClientFirstParts) → [] ≡ client_first_text p → ⊥
 unfolding client_first_text gs2_header
-empty_is_no_client_first p e = text_with_comma_is_some p.flag (authzid_text p.authzid ++ 44 ∷ []) (client_first_bare p) e
+empty_is_no_client_first p e = text_with_comma_is_some p.flag (authzid_text p.authzid ++ byte "," ∷ []) (client_first_bare p) e
 
 module _ (accounts : Accounts) where
   -- the first line leads to the place between sessions

@@ -15,8 +15,7 @@ use Rattle.log_grammar.specs.Lines.{heard, sync}
 use Rattle.log_grammar.specs.Demands.{Accounts, IsReplyDueBy}
 use Rattle.log_grammar.specs.Why.{other_reply}
 use Rattle.log_grammar.specs.Versions.{IsWhy}
-use Rattle.log_grammar.specs.Upgrades.{original_bytes}
-use Rattle.log_grammar.specs.laws.Logins.{Exchange, IsLoginTo, login_session}
+use Rattle.log_grammar.specs.laws.Logins.{Exchange, IsLoginTo, login_session, original_bytes}
 use Rattle.log_grammar.specs.laws.Replies.{pass_line, next_two}
 use Rattle.log_grammar.proofs.lemmas.reply_laws.Passed.{pass_is_due_to_two, next_two_are_code_words}
 use Rattle.log_grammar.proofs.lemmas.login_laws.OtherAnswers.{other_replies_are_at_fault}

@@ -9,7 +9,7 @@ use Rattle.log_grammar.specs.Places.{got_code, leaving, over, halted}
 use Rattle.log_grammar.specs.Demands.{Demands, no_demands, HaveDueReplies}
 use Rattle.log_grammar.specs.Sessions.{Part, next_line, due_line, line_with_reply, closing, refusal, Farewell, parting, Quit, quitting, AfterOk}
 use Rattle.log_grammar.specs.Sessions.{after_ok, AfterFinal, after_final, AfterChallenge, after_challenge, AfterFirst, after_first, AfterEmpty}
-use Rattle.log_grammar.specs.Sessions.{after_empty, AfterAuth, after_auth, AfterMechs, after_mechs, Session, session_part, session_lines}
+use Rattle.log_grammar.specs.Sessions.{after_empty, AfterAuth, after_auth, AfterMechs, after_mechs, RecordedSession, session_part, session_lines}
 use Rattle.log_grammar.specs.Sessions.{session_told, SessionMeets, no_farewell, farewell, goes_away, aborts, sends_bad, no_code, quits_codes}
 use Rattle.log_grammar.specs.Sessions.{unreplied, replied, halted_at, no_verdict, denied, granted, no_final, quits_final, sends_final, no_answer}
 use Rattle.log_grammar.specs.Sessions.{refused, challenged, no_first, quits_first, sends_first, no_invitation, unoffered, invited, no_login}
@@ -58,7 +58,7 @@ accountless_after_mechs (with_first m first a) = with_first m first (accountless
 accountless_after_mechs (without_first m i) = without_first m (accountless_after_auth i)
 
 -- a session with no account named
-abbrev pub accountless_session : Session → Session
+abbrev pub accountless_session : RecordedSession → RecordedSession
 accountless_session (session names l) = session names (accountless_after_mechs l)
 
 -- a recorded reply with no account named
@@ -183,12 +183,12 @@ after_mechs_is_same_aside (with_first m first a) =
 after_mechs_is_same_aside (without_first m i) = next_line_is_same_aside (heard (auth m)) _ _ (after_auth_is_same_aside m i)
 
 -- a session with no account named has the same lines, the same place and replies except for the account, and meets `no_demands`
-pub session_is_same_aside : (s : Session) → IsAccountlessOf (session_part (accountless_session s)) (session_part s)
+pub session_is_same_aside : (s : RecordedSession) → IsAccountlessOf (session_part (accountless_session s)) (session_part s)
 session_is_same_aside (session names l) =
     due_line_is_same_aside (λ d. d.mechs names) (λ d. d.mechs names) (said (mechs names)) _ _ tt (after_mechs_is_same_aside l)
 
 -- sessions with no account named have the same lines
-sessions_have_same_lines : (sessions : List Session)
+sessions_have_same_lines : (sessions : List RecordedSession)
     → flat_map session_lines (map accountless_session sessions) ≡ flat_map session_lines sessions
 sessions_have_same_lines [] = refl
 sessions_have_same_lines (s ∷ sessions) =
@@ -196,19 +196,19 @@ sessions_have_same_lines (s ∷ sessions) =
     ∙ ap (λ (l : List LogLine). session_lines s ++ l) (sessions_have_same_lines sessions)
 
 -- sessions with no account named meet `no_demands`
-sessions_meet_no_demands : (sessions : List Session) → AllByRecursion (SessionMeets no_demands) (map accountless_session sessions)
+sessions_meet_no_demands : (sessions : List RecordedSession) → AllByRecursion (SessionMeets no_demands) (map accountless_session sessions)
 sessions_meet_no_demands [] = tt
 sessions_meet_no_demands (s ∷ sessions) = ((session_is_same_aside s).meets, sessions_meet_no_demands sessions)
 
 -- of sessions with no account named only the last may be open, if this is so of the others
-only_last_stays_open_aside : (sessions : List Session) → OnlyLastOpen sessions → OnlyLastOpen (map accountless_session sessions)
+only_last_stays_open_aside : (sessions : List RecordedSession) → OnlyLastOpen sessions → OnlyLastOpen (map accountless_session sessions)
 only_last_stays_open_aside [] closed = tt
 only_last_stays_open_aside (s ∷ []) closed = tt
 only_last_stays_open_aside (s ∷ t ∷ more) closed =
     ((session_is_same_aside s).place ∙ ap accountless_place closed.0, only_last_stays_open_aside (t ∷ more) closed.1)
 
 -- sessions with no account named lead to the same place with no account named
-sessions_lead_to_same_place_aside : (sessions : List Session)
+sessions_lead_to_same_place_aside : (sessions : List RecordedSession)
     → place_after (map accountless_session sessions) ≡ accountless_place (place_after sessions)
 sessions_lead_to_same_place_aside [] = refl
 sessions_lead_to_same_place_aside (s ∷ []) = (session_is_same_aside s).place

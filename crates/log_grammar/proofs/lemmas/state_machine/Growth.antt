@@ -8,7 +8,7 @@ use Rattle.log_grammar.specs.Places.{Place, between}
 use Rattle.log_grammar.specs.Demands.{Demands}
 use Rattle.log_grammar.specs.Sessions.{Part, Farewell, parting, Quit, quitting, AfterOk, after_ok, AfterFinal, after_final, AfterChallenge}
 use Rattle.log_grammar.specs.Sessions.{after_challenge, AfterFirst, after_first, AfterEmpty, after_empty, AfterAuth, after_auth, AfterMechs}
-use Rattle.log_grammar.specs.Sessions.{after_mechs, Session, session_part, no_farewell, farewell, goes_away, aborts, sends_bad, no_code, quits_codes}
+use Rattle.log_grammar.specs.Sessions.{after_mechs, RecordedSession, session_part, no_farewell, farewell, goes_away, aborts, sends_bad, no_code, quits_codes}
 use Rattle.log_grammar.specs.Sessions.{unreplied, replied, halted_at, no_verdict, denied, granted, no_final, quits_final, sends_final, no_answer}
 use Rattle.log_grammar.specs.Sessions.{refused, challenged, no_first, quits_first, sends_first, no_invitation, unoffered, invited, no_login}
 use Rattle.log_grammar.specs.Sessions.{quits_login, with_first, without_first, session}
@@ -217,7 +217,7 @@ module _ (d : Demands) where
       outer_goes_on d (without_first_is_within d m) i line next (after_auth_goes_on m i line next meets h)
 
   -- a session that meets the demands is closed, or continues with any line that may stand at its place and still meets them
-  pub session_goes_on : (t : Session) (line : LogLine) (next : Place) → (session_part t).Meets d
+  pub session_goes_on : (t : RecordedSession) (line : LogLine) (next : Place) → (session_part t).Meets d
       → IsTransition d (session_part t).place line next → GoesOn d session_part t line next
   session_goes_on (session names l) line next meets h =
       outer_goes_on d (session_is_within d names meets.0) l line next (after_mechs_goes_on l line next meets.1 h)

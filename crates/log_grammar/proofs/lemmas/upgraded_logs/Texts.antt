@@ -9,13 +9,13 @@ use Rattle.log_grammar.specs.Lines.{LogLine, header_one, header_two, log_line_te
 use Rattle.log_grammar.specs.Bytes.{LacksLf}
 use Rattle.log_grammar.specs.Places.{Place}
 use Rattle.log_grammar.specs.Demands.{Demands}
-use Rattle.log_grammar.specs.Sessions.{Session, session_lines, session}
+use Rattle.log_grammar.specs.Sessions.{RecordedSession, session_lines, session}
 use Rattle.log_grammar.specs.Begins.{IsLogUpTo}
 use Rattle.log_grammar.specs.Counts.{counts_of}
 use Rattle.log_grammar.specs.Numbered.{Numbered, numbered, is_end}
 use Rattle.log_grammar.specs.NumberedLines.{max_session_number, IsSessionNumber, IsNoFirstLine, numbered_text, IsNumberedLine}
-use Rattle.log_grammar.specs.Upgrades.{with_numbers, CanBeUpgraded}
-use Rattle.log_grammar.specs.laws.UpgradedLogs.{UpgradedLogsHaveTheSameCounts}
+use Rattle.log_grammar.specs.Upgrades.{with_numbers}
+use Rattle.log_grammar.specs.laws.UpgradedLogs.{UpgradedLogsHaveTheSameCounts, CanBeUpgraded}
 use Rattle.log_grammar.proofs.lemmas.session_laws.LaterLines.{IsInnerLine, HoldsFromTheLast, later_lines_hold}
 use Rattle.log_grammar.proofs.lemmas.lines.LackLf.{number_lacks_lf, log_line_lacks_lf}
 use Rattle.log_grammar.proofs.lemmas.lines.ReadBack.{each_text_is_at_most_one_log_line}
@@ -47,12 +47,12 @@ later_lines_may_have_numbers = record {
 }
 
 -- each line of a session may have a number
-session_may_have_numbers : (s : Session) → AllMayHaveNumber (session_lines s)
+session_may_have_numbers : (s : RecordedSession) → AllMayHaveNumber (session_lines s)
 session_may_have_numbers (session names l) =
     (tt, later_lines_hold (λ lines place told. AllMayHaveNumber lines) later_lines_may_have_numbers l)
 
 -- each line of some sessions may have a number
-sessions_may_have_numbers : (sessions : List Session) → AllMayHaveNumber (flat_map session_lines sessions)
+sessions_may_have_numbers : (sessions : List RecordedSession) → AllMayHaveNumber (flat_map session_lines sessions)
 sessions_may_have_numbers [] = tt
 sessions_may_have_numbers (s ∷ sessions) =
     appended_lists_keep_all IsNoFirstLine (session_lines s) (flat_map session_lines sessions) (session_may_have_numbers s)
@@ -137,7 +137,8 @@ upgraded_text_has_one_line n line x number is read =
 
 -- the texts of an upgraded log are read as no other than their numbers and their lines
 numbered_texts_have_one_reading : (n : ℕ) (lines : List LogLine) (log : List (Numbered LogLine)) → FitNumbers n lines
-    → AllByRecursion IsLogLineWritable lines → AllZip IsNumberedLine (map numbered_text (with_numbers n lines)) log → log ≡ with_numbers n lines
+    → AllByRecursion IsLogLineWritable lines → AllZip IsNumberedLine (map numbered_text (with_numbers n lines)) log
+    → log ≡ with_numbers n lines
 numbered_texts_have_one_reading n [] [] few each read = refl
 numbered_texts_have_one_reading n [] (x ∷ log) few each read = absurd read
 numbered_texts_have_one_reading n (line ∷ lines) [] few each read = absurd read
@@ -154,10 +155,10 @@ upgraded_texts_have_one_reading lines log can read =
     numbered_texts_have_one_reading 1 lines log (lines_fit_from_one lines can) can.each read
 
 -- the first of lines that can be numbered can be
-pub first_lines_can_be_numbered : (front back : List LogLine) → CanBeUpgraded (front ++ back) → CanBeUpgraded front
-first_lines_can_be_numbered front back can = record {
-  each = front_keeps_all IsLogLineWritable front back can.each;
-  few = (omega arith, omega (arith, can.few.1, length-append front back));
+pub first_lines_can_be_numbered : (before after : List LogLine) → CanBeUpgraded (before ++ after) → CanBeUpgraded before
+first_lines_can_be_numbered before after can = record {
+  each = front_keeps_all IsLogLineWritable before after can.each;
+  few = (omega arith, omega (arith, can.few.1, length-append before after));
 }
 
 -- lines that are numbered are, without their numbers, the old lines

@@ -1,6 +1,7 @@
 -- A hall whose session took a turn has answered the call, in whichever order its open sessions stand.
 use Rattle.std.proofs.Common.{◌≡◌, ◌↔◌, Bool, true, false, ℕ, List, [], ◌∷◌, ◌++◌, map, refl, sym, ◌∙◌, ap, subst, append_assoc}
 use Rattle.std.specs.Prelude.{decimal}
+use Rattle.std.specs.Str.{byte}
 use Rattle.std.specs.List.Sorted.{IsPermutation}
 use Rattle.std.proofs.lemmas.List.Sorted.{IsPermutation-trans}
 use Rattle.std.specs.declared.option.Option.TheVariants.{Some}
@@ -16,7 +17,7 @@ use Rattle.log_grammar.specs.NumberedLines.{numbered_text}
 use Rattle.scram_text.proofs.lemmas.ListEnds.{same_cons}
 use Rattle.sasl_desk.specs.Desks.{session_phase}
 use Rattle.sasl_desk.specs.Events.{ClientEvent}
-use Rattle.sasl_desk.specs.OpenSessions.{open_session_of}
+use Rattle.sasl_desk.proofs.lemmas.halls.OpenSessions.{open_session_of}
 use Rattle.sasl_desk.specs.Halls.{HallFields, hall_of, numbered_bytes, IsHallAfter, IsPhaseOf, AnswersIn, IsSameHall}
 use Rattle.sasl_desk.specs.inner.TurnResults.{IsTurnOf, IsTurnWritten}
 use Rattle.sasl_desk.specs.inner.Prefix.{prefix, prefixed_bytes}
@@ -41,7 +42,7 @@ prefixed_texts_are_numbered : (n : ℕ) (lines : List LogLine)
     → map (λ line. prefix (Some n) ++ log_line_text line) lines ≡ map numbered_text (map (numbered n) lines)
 prefixed_texts_are_numbered n [] = refl
 prefixed_texts_are_numbered n (line ∷ lines) =
-    same_cons _ _ _ _ (append_assoc (decimal n) (32 ∷ []) (log_line_text line)) (prefixed_texts_are_numbered n lines)
+    same_cons _ _ _ _ (append_assoc (decimal n) (byte " " ∷ []) (log_line_text line)) (prefixed_texts_are_numbered n lines)
 
 -- lines written each after a session's number are, byte for byte, that session's numbered lines
 pub prefixed_bytes_are_numbered : (n : ℕ) (lines : List LogLine) → prefixed_bytes (Some n) lines ≡ numbered_bytes (map (numbered n) lines)

@@ -6,7 +6,7 @@ use Rattle.log_grammar.specs.Places.{Place, between, halted, open_at}
 use Rattle.log_grammar.specs.Demands.{Accounts}
 use Rattle.log_grammar.specs.Numbered.{Numbered, of_number}
 use Rattle.log_grammar.proofs.lemmas.ListEnds.{appended_lists_keep_all}
-use Rattle.sasl_desk.specs.OpenSessions.{is_of, open_session_of}
+use Rattle.sasl_desk.specs.OpenSessions.{is_of}
 use Rattle.sasl_desk.specs.Halls.{IsOpenSessionAt}
 use Rattle.sasl_desk.specs.Runs.{Call, server_nonce_of}
 use Rattle.sasl_desk.specs.Sessions.{IsSessionAt}
@@ -15,7 +15,7 @@ use Rattle.sasl_desk.specs.declared.turn.AfterTurn.{AfterTurn}
 use Rattle.sasl_desk.specs.declared.turn.AfterTurn.TheVariants.{Going, Closed, Halted}
 use Rattle.sasl_desk.proofs.lemmas.turns.Paths.{session_has_client_turn}
 use Rattle.sasl_desk.proofs.lemmas.turns.Saves.{halted_after}
-use Rattle.sasl_desk.proofs.lemmas.halls.OpenSessions.{last_open_session_counts_one, other_last_session_is_not_counted}
+use Rattle.sasl_desk.proofs.lemmas.halls.OpenSessions.{last_open_session_counts_one, other_last_session_is_not_counted, open_session_of}
 use Rattle.sasl_desk.proofs.lemmas.halls.Working.{open_place_counts_one, closed_place_counts_none, client_turn_is_open}
 
 -- a turn leaves its session at this place, with so many `E` lines

@@ -6,8 +6,13 @@ use Rattle.std.proofs.lemmas.Bool.{eq-eqb}
 use Rattle.std.proofs.lemmas.Bool.Decides.{eqb_tells}
 use Rattle.sasl_desk.specs.OpenSessions.{is_of}
 use Rattle.sasl_desk.specs.declared.hall.open_session.OpenSession.{OpenSession}
+use Rattle.sasl_desk.specs.declared.session.Session.{Session}
 use Rattle.sasl_desk.proofs.lemmas.Lists.{last_counts_as_first}
 use Rattle.sasl_log.proofs.lemmas.ListCounts.{passing_counts_one, failing_counts_none, first_adds_its_count}
+
+-- an open session of these parts
+abbrev pub open_session_of : (number : ℕ) → Session → (server_nonce : List ℕ) → OpenSession
+open_session_of number session server_nonce = record { number = number; session = session; server_nonce = server_nonce }
 
 -- an open session of a number adds one to the open sessions of that number
 pub own_open_session_counts : (n : ℕ) (open_session : OpenSession) (open_sessions : List OpenSession) → open_session.number ≡ n

@@ -17,7 +17,7 @@ use Rattle.log_grammar.proofs.lemmas.lines.LackLf.{reply_is_writable}
 use Rattle.log_grammar.proofs.lemmas.lines.Written.{halt_is_writable}
 use Rattle.sasl_desk.specs.Desks.{IsBookAfterReplies}
 use Rattle.sasl_desk.specs.Events.{ClientEvent}
-use Rattle.sasl_desk.specs.OpenSessions.{open_session_of}
+use Rattle.sasl_desk.proofs.lemmas.halls.OpenSessions.{open_session_of}
 use Rattle.sasl_desk.specs.Halls.{hall_of, hall_lines, IsHallAfter}
 use Rattle.book_keeper.specs.Keeper.{IsCodeJudged}
 use Rattle.sasl_desk.specs.Runs.{hears, Call, call_of, server_nonce_of}

@@ -19,7 +19,7 @@ use Rattle.log_grammar.proofs.lemmas.many_sessions.LinesOfNumber.{closed_in-appe
 use Rattle.log_grammar.proofs.lemmas.ListEnds.{appended_lists_keep_all}
 use Rattle.sasl_desk.specs.Desks.{IsStoredAt, IsBookAfterReplies}
 use Rattle.sasl_desk.specs.Events.{ClientEvent}
-use Rattle.sasl_desk.specs.OpenSessions.{is_of, open_session_of}
+use Rattle.sasl_desk.specs.OpenSessions.{is_of}
 use Rattle.sasl_desk.specs.Halls.{hall_of, hall_lines, IsHallAfter}
 use Rattle.sasl_desk.specs.Runs.{hears, Call, call_of, server_nonce_of, IsTurnTaken}
 use Rattle.sasl_desk.specs.Sessions.{CanBeWritten}
@@ -29,7 +29,7 @@ use Rattle.sasl_desk.specs.declared.session.Session.{Session}
 use Rattle.sasl_desk.specs.declared.turn.AfterTurn.{AfterTurn}
 use Rattle.sasl_desk.proofs.lemmas.turns.Paths.{session_has_client_turn}
 use Rattle.sasl_desk.proofs.lemmas.turns.Saves.{halted_after}
-use Rattle.sasl_desk.proofs.lemmas.halls.OpenSessions.{own_open_session_counts, other_open_session_is_not_counted, open_sessions_are_of_others}
+use Rattle.sasl_desk.proofs.lemmas.halls.OpenSessions.{own_open_session_counts, other_open_session_is_not_counted, open_sessions_are_of_others, open_session_of}
 use Rattle.sasl_desk.proofs.lemmas.halls.Paths.{IsTurnLine, turn_line_may_have_number, turn_gives_no_number}
 use Rattle.sasl_desk.proofs.lemmas.halls.OpenAfterTurns.{LeavesSession, open_sessions_after, still_open_counts_open, is_open_or_ended}
 use Rattle.sasl_desk.proofs.lemmas.halls.OpenAfterTurns.{turn_adds_what_is_still_open, own_sessions_count}

@@ -9,8 +9,8 @@ use Rattle.log_grammar.specs.Books.{accounts_in}
 use Rattle.log_grammar.specs.Lines.{LogLine, said, busy, halt}
 use Rattle.log_grammar.specs.Places.{Place, before_all, between, over, halted, is_closed, open_at}
 use Rattle.log_grammar.specs.Demands.{Accounts, Demands, demands}
-use Rattle.log_grammar.specs.Numbered.{Numbered, of_number, MayFollow, IsNumberedLogUpTo, FollowsLast}
-use Rattle.log_grammar.specs.state_machine.NumberedSteps.{IsVisitTransition}
+use Rattle.log_grammar.specs.Numbered.{Numbered, of_number, MayFollow, IsNumberedLogUpTo}
+use Rattle.log_grammar.specs.state_machine.NumberedSteps.{IsVisitTransition, FollowsLast}
 use Rattle.log_grammar.specs.Versions.{max_open_sessions}
 use Rattle.log_grammar.proofs.lemmas.many_sessions.WithoutLast.{numbered_log_has_last_transition}
 use Rattle.log_grammar.proofs.lemmas.many_sessions.HaltAndBusy.{visit_halt_leads_to_halted, visit_busy_leads_to_over}

@@ -1,15 +1,11 @@
 -- Which lines have an acceptance, and the lines up to the first.
-use Rattle.std.proofs.Common.{◌≡◌, true, false, Bool, List, [], ◌∷◌, ◌++◌, refl, ◌∙◌}
+use Rattle.std.proofs.Common.{◌≡◌, true, Bool, List, [], ◌∷◌, ◌++◌, refl, ◌∙◌}
 use Rattle.std.specs.List.{list_any}
 use Rattle.std.proofs.lemmas.Bool.{or_left, or_right}
 use Rattle.std.proofs.lemmas.List.Folds.{list_any-append}
 use Rattle.log_grammar.specs.Lines.{LogLine, header_one, header_two, said, heard, bad, gone, ended, accepts}
+use Rattle.log_grammar.specs.Counts.{is_acceptance}
 use Rattle.sasl_desk.specs.Alone.{up_to_acceptance}
-
--- the line is an acceptance
-abbrev pub is_acceptance : LogLine → Bool
-is_acceptance (said (accepts message)) = true
-is_acceptance line = false
 
 -- the lines have an acceptance
 unfoldable pub has_acceptance : List LogLine → Bool

@@ -9,7 +9,7 @@ use Rattle.log_grammar.specs.Books.{accounts_in}
 use Rattle.log_grammar.specs.Lines.{LogLine, header_one, header_two, said, heard, bad, gone, ended, mechs}
 use Rattle.log_grammar.specs.Places.{Place}
 use Rattle.log_grammar.specs.Demands.{Accounts}
-use Rattle.log_grammar.specs.Counts.{is_offer}
+use Rattle.log_grammar.specs.Counts.{is_mechs}
 use Rattle.sasl_desk.specs.Events.{ClientEvent, sends, goes_away}
 use Rattle.sasl_desk.specs.Sessions.{IsRecord}
 use Rattle.sasl_desk.specs.Runs.{Request, greets, hears, Call, run_lines, server_nonce_of, IsAnswerLine, IsTurnTaken, IsAnsweredBy, IsRun}
@@ -29,7 +29,7 @@ answer_records_nothing (bad ∷ lines) all = absurd all.0
 answer_records_nothing (gone ∷ lines) all = absurd all.0
 
 -- what answers a client offers nothing
-answer_offers_nothing : (lines : List LogLine) → AllByRecursion IsAnswerLine lines → count_by is_offer lines ≡ 0
+answer_offers_nothing : (lines : List LogLine) → AllByRecursion IsAnswerLine lines → count_by is_mechs lines ≡ 0
 answer_offers_nothing [] all = refl
 answer_offers_nothing (said (mechs names) ∷ lines) all = absurd all.0
 answer_offers_nothing (said line ∷ lines) all = answer_offers_nothing lines all.1
@@ -49,7 +49,7 @@ record_counts_as_record goes_away at gone is = refl
 record_counts_as_record goes_away at kept is = absurd is
 
 -- a line that records what a client did is no offer
-record_is_no_offer : (line : LogLine) → is_record line ≡ true → is_offer line ≡ false
+record_is_no_offer : (line : LogLine) → is_record line ≡ true → is_mechs line ≡ false
 record_is_no_offer (said line) is = absurd (cc is)
 record_is_no_offer line is = refl
 
@@ -65,10 +65,10 @@ turn_has_one_record accounts server_nonce event moment at lines next t =
 -- the lines of a call have one offer if it is a greeting, and else none
 call_offers_if_it_greets : (accounts : Accounts) (server_nonce : List ℕ) (request : Request) (at : Place) (lines : List LogLine)
     (next : Place) → IsAnsweredBy accounts server_nonce request at lines next
-    → count_by is_offer lines ≡ cond (is_greeting request) 1 0
-call_offers_if_it_greets accounts server_nonce (greets new) at lines next answered = ap (count_by is_offer) answered.says
+    → count_by is_mechs lines ≡ cond (is_greeting request) 1 0
+call_offers_if_it_greets accounts server_nonce (greets new) at lines next answered = ap (count_by is_mechs) answered.says
 call_offers_if_it_greets accounts server_nonce (hears event moment) at lines next turn =
-    ap (count_by is_offer) turn.lines_are
+    ap (count_by is_mechs) turn.lines_are
     ∙ rw (record_is_no_offer turn.recorded (record_counts_as_record event at turn.recorded turn.is_record))
     (answer_offers_nothing turn.answered turn.answers)
 
@@ -82,13 +82,13 @@ call_adds_its_record accounts before (hears event moment) at lines next run turn
 
 -- the log of a run has as many offers of mechanisms as clients were greeted
 pub run_has_its_offers : (accounts : Accounts) (calls : List Call) (at : Place) → IsRun accounts calls at
-    → count_by is_offer (run_lines calls) ≡ count_by (λ call. is_greeting call.request) calls
+    → count_by is_mechs (run_lines calls) ≡ count_by (λ call. is_greeting call.request) calls
 run_has_its_offers accounts [] at run = refl
 run_has_its_offers accounts (c ∷ before) at (place, run, answered) =
     let earlier = run_has_its_offers accounts before place run in
     let added = call_offers_if_it_greets accounts (server_nonce_of before) c.request place c.lines at answered in
-    let lines : count_by is_offer (run_lines (c ∷ before)) ≡ count_by is_offer (run_lines before) + count_by is_offer c.lines =
-    sum_by-append (λ (l : LogLine). cond (is_offer l) 1 0) (run_lines before) c.lines in
+    let lines : count_by is_mechs (run_lines (c ∷ before)) ≡ count_by is_mechs (run_lines before) + count_by is_mechs c.lines =
+    sum_by-append (λ (l : LogLine). cond (is_mechs l) 1 0) (run_lines before) c.lines in
     let calls : count_by (λ (call : Call). is_greeting call.request) (c ∷ before)
     ≡ (0 + cond (is_greeting c.request) 1 0) + count_by (λ (call : Call). is_greeting call.request) before =
     sum_by-append (λ (call : Call). cond (is_greeting call.request) 1 0) (c ∷ []) before in

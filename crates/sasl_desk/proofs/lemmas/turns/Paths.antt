@@ -49,7 +49,8 @@ left_session_rests accounts at None is = rw is tt
 left_session_rests accounts at (Some session) is = client_turn_rests at (session_has_client_turn accounts at session is)
 
 -- a session is not left at a halt
-pub left_place_is_not_halted : (accounts : Accounts) (at : Place) (session : Option Session) → IsLeftAt accounts at session → at ≡ halted → ⊥
+pub left_place_is_not_halted : (accounts : Accounts) (at : Place) (session : Option Session) → IsLeftAt accounts at session → at ≡ halted
+    → ⊥
 left_place_is_not_halted accounts at None is same = cc (is, same)
 left_place_is_not_halted accounts at (Some session) is same =
     false≢true (subst (λ (p : Place). is_client_turn p ≡ true) same (session_has_client_turn accounts at session is))
