@@ -128,19 +128,19 @@ pub(crate) fn wait_for(
     view: &KeysView<'_>,
     taken: &TakenFirst<'_>,
     nonce: &[u8],
-    challenge: &[u8],
+    server_first: &[u8],
 ) -> ServerWait
     requires nonce { length nonce.now ≤ max_nonce_len }
     requires header { length taken.now.header.now ≤ MAX_HEADER_LEN }
     ensures { (client_first : List ℕ) (opening : Opening)
-        → IsOpening (entry_of view.now) client_first challenge.now opening → ShowsOpening taken.now nonce.now opening
-        → StandsForChallenged result (challenged_login (entry_of view.now) mechanism client_first challenge.now) }
+        → IsOpening (entry_of view.now) client_first server_first.now opening → ShowsOpening taken.now nonce.now opening
+        → StandsForChallenged result (challenged_login (entry_of view.now) mechanism client_first server_first.now) }
 {
     ServerWait {
         nonce: copy_of(nonce),
         header: copy_of(taken.header),
         allowed: is_allowed(view, &taken.name, &taken.authzid),
-        signing: signing_for(mechanism, view, taken.bare, challenge),
+        signing: signing_for(mechanism, view, taken.bare, server_first),
     }
 }
 
@@ -163,18 +163,18 @@ fn is_among(name: &[u8], names: &[PlainName]) -> bool
     names.iter().any(|other| other.bytes() == name)
 }
 
-// The account's keys for a login with this bare client-first message and this challenge, or None if the account has no keys.
+// The account's keys for a login with this bare client-first message and this server-first message, or None if the account has no keys.
 fn signing_for(
     mechanism: Mechanism,
     view: &KeysView<'_>,
     bare: &[u8],
-    challenge: &[u8],
+    server_first: &[u8],
 ) -> Option<Signing>
     ensures { (first : ClientFirstParts) → bare.now ≡ client_first_bare first
-        → IsSigningFor result mechanism (entry_of view.now).keys (auth_to_challenge first challenge.now) }
+        → IsSigningFor result mechanism (entry_of view.now).keys (auth_to_challenge first server_first.now) }
 {
     match &view.keys {
-        Some(keys) => Some(Signing::new(mechanism, keys, bare, challenge)),
+        Some(keys) => Some(Signing::new(mechanism, keys, bare, server_first)),
         None => None,
     }
 }
@@ -208,37 +208,37 @@ impl ServerWait {
         ensures report { CanBeReported (due_of result) }
     {
         match read_client_final(client_final) {
-            Ok(last) => self.judge_final(&last),
+            Ok(parts) => self.judge_final(&parts),
             Err(_) => Judged::Refused(Refusal::InvalidEncoding),
         }
     }
 
     // The verdict on the parts of a client-final message.
     #[tactic(auto, using(scram_text::proofs::lemmas::FirstUnmet::found_is_first))]
-    fn judge_final(&self, last: &ClientFinal<'_>) -> Judged
+    fn judge_final(&self, parts: &ClientFinal<'_>) -> Judged
         ensures verdict { (login : Challenged) (stands : StandsForChallenged self.now login) (final : ClientFinalParts)
-            → ShowsClientFinal last.now final → IsVerdictOn login stands.opening final (due_of result) }
+            → ShowsClientFinal parts.now final → IsVerdictOn login stands.opening final (due_of result) }
         ensures report { CanBeReported (due_of result) }
     {
-        if last.mandatory {
+        if parts.mandatory {
             return Judged::Refused(Refusal::ExtensionsNotSupported);
         }
-        if !are_same(last.nonce, self.nonce.as_slice()) {
+        if !are_same(parts.nonce, self.nonce.as_slice()) {
             return Judged::Refused(Refusal::OtherNonce);
         }
-        if !are_same(last.channel.as_slice(), self.header.as_slice()) {
+        if !are_same(parts.channel.as_slice(), self.header.as_slice()) {
             return Judged::Refused(Refusal::Channel);
         }
         let Some(signing) = &self.signing else {
             return Judged::Refused(Refusal::InvalidProof);
         };
-        if !signing.is_proof(last.without_proof, &last.proof) {
+        if !signing.is_proof(parts.without_proof, &parts.proof) {
             return Judged::Refused(Refusal::InvalidProof);
         }
         if !self.allowed {
             return Judged::Refused(Refusal::NotAuthorised);
         }
-        Judged::Accepted(signing.signature(last.without_proof))
+        Judged::Accepted(signing.signature(parts.without_proof))
     }
 
     /// Appends the server's final message to `out` and returns its verdict: that the login is accepted, or why not, as `judge`

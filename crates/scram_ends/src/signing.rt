@@ -27,21 +27,21 @@ pub(crate) struct Signing {
 impl Signing {
     ghost use Rattle.scram_ends.specs.Standing.{IsSigning};
 
-    /// The keys for a login with this client-first-message-bare and this challenge.
+    /// The keys for a login with this client-first-message-bare and this server-first message.
     pub(crate) fn new(
         mechanism: Mechanism,
         keys: &ScramKeys,
         bare: &[u8],
-        challenge: &[u8],
+        server_first: &[u8],
     ) -> Signing
         ensures { (first : ClientFirstParts) → bare.now ≡ client_first_bare first
-            → IsSigning result mechanism (keys_of keys.now) (auth_to_challenge first challenge.now) }
+            → IsSigning result mechanism (keys_of keys.now) (auth_to_challenge first server_first.now) }
     {
         Signing {
             mechanism,
             stored: copy_of(keys.stored.as_slice()),
-            client: running_mac(mechanism, &keys.stored, bare, challenge),
-            server: running_mac(mechanism, &keys.server, bare, challenge),
+            client: running_mac(mechanism, &keys.stored, bare, server_first),
+            server: running_mac(mechanism, &keys.server, bare, server_first),
         }
     }
 
@@ -75,15 +75,15 @@ pub(crate) fn running_mac(
     mechanism: Mechanism,
     key: &Tag,
     bare: &[u8],
-    challenge: &[u8],
+    server_first: &[u8],
 ) -> ScramMac
     ensures { IsScramMac mechanism result key.now.items
-        (bare.now ++ byte "," ∷ [] ++ challenge.now ++ byte "," ∷ []) }
+        (bare.now ++ byte "," ∷ [] ++ server_first.now ++ byte "," ∷ []) }
 {
     let mut mac = ScramMac::new(mechanism, key.as_slice());
     mac.add(bare);
     mac.add(b",");
-    mac.add(challenge);
+    mac.add(server_first);
     mac.add(b",");
     mac
 }

@@ -57,14 +57,15 @@ FaultLinesBeginNoCleanLog = (accounts : Accounts) → AllCanBeChallenged account
     → IsSplit bytes texts rest → IsFaultLine accounts bytes k ↔ IsFirstOutsideCleanLogs accounts bytes texts k
 
 -- the session begins with `S MECHS` and the lines with which the client sends this first message
-abbrev pub HasFirst : RecordedSession → (mechanism first : List ℕ) → Type 0
-HasFirst s mechanism first =
-    (names : List ℕ) × (sent : List LogLine) × (more : List LogLine) × IsSentBy mechanism first sent
+abbrev pub HasFirst : RecordedSession → (mechanism client_first : List ℕ) → Type 0
+HasFirst s mechanism client_first =
+    (names : List ℕ) × (sent : List LogLine) × (more : List LogLine) × IsSentBy mechanism client_first sent
     × (session_lines s ≡ said (mechs names) ∷ sent ++ more)
 
 -- the client-first message of the session names this account
 abbrev pub IsLoginOf : RecordedSession → List ℕ → Type 0
-IsLoginOf s account = (mechanism : List ℕ) × (first : List ℕ) × HasFirst s mechanism first × IsTakenUpFor mechanism first account
+IsLoginOf s account =
+    (mechanism : List ℕ) × (client_first : List ℕ) × HasFirst s mechanism client_first × IsTakenUpFor mechanism client_first account
 
 -- in a session that meets its demands, the account of each code that is answered is the one that the client-first message names
 abbrev pub EachCodeIsOfItsLogin : Type 0

@@ -53,8 +53,9 @@ abbrev pub IsChallengeDue : Accounts → List LogLine → List ℕ → Place →
 IsChallengeDue accounts log text next told =
     ((mechanism : List ℕ) × Begins (demands accounts) log (asks_bare mechanism) told
     × ((m : Mechanism) × NamesMechanism mechanism m) × (text ≡ []) × (next ≡ waits_first mechanism))
-    ⊎ ((mechanism : List ℕ) × (first : List ℕ) × (name : List ℕ) × Begins (demands accounts) log (got_first mechanism first) told
-    × IsChallenged accounts mechanism name first text × (next ≡ waits_final mechanism name first text))
+    ⊎ ((mechanism : List ℕ) × (client_first : List ℕ) × (name : List ℕ)
+    × Begins (demands accounts) log (got_first mechanism client_first) told
+    × IsChallenged accounts mechanism name client_first text × (next ≡ waits_final mechanism name client_first text))
 
 -- `S CONT` may stand in a log if and only if it is one of these challenges
 abbrev pub EachChallengeIsDue : Type 0

@@ -134,14 +134,14 @@ pub fn lines_have_6202_bytes_at_most()
 pub fn counted_logs()
     ensures sessions { (sessions : List RecordedSession)
         → (counts_of (header_one ∷ flat_map session_lines sessions)).sessions ≡ length sessions }
-    ensures each { (names first challenge last message text : List ℕ) (moment counter : ℕ)
-        → counts_of (header_one ∷ said (mechs names) ∷ heard (auth_with names first) ∷ said (cont challenge)
-        ∷ heard (resp last) ∷ said (accepts message) ∷ heard (code text) ∷ said (replies moment (Some (Pass counter)))
+    ensures each { (names client_first server_first client_final server_final text : List ℕ) (moment counter : ℕ)
+        → counts_of (header_one ∷ said (mechs names) ∷ heard (auth_with names client_first) ∷ said (cont server_first)
+        ∷ heard (resp client_final) ∷ said (accepts server_final) ∷ heard (code text) ∷ said (replies moment (Some (Pass counter)))
         ∷ heard (code text) ∷ said (replies moment (Some Fail)) ∷ gone ∷ ended ∷ [])
         ≡ record { sessions = 1; accepted = 1; passed = 1 } }
-    ensures two_codes { (names first challenge last message one other : List ℕ) (moment counter : ℕ)
-        → counts_of (header_one ∷ said (mechs names) ∷ heard (auth_with names first) ∷ said (cont challenge)
-        ∷ heard (resp last) ∷ said (accepts message) ∷ heard (sync one other) ∷ said (replies moment (Some (Pass counter)))
+    ensures two_codes { (names client_first server_first client_final server_final one other : List ℕ) (moment counter : ℕ)
+        → counts_of (header_one ∷ said (mechs names) ∷ heard (auth_with names client_first) ∷ said (cont server_first)
+        ∷ heard (resp client_final) ∷ said (accepts server_final) ∷ heard (sync one other) ∷ said (replies moment (Some (Pass counter)))
         ∷ gone ∷ ended ∷ [])
         ≡ record { sessions = 1; accepted = 1; passed = 1 } }
 {}

@@ -27,11 +27,11 @@ impl ClientTwo {
         ensures err { IfErr result (λ fault. (l : Answered) (x : StandsForAnswered self l)
             → IsLastFault x.signature server_final.now fault) }
     {
-        let last = read_server_final(server_final)?;
-        if last.mandatory {
+        let parts = read_server_final(server_final)?;
+        if parts.mandatory {
             return Err(ClientFault::Mandatory);
         }
-        match last.result {
+        match parts.result {
             FinalResult::ErrorValue(_) => Err(ClientFault::ServerRefused),
             FinalResult::Verifier(signature) => {
                 if self.is_expected(&signature) {

@@ -6,7 +6,7 @@ pub returns-clause-sessions : goal.returns-clause-sessions
 returns-clause-sessions c = sessions_are_counted
 
 pub returns-clause-each : goal.returns-clause-each
-returns-clause-each c = λ names first challenge last message text moment counter. refl
+returns-clause-each c = λ names client_first server_first client_final server_final text moment counter. refl
 
 pub returns-clause-two_codes : goal.returns-clause-two_codes
-returns-clause-two_codes c = λ names first challenge last message one other moment counter. refl
+returns-clause-two_codes c = λ names client_first server_first client_final server_final one other moment counter. refl
