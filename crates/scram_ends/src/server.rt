@@ -15,7 +15,7 @@ ghost use Rattle.std.specs.declared.option.Option.{Option};
 ghost use Rattle.scram_text.specs.Limits.{max_message_len, max_nonce_len};
 ghost use Rattle.scram_text.specs.Messages.{ClientFirstParts, client_first_bare, IsClientFirst, ClientFinalParts, IsServerFinal};
 ghost use Rattle.scram_text.specs.Shown.{ShowsClientFinal};
-ghost use Rattle.scram_text.specs.Appended.{IsUnchangedOnErr, KeepsRoom, LacksRoom};
+ghost use Rattle.scram_text.specs.Appended.{LeavesOnErr, LacksRoom};
 ghost use Rattle.scram_ends.specs.Entry.{entry_of};
 ghost use Rattle.scram_ends.specs.Stages.{Challenged, challenged_login};
 ghost use Rattle.scram_ends.specs.Auth.{auth_to_challenge};
@@ -97,8 +97,7 @@ pub fn server_first<A: Allocator>(
         × (out.new.items ≡ out.old.items ++ server_first)
         × IsChallengeTo (entry_of view.now) client_first.now server_nonce.now server_first
         × StandsForChallenged wait (challenged_login (entry_of view.now) mechanism client_first.now server_first)) }
-    ensures unchanged { IsUnchangedOnErr result out.old out.new }
-    ensures room { KeepsRoom out.old out.new }
+    ensures leaves { LeavesOnErr result out.old out.new }
     ensures first { IfErr result (λ refused. (fault : FirstFault) → refused ≡ FirstRefused.First fault
         → IsRefusedWith client_first.now fault) }
     // A fault of writing comes only after a client-first message that is taken up, and it is always 99 NoMemory.
@@ -260,8 +259,7 @@ impl ServerWait {
         ensures valid { IfOk result (λ verdict. (login : Challenged) → StandsForChallenged self login
             → (server_final : List ℕ) × (out.new.items ≡ out.old.items ++ server_final)
             × ((verdict ≡ Verdict.Accepted) ↔ IsValidLogin login client_final.now server_final)) }
-        ensures unchanged { IsUnchangedOnErr result out.old out.new }
-        ensures room { KeepsRoom out.old out.new }
+        ensures leaves { LeavesOnErr result out.old out.new }
         // The only fault is 99 NoMemory, and the value is handed back unchanged.
         ensures back { IfErr result (λ refused. (refused.0 ≡ self) × (refused.1 ≡ WriteFault.NoMemory)) }
         // It comes only if the message due is within the limit, and there was no room for it.

@@ -1,12 +1,12 @@
 //! Writes the server's two messages. Their fields are within the limits and no signature is empty, so the only fault is that there is
 //! no memory for them.
-ghost use Rattle.std.specs.Prelude.{◌≡◌, ◌≤◌, ◌<◌, ℕ, List, [], length, OnOk, IsErrOf};
-ghost use Rattle.scram_text.specs.Limits.{max_message_len, max_nonce_len, max_tag_len};
+ghost use Rattle.std.specs.Prelude.{◌≤◌, [], length};
+ghost use Rattle.scram_text.specs.Limits.{max_nonce_len, max_tag_len};
 ghost use Rattle.scram_text.specs.Class.{IsNonce};
-ghost use Rattle.scram_text.specs.Messages.{server_first_text, IsServerFirst, IsServerFinal};
+ghost use Rattle.scram_text.specs.Messages.{server_first_text, IsServerFirst, server_final_text, IsServerFinal};
 ghost use Rattle.scram_text.specs.Written.{server_first_of};
-ghost use Rattle.scram_text.specs.Appended.{IsAppended, LacksRoom};
-ghost use Rattle.scram_ends.specs.Verdict.{accept, refuse, CanBeReported, due_of, final_due, due_text};
+ghost use Rattle.scram_ends.specs.Verdict.{accept, refuse, CanBeReported, due_of, final_due};
+ghost use Rattle.scram_ends.specs.inner.Written.{IsWrittenUnlessFull};
 
 use crate::verdict::{Judged, Refusal};
 use mac_core::{copy_of, law_of_bytes};
@@ -22,14 +22,8 @@ pub(crate) fn write_challenge<A: Allocator>(
 ) -> Result<(), WriteFault>
     requires nonce { IsNonce max_nonce_len nonce.now }
     requires count { 1 ≤ count }
-    ensures appended { IsAppended result out.old out.new (server_first_text (server_first_of nonce.now salt.now count [])) }
-    ensures is_message { let challenge = server_first_of nonce.now salt.now count [] in
-        OnOk result (IsServerFirst (server_first_text challenge) challenge) }
-    ensures unwritable { IsErrOf result WriteFault.Unwritable → ⊥ }
-    ensures over_limit { IsErrOf result WriteFault.OverLimit → ⊥ }
-    ensures no_memory { let challenge = server_first_of nonce.now salt.now count [] in
-        IsErrOf result WriteFault.NoMemory → IsServerFirst (server_first_text challenge) challenge
-        × LacksRoom out.old (server_first_text challenge) }
+    ensures { IsWrittenUnlessFull result out.old out.new server_first_text IsServerFirst
+        (server_first_of nonce.now salt.now count []) }
 {
     // For the proof: a salt's elements are bytes, so it fits its field, and the writer has no other fault.
     law_of_bytes(salt.bytes());
@@ -42,13 +36,7 @@ pub(crate) fn write_judgement<A: Allocator>(
     out: &mut Vec<u8, A>,
 ) -> Result<(), WriteFault>
     requires { CanBeReported (due_of judged.now) }
-    ensures appended { IsAppended result out.old out.new (due_text (due_of judged.now)) }
-    ensures is_message { let due = due_of judged.now in
-        OnOk result (IsServerFinal (due_text due) (final_due due)) }
-    ensures unwritable { IsErrOf result WriteFault.Unwritable → ⊥ }
-    ensures over_limit { IsErrOf result WriteFault.OverLimit → ⊥ }
-    ensures no_memory { let text = due_text (due_of judged.now) in IsErrOf result WriteFault.NoMemory
-        → (length text ≤ max_message_len) × LacksRoom out.old text }
+    ensures { IsWrittenUnlessFull result out.old out.new server_final_text IsServerFinal (final_due (due_of judged.now)) }
 {
     match judged {
         Judged::Accepted(signature) => write_signature(signature.as_slice(), out),
@@ -60,26 +48,14 @@ pub(crate) fn write_judgement<A: Allocator>(
 fn write_signature<A: Allocator>(signature: &[u8], out: &mut Vec<u8, A>) -> Result<(), WriteFault>
     requires some { 1 ≤ length signature.now }
     requires most { length signature.now ≤ max_tag_len }
-    ensures appended { IsAppended result out.old out.new (due_text (accept signature.now)) }
-    ensures is_message { let due = accept signature.now in
-        OnOk result (IsServerFinal (due_text due) (final_due due)) }
-    ensures unwritable { IsErrOf result WriteFault.Unwritable → ⊥ }
-    ensures over_limit { IsErrOf result WriteFault.OverLimit → ⊥ }
-    ensures no_memory { let text = due_text (accept signature.now) in IsErrOf result WriteFault.NoMemory
-        → (length text ≤ max_message_len) × LacksRoom out.old text }
+    ensures { IsWrittenUnlessFull result out.old out.new server_final_text IsServerFinal (final_due (accept signature.now)) }
 {
     write_server_final(FinalResult::Verifier(copy_of(signature)), b"", out)
 }
 
 // Appends the server-final message with the error value of this refusal.
 fn write_refusal<A: Allocator>(refusal: Refusal, out: &mut Vec<u8, A>) -> Result<(), WriteFault>
-    ensures appended { IsAppended result out.old out.new (due_text (refuse refusal)) }
-    ensures is_message { let due = refuse refusal in
-        OnOk result (IsServerFinal (due_text due) (final_due due)) }
-    ensures unwritable { IsErrOf result WriteFault.Unwritable → ⊥ }
-    ensures over_limit { IsErrOf result WriteFault.OverLimit → ⊥ }
-    ensures no_memory { let text = due_text (refuse refusal) in IsErrOf result WriteFault.NoMemory
-        → (length text ≤ max_message_len) × LacksRoom out.old text }
+    ensures { IsWrittenUnlessFull result out.old out.new server_final_text IsServerFinal (final_due (refuse refusal)) }
 {
     let value = refusal.error_value().as_bytes();
     write_server_final(FinalResult::ErrorValue(value), b"", out)

@@ -17,7 +17,7 @@ ghost use Rattle.scram_text.specs.Written.{IsMessageWritten};
 ghost use Rattle.scram_text.specs.Faults.{IsClientFinalFault};
 ghost use Rattle.scram_text.specs.Shown.{ShowsClientFinal};
 ghost use Rattle.scram_text.specs.inner.Pieces.{IsCutClientFinal};
-ghost use Rattle.scram_text.specs.Appended.{IsUnchangedOnErr, KeepsRoom, LacksRoom};
+ghost use Rattle.scram_text.specs.Appended.{LeavesOnErr, LacksRoom};
 
 use crate::draft::MessageDraft;
 use crate::fault::{TextFault, TextWhy, WriteFault};
@@ -195,8 +195,7 @@ impl ClientFinalWithoutProof {
             → OnOk result (out.new.items ≡ out.old.items ++ client_final_text p) }
         ensures is_message { (p : ClientFinalParts) → IsClientFinalWithoutProof self p → p.proof ≡ proof.now.items
             → OnOk result (IsClientFinal (client_final_text p) p) }
-        ensures unchanged { IsUnchangedOnErr result out.old out.new }
-        ensures room { KeepsRoom out.old out.new }
+        ensures leaves { LeavesOnErr result out.old out.new }
         ensures unwritable { IsErrOf result WriteFault.Unwritable → IsField max_tag_len proof.now.items → ⊥ }
         ensures over_limit { IsErrOf result WriteFault.OverLimit → IsField max_tag_len proof.now.items
             × ((p : ClientFinalParts) → IsClientFinalWithoutProof self p → p.proof ≡ proof.now.items

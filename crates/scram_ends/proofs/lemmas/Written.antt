@@ -1,6 +1,7 @@
 -- What is written comes after what a buffer held, and what the server writes is within the limits.
 use Rattle.std.proofs.Common.{◌≡◌, ◌≤◌, ◌<◌, ◌^◌, ◌-◌, ℕ, List, [], ◌++◌, length, take, drop, ap, refl, arith, length-append}
-use Rattle.std.specs.Prelude.{decimal}
+use Rattle.std.specs.Prelude.{decimal, Vec}
+use Rattle.std.specs.declared.result.Result.{Result}
 use Rattle.std.proofs.lemmas.Fmt.{length-decimal-le}
 use Rattle.std.proofs.lemmas.Grind.{common_steps}
 use Rattle.scram_text.specs.Limits.{max_message_len, max_nonce_len, max_salt_len, max_tag_len}
@@ -8,11 +9,14 @@ use Rattle.scram_text.specs.Class.{IsNonce}
 use Rattle.scram_text.specs.Base64Field.{IsField}
 use Rattle.scram_text.specs.Messages.{server_first_text, verifier, server_error, server_final_text}
 use Rattle.scram_text.specs.Written.{server_first_of, server_final_of, IsExtensionText, CanBeVerifierOrError, CanBeServerFirst, CanBeServerFinal}
+use Rattle.scram_text.specs.Written.{IsMessageWritten}
+use Rattle.scram_text.specs.declared.fault.WriteFault.{WriteFault}
 use Rattle.scram_text.proofs.lemmas.Base64.{length-base64}
 use Rattle.scram_text.proofs.lemmas.Texts.{empty_is_text, plain_is_text}
 use Rattle.scram_text.proofs.lemmas.messages_composed.ServerFirst.{pieces_compose_server_first}
 use Rattle.scram_text.proofs.lemmas.messages_composed.ServerFinal.{pieces_compose_server_final}
 use Rattle.scram_ends.specs.Verdict.{error_value}
+use Rattle.scram_ends.specs.inner.Written.{IsWrittenUnlessFull}
 use Rattle.scram_ends.specs.declared.verdict.Refusal.{Refusal}
 use Rattle.scram_ends.specs.declared.verdict.Refusal.TheVariants.{InvalidEncoding, ExtensionsNotSupported, OtherNonce, Channel, InvalidProof}
 use Rattle.scram_ends.specs.declared.verdict.Refusal.TheVariants.{NotAuthorised}
@@ -21,6 +25,18 @@ use Rattle.scram_ends.specs.declared.verdict.Refusal.TheVariants.{NotAuthorised}
 pub slice_after_front_is_text : (items front text : List ℕ) (start : ℕ)
     → items ≡ front ++ text → start ≡ length front → take (length items - start) (drop start items) ≡ text
 slice_after_front_is_text items front text start same at = rw (same, at) (grind (arith, common_steps))
+
+-- a writer whose arguments are in their classes, and whose message is within the limit, fails only if memory runs out
+pub written_unless_full : {T P Z : Type 0} {result : Result T WriteFault} {old new : Vec ℕ Z} {text : P → List ℕ}
+    {IsMessage : List ℕ → P → Type 0} {p : P} {CanBe : Type 0} → IsMessageWritten result old new text IsMessage p CanBe
+    → CanBe → (max_message_len < length (text p) → ⊥) → IsWrittenUnlessFull result old new text IsMessage p
+written_unless_full written can fits = record {
+  appended = written.appended;
+  is_message = written.is_message;
+  unwritable = λ refused. written.unwritable refused can;
+  over_limit = λ over. fits (written.over_limit over).1;
+  no_memory = written.no_memory;
+}
 
 -- the empty text is a text of extensions: of none
 pub empty_is_extension_text : IsExtensionText []

@@ -4,7 +4,7 @@ ghost use Rattle.std.specs.Prelude.{◌≡◌, ◌≤◌, ◌<◌, ◌+◌, ℕ,
 ghost use Rattle.mac_core.specs.Mechanism.{hmac_by, digest_len_by};
 ghost use Rattle.scram_text.specs.Messages.{ClientFirstParts, client_first_bare, ServerFirstParts, IsServerFirst};
 ghost use Rattle.scram_text.specs.Shown.{ShowsServerFirst};
-ghost use Rattle.scram_text.specs.Appended.{IsUnchangedOnErr, KeepsRoom, LacksRoom};
+ghost use Rattle.scram_text.specs.Appended.{LeavesOnErr, LacksRoom};
 ghost use Rattle.scram_ends.specs.Stages.{Started, answered_login};
 ghost use Rattle.scram_ends.specs.Auth.{auth_to_challenge, proof_of, expected_signature};
 ghost use Rattle.scram_ends.specs.Honest.{IsHonest};
@@ -38,8 +38,7 @@ impl ClientOne {
         ensures ok { IfOk result (λ two. (l : Started) → StandsForStarted self l
             → (client_final : List ℕ) × (out.new.items ≡ out.old.items ++ client_final)
             × StandsForAnswered two (answered_login l password.now server_first.now client_final)) }
-        ensures unchanged { IsUnchangedOnErr result out.old out.new }
-        ensures room { KeepsRoom out.old out.new }
+        ensures leaves { LeavesOnErr result out.old out.new }
         ensures most_bytes { (l : Started) → StandsForStarted self l → length out.new.items ≤ length out.old.items + 1592 }
         // If it is answered, or its answer could not be written, it is a challenge to this client with nothing wrong.
         ensures answerable { IsUnspent result → (l : Started) → StandsForStarted self l
@@ -103,8 +102,7 @@ impl ClientOne {
             → IsServerFirst server_first.now p → ShowsServerFirst challenge.now p
             → (client_final : List ℕ) × (out.new.items ≡ out.old.items ++ client_final)
             × StandsForAnswered two (answered_login l password.now server_first.now client_final)) }
-        ensures unchanged { IsUnchangedOnErr result out.old out.new }
-        ensures room { KeepsRoom out.old out.new }
+        ensures leaves { LeavesOnErr result out.old out.new }
         ensures no_memory { IfErr result (λ fault. (l : Started) (p : ServerFirstParts) → StandsForStarted self.now l
             → IsServerFirst server_first.now p → ShowsServerFirst challenge.now p
             → (fault ≡ WriteFault.NoMemory) × ((client_final : List ℕ)

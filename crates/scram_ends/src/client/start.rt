@@ -3,7 +3,7 @@ ghost use Rattle.std.specs.Prelude.{◌≡◌, ◌≤◌, ◌<◌, ◌+◌, ℕ,
 ghost use Rattle.std.specs.Option.{option_copied};
 ghost use Rattle.scram_text.specs.Class.{IsPlainName, IsNoncePart};
 ghost use Rattle.scram_text.specs.Messages.{ClientFirstParts};
-ghost use Rattle.scram_text.specs.Appended.{IsUnchangedOnErr, KeepsRoom, LacksRoom};
+ghost use Rattle.scram_text.specs.Appended.{LeavesOnErr, LacksRoom};
 ghost use Rattle.scram_ends.specs.Stages.{started_login};
 ghost use Rattle.scram_ends.specs.Honest.{IsHonestFirst};
 ghost use Rattle.scram_ends.specs.Client.{StandsForStarted};
@@ -30,8 +30,7 @@ impl Client {
             × (out.new.items ≡ out.old.items ++ client_first)
             × StandsForStarted client (started_login mechanism limits name.now (option_copied authzid.entry)
             nonce.now client_first)) }
-        ensures unchanged { IsUnchangedOnErr result out.old out.new }
-        ensures room { KeepsRoom out.old out.new }
+        ensures leaves { LeavesOnErr result out.old out.new }
         ensures most_bytes { length out.new.items ≤ length out.old.items + 1796 }
         ensures no_memory { IfErr result (λ fault. (fault ≡ WriteFault.NoMemory)
             × ((client_first : List ℕ) × (first : ClientFirstParts)

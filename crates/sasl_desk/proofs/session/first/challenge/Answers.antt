@@ -37,6 +37,6 @@ pub returns-in-Err-First-clause-due : goal.returns-in-Err-First-clause-due
 returns-in-Err-First-clause-due g c = λ accounts name keeps named.
     let first = c.args.client_first.now in
     let refused = c.in-Err-First.ensures.first _ c.in-Err-First.field-0-is in
-    rw (c.in-Err-First.ensures.unchanged, c.requires.empty)
+    rw (c.in-Err-First.ensures.leaves.0, c.requires.empty)
     (c.bare_no.ensures.due accounts c.args.server_nonce.now (got_first name first)
     (refused_first_opens_no_login name first _ refused))

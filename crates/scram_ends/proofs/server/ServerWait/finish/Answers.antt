@@ -25,4 +25,4 @@ returns-in-Err-clause-no_memory g c = λ l stands.
     let memory : c.in-Err.fault ≡ NoMemory =
     write_fault_is_memory (Err c.in-Err.fault) c.in-Err.fault refl c.in-Err.ensures.unwritable c.in-Err.ensures.over_limit in
     let room = c.in-Err.ensures.no_memory (ap (λ (f : WriteFault). Err f) memory) in
-    (due_of c.verdict_on-judged.result, c.verdict_on-judged.ensures.due l stands, room.0, room.1)
+    (due_of c.verdict_on-judged.result, c.verdict_on-judged.ensures.due l stands, room.0.short, room.1)

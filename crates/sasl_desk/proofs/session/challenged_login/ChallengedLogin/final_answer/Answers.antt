@@ -35,5 +35,5 @@ pub returns-clause-err : goal.returns-clause-err
 returns-clause-err g c = (
   ap (λ (w : ServerWait). challenged_login_of w c.self.inside.mechanism c.self.inside.name) c.in-Err.ensures.back.0 ∙
       c.self.view_is,
-  c.in-Err.ensures.unchanged ∙ c.requires,
+  c.in-Err.ensures.leaves.0 ∙ c.requires,
 )
