@@ -19,7 +19,7 @@ ghost use Rattle.scram_text.specs.Shown.{ShowsClientFinal};
 ghost use Rattle.scram_text.specs.inner.Pieces.{IsCutClientFinal};
 ghost use Rattle.scram_text.specs.Appended.{LeavesOnErr, LacksRoom};
 
-use crate::draft::MessageDraft;
+use crate::draft::{MAX_SHORT_BASE64_LEN, MessageDraft};
 use crate::fault::{TextFault, TextWhy, WriteFault};
 use crate::{MAX_CHANNEL_LEN, MAX_MESSAGE_LEN, MAX_NONCE_LEN, MAX_TAG_LEN, class, cut, field};
 use arrayvec::ArrayVec;
@@ -222,7 +222,7 @@ impl ClientFinalWithoutProof {
     {
         let mut draft = MessageDraft::of(self.text);
         draft.add(b",p=");
-        draft.add_base64(proof);
+        draft.add_base64::<MAX_SHORT_BASE64_LEN>(proof);
         draft
     }
 }
@@ -246,7 +246,7 @@ fn draft_of(channel: &[u8], nonce: &[u8], extensions: &[u8]) -> MessageDraft
 {
     let mut draft = MessageDraft::new();
     draft.add(b"c=");
-    draft.add_base64(channel);
+    draft.add_base64::<MAX_MESSAGE_LEN>(channel);
     draft.add(b",r=");
     draft.add(nonce);
     draft.add_extensions(extensions);

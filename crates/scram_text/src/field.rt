@@ -1,9 +1,9 @@
 //! Reads the parts whose values are decoded or have a class of their own. Each is known by its letter. A function that reads a part
 //! returns None for any other part.
-ghost use Rattle.std.specs.Prelude.{◌≡◌, ◌≤◌, ℕ, List, ◌∷◌, ◌++◌, length, take, decimal, codes, IfNone, IfSome, IsTrue, ◌↔◌};
+ghost use Rattle.std.specs.Prelude.{◌≡◌, ◌≤◌, ◌+◌, ◌*◌, ◌/◌, ℕ, List, ◌∷◌, ◌++◌, length, take, decimal, codes, IfNone, IfSome, IsTrue, ◌↔◌};
 ghost use Rattle.std.specs.Str.{byte};
 ghost use Rattle.base64.specs.Decode.{decoded_estimate};
-ghost use Rattle.scram_text.specs.Limits.{max_channel_len, max_message_len, max_salt_len, max_tag_len};
+ghost use Rattle.scram_text.specs.Limits.{max_channel_len, max_salt_len, max_tag_len};
 ghost use Rattle.scram_text.specs.Class.{IsNonce};
 ghost use Rattle.scram_text.specs.Name.{IsSaslName, LacksComma};
 ghost use Rattle.scram_text.specs.Base64Field.{base64, IsField};
@@ -12,10 +12,10 @@ ghost use Rattle.scram_text.specs.Parts.{IsAttrVal, IsValue, IsCount, SpellsCoun
 use crate::name::SaslText;
 use crate::number::decimal;
 use crate::values::Salt;
-use crate::{MAX_CHANNEL_LEN, MAX_ITERATION_COUNT, class, cut};
+use crate::{MAX_CHANNEL_LEN, MAX_ITERATION_COUNT, MAX_TAG_LEN, class, cut};
 use arrayvec::ArrayVec;
 use base64::engine::general_purpose::STANDARD;
-use mac_core::{Tag, copy_of};
+use mac_core::Tag;
 
 /// The nonce of a part that is `r=` and 1 to `most` printable characters.
 pub(crate) fn nonce_of(part: &[u8], most: usize) -> Option<&[u8]>
@@ -93,13 +93,12 @@ fn count(digits: &[u8]) -> Option<u32>
 
 /// The bytes of a part that is `c=` and the base64 of 1 to 1536 bytes.
 pub(crate) fn channel_of(part: &[u8]) -> Option<ArrayVec<u8, MAX_CHANNEL_LEN>>
-    requires { length part.now ≤ max_message_len }
     ensures none { IfNone result (IsAttrVal (byte "c") (SpellsField max_channel_len) part.now → ⊥) }
     ensures spelled { IfSome result (λ channel. part.now ≡ codes "c=" ++ base64 channel.items) }
     ensures class { IfSome result (λ channel. IsField max_channel_len channel.items) }
 {
     let text = cut::headed(part, b'c')?;
-    channel_bytes(text)
+    bytes_of::<MAX_CHANNEL_LEN, 1536>(text)
 }
 
 /// The bytes of a part that is a letter, `=` and the base64 of 1 to 64 bytes.
@@ -109,7 +108,7 @@ pub(crate) fn short_bytes_of(part: &[u8], letter: u8) -> Option<Tag>
     ensures class { IfSome result (λ tag. IsField max_tag_len tag.items) }
 {
     let text = cut::headed(part, letter)?;
-    short_bytes(text)
+    bytes_of::<MAX_TAG_LEN, 66>(text)
 }
 
 /// The salt of a part that is `s=` and the base64 of 1 to 64 bytes.
@@ -122,32 +121,22 @@ pub(crate) fn salt_of(part: &[u8]) -> Option<Salt>
     Salt::new(bytes.as_slice())
 }
 
-// The 1 to 1536 bytes whose base64 this is, or None if it is that of no such bytes.
-fn channel_bytes(text: &[u8]) -> Option<ArrayVec<u8, MAX_CHANNEL_LEN>>
-    requires { length text.now ≤ max_message_len }
-    ensures none { IfNone result (SpellsField max_channel_len text.now → ⊥) }
+// The 1 to `MOST` bytes whose base64 this is, or None if it is that of no such bytes. The base64 of `MOST` bytes decodes to `ROOM` bytes,
+// if those of its padding count too, and a longer text is refused.
+#[tactic(auto, using(crate::proofs::lemmas::Base64::field_has_its_length))]
+fn bytes_of<const MOST: usize, const ROOM: usize>(text: &[u8]) -> Option<ArrayVec<u8, MOST>>
+    requires most { MOST ≤ max_channel_len }
+    requires room { (MOST + 2) / 3 * 3 ≤ ROOM }
+    ensures none { IfNone result (SpellsField MOST text.now → ⊥) }
     ensures spelled { IfSome result (λ field. text.now ≡ base64 field.items) }
-    ensures class { IfSome result (λ field. IsField max_channel_len field.items) }
+    ensures class { IfSome result (λ field. IsField MOST field.items) }
 {
-    let mut buffer = [0; MAX_CHANNEL_LEN];
-    let size = decode(text, &mut buffer)?;
-    Some(copy_of(&buffer[..size]))
-}
-
-// The 1 to 64 bytes whose base64 this is. The base64 of 64 bytes has 88 characters, so a longer text is refused; 88 characters
-// decode to at most 66 bytes.
-#[tactic(auto, using(crate::proofs::lemmas::Base64::base64_has_at_most_88_bytes))]
-fn short_bytes(text: &[u8]) -> Option<Tag>
-    ensures none { IfNone result (SpellsField max_tag_len text.now → ⊥) }
-    ensures spelled { IfSome result (λ field. text.now ≡ base64 field.items) }
-    ensures class { IfSome result (λ field. IsField max_tag_len field.items) }
-{
-    if text.len() > 88 {
+    if text.len() > (MOST + 2) / 3 * 4 {
         return None;
     }
-    let mut buffer = [0; 66];
+    let mut buffer = [0; ROOM];
     let size = decode(text, &mut buffer)?;
-    let Ok(field) = Tag::try_from(&buffer[..size]) else {
+    let Ok(field) = ArrayVec::try_from(&buffer[..size]) else {
         return None;
     };
     Some(field)

@@ -16,7 +16,7 @@ ghost use Rattle.scram_text.specs.Shown.{ShowsServerFinal, verifier_or_error_of}
 ghost use Rattle.scram_text.specs.Draft.{IsDraftOf};
 ghost use Rattle.scram_text.specs.Written.{server_final_of, CanBeVerifierOrError, CanBeServerFinal, IsMessageWritten};
 
-use crate::draft::MessageDraft;
+use crate::draft::{MAX_SHORT_BASE64_LEN, MessageDraft};
 use crate::fault::{TextFault, TextWhy, WriteFault};
 use crate::{MAX_TAG_LEN, class, cut, field};
 use mac_core::Tag;
@@ -166,7 +166,7 @@ fn verifier_draft(signature: &[u8]) -> MessageDraft
 {
     let mut draft = MessageDraft::new();
     draft.add(b"v=");
-    draft.add_base64(signature);
+    draft.add_base64::<MAX_SHORT_BASE64_LEN>(signature);
     draft
 }
 

@@ -14,7 +14,7 @@ ghost use Rattle.scram_text.specs.Faults.{IsServerFirstFault};
 ghost use Rattle.scram_text.specs.Shown.{ShowsServerFirst};
 ghost use Rattle.scram_text.specs.inner.Pieces.{IsCutServerFirst};
 
-use crate::draft::MessageDraft;
+use crate::draft::{MAX_SHORT_BASE64_LEN, MessageDraft};
 use crate::fault::{TextFault, TextWhy, WriteFault};
 use crate::values::Salt;
 use crate::{MAX_NONCE_LEN, MAX_SALT_LEN, class, cut, field};
@@ -172,7 +172,7 @@ fn draft_of(nonce: &[u8], salt: &[u8], count: u32, extensions: &[u8]) -> Message
     draft.add(b"r=");
     draft.add(nonce);
     draft.add(b",s=");
-    draft.add_base64(salt);
+    draft.add_base64::<MAX_SHORT_BASE64_LEN>(salt);
     draft.add(b",i=");
     draft.add_decimal(u64::from(count));
     draft.add_extensions(extensions);

@@ -90,11 +90,16 @@ long_base64_spells_no_field most other text bytes field is long spells =
     let read = subst (λ (t : List ℕ). base64_decoded t ≡ Ok bytes) (sym is) (base64_decodes_back bytes field.each) in
     omega (arith, long, (spelled_field_is_decoded most text bytes read spells).1.at_most)
 
--- the base64 of at most 64 bytes has at most 88 characters
-pub base64_has_at_most_88_bytes : (text bytes : List ℕ) → text ≡ base64 bytes → IsField 64 bytes → length text ≤ 88
-base64_has_at_most_88_bytes text bytes spelled field =
+-- the base64 of a field has at most four characters for each three bytes, or part of three, of those that the field may hold
+pub field_has_its_length : (most : ℕ) (text bytes : List ℕ) → text ≡ base64 bytes → IsField most bytes → length text ≤ (most + 2) / 3 * 4
+field_has_its_length most text bytes spelled field =
     let whole : length text ≡ length (base64 bytes) = ap length spelled in
     omega (arith, whole, length-base64 bytes, field.at_most)
+
+-- a text that is no field of some bytes is no field of fewer
+pub field_of_fewer_is_field : (fewer most : ℕ) (text : List ℕ) → fewer ≤ most → SpellsField fewer text → SpellsField most text
+field_of_fewer_is_field fewer most text less (bytes, spelled, field) =
+    (bytes, spelled, record { at_least = field.at_least; at_most = omega (arith, field.at_most, less); each = field.each })
 
 -- 1 to `most` bytes are what a field may hold
 pub bytes_are_field : (most : ℕ) (bytes : List ℕ) → IsBytes bytes → 1 ≤ length bytes → length bytes ≤ most → IsField most bytes
