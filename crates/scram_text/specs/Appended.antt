@@ -21,3 +21,7 @@ LacksRoomFor v bytes = vec_capacity v < vec_len v + bytes
 -- the vector's spare capacity is too small for the text
 abbrev pub LacksRoom : {Z : Type 0} → Vec ℕ Z → (text : List ℕ) → Type 0
 LacksRoom v text = LacksRoomFor v (length text)
+
+-- the text is appended, as `IsAppended` says; if the call returns Err, the vector had no room reserved for the text
+abbrev pub IsAppendedOrFull : {T E Z : Type 0} → Result T E → (old new : Vec ℕ Z) → (text : List ℕ) → Type 0
+IsAppendedOrFull result old new text = IsAppended result old new text × OnErr result (LacksRoom old text)
