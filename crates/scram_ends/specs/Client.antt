@@ -105,8 +105,8 @@ last_faults_in_order = Mandatory ∷ ServerRefused ∷ WrongSignature ∷ []
 -- verifier, and no `e=`; this signature as the verifier. Any other fault is not a row: nothing would meet it.
 abbrev pub AsksOfLast : ClientFault → (signature : List ℕ) → ServerFinalParts → Type 0
 AsksOfLast Mandatory signature last = server_final_mandatory last ≡ false
-AsksOfLast ServerRefused signature last = (sent : List ℕ) × (last.outcome ≡ verifier sent)
-AsksOfLast WrongSignature signature last = last.outcome ≡ verifier signature
+AsksOfLast ServerRefused signature last = (sent : List ℕ) × (last.verifier_or_error ≡ verifier sent)
+AsksOfLast WrongSignature signature last = last.verifier_or_error ≡ verifier signature
 AsksOfLast other signature last = ⊥
 
 -- why a client that expects this signature does not accept the server as authentic: Text, if the text is not a server-final message,

@@ -13,7 +13,7 @@ pub record IsAuthentic (text signature : List ℕ) : Type 0 where
   pub last : ServerFinalParts
   pub is_last : IsServerFinal text last
   pub not_mandatory : server_final_mandatory last ≡ false
-  pub is_verifier : last.outcome ≡ verifier signature
+  pub is_verifier : last.verifier_or_error ≡ verifier signature
 
 -- the login is valid, with these last two messages
 pub record IsValidLogin (login : Challenged) (client_final server_final : List ℕ) : Type 0 where

@@ -73,14 +73,14 @@ error_value Channel = codes "channel-bindings-dont-match"
 error_value InvalidProof = codes "invalid-proof"
 error_value NotAuthorised = codes "other-error"
 
--- the outcome that server-final contains
-abbrev pub outcome_due : Due → VerifierOrError
-outcome_due (accept signature) = verifier signature
-outcome_due (refuse refusal) = server_error (error_value refusal)
+-- the verifier or the error that server-final contains
+abbrev pub verifier_or_error_due : Due → VerifierOrError
+verifier_or_error_due (accept signature) = verifier signature
+verifier_or_error_due (refuse refusal) = server_error (error_value refusal)
 
 -- the parts of server-final, with no extensions
 abbrev pub final_due : Due → ServerFinalParts
-final_due due = record { outcome = outcome_due due; extensions = [] }
+final_due due = record { verifier_or_error = verifier_or_error_due due; extensions = [] }
 
 -- the server's last message
 abbrev pub due_text : Due → List ℕ

@@ -126,12 +126,12 @@ abbrev pub IsClientFinalFault : List ℕ → TextFault → Type 0
 IsClientFinalFault text f = IsFault max_nonce_len (Channel ∷ Nonce ∷ []) (Proof ∷ []) text f
 
 -- the place of server-final's first part: ErrorValue if it begins with "e=", else Verifier
-abbrev pub outcome_place : List ℕ → TextWhy
-outcome_place part = if is_named (byte "e") part then ErrorValue else Verifier
+abbrev pub verifier_or_error_place : List ℕ → TextWhy
+verifier_or_error_place part = if is_named (byte "e") part then ErrorValue else Verifier
 
 -- the places of server-final
 abbrev pub server_final_places : List (List ℕ) → List TextWhy
-server_final_places pieces = outcome_place (first_of pieces) ∷ []
+server_final_places pieces = verifier_or_error_place (first_of pieces) ∷ []
 
 -- the first fault of a text that is not a server-final message. It has no nonce, so the limit of a nonce plays no part.
 abbrev pub IsServerFinalFault : List ℕ → TextFault → Type 0

@@ -118,7 +118,7 @@ pub data VerifierOrError : Type 0 where
 
 -- the parts of server-final
 pub record ServerFinalParts : Type 0 where
-  pub outcome : VerifierOrError
+  pub verifier_or_error : VerifierOrError
   pub extensions : List (List ℕ)
 
 -- verifier = "v=" base64, server-error = "e=" server-error-value
@@ -134,7 +134,7 @@ IsVerifierOrError (server_error value) = IsValue value
 -- server-final-message = (server-error / verifier) ["," extensions], as "v=rmF9pqV8S7suAoZWja4dJRkFsKQ="
 -- or "e=invalid-proof"
 unfoldable pub server_final_text : ServerFinalParts → List ℕ
-server_final_text p = joined (verifier_or_error_text p.outcome ∷ p.extensions)
+server_final_text p = joined (verifier_or_error_text p.verifier_or_error ∷ p.extensions)
 
 -- the message asks for a mandatory extension
 abbrev pub server_final_mandatory : ServerFinalParts → Bool
@@ -143,7 +143,7 @@ server_final_mandatory p = have_mandatory p.extensions
 -- the text is a server-final message with these parts
 pub record IsServerFinal (text : List ℕ) (p : ServerFinalParts) : Type 0 where
   pub spelled : text ≡ server_final_text p
-  pub outcome : IsVerifierOrError p.outcome
+  pub verifier_or_error : IsVerifierOrError p.verifier_or_error
   pub extensions : AreExtensions p.extensions
   pub utf8_text : IsUtf8Text text
   pub short : length text ≤ max_message_len

@@ -55,5 +55,5 @@ verifier_or_error_of (ErrorValue value) = server_error value.now
 -- the message shows these parts of server-final
 pub record ShowsServerFinal (m : ServerFinal) (p : ServerFinalParts) : Type 0 where
   pub mandatory : m.mandatory ≡ server_final_mandatory p
-  pub outcome : verifier_or_error_of m.result ≡ p.outcome
+  pub verifier_or_error : verifier_or_error_of m.result ≡ p.verifier_or_error
   pub extensions : m.extensions.now ≡ joined p.extensions

@@ -88,16 +88,16 @@ pub record IsClientFinalWithoutProof (w : ClientFinalWithoutProof) (p : ClientFi
 
 -- the parts of the server-final message that is written
 abbrev pub server_final_of : VerifierOrError → (extensions : List ℕ) → ServerFinalParts
-server_final_of outcome extensions = record { outcome = outcome; extensions = extension_parts extensions }
+server_final_of verifier_or_error extensions = record { verifier_or_error = verifier_or_error; extensions = extension_parts extensions }
 
--- an outcome is in its class, and an error value is also UTF-8 without NUL
+-- a verifier or an error is in its class, and an error value is also UTF-8 without NUL
 abbrev pub CanBeVerifierOrError : VerifierOrError → Type 0
 CanBeVerifierOrError (verifier signature) = IsVerifierOrError (verifier signature)
 CanBeVerifierOrError (server_error value) = IsVerifierOrError (server_error value) × IsUtf8Text value
 
 -- the arguments for server-final are in their classes
-pub record CanBeServerFinal (outcome : VerifierOrError) (extensions : List ℕ) : Type 0 where
-  pub outcome_class : CanBeVerifierOrError outcome
+pub record CanBeServerFinal (verifier_or_error : VerifierOrError) (extensions : List ℕ) : Type 0 where
+  pub verifier_or_error_class : CanBeVerifierOrError verifier_or_error
   pub extensions_class : IsExtensionText extensions
 
 -- what the writer of a message answers: Ok if its text is appended, and then the text is such a message of these parts; 16 only if an

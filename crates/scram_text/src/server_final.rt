@@ -11,7 +11,7 @@ ghost use Rattle.scram_text.specs.Class.{IsUtf8Text};
 ghost use Rattle.scram_text.specs.Name.{LacksComma};
 ghost use Rattle.scram_text.specs.Base64Field.{base64};
 ghost use Rattle.scram_text.specs.Messages.{ServerFinalParts, IsServerFinal, IsVerifierOrError, verifier_or_error_text, server_final_text};
-ghost use Rattle.scram_text.specs.Faults.{IsServerFinalFault, Fits, fault, outcome_place};
+ghost use Rattle.scram_text.specs.Faults.{IsServerFinalFault, Fits, fault, verifier_or_error_place};
 ghost use Rattle.scram_text.specs.Shown.{ShowsServerFinal, verifier_or_error_of};
 ghost use Rattle.scram_text.specs.Draft.{IsDraftOf};
 ghost use Rattle.scram_text.specs.Written.{server_final_of, CanBeVerifierOrError, CanBeServerFinal, IsMessageWritten};
@@ -69,7 +69,7 @@ fn read_parts(message: &[u8]) -> Result<ServerFinal<'_>, TextFault>
 {
     cut::checked_part_count(message)?;
     let (first, rest) = cut::cut(message);
-    let result = outcome_of(first)?;
+    let result = read_verifier_or_error(first)?;
     let extensions = cut::extensions_of(rest, 1)?;
     Ok(ServerFinal {
         mandatory: extensions.mandatory,
@@ -78,13 +78,13 @@ fn read_parts(message: &[u8]) -> Result<ServerFinal<'_>, TextFault>
     })
 }
 
-// The result in the first part: an error if it begins with `e=`, else a verifier.
-fn outcome_of(part: &[u8]) -> Result<FinalResult<'_>, TextFault>
+// The verifier or the error in the first part: an error if it begins with `e=`.
+fn read_verifier_or_error(part: &[u8]) -> Result<FinalResult<'_>, TextFault>
     requires { LacksComma part.now }
     ensures spelled { IfOk result (λ r. part.now ≡ verifier_or_error_text (verifier_or_error_of r)) }
     ensures class { IfOk result (λ r. IsVerifierOrError (verifier_or_error_of r)) }
-    ensures fault { IfErr result (λ f. (Fits max_nonce_len (outcome_place part.now) part.now → ⊥) × (f
-        ≡ fault 0 (outcome_place part.now))) }
+    ensures fault { IfErr result (λ f. (Fits max_nonce_len (verifier_or_error_place part.now) part.now → ⊥) × (f
+        ≡ fault 0 (verifier_or_error_place part.now))) }
 {
     if cut::is_named(b'e', part) {
         match field::value_of(part, b'e') {
@@ -110,49 +110,49 @@ fn outcome_of(part: &[u8]) -> Result<FinalResult<'_>, TextFault>
 /// outside its class, else 17 OverLimit if the message would have more than 2048 bytes, else 99 NoMemory, only if `out` had no room
 /// reserved for the message. After an error `out` is unchanged.
 pub fn write_server_final<A: Allocator>(
-    outcome: FinalResult<'_>,
+    final_result: FinalResult<'_>,
     extensions: &[u8],
     out: &mut Vec<u8, A>,
 ) -> Result<(), WriteFault>
     ensures { IsMessageWritten result out.old out.new server_final_text IsServerFinal
-        (server_final_of (verifier_or_error_of outcome.entry) extensions.now)
-        (CanBeServerFinal (verifier_or_error_of outcome.entry) extensions.now) }
+        (server_final_of (verifier_or_error_of final_result.entry) extensions.now)
+        (CanBeServerFinal (verifier_or_error_of final_result.entry) extensions.now) }
 {
-    if !is_writable(&outcome) || !cut::are_extensions(extensions) {
+    if !is_writable(&final_result) || !cut::are_extensions(extensions) {
         return Err(WriteFault::Unwritable);
     }
-    draft_of(&outcome, extensions).append_to(out)
+    draft_of(&final_result, extensions).append_to(out)
 }
 
 // Whether the verifier has 1 to 64 bytes, or the error value is UTF-8 and one or more value-chars.
-fn is_writable(outcome: &FinalResult<'_>) -> bool
-    ensures { IsTrue result ↔ CanBeVerifierOrError (verifier_or_error_of outcome.now) }
+fn is_writable(final_result: &FinalResult<'_>) -> bool
+    ensures { IsTrue result ↔ CanBeVerifierOrError (verifier_or_error_of final_result.now) }
 {
-    match outcome {
+    match final_result {
         FinalResult::Verifier(signature) => field::is_field(signature.as_slice(), MAX_TAG_LEN),
         FinalResult::ErrorValue(value) => field::is_value(value) && class::is_utf8_text(value),
     }
 }
 
 // The whole message.
-fn draft_of(outcome: &FinalResult<'_>, extensions: &[u8]) -> MessageDraft
-    requires { CanBeServerFinal (verifier_or_error_of outcome.now) extensions.now }
-    ensures draft { IsDraftOf result (server_final_text (server_final_of (verifier_or_error_of outcome.now) extensions.now)) }
-    ensures is_message { let p = server_final_of (verifier_or_error_of outcome.now) extensions.now in
+fn draft_of(final_result: &FinalResult<'_>, extensions: &[u8]) -> MessageDraft
+    requires { CanBeServerFinal (verifier_or_error_of final_result.now) extensions.now }
+    ensures draft { IsDraftOf result (server_final_text (server_final_of (verifier_or_error_of final_result.now) extensions.now)) }
+    ensures is_message { let p = server_final_of (verifier_or_error_of final_result.now) extensions.now in
         length (server_final_text p) ≤ max_message_len → IsServerFinal (server_final_text p) p }
 {
-    let mut draft = outcome_draft(outcome);
+    let mut draft = verifier_or_error_draft(final_result);
     draft.add_extensions(extensions);
     draft
 }
 
 // The first part: the verifier or the error.
-fn outcome_draft(outcome: &FinalResult<'_>) -> MessageDraft
-    requires { CanBeVerifierOrError (verifier_or_error_of outcome.now) }
-    ensures draft { IsDraftOf result (verifier_or_error_text (verifier_or_error_of outcome.now)) }
-    ensures utf8_text { IsUtf8Text (verifier_or_error_text (verifier_or_error_of outcome.now)) }
+fn verifier_or_error_draft(final_result: &FinalResult<'_>) -> MessageDraft
+    requires { CanBeVerifierOrError (verifier_or_error_of final_result.now) }
+    ensures draft { IsDraftOf result (verifier_or_error_text (verifier_or_error_of final_result.now)) }
+    ensures utf8_text { IsUtf8Text (verifier_or_error_text (verifier_or_error_of final_result.now)) }
 {
-    match outcome {
+    match final_result {
         FinalResult::Verifier(signature) => verifier_draft(signature.as_slice()),
         FinalResult::ErrorValue(value) => error_draft(value),
     }

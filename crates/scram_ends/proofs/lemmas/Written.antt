@@ -65,7 +65,7 @@ challenge_fits nonce salt count is_nonce is_salt most over =
 
 -- a signature within its bounds can be written as server-final
 pub signature_can_be_written : (signature : List ℕ) → IsField max_tag_len signature → CanBeServerFinal (verifier signature) []
-signature_can_be_written signature is_field = record { outcome_class = is_field; extensions_class = empty_is_extension_text }
+signature_can_be_written signature is_field = record { verifier_or_error_class = is_field; extensions_class = empty_is_extension_text }
 
 -- the server-final of a signature of at most the longest tag's length has at most the longest message's length
 pub signature_is_short : (signature : List ℕ)
@@ -78,18 +78,18 @@ pub signature_fits : (signature : List ℕ)
     → length signature ≤ max_tag_len → max_message_len < length (server_final_text (server_final_of (verifier signature) [])) → ⊥
 signature_fits signature most over = omega (arith, over, signature_is_short signature most)
 
--- a refusal's value can be the outcome of server-final
-error_value_can_be_outcome : (r : Refusal) → CanBeVerifierOrError (server_error (error_value r))
-error_value_can_be_outcome InvalidEncoding = (record { at_least = omega arith; no_comma = refl }, plain_is_text _ refl)
-error_value_can_be_outcome ExtensionsNotSupported = (record { at_least = omega arith; no_comma = refl }, plain_is_text _ refl)
-error_value_can_be_outcome OtherNonce = (record { at_least = omega arith; no_comma = refl }, plain_is_text _ refl)
-error_value_can_be_outcome Channel = (record { at_least = omega arith; no_comma = refl }, plain_is_text _ refl)
-error_value_can_be_outcome InvalidProof = (record { at_least = omega arith; no_comma = refl }, plain_is_text _ refl)
-error_value_can_be_outcome NotAuthorised = (record { at_least = omega arith; no_comma = refl }, plain_is_text _ refl)
+-- a refusal's value can be the error of server-final
+error_value_can_be_error : (r : Refusal) → CanBeVerifierOrError (server_error (error_value r))
+error_value_can_be_error InvalidEncoding = (record { at_least = omega arith; no_comma = refl }, plain_is_text _ refl)
+error_value_can_be_error ExtensionsNotSupported = (record { at_least = omega arith; no_comma = refl }, plain_is_text _ refl)
+error_value_can_be_error OtherNonce = (record { at_least = omega arith; no_comma = refl }, plain_is_text _ refl)
+error_value_can_be_error Channel = (record { at_least = omega arith; no_comma = refl }, plain_is_text _ refl)
+error_value_can_be_error InvalidProof = (record { at_least = omega arith; no_comma = refl }, plain_is_text _ refl)
+error_value_can_be_error NotAuthorised = (record { at_least = omega arith; no_comma = refl }, plain_is_text _ refl)
 
 -- a refusal's value can be written as server-final
 pub refusal_can_be_written : (r : Refusal) → CanBeServerFinal (server_error (error_value r)) []
-refusal_can_be_written r = record { outcome_class = error_value_can_be_outcome r; extensions_class = empty_is_extension_text }
+refusal_can_be_written r = record { verifier_or_error_class = error_value_can_be_error r; extensions_class = empty_is_extension_text }
 
 -- a refusal's value has at most 30 bytes
 error_value_is_short : (r : Refusal) → length (error_value r) ≤ 30

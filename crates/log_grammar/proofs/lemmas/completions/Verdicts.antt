@@ -50,7 +50,7 @@ refusal_is_server_final why =
       | inl long ↦ absurd (refusal_fits why long)
       | inr fits ↦ fits
     ] in
-    written_is_server_final (server_error (error_value why)) [] (error_is_text (error_value why) can.outcome_class.1) can short
+    written_is_server_final (server_error (error_value why)) [] (error_is_text (error_value why) can.verifier_or_error_class.1) can short
 
 -- a signature as long as a mechanism's digests has from 1 to 64 bytes
 signature_length_is_in_range : (m : Mechanism) (n : ℕ) → n ≡ digest_len_by m → (1 ≤ n) × (n ≤ max_tag_len)

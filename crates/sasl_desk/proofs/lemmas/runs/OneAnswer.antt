@@ -49,8 +49,8 @@ one_plain_acceptance : (text signature : List ℕ) → IsAuthentic text signatur
     → text ≡ due_text (accept signature)
 one_plain_acceptance text signature is (other, plain) =
     let same = has_one_server_final text is.last (final_due (accept other)) is.is_last plain in
-    let outcome = sym is.is_verifier ∙ ap (λ (p : ServerFinalParts). p.outcome) same in
-    let signatures : signature ≡ other = cc outcome in
+    let verifiers = sym is.is_verifier ∙ ap (λ (p : ServerFinalParts). p.verifier_or_error) same in
+    let signatures : signature ≡ other = cc verifiers in
     plain.spelled ∙ ap (λ (k : List ℕ). due_text (accept k)) (sym signatures)
 
 -- two things are the same if each is the same as one of two that are the same

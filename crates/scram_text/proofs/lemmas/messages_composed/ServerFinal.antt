@@ -13,10 +13,10 @@ use Rattle.scram_text.proofs.lemmas.Texts.{IsUtf8Text-append, plain_is_text, bas
 use Rattle.scram_text.proofs.lemmas.messages_composed.Joined.{extensions_join_after_comma, after_comma_is_text}
 
 -- what is written of server-final is its text
-pub pieces_compose_server_final : (outcome : VerifierOrError) (extensions : List ℕ)
-    → verifier_or_error_text outcome ++ after_comma extensions ≡ server_final_text (server_final_of outcome extensions)
+pub pieces_compose_server_final : (v : VerifierOrError) (extensions : List ℕ)
+    → verifier_or_error_text v ++ after_comma extensions ≡ server_final_text (server_final_of v extensions)
 unfolding server_final_text
-pieces_compose_server_final outcome extensions = sym (extensions_join_after_comma (verifier_or_error_text outcome) extensions)
+pieces_compose_server_final v extensions = sym (extensions_join_after_comma (verifier_or_error_text v) extensions)
 
 -- `v=` and the base64 of a signature is a text in UTF-8
 pub signature_is_text : (signature : List ℕ) → IsBytes signature → IsUtf8Text (codes "v=" ++ base64 signature)
@@ -27,21 +27,21 @@ signature_is_text signature bytes =
 pub error_is_text : (value : List ℕ) → IsUtf8Text value → IsUtf8Text (codes "e=" ++ value)
 error_is_text value is = IsUtf8Text-append (codes "e=") value (plain_is_text (codes "e=") refl) is
 
--- an outcome that can be written is a verifier or an error
-writable_outcome_is_outcome : (outcome : VerifierOrError) → CanBeVerifierOrError outcome → IsVerifierOrError outcome
-writable_outcome_is_outcome (verifier signature) can = can
-writable_outcome_is_outcome (server_error value) can = can.0
+-- what can be written as a verifier or an error is in its class
+writable_verifier_or_error_is_one : (v : VerifierOrError) → CanBeVerifierOrError v → IsVerifierOrError v
+writable_verifier_or_error_is_one (verifier signature) can = can
+writable_verifier_or_error_is_one (server_error value) can = can.0
 
 -- the text of what can be written as server-final is a server-final message, if it is within the limit
-pub written_is_server_final : (outcome : VerifierOrError) (extensions : List ℕ) → IsUtf8Text (verifier_or_error_text outcome)
-    → CanBeServerFinal outcome extensions → length (server_final_text (server_final_of outcome extensions)) ≤ max_message_len
-    → IsServerFinal (server_final_text (server_final_of outcome extensions)) (server_final_of outcome extensions)
-written_is_server_final outcome extensions told can short =
+pub written_is_server_final : (v : VerifierOrError) (extensions : List ℕ) → IsUtf8Text (verifier_or_error_text v)
+    → CanBeServerFinal v extensions → length (server_final_text (server_final_of v extensions)) ≤ max_message_len
+    → IsServerFinal (server_final_text (server_final_of v extensions)) (server_final_of v extensions)
+written_is_server_final v extensions told can short =
     let whole = IsUtf8Text-append _ (after_comma extensions) told (after_comma_is_text extensions can.extensions_class.utf8_text) in
     record {
       spelled = refl;
-      outcome = writable_outcome_is_outcome outcome can.outcome_class;
+      verifier_or_error = writable_verifier_or_error_is_one v can.verifier_or_error_class;
       extensions = can.extensions_class.each;
-      utf8_text = subst IsUtf8Text (pieces_compose_server_final outcome extensions) whole;
+      utf8_text = subst IsUtf8Text (pieces_compose_server_final v extensions) whole;
       short = short;
     }
