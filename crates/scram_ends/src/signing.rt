@@ -21,7 +21,7 @@ pub(crate) struct Signing {
     // Under ServerKey; it signs.
     server: ScramMac,
 
-    ghost is_mac: { ∥ ((key : List ℕ) × (front : List ℕ) × IsScramMac mechanism server key front) ∥₁ },
+    ghost is_mac: { ∥ ((key : List ℕ) × (read : List ℕ) × IsScramMac mechanism server key read) ∥₁ },
 }
 
 impl Signing {
@@ -48,8 +48,8 @@ impl Signing {
     /// Whether the proof is made with the account's keys, for the AuthMessage that ends with this
     /// client-final-message-without-proof.
     pub(crate) fn is_proof(&self, client_final_without_proof: &[u8], proof: &Tag) -> bool
-        ensures { (m : Mechanism) (keys : Keys) (front : List ℕ) → IsSigning self.now m keys front
-            → (IsTrue result ↔ IsProof m keys (front ++ client_final_without_proof.now) proof.now.items) }
+        ensures { (m : Mechanism) (keys : Keys) (read : List ℕ) → IsSigning self.now m keys read
+            → (IsTrue result ↔ IsProof m keys (read ++ client_final_without_proof.now) proof.now.items) }
     {
         let signature = signed(&self.client, client_final_without_proof);
         if proof.len() != signature.len() {
@@ -62,8 +62,8 @@ impl Signing {
 
     /// The server's signature of the AuthMessage that ends with this client-final-message-without-proof.
     pub(crate) fn signature(&self, client_final_without_proof: &[u8]) -> Tag
-        ensures value { (m : Mechanism) (keys : Keys) (front : List ℕ) → IsSigning self.now m keys front
-            → result.items ≡ server_signature m keys (front ++ client_final_without_proof.now) }
+        ensures value { (m : Mechanism) (keys : Keys) (read : List ℕ) → IsSigning self.now m keys read
+            → result.items ≡ server_signature m keys (read ++ client_final_without_proof.now) }
         ensures some { 1 ≤ length result.items }
     {
         signed(&self.server, client_final_without_proof)
@@ -90,9 +90,9 @@ pub(crate) fn running_mac(
 
 // The MAC of the text added so far, followed by `rest`.
 fn signed(mac: &ScramMac, rest: &[u8]) -> Tag
-    ensures value { (m : Mechanism) (key front : List ℕ) → IsScramMac m mac.now key front
-        → result.items ≡ hmac_by m key (front ++ rest.now) }
-    ensures len { (m : Mechanism) (key front : List ℕ) → IsScramMac m mac.now key front
+    ensures value { (m : Mechanism) (key read : List ℕ) → IsScramMac m mac.now key read
+        → result.items ≡ hmac_by m key (read ++ rest.now) }
+    ensures len { (m : Mechanism) (key read : List ℕ) → IsScramMac m mac.now key read
         → length result.items ≡ digest_len_by m }
 {
     let mut mac = mac.copy();

@@ -105,16 +105,17 @@ client_final_has_no_fault text p f is =
     (client_final_parts_fit p is.channel is.nonce is.extensions is.proof)
 
 -- client-final's pieces make the text before its proof, and the whole text
-pub pieces_spell_client_final : (text front last channel_part nonce_part : List ℕ) (p : ClientFinalParts)
-    → text ≡ front ++ byte "," ∷ last → parts front ≡ channel_part ∷ nonce_part ∷ p.extensions
+pub pieces_spell_client_final : (text without_proof last channel_part nonce_part : List ℕ) (p : ClientFinalParts)
+    → text ≡ without_proof ++ byte "," ∷ last → parts without_proof ≡ channel_part ∷ nonce_part ∷ p.extensions
     → channel_part ≡ codes "c=" ++ base64 p.channel → nonce_part ≡ codes "r=" ++ p.nonce → last ≡ codes "p=" ++ base64 p.proof
-    → (front ≡ client_final_without_proof p) × (text ≡ client_final_text p)
+    → (without_proof ≡ client_final_without_proof p) × (text ≡ client_final_text p)
 unfolding client_final_without_proof client_final_text
-pieces_spell_client_final text front last channel_part nonce_part p whole cut is_channel is_nonce is_proof =
+pieces_spell_client_final text without_proof last channel_part nonce_part p whole cut is_channel is_nonce is_proof =
     let pieces : channel_part ∷ nonce_part ∷ p.extensions ≡ (codes "c=" ++ base64 p.channel) ∷ (codes "r=" ++ p.nonce)
     ∷ p.extensions = cc (is_channel, is_nonce) in
-    let front_is : front ≡ client_final_without_proof p = sym (join_with_byte-slice_split (byte ",") front) ∙ ap joined (cut ∙ pieces) in
-    (front_is, rw (whole, front_is, is_proof) refl)
+    let without_proof_is : without_proof ≡ client_final_without_proof p =
+    sym (join_with_byte-slice_split (byte ",") without_proof) ∙ ap joined (cut ∙ pieces) in
+    (without_proof_is, rw (whole, without_proof_is, is_proof) refl)
 
 -- a text that is client-final is read, and what is read shows its parts
 pub client_final_is_read : (text : List ℕ) (r : Result ClientFinal TextFault)

@@ -22,19 +22,20 @@ module _ (m n : Mechanism) (password salt other auth text : List ℕ) (count als
 
 -- a client that has written client-final has done so honestly, and expects the signature of this login
 pub client_expects_signature : (w : ClientOne) (two : ClientTwo) (l : Started)
-    (server_first password header nonce salt front proof : List ℕ) (count : ℕ) (p : ServerFirstParts)
+    (server_first password header nonce salt without_proof proof : List ℕ) (count : ℕ) (p : ServerFirstParts)
     → (started : StandsForStarted w l) → IsServerFirst server_first p → header ≡ w.header.items → nonce ≡ p.nonce → salt ≡ p.salt
     → count ≡ p.count
-    → front ≡ client_final_without_proof (client_final_of header nonce [] proof)
-    → proof ≡ proof_of w.mechanism password salt count (auth_to_challenge started.first server_first ++ front)
-    → two.expected.items ≡ expected_signature w.mechanism password salt count (auth_to_challenge started.first server_first ++ front)
+    → without_proof ≡ client_final_without_proof (client_final_of header nonce [] proof)
+    → proof ≡ proof_of w.mechanism password salt count (auth_to_challenge started.first server_first ++ without_proof)
+    → two.expected.items
+    ≡ expected_signature w.mechanism password salt count (auth_to_challenge started.first server_first ++ without_proof)
     → IsClientFinal (client_final_text (client_final_of header nonce [] proof)) (client_final_of header nonce [] proof)
     → StandsForAnswered two (answered_login l password server_first (client_final_text (client_final_of header nonce [] proof)))
-client_expects_signature w two l server_first password header nonce salt front proof count p started is_challenge is_header is_nonce is_salt
-    is_count is_front is_proof is_signature is_final =
+client_expects_signature w two l server_first password header nonce salt without_proof proof count p started is_challenge is_header
+    is_nonce is_salt is_count is_without_proof is_proof is_signature is_final =
     let q : ClientFinalParts = client_final_of header nonce [] proof in
-    let auth : auth_to_challenge started.first server_first ++ front ≡ auth_message started.first server_first q =
-    ap (λ (text : List ℕ). auth_to_challenge started.first server_first ++ text) is_front in
+    let auth : auth_to_challenge started.first server_first ++ without_proof ≡ auth_message started.first server_first q =
+    ap (λ (text : List ℕ). auth_to_challenge started.first server_first ++ text) is_without_proof in
     record {
       honest = record {
         first = started.first;

@@ -39,17 +39,18 @@ without_proof_is_text channel nonce extensions proof bytes can =
     (IsUtf8Text-append _ (after_comma extensions) middle (after_comma_is_text extensions can.extensions_class.utf8_text))
 
 -- client-final before its proof, `,p=` and the proof are client-final
-pub pieces_compose_client_final : (p : ClientFinalParts) (front proof : List ℕ) → front ≡ client_final_without_proof p → p.proof ≡ proof
-    → (front ++ codes ",p=") ++ base64 proof ≡ client_final_text p
+pub pieces_compose_client_final : (p : ClientFinalParts) (without_proof proof : List ℕ)
+    → without_proof ≡ client_final_without_proof p → p.proof ≡ proof
+    → (without_proof ++ codes ",p=") ++ base64 proof ≡ client_final_text p
 unfolding client_final_text
-pieces_compose_client_final p front proof held same =
-    append_assoc front (codes ",p=") (base64 proof) ∙ (λ i. held i ++ (codes ",p=" ++ base64 (sym same i)))
+pieces_compose_client_final p without_proof proof held same =
+    append_assoc without_proof (codes ",p=") (base64 proof) ∙ (λ i. held i ++ (codes ",p=" ++ base64 (sym same i)))
 
 -- client-final is a text, if what comes before its proof is one
 with_proof_is_text : (p : ClientFinalParts) → IsUtf8Text (client_final_without_proof p) → IsBytes p.proof → IsUtf8Text (client_final_text p)
 unfolding client_final_text
-with_proof_is_text p front bytes =
-    IsUtf8Text-append (client_final_without_proof p) (codes ",p=" ++ base64 p.proof) front
+with_proof_is_text p text bytes =
+    IsUtf8Text-append (client_final_without_proof p) (codes ",p=" ++ base64 p.proof) text
     (IsUtf8Text-append (codes ",p=") (base64 p.proof) (plain_is_text (codes ",p=") refl) (base64_is_text p.proof bytes))
 
 -- what was written before the proof, with the proof, is a client-final message, if it is within the limit
