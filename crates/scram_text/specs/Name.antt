@@ -26,12 +26,12 @@ pub record IsSaslName (spelled : List ℕ) : Type 0 where
   pub escaped : IsTrue (is_escaped spelled)
 
 -- a comma is spelled "=2C", an equals sign "=3D", and each other byte as itself
-abbrev pub escape : ℕ → List ℕ
-escape c = if c == byte "," then codes "=2C" else (if c == byte "=" then codes "=3D" else c ∷ [])
+abbrev pub byte_spelling : ℕ → List ℕ
+byte_spelling c = if c == byte "," then codes "=2C" else (if c == byte "=" then codes "=3D" else c ∷ [])
 
 -- the spelling of a name: that of each byte in turn, so that "a,b=c" is "a=2Cb=3Dc"
 abbrev pub name_spelling : List ℕ → List ℕ
-name_spelling name = flat_map escape name
+name_spelling name = flat_map byte_spelling name
 
 -- the saslname spells this name
 abbrev pub SpellsName : (name spelled : List ℕ) → Type 0

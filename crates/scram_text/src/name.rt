@@ -3,7 +3,7 @@ ghost use Rattle.std.specs.Prelude.{◌≡◌, ◌≤◌, ℕ, List, [], ◌++�
 ghost use Rattle.std.specs.Option.{SomeIff};
 ghost use Rattle.scram_text.specs.Limits.{max_name_len};
 ghost use Rattle.scram_text.specs.Class.{IsPlainName};
-ghost use Rattle.scram_text.specs.Name.{IsSaslName, LacksComma, SpellsName, escape, name_spelling, is_escaped, begins_with_code};
+ghost use Rattle.scram_text.specs.Name.{IsSaslName, LacksComma, SpellsName, byte_spelling, name_spelling, is_escaped, begins_with_code};
 ghost use Rattle.scram_text.specs.Appended.{IsAppended, LacksRoom};
 
 use crate::draft::MessageDraft;
@@ -141,7 +141,7 @@ fn unescaped(spelled: &[u8]) -> Option<ArrayVec<u8, MAX_NAME_LEN>>
 fn unescape(text: &[u8]) -> Option<(u8, &[u8])>
     requires escaped { IsTrue (is_escaped text.now) }
     requires no_comma { LacksComma text.now }
-    ensures first { MatchOption result (text.now ≡ []) (λ found. text.now ≡ escape found.0
+    ensures first { MatchOption result (text.now ≡ []) (λ found. text.now ≡ byte_spelling found.0
         ++ found.1.now) }
     ensures escaped { IfSome result (λ found. IsTrue (is_escaped found.1.now)) }
     ensures no_comma { IfSome result (λ found. LacksComma found.1.now) }

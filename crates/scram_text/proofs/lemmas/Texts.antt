@@ -11,12 +11,12 @@ use Rattle.base64.specs.Engines.{standard}
 use Rattle.base64.specs.GeneralPurpose.{IsBytes}
 use Rattle.base64.proofs.EngineFacts.{IsAscii-encode_of}
 use Rattle.scram_text.specs.Class.{is_comma, is_cb_char, is_printable, is_plain, IsNonce, IsUtf8Text}
-use Rattle.scram_text.specs.Name.{escape, name_spelling}
+use Rattle.scram_text.specs.Name.{byte_spelling, name_spelling}
 use Rattle.scram_text.specs.Base64Field.{base64}
 use Rattle.scram_text.specs.Parts.{IsCount, is_cb_name}
 use Rattle.scram_text.proofs.lemmas.Base64Texts.{base64_passes_test}
 use Rattle.scram_text.proofs.lemmas.Counts.{count_is_below_2_64}
-use Rattle.scram_text.proofs.lemmas.Names.{escape_by_cases}
+use Rattle.scram_text.proofs.lemmas.Names.{byte_spelling_by_cases}
 use Rattle.scram_text.proofs.lemmas.WithoutByte.{class_lacks_byte, digits_lack_byte}
 
 -- a byte is not NUL
@@ -71,15 +71,19 @@ pub nonce_is_text : (most : ℕ) (nonce : List ℕ) → IsNonce most nonce → I
 nonce_is_text most nonce is = class_is_text is_printable nonce printable_byte_is_ascii refl is.each
 
 -- the spelling of a plain byte has only plain bytes
-escape_is_plain : (c : ℕ) → is_plain c ≡ true → list_all is_plain (escape c) ≡ true
-escape_is_plain c is = escape_by_cases (λ s. list_all is_plain s ≡ true) c (λ _. refl) (λ _. refl) (λ _ _. rw is refl)
+byte_spelling_is_plain : (c : ℕ) → is_plain c ≡ true → list_all is_plain (byte_spelling c) ≡ true
+byte_spelling_is_plain c is = byte_spelling_by_cases (λ s. list_all is_plain s ≡ true) c (λ _. refl) (λ _. refl) (λ _ _. rw is refl)
 
 -- the spelling of a plain name has only plain bytes
 spelling_is_plain : (name : List ℕ) → list_all is_plain name ≡ true → list_all is_plain (name_spelling name) ≡ true
 spelling_is_plain [] all = refl
 spelling_is_plain (c ∷ name) all =
     let each = and_parts (is_plain c) (list_all is_plain name) all in
-    rw (list_all-append is_plain (escape c) (name_spelling name), escape_is_plain c each.0, spelling_is_plain name each.1) refl
+    rw (
+      list_all-append is_plain (byte_spelling c) (name_spelling name),
+      byte_spelling_is_plain c each.0,
+      spelling_is_plain name each.1,
+    ) refl
 
 -- the spelling of a plain name is a text
 pub spelling_is_text : (name : List ℕ) → list_all is_plain name ≡ true → IsUtf8Text (name_spelling name)

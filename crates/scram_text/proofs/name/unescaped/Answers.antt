@@ -1,12 +1,12 @@
 use Rattle.std.proofs.Common.{◌≡◌, ℕ, ◌≤◌, List, [], ◌∷◌, ◌++◌, length, sym, ◌∙◌, arith, length-append, rules}
-use Rattle.scram_text.specs.Name.{escape, name_spelling}
-use Rattle.scram_text.proofs.lemmas.Names.{escape_is_nonempty, rest_spells_rest}
+use Rattle.scram_text.specs.Name.{byte_spelling, name_spelling}
+use Rattle.scram_text.proofs.lemmas.Names.{byte_spelling_is_nonempty, rest_spells_rest}
 use Rattle.scram_text.proofs.name.unescaped.Goals as goal
 
 -- a name of at most 255 bytes has no byte after its first 255
 full_name_ends : (front more rest later : List ℕ) (byte : ℕ) → 255 ≤ length front → length (front ++ more) ≤ 255
-    → rest ≡ name_spelling more → rest ≡ escape byte ++ later → ⊥
-full_name_ends front [] rest later byte full short spelled next = escape_is_nonempty byte later (sym next ∙ spelled)
+    → rest ≡ name_spelling more → rest ≡ byte_spelling byte ++ later → ⊥
+full_name_ends front [] rest later byte full short spelled next = byte_spelling_is_nonempty byte later (sym next ∙ spelled)
 full_name_ends front (c ∷ more) rest later byte full short spelled next =
     let all = length-append front (c ∷ more) in omega (arith, full, short, all)
 
