@@ -22,7 +22,7 @@ pub fn number_within(option: OptionName, text: &str, least: u64, most: u64) -> R
     ensures err { IfErr result (λ fault. (fault ≡ Fault.BadValue option)
         × ((n : ℕ) → least ≤ n → n ≤ most → text.now ≢ decimal n)) }
 {
-    match scram_text::decimal(text.as_bytes()) {
+    match scram_text::from_decimal(text.as_bytes()) {
         Some(n) if least <= n && n <= most => Ok(n),
         _ => Err(Fault::BadValue(option)),
     }

@@ -10,7 +10,7 @@ ghost use Rattle.scram_text.specs.Base64Field.{base64, IsField};
 ghost use Rattle.scram_text.specs.Parts.{IsAttrVal, IsValue, IsCount, SpellsCount, SpellsField};
 
 use crate::name::SaslText;
-use crate::number::decimal;
+use crate::number::from_decimal;
 use crate::values::Salt;
 use crate::{MAX_CHANNEL_LEN, MAX_ITERATION_COUNT, MAX_TAG_LEN, class, cut};
 use arrayvec::ArrayVec;
@@ -82,7 +82,7 @@ fn count(digits: &[u8]) -> Option<u32>
     ensures spelled { IfSome result (λ count. digits.now ≡ decimal count) }
     ensures class { IfSome result (λ count. IsCount count) }
 {
-    let Some(number) = decimal(digits) else {
+    let Some(number) = from_decimal(digits) else {
         return None;
     };
     if number < 1 || u64::from(MAX_ITERATION_COUNT) < number {

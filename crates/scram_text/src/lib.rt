@@ -39,7 +39,7 @@ pub use client_first::{ClientFirst, Flag, read_client_first, write_client_first}
 pub use draft::Draft;
 pub use fault::{TextFault, TextWhy, WriteFault};
 pub use name::{PlainName, SaslText, write_name};
-pub use number::decimal;
+pub use number::from_decimal;
 pub use server_final::{FinalResult, ServerFinal, read_server_final, write_server_final};
 pub use server_first::{ServerFirst, read_server_first, write_server_first};
 pub use values::{NoncePart, Password, Salt};

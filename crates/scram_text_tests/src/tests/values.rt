@@ -61,6 +61,6 @@ fn decimals(rt: HostRuntime) {
         (b"\xd9\xa7", None),
         (b"\xff", None),
     ] {
-        assert_eq!(rt; scram_text::decimal(text), number, "{text:?}");
+        assert_eq!(rt; scram_text::from_decimal(text), number, "{text:?}");
     }
 }
