@@ -7,58 +7,58 @@ use std::fmt;
 /// An option of the program that has a value.
 #[derive(Clone, Copy, Debug)]
 pub enum OptionName {
-    /// `--book`
+    /// The file of the account book.
     Book,
 
-    /// `--log`
+    /// The file of the log to audit or to upgrade.
     Log,
 
-    /// `--name`
+    /// The name of the account.
     Name,
 
-    /// `--as`
+    /// The name to act as (authzid).
     As,
 
-    /// `--socket`
+    /// The path of the socket that `login` makes.
     Socket,
 
-    /// `--random`
+    /// The file that random bytes are read from.
     Random,
 
-    /// `--client-nonce`
+    /// The client's nonce, which is random if it is not given.
     ClientNonce,
 
-    /// `--server-nonce`
+    /// The server's part of the nonce, which is random if it is not given.
     ServerNonce,
 
-    /// `--mechanism`
+    /// The SCRAM mechanism of keys or of a login.
     Mechanism,
 
-    /// `--salt`
+    /// The salt of keys, in hexadecimal.
     Salt,
 
-    /// `--count`
+    /// The iteration count of keys.
     Count,
 
-    /// `--secret`
+    /// The secret of a code, in hexadecimal.
     Secret,
 
-    /// `--digits`
+    /// How many digits a code has.
     Digits,
 
-    /// `--counter`
+    /// HOTP: the counter of a code.
     Counter,
 
-    /// `--moment`
+    /// The moment of codes, in seconds since 1970.
     Moment,
 
-    /// `--hash`
+    /// TOTP: the hash function of a code.
     Hash,
 
-    /// `--t0`
+    /// TOTP: the moment at which step 0 begins.
     T0,
 
-    /// `--step`
+    /// TOTP: the length of a step in seconds.
     Step,
 }
 
