@@ -39,7 +39,6 @@ pub fn program_commands<'a>(alloc: Global) -> Result<Command<'a>, AllocError>
         .subcommand(upgrade(alloc)?)
 }
 
-// The command `keys`. Errors: `AllocError` if memory runs out.
 fn keys<'a>(alloc: Global) -> Result<Command<'a>, AllocError>
     ensures { IfOk result (HasOptions (codes "keys") keys_options) }
 {
@@ -66,7 +65,6 @@ fn keys<'a>(alloc: Global) -> Result<Command<'a>, AllocError>
         ))
 }
 
-// The command `enrol`. Errors: `AllocError` if memory runs out.
 fn enrol<'a>(alloc: Global) -> Result<Command<'a>, AllocError>
     ensures { IfOk result (HasOptions (codes "enrol") enrol_options) }
 {
@@ -80,7 +78,6 @@ fn enrol<'a>(alloc: Global) -> Result<Command<'a>, AllocError>
         .arg(random(alloc))
 }
 
-// The command `code`. Errors: `AllocError` if memory runs out.
 fn code<'a>(alloc: Global) -> Result<Command<'a>, AllocError>
     ensures { IfOk result (HasOptions (codes "code") code_options) }
 {
@@ -115,7 +112,6 @@ fn code<'a>(alloc: Global) -> Result<Command<'a>, AllocError>
         .arg(with_default(alloc, OptionName::Step, "SECONDS", step, "30"))
 }
 
-// The command `verify`. Errors: `AllocError` if memory runs out.
 fn verify<'a>(alloc: Global) -> Result<Command<'a>, AllocError>
     ensures { IfOk result (HasOptions (codes "verify") verify_options) }
 {
@@ -132,7 +128,6 @@ fn verify<'a>(alloc: Global) -> Result<Command<'a>, AllocError>
         ))
 }
 
-// The command `unlock`. Errors: `AllocError` if memory runs out.
 fn unlock<'a>(alloc: Global) -> Result<Command<'a>, AllocError>
     ensures { IfOk result (HasOptions (codes "unlock") unlock_options) }
 {
@@ -143,7 +138,6 @@ fn unlock<'a>(alloc: Global) -> Result<Command<'a>, AllocError>
         .arg(name(alloc))
 }
 
-// The command `login`. Errors: `AllocError` if memory runs out.
 fn login<'a>(alloc: Global) -> Result<Command<'a>, AllocError>
     ensures { IfOk result (HasOptions (codes "login") login_options) }
 {
@@ -183,7 +177,6 @@ fn login<'a>(alloc: Global) -> Result<Command<'a>, AllocError>
         .arg(one_value(alloc, OptionName::Moment, "SECONDS", moment))
 }
 
-// The command `hall`. Errors: `AllocError` if memory runs out.
 fn hall<'a>(alloc: Global) -> Result<Command<'a>, AllocError>
     ensures { IfOk result (HasOptions (codes "hall") hall_options) }
 {
@@ -193,7 +186,6 @@ fn hall<'a>(alloc: Global) -> Result<Command<'a>, AllocError>
         .arg(book(alloc))
 }
 
-// The command `audit`. Errors: `AllocError` if memory runs out.
 fn audit<'a>(alloc: Global) -> Result<Command<'a>, AllocError>
     ensures { IfOk result (HasOptions (codes "audit") audit_options) }
 {
@@ -204,7 +196,6 @@ fn audit<'a>(alloc: Global) -> Result<Command<'a>, AllocError>
         .arg(required(alloc, OptionName::Log, "FILE", "The log to check"))
 }
 
-// The command `upgrade`. Errors: `AllocError` if memory runs out.
 fn upgrade<'a>(alloc: Global) -> Result<Command<'a>, AllocError>
     ensures { IfOk result (HasOptions (codes "upgrade") upgrade_options) }
 {
@@ -214,7 +205,6 @@ fn upgrade<'a>(alloc: Global) -> Result<Command<'a>, AllocError>
         .arg(required(alloc, OptionName::Log, "FILE", "The log to convert"))
 }
 
-// `--book`, which is required.
 fn book<'a>(alloc: Global) -> Arg<'a>
     ensures rule { rule_of result ≡ required_value OptionName.Book }
     ensures local { result.global ≡ false }
@@ -222,7 +212,6 @@ fn book<'a>(alloc: Global) -> Arg<'a>
     required(alloc, OptionName::Book, "FILE", "The account book")
 }
 
-// `--name`, which is required.
 fn name<'a>(alloc: Global) -> Arg<'a>
     ensures rule { rule_of result ≡ required_value OptionName.Name }
     ensures local { result.global ≡ false }
@@ -235,7 +224,6 @@ fn name<'a>(alloc: Global) -> Arg<'a>
     )
 }
 
-// `--random`, whose default is /dev/urandom.
 fn random<'a>(alloc: Global) -> Arg<'a>
     ensures rule { rule_of result ≡ with_default OptionName.Random (codes "/dev/urandom") }
     ensures local { result.global ≡ false }
@@ -249,7 +237,6 @@ fn random<'a>(alloc: Global) -> Arg<'a>
     )
 }
 
-// A required option.
 fn required<'a>(alloc: Global, name: OptionName, value: &'a str, help: &'a str) -> Arg<'a>
     ensures rule { rule_of result ≡ required_value name }
     ensures local { result.global ≡ false }
@@ -257,7 +244,6 @@ fn required<'a>(alloc: Global, name: OptionName, value: &'a str, help: &'a str) 
     one_value(alloc, name, value, help).required(true)
 }
 
-// An option that has a default.
 fn with_default<'a>(
     alloc: Global,
     name: OptionName,
@@ -271,7 +257,6 @@ fn with_default<'a>(
     one_value(alloc, name, value, help).default_value(default)
 }
 
-// An option that takes one value.
 fn one_value<'a>(alloc: Global, name: OptionName, value: &'a str, help: &'a str) -> Arg<'a>
     ensures rule { rule_of result ≡ one_value name }
     ensures local { result.global ≡ false }

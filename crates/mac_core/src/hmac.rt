@@ -44,7 +44,6 @@ fn padded_key<H: HashFn>(key: &[u8]) -> Block
     }
 }
 
-// The block, with each byte xored with `byte`.
 fn xor_each(block: &Block, byte: u8) -> Block
     ensures { result.items ≡ xor_each byte block.now.items }
 {

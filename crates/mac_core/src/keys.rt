@@ -89,7 +89,7 @@ pub struct ScramKeys {
 }
 
 impl ScramKeys {
-    /// A copy of the keys.
+    /// A second value with both keys, in buffers of its own.
     pub fn copy(&self) -> ScramKeys
         ensures { result ≡ self.now }
     {

@@ -400,7 +400,7 @@ fn a_client_takes_the_longer_hash_that_is_offered(rt: HostRuntime) {
     }
 }
 
-/// Those keys with a mechanism that is chosen at run time, and Hi of the first case of RFC 7914, section 11.
+/// RFC 5802's user: the keys by a mechanism that is chosen at run time, and Hi of the first case of RFC 7914, section 11.
 #[test]
 fn keys_by_mechanism(rt: HostRuntime) -> Result<(), Fail> {
     let sha1 = Mechanism::ScramSha1;

@@ -10,7 +10,6 @@ pub(crate) const STATUSES: &str = "Exit status:
 
 The form of a book, recipes and the causes of faults are in docs/ of the sources.";
 
-/// The notes of `keys`.
 pub(crate) const KEYS_NOTES: &str =
     "Prints `stored=` and `server=`, each followed by a key in hexadecimal. The password is the first
 line of standard input, 1 to 1024 printable ASCII characters. It is visible if you type it at a
@@ -20,7 +19,6 @@ Example:
   echo pencil | scramotp keys --mechanism SCRAM-SHA-1 \\
       --salt 4125c247e43ab1e93c6dff76 --count 4096";
 
-/// The notes of `code`.
 pub(crate) const CODE_NOTES: &str =
     "With --counter, prints an HOTP code, made with SHA-1. Otherwise --moment is required, and the code
 is a TOTP code. Standard input is not read.
@@ -32,7 +30,6 @@ Examples:
   scramotp code --secret 3132333435363738393031323334353637383930 --counter 0
   scramotp code --secret 3132333435363738393031323334353637383930 --digits 8 --moment 59";
 
-/// The notes of `enrol`.
 pub(crate) const ENROL_NOTES: &str =
     "The password is the first line of standard input, 1 to 1024 printable ASCII characters. It is
 visible if you type it at a terminal. Prints `enrolled` and the name after the book has been saved.
@@ -50,7 +47,6 @@ Example:
   mkdir -m 0700 logins
   echo pencil | scramotp enrol --book logins/book.toml --name user";
 
-/// The notes of `verify`.
 pub(crate) const VERIFY_NOTES: &str =
     "Each line of standard input is an attempt. Prints one line for each, with the value of --moment:
 
@@ -82,7 +78,6 @@ Example, after that of enrol: a token, and its first code
     failures = 0' >>logins/book.toml
   echo 755224 | scramotp verify --book logins/book.toml --name user --moment \"$(date +%s)\"";
 
-/// The notes of `unlock`.
 pub(crate) const UNLOCK_NOTES: &str =
     "A token is locked when as many attempts in a row have failed as its `limit` says. Prints `unlocked`
 and the name after the book has been saved. Standard input is not read.
@@ -92,7 +87,6 @@ Only you and root should have write access to the book's folder and to every fol
 Example, after those of enrol and verify:
   scramotp unlock --book logins/book.toml --name user";
 
-/// The notes of `audit`.
 pub(crate) const AUDIT_NOTES: &str =
     "The book must be a copy from when the log began, because codes change the book. It is read without a
 lock, and no file is written. Standard input is read only if the log is /dev/stdin.
@@ -108,7 +102,6 @@ Example, after that of enrol: a log whose client leaves at once
   printf '%s\\n' 'SCRAMLOG 1' 'S MECHS SCRAM-SHA-256 SCRAM-SHA-1' 'C GONE' E >logins/log.txt
   scramotp audit --book logins/book.toml --log logins/log.txt";
 
-/// The notes of `upgrade`.
 pub(crate) const UPGRADE_NOTES: &str =
     "A log of version 2 begins with `SCRAMLOG 2`. Each other line begins with the number of its session,
 counted from 1. In version 1 a session ends with its `E` line.
@@ -124,7 +117,6 @@ Example, after those of enrol and audit:
   scramotp upgrade --log logins/log.txt >logins/log2.txt
   scramotp audit --book logins/book.toml --log logins/log2.txt";
 
-/// The notes of `login`.
 pub(crate) const LOGIN_NOTES: &str =
     "The first line of standard input is the password. Each line after it is a code, which is sent once
 the client is logged in. A line such as `SYNC 399871 520489` is two codes in a row. All input is
@@ -153,7 +145,6 @@ Example, after those of enrol and verify: a login and a code, and the audit of i
       scramotp login --book logins/book.toml --name user --socket logins/socket >logins/login.txt
   scramotp audit --book logins/before.toml --log logins/login.txt";
 
-/// The notes of `hall`.
 pub(crate) const HALL_NOTES: &str = "Each line of standard input is an event:
 
   open NONCE          a client connects; NONCE is the server's part of the nonce, new and random for

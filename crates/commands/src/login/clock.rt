@@ -72,7 +72,6 @@ fn machine_moment<R: Clock>(rt: &R) -> Moment {
     Moment::new(since.as_secs()).unwrap_or(start_of_1970())
 }
 
-// The moment 0.
 fn start_of_1970() -> Moment {
     let Some(moment) = Moment::new(0) else {
         unreachable!()

@@ -16,13 +16,10 @@ use std::io::Read;
 // How many random bytes a nonce is made of.
 const NONCE_BYTES: usize = 18;
 
-/// The two nonces of a login.
+/// The nonces of a login: the client's own, and the server's part, which comes after it.
 #[derive(Drop)]
 pub(crate) struct Nonces {
-    /// The client's nonce.
     pub(crate) client: NoncePart,
-
-    /// The server's part of the nonce.
     pub(crate) server: NoncePart,
 }
 

@@ -55,10 +55,7 @@ impl<'a, R: Files> SocketFile<'a, R> {
 /// A connection with both ends in this run.
 #[derive(Drop)]
 pub(crate) struct Connection {
-    // The client's end.
     client: UnixStream,
-
-    // The server's end.
     server: UnixStream,
 }
 
@@ -75,10 +72,7 @@ pub(crate) struct End<R, W> {
 /// Both ends of a connection, to read and to write.
 #[derive(Drop)]
 pub(crate) struct Ends<R, W> {
-    /// The client's end.
     pub(crate) client: End<R, W>,
-
-    /// The server's end.
     pub(crate) server: End<R, W>,
 }
 

@@ -68,7 +68,6 @@ fn contains(text: &str, part: &str) -> bool {
         .any(|front| front == part.as_bytes())
 }
 
-// Asserts that the text has this line.
 fn check_line(rt: &impl Abort, text: &str, line: &str) {
     assert!(rt; contains(text, line), "no {line:?} in {text}");
 }

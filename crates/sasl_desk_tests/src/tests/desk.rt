@@ -98,7 +98,7 @@ MECHS SCRAM-SHA-256 SCRAM-SHA-1
 NO :
 ";
 
-// Their log.
+// The log of these sessions.
 const LOG_OF_REFUSED: &str = "SCRAMLOG 1
 S MECHS SCRAM-SHA-256 SCRAM-SHA-1
 C AUTH PLAIN
