@@ -1,15 +1,15 @@
 -- The tables of tokens, of either kind. Rows are in the order in which they are judged.
-use Rattle.std.specs.Prelude.{ℕ, ◌+◌, ◌||◌, List, [], ◌∷◌, codes, if◌then◌else◌, option_and_then}
+use Rattle.std.specs.Prelude.{ℕ, ◌||◌, List, [], ◌∷◌, codes, if◌then◌else◌, option_and_then}
 use Rattle.std.specs.Str.{bytes_eq}
 use Rattle.toml.specs.Data.{Data, string, table, Members, get_member, as_str, as_table}
-use Rattle.otp_core.specs.Ranges.{min_secret_len, max_secret_len, min_digits, max_digits, max_moment, max_counter, max_look_ahead, max_sync_ahead}
-use Rattle.otp_core.specs.Ranges.{max_step, max_window_steps, max_drift_bound, max_limit}
+use Rattle.otp_core.specs.Ranges.{min_secret_len, max_secret_len, min_digits, max_digits, max_moment}
+use Rattle.otp_core.specs.declared.fault.Setting.TheVariants.{Next, LookAhead, SyncAhead, Step, Back, Ahead, MaxDrift, Last, Limit}
 use Rattle.otp_core.specs.declared.token.kinds.TokenFields.{TokenFields}
 use Rattle.otp_core.specs.declared.token.kinds.TokenFields.TheVariants.{Hotp, Totp}
 use Rattle.otp_core.specs.declared.token.kinds.HotpFields.{HotpFields}
 use Rattle.otp_core.specs.declared.token.kinds.TotpFields.{TotpFields}
 use Rattle.book_format.specs.Demands.{Demand, must, required}
-use Rattle.book_format.specs.ValueTypes.{number_type, signed_type, bytes_type, hash_type}
+use Rattle.book_format.specs.ValueTypes.{number_type, setting_type, signed_type, bytes_type, hash_type}
 use Rattle.book_format.specs.Rows.{Table, IsTableIn, table_demands, written_table}
 use Rattle.book_format.specs.RowKinds.{row, row_up_to, row_or_default, optional_row}
 use Rattle.book_format.specs.declared.fault.BookWhy.{BookWhy}
@@ -22,10 +22,10 @@ hotp_table = record {
   rows =
       row "secret" (bytes_type Token min_secret_len max_secret_len) (λ t. t.secret)
       ∷ row "digits" (number_type Token min_digits max_digits) (λ t. t.digits)
-      ∷ row "next" (number_type Token 0 (max_counter + 1)) (λ t. t.next)
-      ∷ row "look_ahead" (number_type Token 0 max_look_ahead) (λ t. t.look_ahead)
-      ∷ row_or_default 0 "sync_ahead" (number_type Token 0 max_sync_ahead) (λ t. t.sync_ahead)
-      ∷ row "limit" (number_type Token 1 max_limit) (λ t. t.limit)
+      ∷ row "next" (setting_type Next) (λ t. t.next)
+      ∷ row "look_ahead" (setting_type LookAhead) (λ t. t.look_ahead)
+      ∷ row_or_default 0 "sync_ahead" (setting_type SyncAhead) (λ t. t.sync_ahead)
+      ∷ row "limit" (setting_type Limit) (λ t. t.limit)
       ∷ row_up_to "failures" (number_type Token 0) "limit" (λ t. t.failures)
       ∷ [];
   from_values = λ secret digits next look_ahead sync_ahead limit failures. record {
@@ -48,13 +48,13 @@ totp_table = record {
       ∷ row "secret" (bytes_type Token min_secret_len max_secret_len) (λ t. t.secret)
       ∷ row "digits" (number_type Token min_digits max_digits) (λ t. t.digits)
       ∷ row "t0" (number_type Token 0 max_moment) (λ t. t.t0)
-      ∷ row "step" (number_type Token 1 max_step) (λ t. t.step)
-      ∷ row "back" (number_type Token 0 max_window_steps) (λ t. t.back)
-      ∷ row "ahead" (number_type Token 0 max_window_steps) (λ t. t.ahead)
-      ∷ row "max_drift" (number_type Token 0 max_drift_bound) (λ t. t.max_drift)
-      ∷ optional_row "last" (number_type Token 0 max_counter) (λ t. t.last)
+      ∷ row "step" (setting_type Step) (λ t. t.step)
+      ∷ row "back" (setting_type Back) (λ t. t.back)
+      ∷ row "ahead" (setting_type Ahead) (λ t. t.ahead)
+      ∷ row "max_drift" (setting_type MaxDrift) (λ t. t.max_drift)
+      ∷ optional_row "last" (setting_type Last) (λ t. t.last)
       ∷ row_up_to "drift" (signed_type Token) "max_drift" (λ t. t.drift)
-      ∷ row "limit" (number_type Token 1 max_limit) (λ t. t.limit)
+      ∷ row "limit" (setting_type Limit) (λ t. t.limit)
       ∷ row_up_to "failures" (number_type Token 0) "limit" (λ t. t.failures)
       ∷ [];
   from_values = λ hash secret digits t0 step back ahead max_drift last drift limit failures. record {

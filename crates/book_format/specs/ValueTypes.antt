@@ -4,6 +4,8 @@ use Rattle.std.specs.Prelude.{ℕ, ◌≡◌, ◌≤◌, ◌&&◌, nat_le, ℤ, 
 use Rattle.hex.specs.Hex.{decode_of, encode_lower}
 use Rattle.toml.specs.Data.{Data, string, integer, table, Members, as_array, as_integer, as_str, as_table}
 use Rattle.otp_core.specs.Hash.{hash_name, hash_named}
+use Rattle.otp_core.specs.Ranges.{bounds_of}
+use Rattle.otp_core.specs.declared.fault.Setting.{Setting}
 use Rattle.otp_core.specs.declared.hash.OtpHash.{OtpHash}
 use Rattle.book_format.specs.Account.{max_names}
 use Rattle.book_format.specs.Names.{IsNameList, names_tree, are_texts, item_count, are_names}
@@ -32,6 +34,10 @@ number_type why least most = record {
   from_tree = number_in why least most;
   write = λ n. integer (pos n);
 }
+
+-- the whole numbers that a setting of a token may be
+abbrev pub setting_type : Setting → ValueType ℕ
+setting_type setting = number_type Token (bounds_of setting).0 (bounds_of setting).1
 
 -- the value is the whole number z, which is at most `most` above or below 0
 pub record IsSigned (most : ℕ) (d : Data) (z : ℤ) : Type 0 where

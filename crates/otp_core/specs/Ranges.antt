@@ -1,5 +1,7 @@
 -- The bounds of secrets, of numbers of digits, of moments, and of the settings and the state of tokens.
-use Rattle.std.specs.Prelude.{ℕ, ◌-◌, ◌^◌, ◌≤◌}
+use Rattle.std.specs.Prelude.{ℕ, ◌+◌, ◌-◌, ◌^◌, ◌≤◌}
+use Rattle.otp_core.specs.declared.fault.Setting.{Setting}
+use Rattle.otp_core.specs.declared.fault.Setting.TheVariants.{Next, LookAhead, SyncAhead, Step, Back, Ahead, MaxDrift, Last, Drift, Limit, Failures}
 
 -- the least number of bytes of a secret
 abbrev pub min_secret_len : ℕ
@@ -53,10 +55,6 @@ max_sync_ahead = 1000
 abbrev pub max_step : ℕ
 max_step = 3600
 
--- a step of TOTP is 1 to 3600 seconds long
-abbrev pub IsStepLength : ℕ → Type 0
-IsStepLength seconds = (1 ≤ seconds) × (seconds ≤ max_step)
-
 -- the greatest `back` and the greatest `ahead` of TOTP, in steps
 abbrev pub max_window_steps : ℕ
 max_window_steps = 10
@@ -68,3 +66,26 @@ max_drift_bound = 100
 -- the greatest limit, the number of failures that locks a token
 abbrev pub max_limit : ℕ
 max_limit = 100
+
+-- the least and the greatest number that a setting may be. Besides, `failures` is at most the token's `limit`, and `drift` is at most its
+-- `max_drift`, above or below 0.
+abbrev pub bounds_of : Setting → ℕ × ℕ
+bounds_of Next = (0, max_counter + 1)
+bounds_of LookAhead = (0, max_look_ahead)
+bounds_of SyncAhead = (0, max_sync_ahead)
+bounds_of Step = (1, max_step)
+bounds_of Back = (0, max_window_steps)
+bounds_of Ahead = (0, max_window_steps)
+bounds_of MaxDrift = (0, max_drift_bound)
+bounds_of Last = (0, max_counter)
+bounds_of Drift = (0, max_drift_bound)
+bounds_of Limit = (1, max_limit)
+bounds_of Failures = (0, max_limit)
+
+-- a number is within the bounds of a setting
+abbrev pub IsInBounds : Setting → ℕ → Type 0
+IsInBounds setting n = ((bounds_of setting).0 ≤ n) × (n ≤ (bounds_of setting).1)
+
+-- a step of TOTP is 1 to 3600 seconds long
+abbrev pub IsStepLength : ℕ → Type 0
+IsStepLength = IsInBounds Step

@@ -1,7 +1,7 @@
 -- The ranges of the fields of tokens, and which field is the first outside its range.
-use Rattle.std.specs.Prelude.{◌+◌, ◌≤◌, ◌≡◌, ◌⊎◌, List, [], ◌∷◌, nat_abs}
+use Rattle.std.specs.Prelude.{ℕ, ◌≤◌, ◌≡◌, ◌⊎◌, List, [], ◌∷◌, nat_abs}
 use Rattle.std.specs.Option.{ForSome}
-use Rattle.otp_core.specs.Ranges.{max_counter, max_look_ahead, max_sync_ahead, max_window_steps, max_drift_bound, max_limit, IsStepLength}
+use Rattle.otp_core.specs.Ranges.{IsInBounds}
 use Rattle.otp_core.specs.declared.fault.OtpFault.{OtpFault}
 use Rattle.otp_core.specs.declared.fault.OtpFault.TheVariants as fault
 use Rattle.otp_core.specs.declared.fault.Setting.{Setting}
@@ -30,26 +30,30 @@ IsFirstOutside (r ∷ rest) found = ((r.IsIn → ⊥) × (found ≡ r.setting)) 
 abbrev pub range : Setting → Type 0 → Ranged
 range setting IsIn = record { setting = setting; IsIn = IsIn }
 
+-- a setting that is this number, with the condition that the number is within the bounds of the setting
+abbrev pub bounded : Setting → ℕ → Ranged
+bounded setting n = range setting (IsInBounds setting n)
+
 -- the settings of a HOTP token that have a range, in the order in which they are checked
 abbrev pub hotp_ranges : HotpFields → List Ranged
 hotp_ranges t =
-    range Next (t.next ≤ max_counter + 1)
-    ∷ range LookAhead (t.look_ahead ≤ max_look_ahead)
-    ∷ range SyncAhead (t.sync_ahead ≤ max_sync_ahead)
-    ∷ range Limit ((1 ≤ t.limit) × (t.limit ≤ max_limit))
+    bounded Next t.next
+    ∷ bounded LookAhead t.look_ahead
+    ∷ bounded SyncAhead t.sync_ahead
+    ∷ bounded Limit t.limit
     ∷ range Failures (t.failures ≤ t.limit)
     ∷ []
 
 -- the settings of a TOTP token that have a range, in the order in which they are checked
 abbrev pub totp_ranges : TotpFields → List Ranged
 totp_ranges t =
-    range Step (IsStepLength t.step)
-    ∷ range Back (t.back ≤ max_window_steps)
-    ∷ range Ahead (t.ahead ≤ max_window_steps)
-    ∷ range MaxDrift (t.max_drift ≤ max_drift_bound)
-    ∷ range Last (ForSome t.last (λ l. l ≤ max_counter))
+    bounded Step t.step
+    ∷ bounded Back t.back
+    ∷ bounded Ahead t.ahead
+    ∷ bounded MaxDrift t.max_drift
+    ∷ range Last (ForSome t.last (IsInBounds Last))
     ∷ range Drift (nat_abs t.drift ≤ t.max_drift)
-    ∷ range Limit ((1 ≤ t.limit) × (t.limit ≤ max_limit))
+    ∷ bounded Limit t.limit
     ∷ range Failures (t.failures ≤ t.limit)
     ∷ []
 

@@ -1,7 +1,12 @@
 //! The errors of this crate, each with its number.
-ghost use Rattle.std.specs.Prelude.{◌≡◌};
+ghost use Rattle.std.specs.Prelude.{◌≡◌, ◌↔◌, IsTrue};
 ghost use Rattle.otp_core.specs.Fault.{otp_fault_number, setting_name};
+ghost use Rattle.otp_core.specs.Ranges.{bounds_of, IsInBounds};
 
+use crate::token::{
+    MAX_COUNTER, MAX_DRIFT_BOUND, MAX_LIMIT, MAX_LOOK_AHEAD, MAX_STEP, MAX_SYNC_AHEAD,
+    MAX_WINDOW_STEPS,
+};
 use std::fmt;
 use thiserror::Error;
 
@@ -90,6 +95,34 @@ impl Setting {
             Setting::Limit => "limit",
             Setting::Failures => "failures",
         }
+    }
+
+    /// The least and the greatest number that the setting may be. Besides, `failures` is at most the token's `limit`, and `drift`
+    /// is at most its `max_drift`, above or below 0.
+    pub fn bounds(self) -> (u64, u64)
+        ensures { result ≡ bounds_of self }
+    {
+        match self {
+            Setting::Next => (0, MAX_COUNTER + 1),
+            Setting::LookAhead => (0, MAX_LOOK_AHEAD),
+            Setting::SyncAhead => (0, MAX_SYNC_AHEAD),
+            Setting::Step => (1, MAX_STEP),
+            Setting::Back => (0, MAX_WINDOW_STEPS),
+            Setting::Ahead => (0, MAX_WINDOW_STEPS),
+            Setting::MaxDrift => (0, MAX_DRIFT_BOUND),
+            Setting::Last => (0, MAX_COUNTER),
+            Setting::Drift => (0, MAX_DRIFT_BOUND),
+            Setting::Limit => (1, MAX_LIMIT),
+            Setting::Failures => (0, MAX_LIMIT),
+        }
+    }
+
+    /// Whether a number is within the bounds of the setting.
+    pub(crate) fn allows(self, number: u64) -> bool
+        ensures { IsTrue result ↔ IsInBounds self number }
+    {
+        let (least, most) = self.bounds();
+        least <= number && number <= most
     }
 }
 

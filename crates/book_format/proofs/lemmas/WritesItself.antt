@@ -8,14 +8,15 @@ use Rattle.mac_core.specs.declared.mechanism.Mechanism.TheVariants.{ScramSha256}
 use Rattle.scram_text.specs.Class.{IsPlainName}
 use Rattle.scram_text.specs.Limits.{max_iteration_count, max_salt_len}
 use Rattle.otp_core.specs.Ranges.{IsSecretLength, IsDigitCount, IsMoment, min_secret_len, max_secret_len, min_digits, max_digits, max_moment}
-use Rattle.otp_core.specs.Ranges.{max_counter, max_look_ahead, max_sync_ahead, max_step, max_window_steps, max_drift_bound, max_limit}
+use Rattle.otp_core.specs.Ranges.{IsInBounds}
+use Rattle.otp_core.specs.declared.fault.Setting.TheVariants.{Last}
 use Rattle.otp_core.specs.TokenRanges.{IsHotpInRange, IsTotpInRange}
 use Rattle.otp_core.specs.declared.token.kinds.HotpFields.{HotpFields}
 use Rattle.otp_core.specs.declared.token.kinds.TotpFields.{TotpFields}
 use Rattle.book_format.specs.Account.{AccountFields, AreKeys, IsAccount}
 use Rattle.book_format.specs.Book.{BookFields, AreAccounts, IsBook}
 use Rattle.book_format.specs.Keys.{is_among, has_only}
-use Rattle.book_format.specs.ValueTypes.{number_type, IsNumber, IsSigned}
+use Rattle.book_format.specs.ValueTypes.{setting_type, IsNumber, IsSigned}
 use Rattle.book_format.specs.Names.{AreNames}
 use Rattle.book_format.specs.Rows.{ValueType, WritesItself, Table, HasMarks, HasRows, IsTable, table_entries, table_keys, written_table}
 use Rattle.book_format.specs.RowKinds.{HasSome, table_type, bound_at}
@@ -25,7 +26,6 @@ use Rattle.book_format.specs.Put.{put_some}
 use Rattle.book_format.specs.Trees.{AreAccountTrees, IsBookTree}
 use Rattle.book_format.specs.Written.{accounts_tree, book_tree}
 use Rattle.book_format.specs.declared.account.MechKeys.{MechKeys}
-use Rattle.book_format.specs.declared.fault.BookWhy.TheVariants.{Token}
 use Rattle.book_format.proofs.lemmas.ValueTypes.{ComesBack, written_number_stands, written_bytes_stand}
 use Rattle.book_format.proofs.lemmas.Put.{HasAll, are_distinct, put_all_is_found, empty_table_has_none, all_known, put_all_keeps_known}
 
@@ -88,10 +88,10 @@ hotp_writes_itself t (next, (look_ahead, (sync_ahead, (limit, (failures, end))))
         (at.0, tt),
         (_, rows.0, written_bytes_stand min_secret_len max_secret_len t.secret back secret.0 secret.1)
             & (_, rows.1.0, written_number_stands min_digits max_digits t.digits digits.0 digits.1)
-            & (_, rows.1.1.0, written_number_stands 0 _ t.next (omega arith) next)
-            & (_, rows.1.1.1.0, written_number_stands 0 max_look_ahead t.look_ahead (omega arith) look_ahead)
-            & inr (_, rows.1.1.1.1.0, written_number_stands 0 max_sync_ahead t.sync_ahead (omega arith) sync_ahead)
-            & (_, rows.1.1.1.1.1.0, written_number_stands 1 max_limit t.limit limit.0 limit.1)
+            & (_, rows.1.1.0, written_number_stands _ _ t.next next.0 next.1)
+            & (_, rows.1.1.1.0, written_number_stands _ _ t.look_ahead look_ahead.0 look_ahead.1)
+            & inr (_, rows.1.1.1.1.0, written_number_stands _ _ t.sync_ahead sync_ahead.0 sync_ahead.1)
+            & (_, rows.1.1.1.1.1.0, written_number_stands _ _ t.limit limit.0 limit.1)
             & (_, rows.1.1.1.1.1.1.0, bounded_number_stands (codes "limit") ms t.limit t.failures rows.1.1.1.1.1.0 failures)
             & tt,
       )),
@@ -99,9 +99,9 @@ hotp_writes_itself t (next, (look_ahead, (sync_ahead, (limit, (failures, end))))
 
 -- the last step is written as the key that may be missing, if it is in its range
 last_step_writes_itself : (ms : Members) (last : Option ℕ) → get_member (codes "last") ms ≡ option_map (λ n. integer (pos n)) last
-    → ForSome last (λ l. l ≤ max_counter) → HasSome (codes "last") (number_type Token 0 max_counter) ms last
-last_step_writes_itself ms last there few = optional_writes_itself (number_type Token 0 max_counter) (codes "last") ms last there
-    (λ l is. written_number_stands 0 _ l (omega arith) (few l is))
+    → ForSome last (IsInBounds Last) → HasSome (codes "last") (setting_type Last) ms last
+last_step_writes_itself ms last there within = optional_writes_itself (setting_type Last) (codes "last") ms last there
+    (λ l is. written_number_stands _ _ l (within l is).0 (within l is).1)
 
 -- a TOTP token in its ranges whose secret can be read back from its text is written as its table
 pub totp_writes_itself : (t : TotpFields) → IsTotpInRange t → IsSecretLength (length t.secret) → IsDigitCount t.digits → IsMoment t.t0
@@ -117,13 +117,13 @@ totp_writes_itself t (step, (back, (ahead, (max_drift, (last, (drift, (limit, (f
             & (_, first.1.0, written_bytes_stand min_secret_len max_secret_len t.secret hex secret.0 secret.1)
             & (_, first.1.1.0, written_number_stands min_digits max_digits t.digits digits.0 digits.1)
             & (_, first.1.1.1.0, written_number_stands 0 max_moment t.t0 (omega arith) t0)
-            & (_, first.1.1.1.1.0, written_number_stands 1 max_step t.step step.0 step.1)
-            & (_, first.1.1.1.1.1.0, written_number_stands 0 max_window_steps t.back (omega arith) back)
-            & (_, first.1.1.1.1.1.1.0, written_number_stands 0 max_window_steps t.ahead (omega arith) ahead)
-            & (_, then.0, written_number_stands 0 max_drift_bound t.max_drift (omega arith) max_drift)
+            & (_, first.1.1.1.1.0, written_number_stands _ _ t.step step.0 step.1)
+            & (_, first.1.1.1.1.1.0, written_number_stands _ _ t.back back.0 back.1)
+            & (_, first.1.1.1.1.1.1.0, written_number_stands _ _ t.ahead ahead.0 ahead.1)
+            & (_, then.0, written_number_stands _ _ t.max_drift max_drift.0 max_drift.1)
             & last_step_writes_itself ms t.last then.1.0 last
             & (_, then.1.1.0, bounded_signed_stands (codes "max_drift") ms t.max_drift t.drift then.0 drift)
-            & (_, then.1.1.1.0, written_number_stands 1 max_limit t.limit limit.0 limit.1)
+            & (_, then.1.1.1.0, written_number_stands _ _ t.limit limit.0 limit.1)
             & (_, then.1.1.1.1.0, bounded_number_stands (codes "limit") ms t.limit t.failures then.1.1.1.0 failures)
             & tt,
       )),

@@ -116,23 +116,6 @@ pub(crate) fn number_at(
     number_of(required(table, key)?, least, most, why)
 }
 
-/// The whole number at a key, at most `most`, or 0 if the key is missing. Errors: `Key` if the value has the wrong type; `why` if
-/// it is another number.
-pub(crate) fn number_or_zero(
-    table: &Table,
-    key: &str,
-    most: u64,
-    why: BookWhy,
-) -> Result<u64, BookWhy>
-    ensures value { result ≡ read_or (Ok 0) (number_in why 0 most) (get_member key.now (table_view table.now)) }
-    ensures most { IfOk result (λ n. n ≤ most) }
-{
-    match at(table, key) {
-        Some(value) => number_of(value, 0, most, why),
-        None => Ok(0),
-    }
-}
-
 // The bytes of a hexadecimal text in either case, or None if it is not one of `least` to `most` bytes.
 fn bytes_within(least: usize, most: usize, text: &str) -> Option<Tag>
     requires { most ≤ 64 }

@@ -3,7 +3,8 @@ ghost use Rattle.std.specs.Prelude.{◌≡◌, ◌≤◌, None, IfOk, OnOk, code
 ghost use Rattle.std.specs.Option.{ForSome};
 ghost use Rattle.toml.specs.Data.{integer};
 ghost use Rattle.toml.specs.View.{view, table_view};
-ghost use Rattle.otp_core.specs.Ranges.{max_counter};
+ghost use Rattle.otp_core.specs.Ranges.{IsInBounds};
+ghost use Rattle.otp_core.specs.declared.fault.Setting.TheVariants.{Last};
 ghost use Rattle.otp_core.specs.TokenRanges.{IsHotpInRange, IsTotpInRange};
 ghost use Rattle.book_format.specs.Put.{put_some};
 ghost use Rattle.book_format.specs.Rows.{WritesItself, written_table};
@@ -92,7 +93,7 @@ fn settings_table(alloc: Global, fields: &TotpFields) -> Result<Table, AllocErro
 
 // Puts the last step that passed, if there is one.
 fn put_last(alloc: Global, table: &mut Table, last: Option<u64>) -> Result<(), AllocError>
-    requires { ForSome last (λ l. l ≤ max_counter) }
+    requires { ForSome last (IsInBounds Last) }
     ensures { OnOk result (table_view table.new
         ≡ put_some (codes "last") (option_map (λ n. integer (pos n)) last) (table_view table.old)) }
 {

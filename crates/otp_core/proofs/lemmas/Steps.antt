@@ -42,8 +42,8 @@ due_reply_leads_on s t h m sent reply is after due =
 
 -- if the token after a pass is in its ranges, the counter that passed is at most the greatest that can pass
 passed_counter_is_in_range : (t : TokenFields) (m c : ℕ) → IsInRange (after_pass t m c) → c ≤ max_counter
-passed_counter_is_in_range (Hotp t) m c range = let next : c + 1 ≤ max_counter + 1 = range.0 in omega arith
-passed_counter_is_in_range (Totp t) m c range = range.1.1.1.1.0 c refl
+passed_counter_is_in_range (Hotp t) m c range = let next : c + 1 ≤ max_counter + 1 = range.0.1 in omega arith
+passed_counter_is_in_range (Totp t) m c range = (range.1.1.1.1.0 c refl).1
 
 -- a due reply, and the token after it if it is in its ranges, are what an attempt gives
 pub due_reply_is_attempt : (old : TokenFields) (m : ℕ) (sent : CodeTexts) (reply : Reply) (new : TokenFields) → IsMoment m

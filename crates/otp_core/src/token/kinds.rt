@@ -1,7 +1,8 @@
 //! The two kinds of tokens: their settings and state.
-ghost use Rattle.std.specs.Prelude.{◌≡◌, ◌↔◌, ◌≤◌, IfSome, IfNone, IsTrue};
+ghost use Rattle.std.specs.Prelude.{◌≡◌, ◌↔◌, IfSome, IfNone, IsTrue};
 ghost use Rattle.std.specs.Option.{ForSome};
-ghost use Rattle.otp_core.specs.Ranges.{max_counter};
+ghost use Rattle.otp_core.specs.Ranges.{IsInBounds};
+ghost use Rattle.otp_core.specs.declared.fault.Setting.TheVariants.{Last};
 ghost use Rattle.otp_core.specs.TokenRanges.{IsHotpInRange, IsTotpInRange, IsFirstOutside, hotp_ranges, totp_ranges};
 
 use crate::digits::Digits;
@@ -62,13 +63,13 @@ impl HotpFields {
         ensures some { IfSome result (IsFirstOutside (hotp_ranges self.now)) }
         ensures none { IfNone result (IsHotpInRange self.now) }
     {
-        if self.next > MAX_COUNTER + 1 {
+        if !Setting::Next.allows(self.next) {
             Some(Setting::Next)
-        } else if self.look_ahead > MAX_LOOK_AHEAD {
+        } else if !Setting::LookAhead.allows(self.look_ahead) {
             Some(Setting::LookAhead)
-        } else if self.sync_ahead > MAX_SYNC_AHEAD {
+        } else if !Setting::SyncAhead.allows(self.sync_ahead) {
             Some(Setting::SyncAhead)
-        } else if self.limit < 1 || self.limit > MAX_LIMIT {
+        } else if !Setting::Limit.allows(self.limit) {
             Some(Setting::Limit)
         } else if self.failures > self.limit {
             Some(Setting::Failures)
@@ -140,19 +141,19 @@ impl TotpFields {
         ensures some { IfSome result (IsFirstOutside (totp_ranges self.now)) }
         ensures none { IfNone result (IsTotpInRange self.now) }
     {
-        if self.step < 1 || self.step > MAX_STEP {
+        if !Setting::Step.allows(self.step) {
             Some(Setting::Step)
-        } else if self.back > MAX_WINDOW_STEPS {
+        } else if !Setting::Back.allows(self.back) {
             Some(Setting::Back)
-        } else if self.ahead > MAX_WINDOW_STEPS {
+        } else if !Setting::Ahead.allows(self.ahead) {
             Some(Setting::Ahead)
-        } else if self.max_drift > MAX_DRIFT_BOUND {
+        } else if !Setting::MaxDrift.allows(self.max_drift) {
             Some(Setting::MaxDrift)
         } else if !self.is_last_in_range() {
             Some(Setting::Last)
         } else if self.drift.unsigned_abs() > self.max_drift {
             Some(Setting::Drift)
-        } else if self.limit < 1 || self.limit > MAX_LIMIT {
+        } else if !Setting::Limit.allows(self.limit) {
             Some(Setting::Limit)
         } else if self.failures > self.limit {
             Some(Setting::Failures)
@@ -161,12 +162,12 @@ impl TotpFields {
         }
     }
 
-    // Whether `last`, if there is one, is at most `MAX_COUNTER`.
+    // Whether `last`, if there is one, is within its bounds.
     fn is_last_in_range(&self) -> bool
-        ensures { IsTrue result ↔ ForSome self.now.last (λ l. l ≤ max_counter) }
+        ensures { IsTrue result ↔ ForSome self.now.last (IsInBounds Last) }
     {
         match self.last {
-            Some(last) => last <= MAX_COUNTER,
+            Some(last) => Setting::Last.allows(last),
             None => true,
         }
     }

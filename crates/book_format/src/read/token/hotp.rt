@@ -11,11 +11,10 @@ ghost use Rattle.book_format.specs.Tokens.{hotp_table};
 ghost use Rattle.book_format.specs.declared.fault.BookWhy.TheVariants as why;
 
 use crate::fault::BookWhy;
-use crate::read::field::{bytes_at, check_keys, number_at, number_or_zero};
-use crate::read::token::setting::{digits_of, secret_of};
+use crate::read::field::{bytes_at, check_keys, number_at};
+use crate::read::token::setting::{digits_of, secret_of, setting_at, setting_or_zero};
 use otp_core::{
-    HotpFields, MAX_COUNTER, MAX_DIGITS, MAX_LIMIT, MAX_LOOK_AHEAD, MAX_SECRET_LEN, MAX_SYNC_AHEAD,
-    MIN_DIGITS, MIN_SECRET_LEN, Token,
+    HotpFields, MAX_DIGITS, MAX_SECRET_LEN, MIN_DIGITS, MIN_SECRET_LEN, Setting, Token,
 };
 use toml::Table;
 
@@ -42,10 +41,10 @@ pub(crate) fn hotp_of(table: &Table) -> Result<HotpFields, BookWhy>
         u64::from(MAX_DIGITS),
         BookWhy::Token,
     )?;
-    let next = number_at(table, "next", 0, MAX_COUNTER + 1, BookWhy::Token)?;
-    let look_ahead = number_at(table, "look_ahead", 0, MAX_LOOK_AHEAD, BookWhy::Token)?;
-    let sync_ahead = number_or_zero(table, "sync_ahead", MAX_SYNC_AHEAD, BookWhy::Token)?;
-    let limit = number_at(table, "limit", 1, MAX_LIMIT, BookWhy::Token)?;
+    let next = setting_at(table, Setting::Next)?;
+    let look_ahead = setting_at(table, Setting::LookAhead)?;
+    let sync_ahead = setting_or_zero(table, Setting::SyncAhead)?;
+    let limit = setting_at(table, Setting::Limit)?;
     let failures = number_at(table, "failures", 0, limit, BookWhy::Token)?;
     Ok(HotpFields {
         secret: secret_of(&secret),

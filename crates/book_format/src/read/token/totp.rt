@@ -3,11 +3,12 @@
 ghost use Rattle.std.specs.Prelude.{◌≡◌, ◌≤◌, codes, nat_abs, IfOk};
 ghost use Rattle.std.specs.Option.{ForSome};
 ghost use Rattle.toml.specs.View.{table_view};
-ghost use Rattle.otp_core.specs.Ranges.{max_counter};
+ghost use Rattle.otp_core.specs.Ranges.{IsInBounds};
 ghost use Rattle.otp_core.specs.TokenRanges.{IsTotpInRange};
+ghost use Rattle.otp_core.specs.declared.fault.Setting.TheVariants.{Last};
 ghost use Rattle.otp_core.specs.declared.token.kinds.TokenFields.TheVariants.{Totp};
 ghost use Rattle.book_format.specs.Keys.{is_among, has_only};
-ghost use Rattle.book_format.specs.ValueTypes.{number_type, signed_type, hash_type};
+ghost use Rattle.book_format.specs.ValueTypes.{setting_type, signed_type, hash_type};
 ghost use Rattle.book_format.specs.inner.Steps.{pass_or};
 ghost use Rattle.book_format.specs.inner.Rows.{read_at, read_some, read_table};
 ghost use Rattle.book_format.specs.Rows.{table_keys};
@@ -15,11 +16,11 @@ ghost use Rattle.book_format.specs.Tokens.{totp_table};
 ghost use Rattle.book_format.specs.declared.fault.BookWhy.TheVariants as why;
 
 use crate::fault::BookWhy;
-use crate::read::field::{at, bytes_at, check_keys, number_at, number_of, required, text_at};
-use crate::read::token::setting::{digits_of, moment_of, secret_of};
+use crate::read::field::{at, bytes_at, check_keys, number_at, required, text_at};
+use crate::read::token::setting::{digits_of, moment_of, secret_of, setting_at, setting_of};
 use otp_core::{
-    MAX_COUNTER, MAX_DIGITS, MAX_DRIFT_BOUND, MAX_LIMIT, MAX_MOMENT, MAX_SECRET_LEN, MAX_STEP,
-    MAX_WINDOW_STEPS, MIN_DIGITS, MIN_SECRET_LEN, OtpHash, Token, TotpFields,
+    MAX_DIGITS, MAX_MOMENT, MAX_SECRET_LEN, MIN_DIGITS, MIN_SECRET_LEN, OtpHash, Setting, Token,
+    TotpFields,
 };
 use toml::Table;
 
@@ -48,13 +49,13 @@ pub(crate) fn totp_of(table: &Table) -> Result<TotpFields, BookWhy>
         BookWhy::Token,
     )?;
     let t0 = number_at(table, "t0", 0, MAX_MOMENT, BookWhy::Token)?;
-    let step = number_at(table, "step", 1, MAX_STEP, BookWhy::Token)?;
-    let back = number_at(table, "back", 0, MAX_WINDOW_STEPS, BookWhy::Token)?;
-    let ahead = number_at(table, "ahead", 0, MAX_WINDOW_STEPS, BookWhy::Token)?;
-    let max_drift = number_at(table, "max_drift", 0, MAX_DRIFT_BOUND, BookWhy::Token)?;
+    let step = setting_at(table, Setting::Step)?;
+    let back = setting_at(table, Setting::Back)?;
+    let ahead = setting_at(table, Setting::Ahead)?;
+    let max_drift = setting_at(table, Setting::MaxDrift)?;
     let last = last_if_any(table)?;
     let drift = drift_at(table, "drift", max_drift)?;
-    let limit = number_at(table, "limit", 1, MAX_LIMIT, BookWhy::Token)?;
+    let limit = setting_at(table, Setting::Limit)?;
     let failures = number_at(table, "failures", 0, limit, BookWhy::Token)?;
     Ok(TotpFields {
         hash,
@@ -119,11 +120,11 @@ fn hash_at(table: &Table, key: &str) -> Result<OtpHash, BookWhy>
 
 // The last step, or None if there is no key `last`. Errors: `Key` if it has the wrong type; `Token` if it is out of its range.
 fn last_if_any(table: &Table) -> Result<Option<u64>, BookWhy>
-    ensures value { result ≡ read_some (codes "last") (number_type why.Token 0 max_counter) (table_view table.now) }
-    ensures range { IfOk result (λ last. ForSome last (λ l. l ≤ max_counter)) }
+    ensures value { result ≡ read_some (codes "last") (setting_type Last) (table_view table.now) }
+    ensures range { IfOk result (λ last. ForSome last (IsInBounds Last)) }
 {
     match at(table, "last") {
-        Some(value) => Ok(Some(number_of(value, 0, MAX_COUNTER, BookWhy::Token)?)),
+        Some(value) => Ok(Some(setting_of(value, Setting::Last)?)),
         None => Ok(None),
     }
 }

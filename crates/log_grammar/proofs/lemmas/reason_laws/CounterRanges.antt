@@ -21,7 +21,7 @@ due_reply_is_in_range (Hotp t) attempts moment (two_texts first second) (Pass c)
     omega (arith, due.1.1, due.1.2.1)
 due_reply_is_in_range (Totp t) attempts moment (one_text text) (Pass w) range at due =
     let step = div-le_self (moment - t.t0) t.step in
-    omega (arith, step, due.1.0.1.not_late, range.1.1.1.0, at)
+    omega (arith, step, due.1.0.1.not_late, range.1.1.1.0.1, at)
 due_reply_is_in_range (Totp t) attempts moment (two_texts first second) (Pass c) range at due = absurd due.1.2
 due_reply_is_in_range token attempts moment sent Fail range at due = tt
 due_reply_is_in_range token attempts moment sent Locked range at due = tt
