@@ -27,6 +27,7 @@ import tomllib
 import suite
 from checks import equal, fail, holds
 from expected import AUDITS, AUTH, BOOK_FAULTS, MECHS, RESP, code, keys_of, numbered
+from limits import limit
 from processes import LIMIT, processor_time
 from suite import BOOK_OF_USER, MEMORY, PROGRAM, SEED
 from token_model import MOST_COUNTER, code_of, firsts_of_pairs, judged, step_at, window
@@ -35,7 +36,7 @@ COUNT = int(os.environ.get("COUNT") or 300)
 
 BOOKS = sorted(BOOK_FAULTS.glob("*.toml"))
 # The most processor time of a run, whatever else the machine does.
-SECONDS = 2
+SECONDS = limit(2)
 
 # What an audit or an upgrade says of a log.
 OF_A_LOG = rb"line \d+: [ -~]+\n|too many lines\n"

@@ -24,7 +24,7 @@ from clients import Account, base, dealt, escaped, gone, logged_in, opened, said
 from command_table import BOOK, command_of, commands, left, login_log, prepare
 from expected import AUDITS, SESSION_LEFT
 from hall_support import Hall, clean
-from processes import LIMIT, ran, sleeps
+from processes import LIMIT, LIMIT_OF_LINES, ran, sleeps
 from suite import MOST_BYTES, PROGRAM, BookFolder, each, login_words
 
 # A hall's log of RFC 5802's login, without its end, and the events that lead to it.
@@ -188,7 +188,7 @@ class Fed:
     def most_memory(self):
         """The run's peak memory in KiB, once it has read all that it was fed and waits for more."""
         left = array.array("i", [1])
-        until = time.monotonic() + 60
+        until = time.monotonic() + LIMIT_OF_LINES
         while left[0] > 0 or not sleeps(self.run.pid):
             holds(time.monotonic() < until, "what was fed is not read")
             time.sleep(0.005)

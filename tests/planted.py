@@ -36,6 +36,7 @@ from concurrent.futures import ThreadPoolExecutor
 from pathlib import Path
 
 from edit_sources import TOP, PlantedRow, Unusable, planted_rows, read_planted, root_of
+from limits import limit
 from run import NOT_TESTED
 import shims
 
@@ -50,7 +51,7 @@ COPIED += ["README.md", "CHANGELOG.md", "CONTRIBUTING.md"]
 # How many characters are shown of what a test says.
 SHOWN = 3000
 # The most seconds that a command may take.
-LIMIT = 1800
+LIMIT = limit(1800)
 # How many runs a script kills, and how many inputs of a kind it tries.
 FEWER = {"RUNS": "60", "COUNT": "300", "SEED": "1"}
 # A run of the program that lasts long enough to copy the program, which `rt try` removes at its end.

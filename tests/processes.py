@@ -9,11 +9,12 @@ from collections.abc import Callable
 from typing import Any, NamedTuple, NoReturn
 
 from checks import cut, equal, fail, shown
+from limits import limit
 
 # The most seconds that a run may take. After that, the test fails, and is named.
-LIMIT = 120
+LIMIT = limit(120)
 # The most seconds in which a run that goes on has to print its next lines.
-LIMIT_OF_LINES = 60
+LIMIT_OF_LINES = limit(60)
 
 PIPES = dict.fromkeys(["stdin", "stdout", "stderr"], subprocess.PIPE)
 
@@ -162,8 +163,8 @@ def whole(words: list, text: str | bytes, **how: Any) -> Running:
 
 
 def until(is_so: Callable[[], bool], *about: Any) -> None:
-    """Waits at least a minute for this to be true, and otherwise fails with what the caller says about it: what is awaited, as in "the run
-    should hold"."""
+    """Waits at least LIMIT_OF_LINES seconds for this to be true, and otherwise fails with what the caller says about it: what is awaited, as
+    in "the run should hold"."""
     deadline, is_late = time.monotonic() + LIMIT_OF_LINES, False
     while not is_so():
         if is_late:

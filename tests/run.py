@@ -18,9 +18,11 @@ import tempfile
 import time
 from pathlib import Path
 
+from limits import limit
+
 FOLDER = Path(__file__).resolve().parent
 # After how many seconds a test is stopped.
-LIMIT = 1800
+LIMIT = limit(1800)
 # What a script prints, after its name, before a part that this machine can't test.
 NOT_TESTED = re.compile(r"^(\S+): not tested: (.*)$", re.M)
 # The tests that wait for a lock come first: they take long, and need little processor time.

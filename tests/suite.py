@@ -18,6 +18,7 @@ import checks
 import expected
 import processes
 from checks import equal, fail, holds
+from limits import limit
 from processes import ran
 
 if len(sys.argv) < 2:
@@ -30,7 +31,7 @@ TOP = pathlib.Path(__file__).resolve().parent.parent
 SEED = int(os.environ.get("SEED") or 1)
 
 # The most seconds that a test may take. After that it fails.
-LIMIT_OF_TEST = 900
+LIMIT_OF_TEST = limit(900)
 
 # A folder whose files are in memory, where saves take no time, or None on a system that has none.
 MEMORY = "/dev/shm" if os.path.isdir("/dev/shm") else None
