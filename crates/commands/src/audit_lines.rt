@@ -132,11 +132,11 @@ fn add_refusal(alloc: Global, refusal: NoText, text: &mut Vec<u8>) -> Result<(),
     }
 }
 
-// Appends a line with this front and this message, escaped, without an LF.
-fn add_message(front: &[u8], message: &[u8], text: &mut Vec<u8>) -> Result<(), Fault>
-    ensures ok { OnOk result (text.new.items ≡ text.old.items ++ (front.now ++ escaped message.now)) }
+// Appends a line with these words and this message, escaped, without an LF.
+fn add_message(words: &[u8], message: &[u8], text: &mut Vec<u8>) -> Result<(), Fault>
+    ensures ok { OnOk result (text.new.items ≡ text.old.items ++ (words.now ++ escaped message.now)) }
     ensures err { IfErr result (λ fault. fault ≡ Fault.NoMemory) }
 {
-    text.extend_from_slice(front)?;
+    text.extend_from_slice(words)?;
     escape(message, text).map_err(|_| Fault::NoMemory)
 }

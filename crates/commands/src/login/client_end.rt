@@ -131,8 +131,8 @@ impl ClientEnd {
             return Err(Fault::NoMemory);
         };
         self.stage = Stage::Begun(client);
-        let front = auth_front(alloc, mechanism)?;
-        Ok(Next::Says(message_line(alloc, front.as_slice(), message.as_slice())?))
+        let words = auth_words(alloc, mechanism)?;
+        Ok(Next::Says(message_line(alloc, words.as_slice(), message.as_slice())?))
     }
 
     // Answers a challenge with the proof.
@@ -183,23 +183,23 @@ fn check_signature(alloc: Global, client: ClientTwo, message: Payload<'_>) -> Re
 }
 
 // What precedes a client-first message in its line: `AUTH` and the name of the mechanism. The only fault is NoMemory.
-fn auth_front(alloc: Global, mechanism: Mechanism) -> Result<Vec<u8>, Fault>
-    ensures ok { IfOk result (λ front. front.items ≡ codes "AUTH " ++ (name_of mechanism ++ codes " :")) }
+fn auth_words(alloc: Global, mechanism: Mechanism) -> Result<Vec<u8>, Fault>
+    ensures ok { IfOk result (λ words. words.items ≡ codes "AUTH " ++ (name_of mechanism ++ codes " :")) }
     ensures err { IfErr result (λ fault. fault ≡ Fault.NoMemory) }
 {
-    let mut front = Vec::new(alloc);
-    front.extend_from_slice(word::AUTH)?;
-    front.extend_from_slice(mechanism.name().as_bytes())?;
-    front.extend_from_slice(word::WITH_MESSAGE)?;
-    Ok(front)
+    let mut words = Vec::new(alloc);
+    words.extend_from_slice(word::AUTH)?;
+    words.extend_from_slice(mechanism.name().as_bytes())?;
+    words.extend_from_slice(word::WITH_MESSAGE)?;
+    Ok(words)
 }
 
-// A line with this front and this message, escaped, and an LF. The only fault is NoMemory.
-fn message_line(alloc: Global, front: &[u8], message: &[u8]) -> Result<Vec<u8>, Fault>
-    ensures ok { IfOk result (λ line. line.items ≡ front.now ++ (escaped message.now ++ byte "\n" ∷ [])) }
+// A line with these words and this message, escaped, and an LF. The only fault is NoMemory.
+fn message_line(alloc: Global, words: &[u8], message: &[u8]) -> Result<Vec<u8>, Fault>
+    ensures ok { IfOk result (λ line. line.items ≡ words.now ++ (escaped message.now ++ byte "\n" ∷ [])) }
     ensures err { IfErr result (λ fault. fault ≡ Fault.NoMemory) }
 {
     let mut line = Vec::new(alloc);
-    write_message_line(front, message, &mut line).map_err(|_| Fault::NoMemory)?;
+    write_message_line(words, message, &mut line).map_err(|_| Fault::NoMemory)?;
     Ok(line)
 }

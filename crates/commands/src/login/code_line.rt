@@ -24,13 +24,13 @@ pub(crate) fn code_line(alloc: Global, line: &[u8]) -> Result<Vec<u8>, Fault>
     }
 }
 
-// The front, then at most MAX_LINE_AND_LF_LEN bytes of the text, then an LF. A server reads no more of a line.
-fn code_text_line(alloc: Global, front: &[u8], text: &[u8]) -> Result<Vec<u8>, Fault>
-    ensures ok { IfOk result (λ line. line.items ≡ front.now ++ (take MAX_LINE_AND_LF_LEN text.now ++ byte "\n" ∷ [])) }
+// The words, then at most MAX_LINE_AND_LF_LEN bytes of the text, then an LF. A server reads no more of a line.
+fn code_text_line(alloc: Global, words: &[u8], text: &[u8]) -> Result<Vec<u8>, Fault>
+    ensures ok { IfOk result (λ line. line.items ≡ words.now ++ (take MAX_LINE_AND_LF_LEN text.now ++ byte "\n" ∷ [])) }
     ensures err { IfErr result (λ fault. fault ≡ Fault.NoMemory) }
 {
     let mut line = Vec::new(alloc);
-    line.extend_from_slice(front)?;
+    line.extend_from_slice(words)?;
     line.extend_from_slice(first_bytes(text))?;
     line.extend_from_slice(b"\n")?;
     Ok(line)
@@ -41,7 +41,7 @@ fn first_bytes(text: &[u8]) -> &[u8]
     ensures { result.now ≡ take MAX_LINE_AND_LF_LEN text.now }
 {
     match text.get(..MAX_LINE_AND_LF_LEN) {
-        Some(front) => front,
+        Some(words) => words,
         None => text,
     }
 }

@@ -42,10 +42,12 @@ outer_grows : {X Y : Type 0} (d : Demands) (inner : X → Part) (outer : Y → P
     → Grown d inner old line next more → Grown d outer (wrap old) line next more
 outer_grows d inner outer wrap w old line next more g = record {
   tree = wrap g.tree;
-  lines = (w.around g.tree).0 ∙ ap (λ (l : List LogLine). w.front ++ l) g.lines ∙ sym (append_assoc w.front (inner old).lines (line ∷ []))
+  lines = (w.around g.tree).0 ∙ ap (λ (l : List LogLine). w.lines_before ++ l) g.lines
+      ∙ sym (append_assoc w.lines_before (inner old).lines (line ∷ []))
       ∙ ap (λ (l : List LogLine). l ++ line ∷ []) (sym ((w.around old).0));
   at = (w.around g.tree).1 ∙ g.at;
-  told_are = (w.around g.tree).2 ∙ ap (λ (l : List AccountAttempt). w.before ++ l) g.told_are ∙ sym (append_assoc w.before (inner old).told more)
+  told_are = (w.around g.tree).2 ∙ ap (λ (l : List AccountAttempt). w.told_before ++ l) g.told_are
+      ∙ sym (append_assoc w.told_before (inner old).told more)
       ∙ ap (λ (l : List AccountAttempt). l ++ more) (sym ((w.around old).2));
   good = (w.around g.tree).3 g.good;
 }
