@@ -1,10 +1,9 @@
 -- The kinds of rows: a key that must be there, one whose bound is the value at another key, and two that may be missing.
-use Rattle.std.specs.Prelude.{ℕ, ◌≡◌, ◌⊎◌, List, codes, pos, Option, Some, None, option_map, Ok}
+use Rattle.std.specs.Prelude.{ℕ, ◌≡◌, ◌⊎◌, List, codes, pos, Option, Some, None, option_map}
 use Prim.Native.String.{String}
 use Rattle.toml.specs.Data.{Data, integer, table, Members, get_member, as_table}
 use Rattle.book_format.specs.Demands.{if_there, required}
 use Rattle.book_format.specs.Rows.{ValueType, Row, Table, IsTableIn, table_demands, written_table}
-use Rattle.book_format.specs.inner.Rows.{read_or, read_at, read_some, table_in}
 use Rattle.book_format.specs.declared.fault.BookWhy.TheVariants.{Key}
 
 -- the table has a value of this type at a key
@@ -31,7 +30,6 @@ row name values field = record {
   key = codes name;
   Has = HasAt (codes name) values;
   demands = λ ms. required Key values.demands (get_member (codes name) ms);
-  from_table = read_at (codes name) values;
   write = λ v. Some (values.write v);
   field = field;
 }
@@ -44,7 +42,6 @@ row_up_to name values bound field = record {
   key = codes name;
   Has = λ ms. HasAt (codes name) (values (bound_at (codes bound) ms)) ms;
   demands = λ ms. required Key (values (bound_at (codes bound) ms)).demands (get_member (codes name) ms);
-  from_table = λ ms. read_at (codes name) (values (bound_at (codes bound) ms)) ms;
   write = λ v. Some ((values 0).write v);
   field = field;
 }
@@ -56,7 +53,6 @@ row_or_default other name values field = record {
   key = codes name;
   Has = λ ms v. ((get_member (codes name) ms ≡ None) × (v ≡ other)) ⊎ HasAt (codes name) values ms v;
   demands = λ ms. if_there values.demands (get_member (codes name) ms);
-  from_table = λ ms. read_or (Ok other) values.from_tree (get_member (codes name) ms);
   write = λ v. Some (values.write v);
   field = field;
 }
@@ -68,7 +64,6 @@ optional_row name values field = record {
   key = codes name;
   Has = HasSome (codes name) values;
   demands = λ ms. if_there values.demands (get_member (codes name) ms);
-  from_table = read_some (codes name) values;
   write = option_map values.write;
   field = field;
 }
@@ -78,6 +73,5 @@ abbrev pub table_type : {T : Type 0} → Table T → ValueType T
 table_type t = record {
   Is = IsTableIn t;
   demands = λ d. required Key (table_demands t) (as_table d);
-  from_tree = table_in t;
   write = λ x. table (written_table t x);
 }

@@ -1,6 +1,6 @@
 -- The tables of the format, each a list of rows, one for each key. From the rows follow which TOML table is that of a value,
 -- what is demanded of a table in which order, and the table that a value is written as.
-use Rattle.std.specs.Prelude.{ℕ, ◌≡◌, ◌++◌, List, [], ◌∷◌, map, Option, Some, Result, IsTrue}
+use Rattle.std.specs.Prelude.{ℕ, ◌≡◌, ◌++◌, List, [], ◌∷◌, map, Option, Some, IsTrue}
 use Rattle.toml.specs.Data.{Data, table, Members, no_members, get_member}
 use Rattle.book_format.specs.Keys.{is_among, has_only}
 use Rattle.book_format.specs.Put.{put_all}
@@ -14,8 +14,6 @@ pub record ValueType (V : Type 0) : Type 1 where
   pub Is : Data → V → Type 0
   -- the demands that a TOML value has to meet to be that of some value
   pub demands : Data → List (Demand BookWhy)
-  -- for private functions only: the value that is read from a TOML value, or the fault
-  pub from_tree : Data → Result V BookWhy
   -- the TOML value that a value is written as
   pub write : V → Data
 
@@ -31,17 +29,10 @@ pub record Row (T : Type 0) : Type 1 where
   pub Has : Members → V → Type 0
   -- the demands on the table at the key
   pub demands : Members → List (Demand BookWhy)
-  -- for private functions only: the value that is read from a table at the key, or the fault
-  pub from_table : Members → Result V BookWhy
   -- what is written at the key for a value, if anything
   pub write : V → Option Data
   -- the field of the record that the row is for
   pub field : T → V
-
--- a function of the values of all rows, one argument for each, to an X
-abbrev pub Maker : {T : Type 0} → List (Row T) → Type 0 → Type 0
-Maker [] X = X
-Maker (r ∷ rows) X = r.V → Maker rows X
 
 -- the table of a record T, row by row
 pub record Table (T : Type 0) : Type 1 where
@@ -49,8 +40,6 @@ pub record Table (T : Type 0) : Type 1 where
   pub marks : List (List ℕ × Data)
   -- the other keys
   pub rows : List (Row T)
-  -- the record that the values of the rows make
-  pub from_values : Maker rows T
 
 -- the keys of rows
 abbrev pub row_keys : {T : Type 0} → List (Row T) → List (List ℕ)

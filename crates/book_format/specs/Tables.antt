@@ -11,7 +11,6 @@ use Rattle.book_format.specs.ValueTypes.{number_type, bytes_type, name_list_type
 use Rattle.book_format.specs.Rows.{ValueType, Table}
 use Rattle.book_format.specs.RowKinds.{row, row_or_default, optional_row, table_type}
 use Rattle.book_format.specs.Tokens.{IsToken, token_demands, token_tree}
-use Rattle.book_format.specs.inner.Tokens.{token_in}
 use Rattle.book_format.specs.declared.account.MechKeys.{MechKeys}
 use Rattle.book_format.specs.declared.fault.BookWhy.TheVariants.{Salt, Count, KeyLength}
 
@@ -25,8 +24,6 @@ keys_table len = record {
       ∷ row "stored" (bytes_type KeyLength len len) (λ m. m.keys.stored.items)
       ∷ row "server" (bytes_type KeyLength len len) (λ m. m.keys.server.items)
       ∷ [];
-  from_values = λ salt count stored server.
-      record { salt = salt; count = count; keys = record { stored = record { items = stored }; server = record { items = server } } };
 }
 
 -- the keys for SCRAM-SHA-1
@@ -39,7 +36,7 @@ sha256_keys_table = keys_table (digest_len_by ScramSha256)
 
 -- tokens of either kind
 abbrev pub token_type : ValueType TokenFields
-token_type = record { Is = IsToken; demands = token_demands; from_tree = token_in; write = token_tree }
+token_type = record { Is = IsToken; demands = token_demands; write = token_tree }
 
 -- an account: if `sha1` or `sha256` is missing, it has no keys for that mechanism; if `token` is missing, it has no token
 abbrev pub account_table : Table AccountFields
@@ -51,7 +48,6 @@ account_table = record {
       ∷ row_or_default [] "act_as" name_list_type (λ a. a.act_as)
       ∷ optional_row "token" token_type (λ a. a.token)
       ∷ [];
-  from_values = λ sha1 sha256 act_as token. record { sha1 = sha1; sha256 = sha256; act_as = act_as; token = token };
 }
 
 -- the keys of the document itself, with the table of its accounts unread
@@ -69,5 +65,4 @@ document_table = record {
       ∷ row "decoy_count" (number_type Count 1 max_iteration_count) (λ t. t.decoy_count)
       ∷ optional_row "accounts" any_table_type (λ t. t.accounts)
       ∷ [];
-  from_values = λ decoy_key decoy_count accounts. record { decoy_key = decoy_key; decoy_count = decoy_count; accounts = accounts };
 }

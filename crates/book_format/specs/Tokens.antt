@@ -28,15 +28,6 @@ hotp_table = record {
       ∷ row "limit" (setting_type Limit) (λ t. t.limit)
       ∷ row_up_to "failures" (number_type Token 0) "limit" (λ t. t.failures)
       ∷ [];
-  from_values = λ secret digits next look_ahead sync_ahead limit failures. record {
-    secret = secret;
-    digits = digits;
-    next = next;
-    look_ahead = look_ahead;
-    sync_ahead = sync_ahead;
-    limit = limit;
-    failures = failures;
-  };
 }
 
 -- a TOTP token
@@ -57,20 +48,6 @@ totp_table = record {
       ∷ row "limit" (setting_type Limit) (λ t. t.limit)
       ∷ row_up_to "failures" (number_type Token 0) "limit" (λ t. t.failures)
       ∷ [];
-  from_values = λ hash secret digits t0 step back ahead max_drift last drift limit failures. record {
-    hash = hash;
-    secret = secret;
-    digits = digits;
-    t0 = t0;
-    step = step;
-    back = back;
-    ahead = ahead;
-    max_drift = max_drift;
-    last = last;
-    drift = drift;
-    limit = limit;
-    failures = failures;
-  };
 }
 
 -- the TOML value is the table of this token, of either kind

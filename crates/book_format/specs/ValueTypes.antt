@@ -11,7 +11,6 @@ use Rattle.book_format.specs.Account.{max_names}
 use Rattle.book_format.specs.Names.{IsNameList, names_tree, are_texts, item_count, are_names}
 use Rattle.book_format.specs.Demands.{must, required}
 use Rattle.book_format.specs.Rows.{ValueType}
-use Rattle.book_format.specs.inner.Values.{number_in, signed_in, bytes_in, hash_in, name_list_in, table_of}
 use Rattle.book_format.specs.declared.fault.BookWhy.{BookWhy}
 use Rattle.book_format.specs.declared.fault.BookWhy.TheVariants.{Key, Name, Token}
 
@@ -31,7 +30,6 @@ abbrev pub number_type : (why : BookWhy) → (least most : ℕ) → ValueType �
 number_type why least most = record {
   Is = IsNumber least most;
   demands = λ d. required Key (λ z. must (is_within least most z) why ∷ []) (as_integer d);
-  from_tree = number_in why least most;
   write = λ n. integer (pos n);
 }
 
@@ -49,7 +47,6 @@ abbrev pub signed_type : (why : BookWhy) → (most : ℕ) → ValueType ℤ
 signed_type why most = record {
   Is = IsSigned most;
   demands = λ d. required Key (λ z. must (nat_le (nat_abs z) most) why ∷ []) (as_integer d);
-  from_tree = signed_in why most;
   write = integer;
 }
 
@@ -71,7 +68,6 @@ abbrev pub bytes_type : (why : BookWhy) → (least most : ℕ) → ValueType (Li
 bytes_type why least most = record {
   Is = IsHexText least most;
   demands = λ d. required Key (λ text. must (are_decoded least most (decode_of text)) why ∷ []) (as_str d);
-  from_tree = bytes_in why least most;
   write = λ bs. string (encode_lower bs);
 }
 
@@ -80,7 +76,6 @@ abbrev pub hash_type : ValueType OtpHash
 hash_type = record {
   Is = λ d h. d ≡ string (hash_name h);
   demands = λ d. required Key (λ name. must (is_some (hash_named name)) Token ∷ []) (as_str d);
-  from_tree = hash_in;
   write = λ h. string (hash_name h);
 }
 
@@ -90,7 +85,6 @@ name_list_type = record {
   Is = IsNameList;
   demands = λ d. required Key
       (λ list. must (are_texts list) Key ∷ must (nat_le (item_count list) max_names && are_names list) Name ∷ []) (as_array d);
-  from_tree = name_list_in;
   write = names_tree;
 }
 
@@ -99,6 +93,5 @@ abbrev pub any_table_type : ValueType Members
 any_table_type = record {
   Is = λ d ms. d ≡ table ms;
   demands = λ d. must (is_some (as_table d)) Key ∷ [];
-  from_tree = table_of;
   write = table;
 }

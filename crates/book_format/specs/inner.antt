@@ -4,4 +4,5 @@ pub mod Steps
 pub mod Values
 pub mod Rows
 pub mod Tokens
+pub mod Tables
 pub mod Books

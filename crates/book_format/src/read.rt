@@ -7,8 +7,8 @@ ghost use Rattle.book_format.specs.Trees.{IsBookText};
 ghost use Rattle.book_format.specs.inner.Steps.{IsReadAs, IsReadOrFault, seen};
 ghost use Rattle.book_format.specs.inner.Books.{at_top, tree_in, top_of, accounts_of_table, book_in};
 ghost use Rattle.book_format.specs.FirstFault.{is_one, IsBookFault};
-ghost use Rattle.book_format.specs.ValueTypes.{any_table_type};
 ghost use Rattle.book_format.specs.inner.Rows.{read_some};
+ghost use Rattle.book_format.specs.inner.Values.{table_of};
 ghost use Rattle.book_format.specs.declared.fault.BookFault.{BookFault};
 ghost use Rattle.book_format.specs.declared.fault.BookWhy.TheVariants.{NoMemory};
 ghost use Rattle.book_format.specs.declared.read.Top.{Top};
@@ -153,7 +153,7 @@ fn decoy_key_of(bytes: &Tag) -> [u8; 32]
 
 // The table at a key, or None if the key is missing. Errors: `Key` if the value is not a table.
 fn table_if_any<'a>(table: &'a Table, key: &str) -> Result<Option<&'a Table>, BookWhy>
-    ensures { seen (λ t. option_map (λ m. table_view m.now) t) result ≡ read_some key.now any_table_type (table_view table.now) }
+    ensures { seen (λ t. option_map (λ m. table_view m.now) t) result ≡ read_some key.now table_of (table_view table.now) }
 {
     match at(table, key) {
         Some(value) => Ok(Some(table_of(value)?)),

@@ -12,6 +12,7 @@ use Rattle.book_format.specs.inner.Steps.{◌>>=◌}
 use Rattle.book_format.specs.Rows.{IsTableIn}
 use Rattle.book_format.specs.RowKinds.{table_type}
 use Rattle.book_format.specs.inner.Rows.{table_in}
+use Rattle.book_format.specs.inner.Tables.{keys_reading, account_reading}
 use Rattle.book_format.specs.Tables.{keys_table, account_table}
 use Rattle.book_format.specs.Trees.{AreAccountTrees, AreAccountsOf}
 use Rattle.book_format.specs.declared.fault.BookWhy.{BookWhy}
@@ -25,24 +26,24 @@ use Rattle.book_format.proofs.lemmas.RowKinds.{row_is_exact, row_or_default_is_e
 use Rattle.book_format.proofs.lemmas.FaultPlaces.{in_account_keeps_value, in_account_follows}
 use Rattle.book_format.proofs.lemmas.TokenTables.{token_is_exact}
 
--- the table of a mechanism's keys is exact
-pub mech_is_exact : (len : ℕ) → IsExactTable (keys_table len)
+-- the table of a mechanism's keys is read exactly
+pub mech_is_exact : (len : ℕ) → IsExactTable (keys_table len) (keys_reading len)
 mech_is_exact len = record { gives = λ vs. refl; keeps = λ m. refl; rows = search (row_is_exact, bytes_are_exact, number_is_exact) parts 8 }
 
--- the table of an account is exact
-account_is_exact : IsExactTable account_table
+-- the table of an account is read exactly
+account_is_exact : IsExactTable account_table account_reading
 account_is_exact = record {
   gives = λ vs. refl;
   keeps = λ a. refl;
   rows = search (optional_is_exact, row_or_default_is_exact, mechs, name_list_is_exact, token_is_exact) parts 8;
 }
   where
-    mechs : (len : ℕ) → IsExactType (table_type (keys_table len))
-    mechs len = table_type_is_exact (keys_table len) (mech_is_exact len) (λ ms. tt)
+    mechs : (len : ℕ) → IsExactType (table_type (keys_table len)) (table_in (keys_table len) (keys_reading len))
+    mechs len = table_type_is_exact (keys_table len) (keys_reading len) (mech_is_exact len) (λ ms. tt)
 
--- the type of the tables of accounts is exact
-account_type_is_exact : IsExactType (table_type account_table)
-account_type_is_exact = table_type_is_exact account_table account_is_exact (λ ms. tt)
+-- the tables of accounts are read exactly
+account_type_is_exact : IsExactType (table_type account_table) (table_in account_table account_reading)
+account_type_is_exact = table_type_is_exact account_table account_reading account_is_exact (λ ms. tt)
 
 -- an account that was read with its name has its key as name, which is plain, and the table is that of the account
 read_entry_stands : (key : List ℕ) (d : Data) (entry : List ℕ × AccountFields) → named_account_of key d ≡ Ok entry
@@ -50,7 +51,7 @@ read_entry_stands : (key : List ℕ) (d : Data) (entry : List ℕ × AccountFiel
 unfolding named_account_of
 read_entry_stands key d entry h =
     let (name, said, h0) = each_step_gives_value (plain_name_of key) _ entry h in
-    let (fields, read, h1) = each_step_gives_value (table_in account_table d) _ entry h0 in
+    let (fields, read, h1) = each_step_gives_value (table_in account_table account_reading d) _ entry h0 in
     let (same, plain) = read_name_stands key name said in
     subst (λ e. (key ≡ e.0) × IsPlainName e.0 × IsTableIn account_table d e.1) (same_ok_has_same_value (name, fields) entry h1)
     (same, plain, account_type_is_exact.found d fields read)
@@ -59,7 +60,7 @@ read_entry_stands key d entry h =
 entry_follows : (key : List ℕ) (d : Data) → FollowsDemands (account_demands key d) (named_account_of key d)
 unfolding named_account_of account_demands
 entry_follows key d =
-    named (is_plain_name key) key (table_in account_table d) (λ name fields. (name, fields)) ((table_type account_table).demands d)
+    named (is_plain_name key) key (table_in account_table account_reading d) (λ name fields. (name, fields)) ((table_type account_table).demands d)
     (account_type_is_exact.follows d)
   where
     named : {A B : Type 0} (plain : Bool) (name : List ℕ) (rest : Result A BookWhy) (make : List ℕ → A → B)

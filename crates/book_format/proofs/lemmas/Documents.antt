@@ -11,6 +11,7 @@ use Rattle.book_format.specs.inner.Steps.{pass_or}
 use Rattle.book_format.specs.Rows.{IsTable, table_demands}
 use Rattle.book_format.specs.RowKinds.{HasSome}
 use Rattle.book_format.specs.inner.Rows.{read_table}
+use Rattle.book_format.specs.inner.Tables.{document_reading}
 use Rattle.book_format.specs.Tables.{document_table, TopFields}
 use Rattle.book_format.specs.Trees.{IsBookTree}
 use Rattle.book_format.specs.declared.fault.BookWhy.TheVariants.{Format}
@@ -22,8 +23,8 @@ use Rattle.book_format.proofs.lemmas.RowKinds.{row_is_exact, optional_is_exact}
 use Rattle.book_format.proofs.lemmas.FaultPlaces.{at_top_keeps_value, at_top_follows}
 use Rattle.book_format.proofs.lemmas.AccountTables.{read_optional_accounts_stand, optional_accounts_are_read, optional_accounts_follow}
 
--- the table of the document's own keys is exact
-document_is_exact : IsExactTable document_table
+-- the table of the document's own keys is read exactly
+document_is_exact : IsExactTable document_table document_reading
 document_is_exact = record {
   gives = λ vs. refl;
   keeps = λ t. refl;
@@ -47,7 +48,7 @@ read_top_stands ms top h =
     let (u, format, read) = each_step_gives_value (pass_or (is_one (option_and_then as_integer (get_member (codes "format") ms))) Format) _
     top h in
     let is_format = value_is_one (get_member (codes "format") ms) (test_was_passed _ Format u format) in
-    read_table_stands document_table document_is_exact ms top (is_format, tt) read
+    read_table_stands document_table document_reading document_is_exact ms top (is_format, tt) read
 
 -- the tree from which a book is read is that of the book
 pub read_book_tree_stands : (ms : Members) (book : BookFields) → book_of ms ≡ Ok book → IsBookTree ms book
@@ -67,7 +68,7 @@ unfolding book_of top_of
 book_tree_is_read ms book h =
     rw (
       h.top.marks.0,
-      table_is_read document_table document_is_exact ms _ h.top,
+      table_is_read document_table document_reading document_is_exact ms _ h.top,
       optional_accounts_are_read h.named book.accounts h.accounts,
     )
     refl
@@ -77,7 +78,7 @@ top_follows : (ms : Members) → FollowsDemands (top_demands ms) (top_of ms)
 unfolding top_demands top_of
 top_follows ms =
     test_follows (is_one (option_and_then as_integer (get_member (codes "format") ms))) Format (table_demands document_table ms)
-    (λ u. read_table document_table ms) (λ is. table_follows document_table document_is_exact ms)
+    (λ u. read_table document_table document_reading ms) (λ is. table_follows document_table document_reading document_is_exact ms)
 
 -- an optional table is what is at its key
 optional_table_is_there : (key : List ℕ) (ms : Members) (o : Option Members) → HasSome key any_table_type ms o

@@ -129,6 +129,6 @@ name_list_follows (array list) = test_follows (are_texts list) Key
     (λ typed. few_names_follow (nat_le (item_count list) max_names) (are_names list) (names_in list) (names_follow list typed))
 name_list_follows d = refl
 
--- the type of lists of names reads the lists of plain names, and only those
-pub name_list_is_exact : IsExactType name_list_type
+-- a value is read as a list of names if and only if it is one
+pub name_list_is_exact : IsExactType name_list_type name_list_in
 name_list_is_exact = record { found = read_name_list_stands; held = name_list_is_read; follows = name_list_follows }

@@ -10,7 +10,7 @@ use Rattle.toml.specs.Data.{Data, string, integer, as_str, as_table}
 use Rattle.otp_core.specs.Hash.{hash_name, hash_named}
 use Rattle.otp_core.specs.declared.hash.OtpHash.{OtpHash}
 use Rattle.otp_core.specs.declared.hash.OtpHash.TheVariants.{Sha1, Sha256, Sha512}
-use Rattle.book_format.specs.inner.Values.{number_in, signed_in, decoded, bytes_in, text_in, hash_in}
+use Rattle.book_format.specs.inner.Values.{number_in, signed_in, decoded, bytes_in, text_in, hash_in, table_of}
 use Rattle.book_format.specs.ValueTypes.{IsNumber, number_type, IsSigned, signed_type, IsHexText, are_decoded, bytes_type, hash_type, any_table_type}
 use Rattle.book_format.specs.Demands.{must}
 use Rattle.book_format.specs.declared.fault.BookWhy.{BookWhy}
@@ -43,8 +43,8 @@ module _ (why : BookWhy) (least most : ℕ) where
   number_follows (integer (negsuc n)) = refl
   number_follows d = refl
 
-  -- the type of whole numbers in a range is exact
-  pub number_is_exact : IsExactType (number_type why least most)
+  -- whole numbers in a range are read exactly
+  pub number_is_exact : IsExactType (number_type why least most) (number_in why least most)
   number_is_exact = record { found = read_number_stands; held = number_is_read; follows = number_follows }
 
 -- a number in its range is that of the value that it is written as
@@ -71,8 +71,8 @@ module _ (why : BookWhy) (most : ℕ) where
   signed_follows (integer z) = value_or_follows (nat_le (nat_abs z) most) z why
   signed_follows d = refl
 
-  -- the type of signed numbers in a range is exact
-  pub signed_is_exact : IsExactType (signed_type why most)
+  -- signed numbers in a range are read exactly
+  pub signed_is_exact : IsExactType (signed_type why most) (signed_in why most)
   signed_is_exact = record { found = read_signed_stands; held = signed_is_read; follows = signed_follows }
 
 module _ (why : BookWhy) (least most : ℕ) where
@@ -108,8 +108,8 @@ module _ (why : BookWhy) (least most : ℕ) where
       decoded_follows (Err e) = refl
   bytes_follow d = refl
 
-  -- the type of so many bytes in hexadecimal is exact
-  pub bytes_are_exact : IsExactType (bytes_type why least most)
+  -- so many bytes in hexadecimal are read exactly
+  pub bytes_are_exact : IsExactType (bytes_type why least most) (bytes_in why least most)
   bytes_are_exact = record { found = read_bytes_stand; held = bytes_are_read; follows = bytes_follow }
 
 -- the hexadecimal text of the bytes gives them back
@@ -167,10 +167,10 @@ unfolding hash_in text_in
 hash_follows d = required_follows Key (λ name. must (is_some (hash_named name)) Token ∷ []) (as_str d)
     (λ name. ok_or (hash_named name) Token) (λ name. presence_follows Token (hash_named name))
 
--- the type of hash functions is exact
-pub hash_is_exact : IsExactType hash_type
+-- hash functions are read exactly
+pub hash_is_exact : IsExactType hash_type hash_in
 hash_is_exact = record { found = read_hash_stands; held = λ d h is. rw is (hash_name_is_read h); follows = hash_follows }
 
 -- a value is read as a table if and only if it is that table
-pub any_table_is_exact : IsExactType any_table_type
+pub any_table_is_exact : IsExactType any_table_type table_of
 any_table_is_exact = record { found = read_members_stand; held = λ d ms is. rw is refl; follows = λ d. presence_follows Key (as_table d) }

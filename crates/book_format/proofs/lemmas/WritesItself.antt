@@ -23,16 +23,12 @@ use Rattle.book_format.specs.RowKinds.{HasSome, table_type, bound_at}
 use Rattle.book_format.specs.Tables.{keys_table, sha1_keys_table, sha256_keys_table, token_type, account_table, document_table}
 use Rattle.book_format.specs.Tokens.{hotp_table, totp_table}
 use Rattle.book_format.specs.Put.{put_some}
+use Rattle.book_format.specs.inner.Rows.{◌&◌}
 use Rattle.book_format.specs.Trees.{AreAccountTrees, IsBookTree}
 use Rattle.book_format.specs.Written.{accounts_tree, book_tree}
 use Rattle.book_format.specs.declared.account.MechKeys.{MechKeys}
 use Rattle.book_format.proofs.lemmas.ValueTypes.{ComesBack, written_number_stands, written_bytes_stand}
 use Rattle.book_format.proofs.lemmas.Put.{HasAll, are_distinct, put_all_is_found, empty_table_has_none, all_known, put_all_keeps_known}
-
-infixr 3 ◌&◌
--- two facts together: with it, what holds of the rows of a table is listed row by row
-abbrev ◌&◌ : {A B : Type 0} → A → B → A × B
-fact & more = (fact, more)
 
 -- a table is written as that of its T, if what is written at each key makes it so
 table_writes_itself : {T : Type 0} (t : Table T) (x : T) → are_distinct (table_entries t x) ≡ true

@@ -10,6 +10,7 @@ use Rattle.book_format.specs.FirstFault.{is_one}
 use Rattle.book_format.specs.inner.Steps.{◌>>=◌, pass_or}
 use Rattle.book_format.specs.inner.Values.{plain_name_of}
 use Rattle.book_format.specs.inner.Rows.{read_table, table_in}
+use Rattle.book_format.specs.inner.Tables.{account_reading, document_reading}
 use Rattle.book_format.specs.declared.fault.BookFault.{BookFault}
 use Rattle.book_format.specs.declared.fault.BookWhy.{BookWhy}
 use Rattle.book_format.specs.declared.fault.BookWhy.TheVariants.{Toml, Format}
@@ -18,7 +19,7 @@ use Rattle.book_format.specs.declared.fault.BookWhy.TheVariants.{Toml, Format}
 unfoldable pub named_account_of : List ℕ → Data → Result (List ℕ × AccountFields) BookWhy
 named_account_of key d = do
   name ← plain_name_of key
-  fields ← table_in account_table d
+  fields ← table_in account_table account_reading d
   Ok (name, fields)
 
 -- a fault in the account of this index
@@ -48,7 +49,7 @@ accounts_of_table (Some ms) = accounts_from 0 ms
 unfoldable pub top_of : Members → Result TopFields BookWhy
 top_of ms = do
   format ← pass_or (is_one (option_and_then as_integer (get_member (codes "format") ms))) Format
-  read_table document_table ms
+  read_table document_table document_reading ms
 
 -- the book of a document, or the first fault: those of its own keys come before those of accounts
 unfoldable pub book_of : Members → Result BookFields BookFault

@@ -1,9 +1,10 @@
--- How values are read. Types of values name these readings in their field `from_tree`. Which text is a book's does not depend on this
--- field.
+-- How values are read, one function for each type of values.
 use Rattle.std.specs.Prelude.{ℕ, ◌&&◌, nat_le, ℤ, pos, negsuc, nat_abs, Bool, if◌then◌else◌, List, [], ◌∷◌, length, ok_or, Result, Ok, Err}
 use Rattle.hex.specs.Hex.{decode_of}
 use Rattle.toml.specs.Data.{Data, string, integer, array, Items, no_items, item, Members, as_str, as_table}
 use Rattle.otp_core.specs.Hash.{hash_named}
+use Rattle.otp_core.specs.Ranges.{bounds_of}
+use Rattle.otp_core.specs.declared.fault.Setting.{Setting}
 use Rattle.otp_core.specs.declared.hash.OtpHash.{OtpHash}
 use Rattle.book_format.specs.Account.{max_names}
 use Rattle.book_format.specs.Names.{is_plain_name, are_texts, item_count}
@@ -20,6 +21,10 @@ unfoldable pub number_in : (why : BookWhy) → (least most : ℕ) → Data → R
 number_in why least most (integer (pos n)) = value_or (nat_le least n && nat_le n most) n why
 number_in why least most (integer (negsuc n)) = Err why
 number_in why least most d = Err Key
+
+-- a setting of a token, within its bounds
+abbrev pub setting_in : Setting → Data → Result ℕ BookWhy
+setting_in setting = number_in Token (bounds_of setting).0 (bounds_of setting).1
 
 -- a whole number at most `most` above or below 0
 unfoldable pub signed_in : (why : BookWhy) → (most : ℕ) → Data → Result ℤ BookWhy

@@ -1,14 +1,14 @@
 //! Reads the accounts of a book.
-ghost use Rattle.std.specs.Prelude.{◌≡◌, ◌≤◌, codes, [], Ok, Some};
-ghost use Rattle.toml.specs.Data.{get_member};
+ghost use Rattle.std.specs.Prelude.{◌≡◌, ◌≤◌, codes, [], Some};
 ghost use Rattle.toml.specs.View.{view, items_view, table_view};
 ghost use Rattle.book_format.specs.inner.Values.{plain_name_of, names_in, names_of, name_list_in};
 ghost use Rattle.book_format.specs.Names.{are_texts};
 ghost use Rattle.book_format.specs.inner.Steps.{IsReadAs, IsReadOrFault};
 ghost use Rattle.book_format.specs.inner.Books.{named_account_of, accounts_from, in_account};
-ghost use Rattle.book_format.specs.RowKinds.{table_type};
-ghost use Rattle.book_format.specs.inner.Rows.{read_or, read_some, table_in};
-ghost use Rattle.book_format.specs.Tables.{keys_table, token_type, account_table};
+ghost use Rattle.book_format.specs.inner.Rows.{read_or_default, read_some, table_in};
+ghost use Rattle.book_format.specs.inner.Tables.{keys_reading, account_reading};
+ghost use Rattle.book_format.specs.inner.Tokens.{token_in};
+ghost use Rattle.book_format.specs.Tables.{keys_table, account_table};
 ghost use Rattle.book_format.specs.declared.fault.BookWhy.TheVariants.{NoMemory};
 
 use crate::account::{Account, MechKeys, SHA1_KEY_LEN, SHA256_KEY_LEN};
@@ -84,7 +84,7 @@ fn plain_name_of(text: &str) -> Result<PlainName, BookWhy>
 // fault of the first of `sha1`, `sha256`, `act_as` and `token` at fault.
 #[tactic(auto, unfolding(crate::specs::inner::Rows::table_in, crate::specs::inner::Rows::read_table))]
 fn account_of(alloc: Global, value: &Value) -> Result<Account, BookWhy>
-    ensures { IsReadAs (λ a. a) result (table_in account_table (view value.now)) }
+    ensures { IsReadAs (λ a. a) result (table_in account_table account_reading (view value.now)) }
 {
     let table = table_of(value)?;
     check_keys(table, &["sha1", "sha256", "act_as", "token"])?;
@@ -103,7 +103,7 @@ fn account_of(alloc: Global, value: &Value) -> Result<Account, BookWhy>
 // What is kept for a mechanism, or None if its key is missing. Errors: those of `mech_of`.
 fn keys_if_any(len: usize, table: &Table, key: &str) -> Result<Option<MechKeys>, BookWhy>
     requires { len ≤ 64 }
-    ensures { result ≡ read_some key.now (table_type (keys_table len)) (table_view table.now) }
+    ensures { result ≡ read_some key.now (table_in (keys_table len) (keys_reading len)) (table_view table.now) }
 {
     match at(table, key) {
         Some(value) => Ok(Some(mech_of(len, value)?)),
@@ -113,7 +113,7 @@ fn keys_if_any(len: usize, table: &Table, key: &str) -> Result<Option<MechKeys>,
 
 // The token, or None if there is no key `token`. Errors: those of `token_of`.
 fn token_if_any(table: &Table) -> Result<Option<Token>, BookWhy>
-    ensures { result ≡ read_some (codes "token") token_type (table_view table.now) }
+    ensures { result ≡ read_some (codes "token") token_in (table_view table.now) }
 {
     match at(table, "token") {
         Some(value) => Ok(Some(token_of(value)?)),
@@ -123,7 +123,7 @@ fn token_if_any(table: &Table) -> Result<Option<Token>, BookWhy>
 
 // The names that the account may act as; none if there is no key `act_as`. Errors: those of `act_as_of`.
 fn act_as_if_any(alloc: Global, table: &Table) -> Result<Vec<PlainName>, BookWhy>
-    ensures { IsReadAs (λ v. v.items) result (read_or (Ok []) name_list_in (get_member (codes "act_as") (table_view table.now))) }
+    ensures { IsReadAs (λ v. v.items) result (read_or_default [] (codes "act_as") name_list_in (table_view table.now)) }
 {
     match at(table, "act_as") {
         Some(value) => act_as_of(alloc, value),

@@ -6,7 +6,6 @@ ghost use Rattle.toml.specs.Data.{get_member};
 ghost use Rattle.toml.specs.View.{view, table_view};
 ghost use Rattle.book_format.specs.Keys.{has_only};
 ghost use Rattle.hex.specs.Hex.{decode_of};
-ghost use Rattle.book_format.specs.ValueTypes.{number_type, bytes_type};
 ghost use Rattle.book_format.specs.inner.Values.{number_in, bytes_in, decoded, text_in, table_of};
 ghost use Rattle.book_format.specs.inner.Steps.{seen, pass_or};
 ghost use Rattle.book_format.specs.RowKinds.{bound_at};
@@ -108,7 +107,7 @@ pub(crate) fn number_at(
     most: u64,
     why: BookWhy,
 ) -> Result<u64, BookWhy>
-    ensures value { result ≡ read_at key.now (number_type why least most) (table_view table.now) }
+    ensures value { result ≡ read_at key.now (number_in why least most) (table_view table.now) }
     ensures least { IfOk result (λ n. least ≤ n) }
     ensures most { IfOk result (λ n. n ≤ most) }
     ensures at { IfOk result (λ n. bound_at key.now (table_view table.now) ≡ n) }
@@ -143,7 +142,7 @@ pub(crate) fn bytes_at(
     why: BookWhy,
 ) -> Result<Tag, BookWhy>
     requires { most ≤ 64 }
-    ensures value { seen (λ v. v.items) result ≡ read_at key.now (bytes_type why least most) (table_view table.now) }
+    ensures value { seen (λ v. v.items) result ≡ read_at key.now (bytes_in why least most) (table_view table.now) }
     ensures least { IfOk result (λ bytes. least ≤ length bytes.items) }
     ensures most { IfOk result (λ bytes. length bytes.items ≤ most) }
 {

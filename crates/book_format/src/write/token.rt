@@ -1,5 +1,5 @@
 //! Writes a token as TOML values.
-ghost use Rattle.std.specs.Prelude.{◌≡◌, ◌≤◌, None, IfOk, OnOk, codes, option_map, pos};
+ghost use Rattle.std.specs.Prelude.{◌≡◌, None, IfOk, OnOk, codes, option_map, pos};
 ghost use Rattle.std.specs.Option.{ForSome};
 ghost use Rattle.toml.specs.Data.{integer};
 ghost use Rattle.toml.specs.View.{view, table_view};

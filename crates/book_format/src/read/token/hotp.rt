@@ -6,6 +6,7 @@ ghost use Rattle.otp_core.specs.declared.token.kinds.TokenFields.TheVariants.{Ho
 ghost use Rattle.book_format.specs.Keys.{is_among, has_only};
 ghost use Rattle.book_format.specs.inner.Steps.{pass_or};
 ghost use Rattle.book_format.specs.inner.Rows.{read_table};
+ghost use Rattle.book_format.specs.inner.Tokens.{hotp_reading};
 ghost use Rattle.book_format.specs.Rows.{table_keys};
 ghost use Rattle.book_format.specs.Tokens.{hotp_table};
 ghost use Rattle.book_format.specs.declared.fault.BookWhy.TheVariants as why;
@@ -23,7 +24,7 @@ use toml::Table;
 /// missing or its value has the wrong type, else `Token` if the value is out of its range.
 #[tactic(auto, unfolding(crate::specs::inner::Rows::read_table))]
 pub(crate) fn hotp_of(table: &Table) -> Result<HotpFields, BookWhy>
-    ensures value { result ≡ read_table hotp_table (table_view table.now) }
+    ensures value { result ≡ read_table hotp_table hotp_reading (table_view table.now) }
     ensures range { IfOk result IsHotpInRange }
 {
     check_hotp_keys(table)?;

@@ -1,12 +1,11 @@
 //! Reads the settings that are numbers within bounds, and makes those that have types of their own, from values in their ranges.
-ghost use Rattle.std.specs.Prelude.{◌≡◌, ◌≤◌, ◌⊎◌, Ok, IfOk, length};
-ghost use Rattle.toml.specs.Data.{get_member};
+ghost use Rattle.std.specs.Prelude.{◌≡◌, ◌≤◌, ◌⊎◌, IfOk, length};
 ghost use Rattle.toml.specs.View.{view, table_view};
 ghost use Rattle.otp_core.specs.Fault.{setting_name};
 ghost use Rattle.otp_core.specs.Ranges.{IsInBounds, min_secret_len, IsDigitCount, IsMoment};
-ghost use Rattle.book_format.specs.ValueTypes.{setting_type};
 ghost use Rattle.book_format.specs.RowKinds.{bound_at};
-ghost use Rattle.book_format.specs.inner.Rows.{read_at, read_or};
+ghost use Rattle.book_format.specs.inner.Values.{setting_in};
+ghost use Rattle.book_format.specs.inner.Rows.{read_at, read_or_default};
 
 use crate::fault::BookWhy;
 use crate::read::field::{at, number_at, number_of};
@@ -17,7 +16,7 @@ use toml::{Table, Value};
 /// The setting at the key with its name. Errors: `Key` if the key is missing or its value has the wrong type; `Token` if it is a
 /// number that the setting may not be.
 pub(crate) fn setting_at(table: &Table, setting: Setting) -> Result<u64, BookWhy>
-    ensures value { result ≡ read_at (setting_name setting) (setting_type setting) (table_view table.now) }
+    ensures value { result ≡ read_at (setting_name setting) (setting_in setting) (table_view table.now) }
     ensures range { IfOk result (IsInBounds setting) }
     ensures at { IfOk result (λ n. bound_at (setting_name setting) (table_view table.now) ≡ n) }
 {
@@ -28,7 +27,7 @@ pub(crate) fn setting_at(table: &Table, setting: Setting) -> Result<u64, BookWhy
 /// The setting at the key with its name, or 0 if the key is missing. Errors: `Key` if the value has the wrong type; `Token` if it
 /// is a number that the setting may not be.
 pub(crate) fn setting_or_zero(table: &Table, setting: Setting) -> Result<u64, BookWhy>
-    ensures value { result ≡ read_or (Ok 0) (setting_type setting).from_tree (get_member (setting_name setting) (table_view table.now)) }
+    ensures value { result ≡ read_or_default 0 (setting_name setting) (setting_in setting) (table_view table.now) }
     ensures range { IfOk result (λ n. IsInBounds setting n ⊎ (n ≡ 0)) }
 {
     match at(table, setting.name()) {
@@ -39,7 +38,7 @@ pub(crate) fn setting_or_zero(table: &Table, setting: Setting) -> Result<u64, Bo
 
 /// The value as a setting. Errors: `Key` if it has the wrong type; `Token` if it is a number that the setting may not be.
 pub(crate) fn setting_of(value: &Value, setting: Setting) -> Result<u64, BookWhy>
-    ensures value { result ≡ (setting_type setting).from_tree (view value.now) }
+    ensures value { result ≡ setting_in setting (view value.now) }
     ensures range { IfOk result (IsInBounds setting) }
 {
     let (least, most) = setting.bounds();

@@ -8,9 +8,10 @@ ghost use Rattle.otp_core.specs.TokenRanges.{IsTotpInRange};
 ghost use Rattle.otp_core.specs.declared.fault.Setting.TheVariants.{Last};
 ghost use Rattle.otp_core.specs.declared.token.kinds.TokenFields.TheVariants.{Totp};
 ghost use Rattle.book_format.specs.Keys.{is_among, has_only};
-ghost use Rattle.book_format.specs.ValueTypes.{setting_type, signed_type, hash_type};
 ghost use Rattle.book_format.specs.inner.Steps.{pass_or};
+ghost use Rattle.book_format.specs.inner.Values.{setting_in, signed_in, hash_in};
 ghost use Rattle.book_format.specs.inner.Rows.{read_at, read_some, read_table};
+ghost use Rattle.book_format.specs.inner.Tokens.{totp_reading};
 ghost use Rattle.book_format.specs.Rows.{table_keys};
 ghost use Rattle.book_format.specs.Tokens.{totp_table};
 ghost use Rattle.book_format.specs.declared.fault.BookWhy.TheVariants as why;
@@ -29,7 +30,7 @@ use toml::Table;
 /// or its value has the wrong type, else `Token` if the value is out of its range.
 #[tactic(auto, unfolding(crate::specs::inner::Rows::read_table))]
 pub(crate) fn totp_of(table: &Table) -> Result<TotpFields, BookWhy>
-    ensures value { result ≡ read_table totp_table (table_view table.now) }
+    ensures value { result ≡ read_table totp_table totp_reading (table_view table.now) }
     ensures range { IfOk result IsTotpInRange }
 {
     check_totp_keys(table)?;
@@ -112,7 +113,7 @@ pub(crate) fn totp_token(fields: TotpFields) -> Token
 // name.
 #[tactic(auto, unfolding(crate::specs::inner::Values::hash_in))]
 fn hash_at(table: &Table, key: &str) -> Result<OtpHash, BookWhy>
-    ensures { result ≡ read_at key.now hash_type (table_view table.now) }
+    ensures { result ≡ read_at key.now hash_in (table_view table.now) }
 {
     let name = text_at(table, key)?;
     OtpHash::of_name(name).ok_or(BookWhy::Token)
@@ -120,7 +121,7 @@ fn hash_at(table: &Table, key: &str) -> Result<OtpHash, BookWhy>
 
 // The last step, or None if there is no key `last`. Errors: `Key` if it has the wrong type; `Token` if it is out of its range.
 fn last_if_any(table: &Table) -> Result<Option<u64>, BookWhy>
-    ensures value { result ≡ read_some (codes "last") (setting_type Last) (table_view table.now) }
+    ensures value { result ≡ read_some (codes "last") (setting_in Last) (table_view table.now) }
     ensures range { IfOk result (λ last. ForSome last (IsInBounds Last)) }
 {
     match at(table, "last") {
@@ -133,7 +134,7 @@ fn last_if_any(table: &Table) -> Result<Option<u64>, BookWhy>
 // `Token` if the drift is greater.
 #[tactic(auto, unfolding(crate::specs::inner::Values::signed_in))]
 fn drift_at(table: &Table, key: &str, most: u64) -> Result<i64, BookWhy>
-    ensures value { result ≡ read_at key.now (signed_type why.Token most) (table_view table.now) }
+    ensures value { result ≡ read_at key.now (signed_in why.Token most) (table_view table.now) }
     ensures range { IfOk result (λ drift. nat_abs drift ≤ most) }
 {
     let drift = required(table, key)?.as_integer().ok_or(BookWhy::Key)?;
