@@ -5,9 +5,10 @@ Usage: machine.py PROGRAM [TEST ..]
 
 A full device, streams that are closed, a pipe that nobody reads, a folder in which nothing can be written, a device without room for the
 book, a clock that is set back, or is before 1970 or after the year 9999, a random file that ends, and too few descriptors. TERM, INT, HUP
-and KILL before each call by which a command changes what others see, and while it waits for input; twenty runs of each command at once, and
-ten times twenty of all together. Each run ends with the status and the fault in the table, has printed what it says, and leaves that book
-and no other file. When root runs the script, the program runs as the user nobody in tests of permissions. Needs `cc`.
+and KILL before each call by which a command changes what others see, and while it waits for input; STOP and CONT, by which nothing is
+lost, while it waits for input and at random moments; twenty runs of each command at once, and ten times twenty of all together. Each run
+ends with the status and the fault in the table, has printed what it says, and leaves that book and no other file. When root runs the
+script, the program runs as the user nobody in tests of permissions. Needs `cc`.
 """
 import collections
 import concurrent.futures
@@ -20,6 +21,7 @@ import re
 import resource
 import shutil
 import signal
+import time
 from collections.abc import Callable
 from typing import NamedTuple
 
@@ -27,11 +29,11 @@ import shims
 import suite
 from checks import equal, holds
 from command_table import (
-    BOOK, LIMIT_100, audited, book_of, command_of, commands, is_front, is_kept, left, login_log, new_book, prepare, printed_begins_clean,
-    run, with_account,
+    BOOK, LIMIT_100, audited, book_of, command_of, commands, is_done, is_front, is_kept, left, login_log, new_book, prepare,
+    printed_begins_clean, run, with_account,
 )
 from expected import GONE, numbered
-from processes import Answer, Running
+from processes import Answer, Running, whole
 from suite import NONCES, PROGRAM, ROOT, as_nobody, each, fault_text, nobody, totp
 from wrong_calls import CHANGES, Turns
 
@@ -248,6 +250,8 @@ def few_descriptors(folder):
 
 
 SIGNALS = [signal.SIGTERM, signal.SIGINT, signal.SIGHUP, signal.SIGKILL]
+# How many runs of each command are stopped at random moments.
+STOPPED = 5
 
 
 def made_by(calls):
@@ -312,6 +316,42 @@ def signals_while_waiting(folder):
             equal(book_of(here.folder), command.books[-1], "the book")
             equal(left(here.folder), files, "the files that are left")
             goes_on(here, command.books[-1], files)
+
+
+def stopped_while_waiting(folder):
+    """A run that is stopped while it waits for input, and is sent its next line or the end of its input before it goes on, prints and saves
+    what a run does that is not stopped."""
+    here = Machine(folder)
+    for trial, name in each(["verify", "login", "hall"]):
+        with trial:
+            command = command_of(name)
+            prepare(here.folder, command)
+            run_of_command = Running(command.in_folder(here.folder))
+            for line in command.text.splitlines(keepends=True):
+                run_of_command.waits()
+                with run_of_command.stopped():
+                    run_of_command.send(line)
+            run_of_command.waits()
+            with run_of_command.stopped():
+                run_of_command.close()
+            run_of_command.ends(0, command.printed)
+            holds(is_done(here.folder, command), name, "the book, and what else is left", book_of(here.folder), left(here.folder))
+
+
+def stopped_at_random(folder):
+    """A run that is stopped again and again, at random moments, prints and saves what a run does that is not stopped."""
+    here, stops = Machine(folder), 0
+    for trial, ((name, command), _) in each(itertools.product(named().items(), range(STOPPED))):
+        with trial:
+            prepare(here.folder, command)
+            run_of_command = whole(command.in_folder(here.folder), command.text)
+            while run_of_command.process.poll() is None:
+                with run_of_command.stopped():
+                    stops += 1
+                time.sleep(random.uniform(0, 0.0005))
+            run_of_command.ends(0, command.printed)
+            holds(is_done(here.folder, command), name, "the book, and what else is left", book_of(here.folder), left(here.folder))
+    print(f"machine.py: {len(named()) * STOPPED} runs stopped {stops} times")
 
 
 def together(here, started):
@@ -461,6 +501,8 @@ TESTS = [
     few_descriptors,
     signals,
     signals_while_waiting,
+    stopped_while_waiting,
+    stopped_at_random,
     twenty_at_once,
     all_at_once,
     clocks_that_go_back,

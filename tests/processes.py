@@ -1,11 +1,13 @@
 """Runs of commands: whole ones, and ones that wait for more input. Also what can be seen of a process from outside. If a test fails, `last`
 says which command was run last, with which input, and what it answered."""
+import contextlib
 import os
 import select
 import shlex
+import signal
 import subprocess
 import time
-from collections.abc import Callable
+from collections.abc import Callable, Iterator
 from typing import Any, NamedTuple, NoReturn
 
 from checks import cut, equal, fail, shown
@@ -132,8 +134,19 @@ class Running:
         equal(self.process.poll(), None, "the status of a run that should go on", _command(self.words), "after the input", self.given)
 
     def waits(self) -> None:
-        """Waits until the run sleeps, as it does while it waits for input or for a lock."""
-        until(lambda: sleeps(self.process.pid), "the run should wait", _command(self.words), "after the input", self.given)
+        """Waits until the run sleeps, as it does while it waits for input or for a lock. It must not end."""
+        about = [_command(self.words), "after the input", self.given]
+        until(lambda: self.process.poll() is not None or sleeps(self.process.pid), "the run should wait", *about)
+        self.goes_on()
+
+    @contextlib.contextmanager
+    def stopped(self) -> Iterator[None]:
+        """Stops the run by STOP, unless it has ended, and lets it go on by CONT at the end of the context."""
+        if self.process.poll() is None:
+            os.kill(self.process.pid, signal.SIGSTOP)
+            os.waitid(os.P_PID, self.process.pid, os.WSTOPPED | os.WEXITED | os.WNOWAIT)
+        yield
+        self.process.send_signal(signal.SIGCONT)
 
     def end(self, text: str | bytes = b"") -> Answer:
         """Sends the run the rest of its input, if any, and waits for its end. Returns its answer, with the output that is not read yet."""
