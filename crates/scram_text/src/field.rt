@@ -98,7 +98,7 @@ pub(crate) fn channel_of(part: &[u8]) -> Option<ArrayVec<u8, MAX_CHANNEL_LEN>>
     ensures class { IfSome result (λ channel. IsField max_channel_len channel.items) }
 {
     let text = cut::headed(part, b'c')?;
-    bytes_of::<MAX_CHANNEL_LEN, 1536>(text)
+    bytes_of::<MAX_CHANNEL_LEN, MAX_CHANNEL_LEN>(text)
 }
 
 /// The bytes of a part that is a letter, `=` and the base64 of 1 to 64 bytes.
@@ -121,12 +121,12 @@ pub(crate) fn salt_of(part: &[u8]) -> Option<Salt>
     Salt::new(bytes.as_slice())
 }
 
-// The 1 to `MOST` bytes whose base64 this is, or None if it is that of no such bytes. The base64 of `MOST` bytes decodes to `ROOM` bytes,
-// if those of its padding count too, and a longer text is refused.
+// The 1 to `MOST` bytes whose base64 this is, or None if it is that of no such bytes. `ROOM` bytes hold whatever a text as long as the
+// base64 of `MOST` bytes decodes to, and a longer text is refused.
 #[tactic(auto, using(crate::proofs::lemmas::Base64::field_has_its_length))]
 fn bytes_of<const MOST: usize, const ROOM: usize>(text: &[u8]) -> Option<ArrayVec<u8, MOST>>
-    requires most { MOST ≤ max_channel_len }
     requires room { (MOST + 2) / 3 * 3 ≤ ROOM }
+    requires most { ROOM ≤ max_channel_len }
     ensures none { IfNone result (SpellsField MOST text.now → ⊥) }
     ensures spelled { IfSome result (λ field. text.now ≡ base64 field.items) }
     ensures class { IfSome result (λ field. IsField MOST field.items) }

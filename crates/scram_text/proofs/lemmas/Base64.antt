@@ -96,11 +96,6 @@ field_has_its_length most text bytes spelled field =
     let whole : length text ≡ length (base64 bytes) = ap length spelled in
     omega (arith, whole, length-base64 bytes, field.at_most)
 
--- a text that is no field of some bytes is no field of fewer
-pub field_of_fewer_is_field : (fewer most : ℕ) (text : List ℕ) → fewer ≤ most → SpellsField fewer text → SpellsField most text
-field_of_fewer_is_field fewer most text less (bytes, spelled, field) =
-    (bytes, spelled, record { at_least = field.at_least; at_most = omega (arith, field.at_most, less); each = field.each })
-
 -- 1 to `most` bytes are what a field may hold
 pub bytes_are_field : (most : ℕ) (bytes : List ℕ) → IsBytes bytes → 1 ≤ length bytes → length bytes ≤ most → IsField most bytes
 bytes_are_field most bytes fits least within = record { at_least = least; at_most = within; each = fits }
