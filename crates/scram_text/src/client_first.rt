@@ -14,7 +14,7 @@ ghost use Rattle.scram_text.specs.Limits.{max_message_len};
 ghost use Rattle.scram_text.specs.inner.Pieces.{most_parts};
 ghost use Rattle.scram_text.specs.Name.{IsSaslName};
 ghost use Rattle.scram_text.specs.Parts.{parts, is_flag, authzid_text};
-ghost use Rattle.scram_text.specs.Messages.{ClientFirstParts, client_first_text, IsClientFirst};
+ghost use Rattle.scram_text.specs.Messages.{ClientFirstParts, gs2_header, client_first_text, IsClientFirst};
 ghost use Rattle.scram_text.specs.Faults.{IsClientFirstFault, IsAuthzid, fault, places_with_mext};
 ghost use Rattle.scram_text.specs.Shown.{ShowsClientFirst, flag_text};
 ghost use Rattle.scram_text.specs.Draft.{IsDraftOf};
@@ -249,9 +249,10 @@ fn bare_pieces_of(bare: &[u8]) -> Result<BarePieces<'_>, TextFault>
 }
 
 /// Appends a client-first message (RFC 5802, section 7) to `out`: the flag, the spellings of the name to act as and of the name,
-/// the nonce, and the extensions, which are attr-vals with commas between them, or empty. Errors: 16 Unwritable if the flag's name
-/// or the extensions are outside their class, else 17 OverLimit if the message would have more than 2048 bytes, else 99 NoMemory,
-/// only if `out` had no room reserved for the message. After an error `out` is unchanged.
+/// the nonce, and the extensions, which are attr-vals with commas between them, or empty. Returns the length of its gs2-header, after
+/// which its bare message begins. Errors: 16 Unwritable if the flag's name or the extensions are outside their class, else 17
+/// OverLimit if the message would have more than 2048 bytes, else 99 NoMemory, only if `out` had no room reserved for the message.
+/// After an error `out` is unchanged.
 pub fn write_client_first<A: Allocator>(
     flag: Flag<'_>,
     authzid: Option<&PlainName>,
@@ -259,15 +260,19 @@ pub fn write_client_first<A: Allocator>(
     nonce: &NoncePart,
     extensions: &[u8],
     out: &mut Vec<u8, A>,
-) -> Result<(), WriteFault>
-    ensures { IsMessageWritten result out.old out.new client_first_text IsClientFirst
+) -> Result<usize, WriteFault>
+    ensures written { IsMessageWritten result out.old out.new client_first_text IsClientFirst
         (client_first_of flag.entry (option_copied authzid.entry) name.now nonce.now extensions.now)
         (CanBeClientFirst flag.entry extensions.now) }
+    ensures header { IfOk result (λ len. len
+        ≡ length (gs2_header (client_first_of flag.entry (option_copied authzid.entry) name.now nonce.now extensions.now))) }
 {
     if !is_flag(&flag) || !cut::are_extensions(extensions) {
         return Err(WriteFault::Unwritable);
     }
-    draft_of(&flag, authzid, name, nonce, extensions).append_to(out)
+    let (draft, header_len) = draft_of(&flag, authzid, name, nonce, extensions);
+    draft.append_to(out)?;
+    Ok(header_len)
 }
 
 // Whether this is a gs2-cbind-flag: a name that it has must be one of a channel binding.
@@ -280,29 +285,33 @@ fn is_flag(flag: &Flag<'_>) -> bool
     }
 }
 
-// The whole message.
+// The whole message, and the length of its gs2-header if it is within the limit.
 fn draft_of(
     flag: &Flag<'_>,
     authzid: Option<&PlainName>,
     name: &PlainName,
     nonce: &NoncePart,
     extensions: &[u8],
-) -> MessageDraft
+) -> (MessageDraft, usize)
     requires { CanBeClientFirst flag.now extensions.now }
-    ensures draft { IsDraftOf result (client_first_text
+    ensures draft { IsDraftOf result.0 (client_first_text
         (client_first_of flag.now (option_copied authzid.entry) name.now nonce.now extensions.now)) }
+    ensures header { let p = client_first_of flag.now (option_copied authzid.entry) name.now nonce.now extensions.now in
+        length (client_first_text p) ≤ max_message_len → result.1 ≡ length (gs2_header p) }
     ensures is_message { let p = client_first_of flag.now (option_copied authzid.entry) name.now nonce.now extensions.now in
         length (client_first_text p) ≤ max_message_len → IsClientFirst (client_first_text p) p }
 {
     let mut draft = flag_draft(flag);
     draft.add(b",");
     draft.add_authzid(authzid);
-    draft.add(b",n=");
+    draft.add(b",");
+    let header_len = draft.len();
+    draft.add(b"n=");
     draft.add_name(name);
     draft.add(b",r=");
     draft.add(nonce.bytes());
     draft.add_extensions(extensions);
-    draft
+    (draft, header_len)
 }
 
 // gs2-cbind-flag

@@ -559,11 +559,13 @@ fn refused_writes_of_a_client(rt: HostRuntime) -> Result<(), Fail> {
     let refused = [
         (
             "a binding without a name",
-            write_client_first(Flag::Binding(b""), None, &name, &nonce, b"", &mut out),
+            write_client_first(Flag::Binding(b""), None, &name, &nonce, b"", &mut out).map(|_| ()),
         ),
         (
             "an extension that is no UTF-8",
-            write_client_first(Flag::NotOffered, None, &name, &nonce, b"x=\xFF", &mut out),
+            write_client_first(Flag::NotOffered, None, &name, &nonce, b"x=\xFF", &mut out).map(
+                |_| (),
+            ),
         ),
         (
             "no header",

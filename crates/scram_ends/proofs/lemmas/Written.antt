@@ -26,6 +26,12 @@ pub slice_after_front_is_text : (items front text : List ℕ) (start : ℕ)
     → items ≡ front ++ text → start ≡ length front → take (length items - start) (drop start items) ≡ text
 slice_after_front_is_text items front text start same at = rw (same, at) (grind (arith, common_steps))
 
+-- if a buffer is a front followed by a text, it is cut at the front's end into these two
+pub cut_at_front_is_front_and_text : (items front text : List ℕ) (end : ℕ)
+    → items ≡ front ++ text → end ≡ length front → (take end items ≡ front) × (drop end items ≡ text)
+cut_at_front_is_front_and_text items front text end same at =
+    (rw (same, at) (grind (arith, common_steps)), rw (same, at) (grind (arith, common_steps)))
+
 -- a writer whose arguments are in their classes, and whose message is within the limit, fails only if memory runs out
 pub written_unless_full : {T P Z : Type 0} {result : Result T WriteFault} {old new : Vec ℕ Z} {text : P → List ℕ}
     {IsMessage : List ℕ → P → Type 0} {p : P} {CanBe : Type 0} → IsMessageWritten result old new text IsMessage p CanBe

@@ -10,7 +10,7 @@ ghost use Rattle.scram_ends.specs.Client.{StandsForStarted};
 
 use crate::client::{Client, ClientOne, Limits};
 use mac_core::{Mechanism, copy_of};
-use scram_text::{Flag, NoncePart, PlainName, WriteFault, read_client_first, write_client_first};
+use scram_text::{Flag, NoncePart, PlainName, WriteFault, write_client_first};
 use std::alloc::Allocator;
 
 impl Client {
@@ -39,15 +39,13 @@ impl Client {
     {
         let start = out.len();
         law_of_names(name, authzid, nonce);
-        write_client_first(Flag::NoBinding, authzid, name, nonce, b"", out)?;
-        let Ok(message) = read_client_first(&out[start..]) else {
-            unreachable!()
-        };
+        let header_len = write_client_first(Flag::NoBinding, authzid, name, nonce, b"", out)?;
+        let (header, bare) = out[start..].split_at(header_len);
         Ok(ClientOne {
             mechanism,
             limits,
-            bare: copy_of(message.bare),
-            header: copy_of(message.header),
+            bare: copy_of(bare),
+            header: copy_of(header),
             nonce: copy_of(nonce.bytes()),
         })
     }

@@ -1,5 +1,5 @@
 -- What is written as client-first is the text of its parts, and a message.
-use Rattle.std.proofs.Common.{◌≡◌, ℕ, ◌≤◌, List, [], ◌∷◌, ◌++◌, length, refl, sym, ◌∙◌, ap, subst, append_assoc, true}
+use Rattle.std.proofs.Common.{◌≡◌, ℕ, ◌≤◌, List, [], ◌∷◌, ◌++◌, length, length-append, refl, sym, ◌∙◌, ap, subst, append_assoc, arith, true}
 use Rattle.std.specs.Prelude.{codes, option_map, IfSome}
 use Rattle.std.specs.declared.option.Option.{Option}
 use Rattle.std.specs.declared.option.Option.TheVariants.{None, Some}
@@ -8,7 +8,7 @@ use Rattle.scram_text.specs.Limits.{max_message_len, max_nonce_part_len}
 use Rattle.scram_text.specs.Class.{IsUtf8Text, IsPlainName, IsNoncePart}
 use Rattle.scram_text.specs.Name.{IsSaslName, name_spelling}
 use Rattle.scram_text.specs.Parts.{is_flag, authzid_text}
-use Rattle.scram_text.specs.Messages.{gs2_header, client_first_bare, client_first_text, IsClientFirst}
+use Rattle.scram_text.specs.Messages.{ClientFirstParts, gs2_header, client_first_bare, client_first_text, IsClientFirst}
 use Rattle.scram_text.specs.Shown.{flag_text}
 use Rattle.scram_text.specs.Draft.{after_comma}
 use Rattle.scram_text.specs.Written.{client_first_of, CanBeClientFirst}
@@ -20,13 +20,20 @@ use Rattle.scram_text.proofs.lemmas.messages_composed.Joined.{extensions_join_af
 
 -- pieces joined one after another are one text, however they are grouped
 client_first_pieces_regroup : (f c a d l n r o e : List ℕ)
-    → ((((((f ++ c) ++ a) ++ (d ++ l)) ++ n) ++ r) ++ o) ++ e ≡ (f ++ (c ++ (a ++ d))) ++ ((l ++ n) ++ (r ++ (o ++ e)))
+    → (((((((f ++ c) ++ a) ++ d) ++ l) ++ n) ++ r) ++ o) ++ e ≡ (f ++ (c ++ (a ++ d))) ++ ((l ++ n) ++ (r ++ (o ++ e)))
 client_first_pieces_regroup f c a d l n r o e = simp append_assoc
+
+-- what is written of a gs2-header is its text
+pub pieces_compose_header : (flag : Flag) (authzid : Option (List ℕ)) (name nonce extensions : List ℕ)
+    → ((flag_text flag ++ codes ",") ++ authzid_text (option_map name_spelling authzid)) ++ codes ","
+    ≡ gs2_header (client_first_of flag authzid name nonce extensions)
+unfolding gs2_header
+pieces_compose_header flag authzid name nonce extensions = simp append_assoc
 
 -- what is written of client-first is its text
 pub pieces_compose_client_first : (flag : Flag) (authzid : Option (List ℕ)) (name nonce extensions : List ℕ)
-    → ((((((flag_text flag ++ codes ",") ++ authzid_text (option_map name_spelling authzid)) ++ codes ",n=") ++ name_spelling name)
-    ++ codes ",r=") ++ nonce) ++ after_comma extensions
+    → (((((((flag_text flag ++ codes ",") ++ authzid_text (option_map name_spelling authzid)) ++ codes ",") ++ codes "n=")
+    ++ name_spelling name) ++ codes ",r=") ++ nonce) ++ after_comma extensions
     ≡ client_first_text (client_first_of flag authzid name nonce extensions)
 unfolding client_first_text gs2_header client_first_bare
 pieces_compose_client_first flag authzid name nonce extensions =
@@ -36,6 +43,11 @@ pieces_compose_client_first flag authzid name nonce extensions =
     ∙ ap (λ (t : List ℕ). (flag_text flag ++ byte "," ∷ (authzid_text (option_map name_spelling authzid) ++ byte "," ∷ []))
     ++ ((codes "n=" ++ name_spelling name) ++ byte "," ∷ t))
     (sym (extensions_join_after_comma (codes "r=" ++ nonce) extensions))
+
+-- the gs2-header of a message is no longer than the message
+pub header_is_no_longer : (p : ClientFirstParts) → length (gs2_header p) ≤ length (client_first_text p)
+unfolding client_first_text
+header_is_no_longer p = omega (arith, length-append (gs2_header p) (client_first_bare p))
 
 -- the spelling of a plain name to act as, if there is one, is a saslname
 authzid_spelling_is_saslname : (authzid : Option (List ℕ)) → IfSome authzid IsPlainName
@@ -64,7 +76,8 @@ pub written_is_client_first : (flag : Flag) (authzid : Option (List ℕ)) (name 
 written_is_client_first flag authzid name nonce extensions is_authzid is_name is_nonce can short =
     let flagged = IsUtf8Text-append (flag_text flag) (codes ",") (flag_is_text flag can.flag_class) (plain_is_text (codes ",") refl) in
     let authorised = IsUtf8Text-append _ (authzid_text (option_map name_spelling authzid)) flagged (authzid_is_text authzid is_authzid) in
-    let named = IsUtf8Text-append _ (name_spelling name) (IsUtf8Text-append _ (codes ",n=") authorised (plain_is_text (codes ",n=") refl))
+    let headed = IsUtf8Text-append _ (codes ",") authorised (plain_is_text (codes ",") refl) in
+    let named = IsUtf8Text-append _ (name_spelling name) (IsUtf8Text-append _ (codes "n=") headed (plain_is_text (codes "n=") refl))
     (spelling_is_text name is_name.each) in
     let fresh = IsUtf8Text-append _ nonce (IsUtf8Text-append _ (codes ",r=") named (plain_is_text (codes ",r=") refl))
     (nonce_is_text max_nonce_part_len nonce is_nonce) in
