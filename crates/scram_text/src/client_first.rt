@@ -249,11 +249,29 @@ fn bare_pieces_of(bare: &[u8]) -> Result<BarePieces<'_>, TextFault>
 }
 
 /// Appends a client-first message (RFC 5802, section 7) to `out`: the flag, the spellings of the name to act as and of the name,
-/// the nonce, and the extensions, which are attr-vals with commas between them, or empty. Returns the length of its gs2-header, after
-/// which its bare message begins. Errors: 16 Unwritable if the flag's name or the extensions are outside their class, else 17
-/// OverLimit if the message would have more than 2048 bytes, else 99 NoMemory, only if `out` had no room reserved for the message.
-/// After an error `out` is unchanged.
+/// the nonce, and the extensions, which are attr-vals with commas between them, or empty. Errors: 16 Unwritable if the flag's name
+/// or the extensions are outside their class, else 17 OverLimit if the message would have more than 2048 bytes, else 99 NoMemory,
+/// only if `out` had no room reserved for the message. After an error `out` is unchanged.
 pub fn write_client_first<A: Allocator>(
+    flag: Flag<'_>,
+    authzid: Option<&PlainName>,
+    name: &PlainName,
+    nonce: &NoncePart,
+    extensions: &[u8],
+    out: &mut Vec<u8, A>,
+) -> Result<(), WriteFault>
+    ensures { IsMessageWritten result out.old out.new client_first_text IsClientFirst
+        (client_first_of flag.entry (option_copied authzid.entry) name.now nonce.now extensions.now)
+        (CanBeClientFirst flag.entry extensions.now) }
+{
+    match write_header_and_bare(flag, authzid, name, nonce, extensions, out) {
+        Ok(_) => Ok(()),
+        Err(fault) => Err(fault),
+    }
+}
+
+/// As `write_client_first`. On Ok, returns the length of the gs2-header, after which client-first-message-bare begins.
+pub fn write_header_and_bare<A: Allocator>(
     flag: Flag<'_>,
     authzid: Option<&PlainName>,
     name: &PlainName,

@@ -35,7 +35,9 @@ mod values;
 pub use client_final::{
     ClientFinal, ClientFinalWithoutProof, read_client_final, write_client_final,
 };
-pub use client_first::{ClientFirst, Flag, read_client_first, write_client_first};
+pub use client_first::{
+    ClientFirst, Flag, read_client_first, write_client_first, write_header_and_bare,
+};
 pub use draft::Draft;
 pub use fault::{TextFault, TextWhy, WriteFault};
 pub use name::{PlainName, SaslText, write_name};

@@ -4,8 +4,8 @@ use mac_core::Tag;
 use scram_text::{
     ClientFinalWithoutProof, FinalResult, Flag, NoncePart, Password, PlainName, Salt, TextFault,
     TextWhy, WriteFault, read_client_final, read_client_first, read_server_final,
-    read_server_first, write_client_final, write_client_first, write_name, write_server_final,
-    write_server_first,
+    read_server_first, write_client_final, write_client_first, write_header_and_bare, write_name,
+    write_server_final, write_server_first,
 };
 use std::alloc::Global;
 use std::fmt::{Debug, Display};
@@ -84,6 +84,47 @@ fn client_first_again(text: &[u8], name: &[u8], out: &mut Vec<u8>) -> bool {
         out,
     );
     written.is_ok() && plain.bytes() == name
+}
+
+// The length of the gs2-header of a message of these parts, as it is written to `out`.
+fn header_len(flag: Flag<'_>, authzid: Option<&[u8]>, out: &mut Vec<u8>) -> Option<usize> {
+    let (name, nonce) = (
+        PlainName::new(b"user")?,
+        NoncePart::new(b"fyko+d2lbbFgONRv9qkxdawL")?,
+    );
+    let authzid = match authzid {
+        Some(name) => Some(PlainName::new(name)?),
+        None => None,
+    };
+    write_header_and_bare(flag, authzid.as_ref(), &name, &nonce, b"", out).ok()
+}
+
+/// The gs2-header is what the channel field of RFC 5802 has if nothing is bound: all up to the comma before client-first-message-bare.
+#[test]
+fn headers_are_cut_where_the_bare_message_begins(rt: HostRuntime) -> Result<(), Fail> {
+    let bare = b"n=user,r=fyko+d2lbbFgONRv9qkxdawL".as_slice();
+    for (flag, authzid, header) in [
+        (Flag::NoBinding, None, "n,,"),
+        (Flag::NotOffered, None, "y,,"),
+        (Flag::NoBinding, Some(b"other".as_slice()), "n,a=other,"),
+        (
+            Flag::Binding(b"tls-unique"),
+            Some(b"a,b".as_slice()),
+            "p=tls-unique,a=a=2Cb,",
+        ),
+    ] {
+        let mut out = Vec::new(rt.alloc());
+        check(
+            &rt,
+            &header_len(flag, authzid, &mut out),
+            &Some(header.len()),
+            header,
+        );
+        let (start, rest) = out.as_slice().split_at(header.len());
+        check_bytes(&rt, start, header.as_bytes(), header);
+        check_bytes(&rt, rest, bare, header);
+    }
+    Ok(())
 }
 
 fn server_first_again(text: &[u8], out: &mut Vec<u8>) -> bool {
@@ -559,13 +600,11 @@ fn refused_writes_of_a_client(rt: HostRuntime) -> Result<(), Fail> {
     let refused = [
         (
             "a binding without a name",
-            write_client_first(Flag::Binding(b""), None, &name, &nonce, b"", &mut out).map(|_| ()),
+            write_client_first(Flag::Binding(b""), None, &name, &nonce, b"", &mut out),
         ),
         (
             "an extension that is no UTF-8",
-            write_client_first(Flag::NotOffered, None, &name, &nonce, b"x=\xFF", &mut out).map(
-                |_| (),
-            ),
+            write_client_first(Flag::NotOffered, None, &name, &nonce, b"x=\xFF", &mut out),
         ),
         (
             "no header",

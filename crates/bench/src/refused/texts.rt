@@ -36,8 +36,7 @@ fn client_first(text: &[u8], out: &mut Vec<u8>) -> Option<Result<(), u16>> {
     let (name, nonce) = (read.name.plain()?, NoncePart::new(read.nonce)?);
     let authzid = acting_as(read.authzid)?;
     let authzid = authzid.as_ref();
-    let written = write_client_first(read.flag, authzid, &name, &nonce, read.extensions, out);
-    Some(of_message(written.map(|_| ())))
+    Some(of_message(write_client_first(read.flag, authzid, &name, &nonce, read.extensions, out)))
 }
 
 // Reads a server-first message, and writes it again to `out`.

@@ -10,7 +10,7 @@ ghost use Rattle.scram_ends.specs.Client.{StandsForStarted};
 
 use crate::client::{Client, ClientOne, Limits};
 use mac_core::{Mechanism, copy_of};
-use scram_text::{Flag, NoncePart, PlainName, WriteFault, write_client_first};
+use scram_text::{Flag, NoncePart, PlainName, WriteFault, write_header_and_bare};
 use std::alloc::Allocator;
 
 impl Client {
@@ -39,7 +39,7 @@ impl Client {
     {
         let start = out.len();
         law_of_names(name, authzid, nonce);
-        let header_len = write_client_first(Flag::NoBinding, authzid, name, nonce, b"", out)?;
+        let header_len = write_header_and_bare(Flag::NoBinding, authzid, name, nonce, b"", out)?;
         let (header, bare) = out[start..].split_at(header_len);
         Ok(ClientOne {
             mechanism,

@@ -17,10 +17,10 @@ returns-in_err-header_len-clause-no_memory g c =
     let e = err_from_is_err_and c.from_residual.result c.from_residual.ensures.1 in
     let authzid = option_copied c.args.authzid in
     let first = client_first_of NoBinding authzid c.args.name.now c.args.nonce.now [] in
-    let full = client_first_fault_is_memory c.write_client_first.result _ authzid c.args.name.now c.args.nonce.now
+    let full = client_first_fault_is_memory c.write_header_and_bare.result _ authzid c.args.name.now c.args.nonce.now
     c.in_err-header_len.was c.law_of_names.ensures.authzid c.law_of_names.ensures.name c.law_of_names.ensures.nonce
-    c.write_client_first.ensures.written.unwritable c.write_client_first.ensures.written.over_limit in
-    let room = c.write_client_first.ensures.written.no_memory (c.in_err-header_len.was ∙ ap (λ (x : WriteFault). Err x) full) in
+    c.write_header_and_bare.ensures.written.unwritable c.write_header_and_bare.ensures.written.over_limit in
+    let room = c.write_header_and_bare.ensures.written.no_memory (c.in_err-header_len.was ∙ ap (λ (x : WriteFault). Err x) full) in
     rw (e.1, e.2) (
       full,
       (
