@@ -15,13 +15,18 @@ use Rattle.std.proofs.lemmas.Map.Text.{is_eq-slice_cmp}
 use Rattle.std.proofs.lemmas.Slice.Eq.{bytes_eq-Decides}
 use Rattle.mac_core.specs.declared.mechanism.Mechanism.{Mechanism}
 use Rattle.mac_core.specs.declared.mechanism.Mechanism.TheVariants.{ScramSha1, ScramSha256}
+use Rattle.otp_core.specs.Attempt.{CodeTexts}
+use Rattle.otp_core.specs.Ranges.{IsMoment}
+use Rattle.otp_core.specs.TokenAttempt.{IsTokenAttempt}
+use Rattle.otp_core.specs.declared.token.reply.Reply.{Reply}
 use Rattle.otp_core.specs.declared.token.kinds.TokenFields.{TokenFields}
 use Rattle.scram_ends.specs.Entry.{Entry}
 use Rattle.book_format.specs.Account.{AccountFields}
 use Rattle.book_format.specs.Book.{BookFields}
-use Rattle.account_book.specs.Accounts.{name_cmp, account_at, with_changed}
+use Rattle.account_book.specs.AccountAttempt.{account_attempt_of}
+use Rattle.account_book.specs.Accounts.{name_cmp, account_at, with_changed, IsChanged}
 use Rattle.account_book.specs.View.{mech_keys, keys_entry, decoy_entry, entry_in}
-use Rattle.account_book.specs.Tokens.{token_at, with_token}
+use Rattle.account_book.specs.Tokens.{token_at, with_token, IsBookAttempt}
 use Rattle.account_book.specs.Laws.{TokensAreApart, EntriesStay, TokensStay, TokensGoBack}
 
 -- if one account is changed, its name has the changed account, and each other name what it had
@@ -169,3 +174,40 @@ tokens_go_back old name token next has =
     ∙ ap (λ (es : List (List ℕ × AccountFields)). record old { accounts = es })
     (set_value-set_value (is_at (name_cmp name)) old.accounts x (with_token token x)
     ∙ own_token_keeps_accounts old.accounts name account token owned.1 own)
+
+module _ (book : BookFields) (name : List ℕ) (account : AccountFields) (found : account_at book name ≡ Some account)
+    (es : List (List ℕ × AccountFields)) where
+  -- a book in which an account is set to what it is, is as it was
+  set_to_itself_keeps_book : es ≡ set_value (is_at (name_cmp name)) book.accounts account → record book { accounts = es } ≡ book
+  set_to_itself_keeps_book set =
+      ap (λ (es : List (List ℕ × AccountFields)). record book { accounts = es })
+      (set ∙ set_value_same (is_at (name_cmp name)) book.accounts account found)
+
+  -- if an account is set to itself with another token, its token is changed, and nothing else
+  set_with_token_changes_token : (next : TokenFields)
+      → es ≡ set_value (is_at (name_cmp name)) book.accounts (with_token next account)
+      → IsChanged book name (with_token next) (record book { accounts = es })
+  set_with_token_changes_token next set =
+      ap (λ (es : List (List ℕ × AccountFields)). record book { accounts = es }) set
+      ∙ sym (with_changed_is_set_value book name (with_token next) account found)
+
+  module _ (old : BookFields) (same : book ≡ old) where
+    -- if an account without a token is set to itself, that is an attempt on it, without a reply
+    pub attempt_without_token : (moment : ℕ) (sent : CodeTexts) (reply : Option Reply) → IsMoment moment → account.token ≡ None
+        → reply ≡ None → es ≡ set_value (is_at (name_cmp name)) book.accounts account
+        → IsBookAttempt old (account_attempt_of name moment sent reply) (record book { accounts = es })
+    attempt_without_token moment sent reply at none no_reply set =
+        subst (λ (b : BookFields). IsBookAttempt b (account_attempt_of name moment sent reply) (record book { accounts = es })) same
+        (record { is_moment = at; answered = rw (found, none) (no_reply, set_to_itself_keeps_book set) })
+
+    -- if an account is set to itself with the token that an attempt on its token leaves, that is an attempt on the account
+    pub attempt_on_token : (moment : ℕ) (sent : CodeTexts) (token next : TokenFields) (reply : Reply) → IsMoment moment
+        → account.token ≡ Some token → IsTokenAttempt token moment sent reply next
+        → es ≡ set_value (is_at (name_cmp name)) book.accounts (with_token next account)
+        → IsBookAttempt old (account_attempt_of name moment sent (Some reply)) (record book { accounts = es })
+    attempt_on_token moment sent token next reply at has judged set =
+        subst (λ (b : BookFields). IsBookAttempt b (account_attempt_of name moment sent (Some reply)) (record book { accounts = es })) same
+        (record {
+          is_moment = at;
+          answered = rw (found, has) (reply, refl, record { next = next; judged = judged; kept = set_with_token_changes_token next set });
+        })

@@ -63,10 +63,9 @@ impl Book {
         ensures { IsBookAttempt self.old (account_attempt_of name.now moment (texts_of sent.entry) result) self.new }
     {
         law_of_moments(moment);
-        let mut token = self.token(name)?;
-        let reply = token.judge(moment, sent);
-        self.put_token(name, token);
-        Some(reply)
+        let account = self.contents.accounts.get_mut(name)?;
+        let token = account.token.as_mut()?;
+        Some(token.judge(moment, sent))
     }
 
     /// Sets the failures of the token of the account of this name to 0. Returns whether there is such an account and it has a
