@@ -13,6 +13,7 @@ pub mod Tokens
 pub mod Tables
 pub mod FirstFault
 pub mod Trees
+pub mod Readings
 pub mod Laws
 pub mod Written
 pub mod inner

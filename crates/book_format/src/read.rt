@@ -1,16 +1,13 @@
 //! Reads a book's text, from the document down.
-ghost use Rattle.std.specs.Prelude.{◌≡◌, ◌⊎◌, IfOk, IfErr, IsErrAnd, option_map, Ok, Some, None, codes, length, option_and_then};
+ghost use Rattle.std.specs.Prelude.{◌≡◌, option_map, Some, None, codes, length, option_and_then};
 ghost use Rattle.toml.specs.Data.{get_member, as_integer};
 ghost use Rattle.toml.specs.View.{table_view};
-ghost use Rattle.book_format.specs.Book.{BookFields};
-ghost use Rattle.book_format.specs.Trees.{IsBookText};
+ghost use Rattle.book_format.specs.Readings.{IsReadAnswered};
 ghost use Rattle.book_format.specs.inner.Steps.{IsReadAs, IsReadOrFault, seen};
 ghost use Rattle.book_format.specs.inner.Books.{at_top, tree_in, top_of, accounts_of_table, book_in};
-ghost use Rattle.book_format.specs.FirstFault.{is_one, IsBookFault};
+ghost use Rattle.book_format.specs.FirstFault.{is_one};
 ghost use Rattle.book_format.specs.inner.Rows.{read_some};
 ghost use Rattle.book_format.specs.inner.Values.{table_of};
-ghost use Rattle.book_format.specs.declared.fault.BookFault.{BookFault};
-ghost use Rattle.book_format.specs.declared.fault.BookWhy.TheVariants.{NoMemory};
 ghost use Rattle.book_format.specs.declared.read.Top.{Top};
 
 mod accounts;
@@ -43,12 +40,7 @@ impl Contents {
     /// keys in the order of the format; the name of an account and the `kind` of a token come before both. 99 NoMemory may come at
     /// any place; no clause says that it comes only if memory runs out.
     pub fn read(alloc: Global, bytes: &[u8]) -> Result<Contents, BookFault>
-        // The text is that of a book with the contents that are returned.
-        ensures found { IfOk result (λ c. IsBookText bytes.now c) }
-        // If the text is that of a book, its contents are returned, or 99 NoMemory.
-        ensures every { (c : BookFields) → IsBookText bytes.now c → (result ≡ Ok c) ⊎ IsErrAnd result (λ f. f.why ≡ NoMemory) }
-        ensures first_fault { IfErr result (λ f. (f.why ≡ NoMemory) ⊎ IsBookFault bytes.now f) }
-        ensures every_fault { (f : BookFault) → IsBookFault bytes.now f → IsErrAnd result (λ e. (e.why ≡ NoMemory) ⊎ (e ≡ f)) }
+        ensures { IsReadAnswered bytes.now result }
     {
         contents_of(alloc, bytes)
     }

@@ -43,14 +43,10 @@ result_is_only_fault bytes (Err own) (inl memory) fault first = inl memory
 result_is_only_fault bytes (Err own) (inr read) fault first =
     inr (same_err_has_same_fault own fault (sym read ∙ text_first_fault_is_read bytes fault first))
 
-pub returns-clause-found : goal.returns-clause-found
-returns-clause-found c = result_book_stands c.args.bytes.now c.contents_of.result c.contents_of.ensures
-
-pub returns-clause-every : goal.returns-clause-every
-returns-clause-every c = result_is_only_book c.args.bytes.now c.contents_of.result c.contents_of.ensures
-
-pub returns-clause-first_fault : goal.returns-clause-first_fault
-returns-clause-first_fault c = result_fault_is_first c.args.bytes.now c.contents_of.result c.contents_of.ensures
-
-pub returns-clause-every_fault : goal.returns-clause-every_fault
-returns-clause-every_fault c = result_is_only_fault c.args.bytes.now c.contents_of.result c.contents_of.ensures
+pub returns : goal.returns
+returns c = record {
+  found = result_book_stands c.args.bytes.now c.contents_of.result c.contents_of.ensures;
+  every = result_is_only_book c.args.bytes.now c.contents_of.result c.contents_of.ensures;
+  first_fault = result_fault_is_first c.args.bytes.now c.contents_of.result c.contents_of.ensures;
+  every_fault = result_is_only_fault c.args.bytes.now c.contents_of.result c.contents_of.ensures;
+}
