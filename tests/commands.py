@@ -54,7 +54,7 @@ def check_usage(words, begin):
     """Runs the program with faulty words, and compares its status; its fault has to begin with `begin`."""
     status, output, faults = ran([PROGRAM, *words], "pencil\n")
     equal((status, output), (2, ""), words, faults)
-    holds(faults.startswith(begin), words, "the fault does not begin with", begin, faults)
+    equal(faults[:len(begin)], begin, words, "the beginning of the fault")
 
 
 def keys(mechanism, salt, count):

@@ -391,6 +391,8 @@ def stale_bugs():
             yield f"{name}: {row.by} has no test {row.test}"
         if len(row.says) < LEAST_SAID:
             yield f"{name}: {row.test} of {row.by}: the row has under {LEAST_SAID} characters of what the test says: {row.says!r}"
+        if re.search("[a-z]: $", row.says):
+            yield f"{name}: {row.test} of {row.by}: the row names a check, and not what the test has seen: {row.says!r}"
 
 
 def untimed_crates():

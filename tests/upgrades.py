@@ -14,7 +14,7 @@ import subprocess
 
 import suite
 from audit_cases import cases
-from checks import equal, holds
+from checks import equal, holds, shown
 from expected import AUDITS, SESSION_LEFT, numbered
 from processes import processor_time, ran
 from suite import PROGRAM, audit_says, each
@@ -50,7 +50,7 @@ def same_answers(folder):
                 continue
             equal((got.status, got.output), (1, ""), shows)
             found = re.fullmatch(r"line (\d+): (cut|not a line)\n", got.faults)
-            holds(found, f"{shows}: the fault names no line", got.faults)
+            holds(found, f"{shows}: the fault names no line", shown(got.faults))
             first = re.match(r"line (\d+): ", answer)
             if log.startswith(b"SCRAMLOG 1"):
                 holds(first and int(first[1]) <= int(found[1]), f"{shows}: the line is before that of {answer!r}", got.faults)
