@@ -5,6 +5,7 @@ pub mod Base64Texts
 pub mod ClientFinal
 pub mod ClientFirst
 pub mod Counts
+pub mod CutAtByte
 pub mod Decided
 pub mod Extensions
 pub mod FirstUnmet

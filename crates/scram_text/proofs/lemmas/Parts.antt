@@ -1,11 +1,10 @@
 -- Texts that are cut at their commas.
-use Rattle.std.proofs.Common.{◌≡◌, inl, inr, ℕ, suc, ◌+◌, ◌-◌, ◌≤◌, not, List, [], ◌∷◌, ◌++◌, length, take, drop, get_or, refl, ◌∙◌, ap, arith, subst}
-use Rattle.std.specs.Prelude.{position, count_by, MatchOption}
-use Rattle.std.specs.List.{position_or_len, onto_first, list_all, zip}
-use Rattle.std.proofs.lemmas.Bool.{cases_Bool, cases_lt, eqb-true, lt-ltb, le-ltb, not-true, and_parts}
+use Rattle.std.proofs.Common.{◌≡◌, inl, inr, ℕ, ◌+◌, ◌-◌, ◌≤◌, List, [], ◌∷◌, ◌++◌, length, take, drop, refl, ◌∙◌, ap, arith, subst}
+use Rattle.std.specs.Prelude.{position, count_by}
+use Rattle.std.specs.List.{onto_first, zip}
+use Rattle.std.proofs.lemmas.Bool.{cases_Bool}
 use Rattle.std.proofs.lemmas.List.Splits.{length-slice_split}
-use Rattle.std.proofs.lemmas.List.Sums.{split_at_first, passes_at_first}
-use Rattle.std.proofs.lemmas.List.{take_all, take_rest}
+use Rattle.std.proofs.lemmas.List.{take_rest}
 use Rattle.std.specs.declared.option.Option.TheVariants.{None, Some}
 use Rattle.std.specs.Str.{byte}
 use Rattle.scram_text.specs.Class.{is_comma}
@@ -14,6 +13,7 @@ use Rattle.scram_text.specs.Parts.{parts}
 use Rattle.scram_text.specs.Faults.{Fits, fault, IsFirstMisfit}
 use Rattle.scram_text.specs.declared.fault.TextFault.{TextFault}
 use Rattle.scram_text.specs.declared.fault.TextWhy.{TextWhy}
+use Rattle.scram_text.proofs.lemmas.CutAtByte.{head_and_rest_lack, text_is_cut}
 use Rattle.scram_text.proofs.lemmas.FirstUnmet.{met_row_keeps_first}
 
 -- a text has one part more than it has commas
@@ -24,8 +24,7 @@ parts_exceed_commas_by_one text = length-slice_split is_comma text
 pub text_without_comma_is_one_part : (text : List ℕ) → LacksComma text → parts text ≡ text ∷ []
 text_without_comma_is_one_part [] h = refl
 text_without_comma_is_one_part (c ∷ text) h =
-    let each = and_parts (not (is_comma c)) (list_all (λ c. not (is_comma c)) text) h in
-    rw (not-true (is_comma c) each.0, text_without_comma_is_one_part text each.1) refl
+    let each = head_and_rest_lack (byte ",") c text h in rw (each.0, text_without_comma_is_one_part text each.1) refl
 
 -- a character goes before the first part, even if more parts follow
 onto_first-append : (c : ℕ) (pieces more : List (List ℕ)) → 1 ≤ length pieces → onto_first c (pieces ++ more) ≡ onto_first c pieces ++ more
@@ -46,44 +45,21 @@ parts-append (c ∷ front) back =
 pub first_part_precedes_comma : (front back : List ℕ) → LacksComma front → parts (front ++ byte "," ∷ back) ≡ front ∷ parts back
 first_part_precedes_comma front back h = rw (parts-append front back, text_without_comma_is_one_part front h) refl
 
--- taking one more element, with one before the others, is taking that one and as many of the others
-take-cons : (n c : ℕ) (text : List ℕ) → take (1 + n) (c ∷ text) ≡ c ∷ take n text
-take-cons n c text = let one : 1 + n ≡ suc n = omega arith in rw one refl
-
--- the text before the first comma of a text has no comma
-front_lacks_comma : (text : List ℕ) → LacksComma (take (position_or_len is_comma text) text)
-front_lacks_comma [] = refl
-front_lacks_comma (c ∷ text) = elim (cases_Bool (is_comma c)) [
-  | inl hit ↦ rw hit refl
-  | inr miss ↦ rw (miss, take-cons (position_or_len is_comma text) c text, miss) (front_lacks_comma text)
-]
-
--- if a text has a comma, it is cut at the first: none comes before it; else it has none
-position_is_first_comma : (text : List ℕ) → MatchOption (position is_comma text) (LacksComma text)
-    (λ at. (text ≡ take at text ++ byte "," ∷ drop (at + 1) text) × LacksComma (take at text))
-position_is_first_comma text = let at = position_or_len is_comma text in elim (cases_lt at (length text)) [
-  | inl some ↦
-      let comma : get_or text at 0 ≡ byte "," = eqb-true (get_or text at 0) 44 (passes_at_first is_comma text 0 some) in
-      let cut = rw comma at (split_at_first is_comma text 0 some) in
-      rw (lt-ltb at (length text) some) (cut, front_lacks_comma text)
-  | inr none ↦ rw (le-ltb at (length text) none) (rw (take_all at text none) at (front_lacks_comma text))
-]
-
 -- if a text's first comma is at an index, its parts are what is before it, which has none, and the parts of what follows it
 pub first_comma_cuts_parts : (text : List ℕ) (at : ℕ) → position is_comma text ≡ Some at
     → (parts text ≡ take at text ∷ parts (take (length text - (at + 1)) (drop (at + 1) text))) × LacksComma (take at text)
 first_comma_cuts_parts text at found =
-    let cuts = rw found at (position_is_first_comma text) in
-    (rw (take_rest text (at + 1)) (ap parts cuts.0 ∙ first_part_precedes_comma (take at text) (drop (at + 1) text) cuts.1), cuts.1)
+    let cuts = rw found at (text_is_cut (byte ",") text) in
+    (rw (take_rest text (at + 1)) (ap parts cuts.1 ∙ first_part_precedes_comma (take at text) (drop (at + 1) text) cuts.0), cuts.0)
 
 -- if a text's first comma is at an index, the text is what is before it, the comma and what follows it
 pub first_comma_cuts_text : (text : List ℕ) (at : ℕ) → position is_comma text ≡ Some at
     → text ≡ take at text ++ byte "," ∷ drop (at + 1) text
-first_comma_cuts_text text at found = let cuts = rw found at (position_is_first_comma text) in cuts.0
+first_comma_cuts_text text at found = let cuts = rw found at (text_is_cut (byte ",") text) in cuts.1
 
 -- if a text has no comma, it is its one part
 pub unfound_comma_leaves_one_part : (text : List ℕ) → position is_comma text ≡ None → (parts text ≡ text ∷ []) × LacksComma text
-unfound_comma_leaves_one_part text none = let lacks = rw none at (position_is_first_comma text) in
+unfound_comma_leaves_one_part text none = let lacks = rw none at (text_is_cut (byte ",") text) in
     (text_without_comma_is_one_part text lacks, lacks)
 
 -- if the first part does not fit its place, it is the first that does not
