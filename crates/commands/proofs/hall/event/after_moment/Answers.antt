@@ -3,7 +3,8 @@ use Rattle.std.specs.Prelude.{decimal}
 use Rattle.std.specs.Str.{byte}
 use Rattle.otp_core.specs.Ranges.{IsMoment}
 use Rattle.log_grammar.proofs.lemmas.lines.Words.{moment_fits_64_bits}
-use Rattle.sasl_log.proofs.lemmas.texts.Spaces.{front_is_decimal, spaceless_text_is_not_cut}
+use Rattle.scram_text.proofs.lemmas.CutAtByte.{lacking_text_is_not_cut}
+use Rattle.sasl_log.proofs.lemmas.texts.Spaces.{front_is_decimal}
 use Rattle.sasl_log.proofs.lemmas.texts.WithSpaces.{if_none_holds}
 use Rattle.commands.proofs.hall.event.after_moment.Goals as goal
 
@@ -11,7 +12,7 @@ pub returns-in_err-seconds-clause-none : goal.returns-in_err-seconds-clause-none
 returns-in_err-seconds-clause-none c =
     let none : (n : ℕ) (rest : List ℕ) → IsMoment n → c.args.text.now ≢ decimal n ++ byte " " ∷ rest =
     λ n rest is.
-    spaceless_text_is_not_cut c.args.text.now (decimal n) rest c.in_err-seconds.ensures in
+    lacking_text_is_not_cut (byte " ") c.args.text.now (decimal n) rest c.in_err-seconds.ensures in
     if_none_holds _ none
 
 pub returns-in_err-moment-clause-none : goal.returns-in_err-moment-clause-none

@@ -69,8 +69,8 @@ copy_of-requires g c =
     let first = client_first_of NoBinding authzid c.args.name.now c.args.nonce.now [] in
     let start : c.len-start.result ≡ length c.args.out.now.items = search rules in
     let written = c.in_ok-header_len.ensures.written in
-    let cut = written_is_cut first c.deref.result.now c.args.out.now.items c.split_at.result.0.now c.split_at.result.1.now c.len-start.result
-    c.in_ok-header_len.header_len (c.deref.ensures.value ∙ written.appended.0) start c.in_ok-header_len.ensures.header
+    let cut = written_is_cut first c.deref.result.now c.args.out.now.items c.split_at.result.0.now c.split_at.result.1.now
+    c.len-start.result c.in_ok-header_len.header_len (c.deref.ensures.value ∙ written.appended.0) start c.in_ok-header_len.ensures.header
     c.split_at.ensures.front c.split_at.ensures.back in
     let honest = written_first_is_honest authzid c.args.name.now c.args.nonce.now (client_first_text first)
     c.law_of_names.ensures.authzid c.law_of_names.ensures.name written.is_message in
@@ -82,8 +82,8 @@ copy_of-requires-2 g c =
     let first = client_first_of NoBinding authzid c.args.name.now c.args.nonce.now [] in
     let start : c.len-start.result ≡ length c.args.out.now.items = search rules in
     let written = c.in_ok-header_len.ensures.written in
-    let cut = written_is_cut first c.deref.result.now c.args.out.now.items c.split_at.result.0.now c.split_at.result.1.now c.len-start.result
-    c.in_ok-header_len.header_len (c.deref.ensures.value ∙ written.appended.0) start c.in_ok-header_len.ensures.header
+    let cut = written_is_cut first c.deref.result.now c.args.out.now.items c.split_at.result.0.now c.split_at.result.1.now
+    c.len-start.result c.in_ok-header_len.header_len (c.deref.ensures.value ∙ written.appended.0) start c.in_ok-header_len.ensures.header
     c.split_at.ensures.front c.split_at.ensures.back in
     let honest = written_first_is_honest authzid c.args.name.now c.args.nonce.now (client_first_text first)
     c.law_of_names.ensures.authzid c.law_of_names.ensures.name written.is_message in
@@ -95,8 +95,8 @@ returns-clause-ok g c =
     let first = client_first_of NoBinding authzid c.args.name.now c.args.nonce.now [] in
     let start : c.len-start.result ≡ length c.args.out.now.items = search rules in
     let written = c.in_ok-header_len.ensures.written in
-    let cut = written_is_cut first c.deref.result.now c.args.out.now.items c.split_at.result.0.now c.split_at.result.1.now c.len-start.result
-    c.in_ok-header_len.header_len (c.deref.ensures.value ∙ written.appended.0) start c.in_ok-header_len.ensures.header
+    let cut = written_is_cut first c.deref.result.now c.args.out.now.items c.split_at.result.0.now c.split_at.result.1.now
+    c.len-start.result c.in_ok-header_len.header_len (c.deref.ensures.value ∙ written.appended.0) start c.in_ok-header_len.ensures.header
     c.split_at.ensures.front c.split_at.ensures.back in (
       client_first_text first,
       written.appended.0,
