@@ -7,7 +7,7 @@ use Rattle.std.specs.declared.option.Option.TheVariants.{Some}
 use Rattle.otp_core.specs.Attempt.{CodeTexts}
 use Rattle.otp_core.specs.Attempt.CodeTexts.{one_text, two_texts}
 use Rattle.otp_core.specs.declared.token.reply.Reply.TheVariants.{Pass}
-use Rattle.log_grammar.specs.Bytes.{LacksLf}
+use Rattle.scram_text.specs.SplitLines.{LacksLf}
 use Rattle.log_grammar.specs.Lines.{IsLine, max_line_len, from_server, from_client, replies, sync}
 use Rattle.command_io.specs.Input.{LinesInTurn}
 use Rattle.commands.specs.Talked.{Talked, Receives}

@@ -2,7 +2,6 @@
 -- and so is that `state_machine` has the same grammar.
 pub mod Words
 pub mod Payload
-pub mod Bytes
 pub mod Lines
 pub mod Places
 pub mod Demands

@@ -2,7 +2,7 @@
 //! (`account_book::laws::books_are_in_range`).
 ghost use Rattle.std.specs.Prelude.{ℕ, ◌↔◌, List, []};
 ghost use Rattle.book_format.specs.Book.{BookFields, IsBook};
-ghost use Rattle.log_grammar.specs.Bytes.{IsSplit};
+ghost use Rattle.scram_text.specs.SplitLines.{IsSplit};
 ghost use Rattle.log_grammar.specs.laws.FitAccounts.{AllCanBeChallenged};
 ghost use Rattle.log_grammar.specs.Books.{accounts_in};
 ghost use Rattle.log_grammar.specs.Versions.{IsLogFront, IsFaultLine};

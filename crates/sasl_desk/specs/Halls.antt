@@ -8,7 +8,7 @@ use Rattle.book_format.specs.Book.{BookFields}
 use Rattle.account_book.specs.Store.{StoreFacts}
 use Rattle.account_book.specs.AccountAttempt.{AccountAttempt}
 use Rattle.log_grammar.specs.Books.{accounts_in}
-use Rattle.log_grammar.specs.Bytes.{ended_by_lf}
+use Rattle.scram_text.specs.SplitLines.{ended_by_lf}
 use Rattle.log_grammar.specs.Lines.{LogLine, header_two, said, ended, busy, log_bytes}
 use Rattle.log_grammar.specs.Places.{Place, between, offered, waits_first, waits_final, waits_code, open_at}
 use Rattle.log_grammar.specs.Demands.{Accounts, demands}

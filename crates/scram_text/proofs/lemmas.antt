@@ -19,6 +19,7 @@ pub mod Places
 pub mod ReadMessages
 pub mod ServerFinal
 pub mod ServerFirst
+pub mod SplitLines
 pub mod Texts
 pub mod WithoutByte
 pub mod messages_composed

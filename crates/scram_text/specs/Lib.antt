@@ -10,6 +10,7 @@ pub mod Faults
 pub mod Shown
 pub mod Draft
 pub mod Appended
+pub mod SplitLines
 pub mod Written
 pub mod Laws
 pub mod inner

@@ -3,8 +3,8 @@ use Rattle.std.proofs.Common.{◌≡◌, inl, inr, ℕ, ◌≤◌, Bool, true, f
 use Rattle.std.proofs.Common.{ap₂, subst, arith, append_assoc, append-nil}
 use Rattle.std.specs.Io.KnownBytes.{IsAtEnd}
 use Rattle.std.specs.Str.{byte}
-use Rattle.log_grammar.specs.Bytes.{LacksLf, ended_by_lf, IsSplit}
-use Rattle.log_grammar.proofs.lemmas.lines.Cuts.{some_split, one_split}
+use Rattle.scram_text.specs.SplitLines.{LacksLf, ended_by_lf, IsSplit}
+use Rattle.scram_text.proofs.lemmas.SplitLines.{some_split, one_split}
 use Rattle.command_io.specs.Input.{line_bytes, TakesLine, IsFirstLine, last_line, AreLinesOf}
 
 -- empty bytes are split into no texts and no rest

@@ -4,7 +4,7 @@ use Rattle.std.specs.Io.KnownBytes.{Consumes, IsAtEnd}
 use Rattle.command_line.specs.Fault.{IsFileUnwrittenOrNoMemory}
 use Rattle.command_line.specs.declared.fault.Fault.{Fault}
 use Rattle.command_line.specs.declared.fault.Fault.TheVariants.{Socket, CannotWriteOutput, NoMemory}
-use Rattle.log_grammar.specs.Bytes.{LacksLf}
+use Rattle.scram_text.specs.SplitLines.{LacksLf}
 use Rattle.sasl_log.specs.Sink.{SinkFacts}
 use Rattle.sasl_log.specs.Source.{SourceFacts}
 use Rattle.sasl_desk.specs.declared.fault.ServeFault.{ServeFault}

@@ -84,12 +84,6 @@ index_has_element (a ∷ xs) (suc n) less =
     let (before, x, more, same, at) = index_has_element xs n (omega (arith, less)) in
     (a ∷ before, x, more, ap (λ l. a ∷ l) same, ap suc at)
 
--- what is true of each element of two lists is true of each element of both appended
-pub appended_lists_keep_all : {A : Type 0} (P : A → Type 0) (before after : List A) → AllByRecursion P before → AllByRecursion P after
-    → AllByRecursion P (before ++ after)
-appended_lists_keep_all P [] after h k = k
-appended_lists_keep_all P (a ∷ before) after h k = (h.0, appended_lists_keep_all P before after h.1 k)
-
 -- what is true of each element of a list is true of each element of its front
 pub front_keeps_all : {A : Type 0} (P : A → Type 0) (before after : List A) → AllByRecursion P (before ++ after) → AllByRecursion P before
 front_keeps_all P [] after each = tt

@@ -6,7 +6,7 @@ use Rattle.otp_core.specs.Attempt.{CodeTexts}
 use Rattle.account_book.specs.AccountAttempt.{AccountAttempt}
 use Rattle.log_grammar.specs.Lines.{LogLine, header_one, said, ended, halt, mechs, log_bytes, IsLogLineWritable}
 use Rattle.log_grammar.specs.laws.LastLines.{EndsWith}
-use Rattle.log_grammar.specs.Bytes.{IsSplit}
+use Rattle.scram_text.specs.SplitLines.{IsSplit}
 use Rattle.log_grammar.specs.Places.{got_code}
 use Rattle.log_grammar.specs.Demands.{Accounts, IsTakenUpFor, demands}
 use Rattle.log_grammar.specs.laws.FitAccounts.{AllCanBeChallenged}

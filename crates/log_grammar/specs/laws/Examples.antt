@@ -1,7 +1,7 @@
 -- Small logs, by the texts of their lines.
 use Rattle.std.specs.Prelude.{ℕ, List, [], ◌∷◌, codes}
 use Rattle.std.specs.List.{AllByRecursion, AllZip}
-use Rattle.log_grammar.specs.Bytes.{LacksLf, ended_by_lf}
+use Rattle.scram_text.specs.SplitLines.{LacksLf, ended_by_lf}
 use Rattle.log_grammar.specs.Lines.{LogLine, IsLogLine}
 
 -- the first line

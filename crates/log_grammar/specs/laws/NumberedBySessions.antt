@@ -6,7 +6,7 @@ use Rattle.std.specs.declared.option.Option.TheVariants.{None, Some}
 use Rattle.account_book.specs.AccountAttempt.{AccountAttempt}
 use Rattle.log_grammar.specs.Lines.{LogLine, header_two, said, ended, halt, log_line_text}
 use Rattle.log_grammar.specs.laws.LastLines.{EndsWith}
-use Rattle.log_grammar.specs.Bytes.{ended_by_lf}
+use Rattle.scram_text.specs.SplitLines.{ended_by_lf}
 use Rattle.log_grammar.specs.Demands.{Accounts, demands}
 use Rattle.log_grammar.specs.laws.Histories.{IsHistory}
 use Rattle.log_grammar.specs.Numbered.{Numbered, Visit, visit_lines, AreOfSessions}

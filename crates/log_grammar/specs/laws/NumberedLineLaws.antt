@@ -2,7 +2,7 @@
 -- long, and a number, a space and a text are one if and only if the text is a line that may have a number.
 use Rattle.std.specs.Prelude.{ℕ, ◌≡◌, ◌≤◌, ◌⊎◌, ◌↔◌, List, ◌∷◌, ◌++◌, length, decimal}
 use Rattle.std.specs.Str.{byte}
-use Rattle.log_grammar.specs.Bytes.{LacksLf}
+use Rattle.scram_text.specs.SplitLines.{LacksLf}
 use Rattle.log_grammar.specs.Lines.{LogLine, IsLogLine}
 use Rattle.log_grammar.specs.Numbered.{Numbered, numbered}
 use Rattle.log_grammar.specs.NumberedLines.{IsSessionNumber, IsNoFirstLine, max_numbered_line_len, IsNumberedLine, IsNoNumberedLine}

@@ -2,7 +2,7 @@
 -- under the same number.
 use Rattle.std.specs.Prelude.{ℕ, ◌≡◌, ◌+◌, List, [], ◌∷◌, ◌++◌, length}
 use Rattle.log_grammar.specs.Lines.{LogLine}
-use Rattle.log_grammar.specs.Bytes.{ended_by_lf, IsSplit}
+use Rattle.scram_text.specs.SplitLines.{ended_by_lf, IsSplit}
 use Rattle.log_grammar.specs.Demands.{Accounts}
 use Rattle.log_grammar.specs.laws.FitAccounts.{AllCanBeChallenged}
 use Rattle.log_grammar.specs.Why.{Why, other_challenge}

@@ -1,6 +1,6 @@
 -- Small logs of version 2 with one session after another, by the texts of their lines.
 use Rattle.std.specs.Prelude.{ℕ, List, [], ◌∷◌, codes}
-use Rattle.log_grammar.specs.Bytes.{ended_by_lf}
+use Rattle.scram_text.specs.SplitLines.{ended_by_lf}
 
 -- the first line
 abbrev pub header_two_text : List ℕ

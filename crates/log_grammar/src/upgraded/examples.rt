@@ -1,6 +1,6 @@
 //! The small logs as upgraded logs: each is judged like the log of version 1.
 ghost use Rattle.std.specs.Prelude.{[], ◌∷◌, codes};
-ghost use Rattle.log_grammar.specs.Bytes.{ended_by_lf};
+ghost use Rattle.scram_text.specs.SplitLines.{ended_by_lf};
 ghost use Rattle.log_grammar.specs.Demands.{Accounts};
 ghost use Rattle.log_grammar.specs.Versions.{IsClean, IsWhy};
 ghost use Rattle.log_grammar.specs.Why.{is_cut, no_line, out_of_order, other_mechs, other_challenge, other_outcome, refused_with};

@@ -10,7 +10,7 @@ ghost use Rattle.account_book.specs.AccountAttempt.{AccountAttempt};
 ghost use Rattle.log_grammar.specs.Words.{IsCodeWord};
 ghost use Rattle.log_grammar.specs.Lines.{LogLine, header_one, said, heard, gone, ended, mechs, cont, accepts, replies, auth_with, resp, code};
 ghost use Rattle.log_grammar.specs.Lines.{sync, max_log_line_len};
-ghost use Rattle.log_grammar.specs.Bytes.{LacksLf, ended_by_lf};
+ghost use Rattle.scram_text.specs.SplitLines.{LacksLf, ended_by_lf};
 ghost use Rattle.log_grammar.specs.Counts.{counts_of};
 ghost use Rattle.log_grammar.specs.Places.{Place, halted};
 ghost use Rattle.log_grammar.specs.Demands.{Accounts, demands};

@@ -1,7 +1,7 @@
 use Rattle.std.proofs.Common.{◌≤◌, ◌-◌, ◌+◌}
 use Rattle.std.specs.Prelude.{vec_len}
 use Rattle.std.specs.Io.KnownBytes.{Consumes}
-use Rattle.log_grammar.specs.Bytes.{LacksLf}
+use Rattle.scram_text.specs.SplitLines.{LacksLf}
 use Rattle.command_io.proofs.input.read_line.Given as goal
 
 abbrev pub invariant-loop-line : goal.invariant-loop-line

@@ -1,4 +1,4 @@
-use Rattle.log_grammar.proofs.lemmas.lines.Cuts.{some_split, one_split}
+use Rattle.scram_text.proofs.lemmas.SplitLines.{some_split, one_split}
 use Rattle.log_grammar.proofs.judgements.bytes_have_exactly_one_split.Goals as goal
 
 pub returns : goal.returns

@@ -4,7 +4,7 @@ use Rattle.std.specs.Prelude.{codes}
 use Rattle.std.specs.List.{AllZip}
 use Rattle.account_book.specs.AccountAttempt.{AccountAttempt}
 use Rattle.log_grammar.specs.Lines.{LogLine, said, ended, busy}
-use Rattle.log_grammar.specs.Bytes.{ended_by_lf, IsSplit}
+use Rattle.scram_text.specs.SplitLines.{ended_by_lf, IsSplit}
 use Rattle.log_grammar.specs.Places.{Place, between, over, is_closed}
 use Rattle.log_grammar.specs.Demands.{Accounts, demands, HaveDueReplies}
 use Rattle.log_grammar.specs.laws.FitAccounts.{AllCanBeChallenged}
@@ -14,7 +14,7 @@ use Rattle.log_grammar.specs.NumberedLines.{IsSessionNumber, IsNumberedLine}
 use Rattle.log_grammar.specs.state_machine.NumberedSteps.{put}
 use Rattle.log_grammar.specs.VersionTwo.{version_two}
 use Rattle.log_grammar.proofs.lemmas.lines.Written.{end_is_writable}
-use Rattle.log_grammar.proofs.lemmas.lines.Cuts.{joined_lines_are_split}
+use Rattle.scram_text.proofs.lemmas.SplitLines.{joined_lines_are_split}
 use Rattle.log_grammar.specs.laws.KindLaws.{FrontsBeginCleanOf, BeginsCleanOf}
 use Rattle.log_grammar.proofs.lemmas.completions.OpenSessions.{IsNumberedCompletable, ended_numbered_log_is_completable}
 use Rattle.log_grammar.proofs.lemmas.completions.OpenSessions.{shorter_numbered_log_is_completable, Free, log_is_free_after, OpenInRange}

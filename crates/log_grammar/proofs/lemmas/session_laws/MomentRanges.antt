@@ -10,7 +10,8 @@ use Rattle.log_grammar.specs.Demands.{Accounts, demands}
 use Rattle.log_grammar.specs.Sessions.{Part, closing, RecordedSession, session_part, session_lines, session_told, session}
 use Rattle.log_grammar.specs.Begins.{Begins, AreLines}
 use Rattle.log_grammar.proofs.lemmas.session_laws.LaterLines.{HoldsFromTheLast, later_lines_hold}
-use Rattle.log_grammar.proofs.lemmas.ListEnds.{appended_lists_keep_all, front_keeps_all, back_keeps_all}
+use Rattle.scram_text.proofs.lemmas.ListEnds.{appended_lists_keep_all}
+use Rattle.log_grammar.proofs.lemmas.ListEnds.{front_keeps_all, back_keeps_all}
 
 -- all lines are in their ranges
 abbrev pub Ranged : List LogLine → Type 0

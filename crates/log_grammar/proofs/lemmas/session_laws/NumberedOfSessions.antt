@@ -9,7 +9,7 @@ use Rattle.otp_core.specs.Ranges.{IsMoment}
 use Rattle.account_book.specs.AccountAttempt.{AccountAttempt}
 use Rattle.log_grammar.specs.Lines.{LogLine, header_two, said, ended, busy, halt, log_line_text}
 use Rattle.log_grammar.specs.laws.LastLines.{EndsWith}
-use Rattle.log_grammar.specs.Bytes.{ended_by_lf, IsSplit}
+use Rattle.scram_text.specs.SplitLines.{ended_by_lf, IsSplit}
 use Rattle.log_grammar.specs.Places.{between, halted}
 use Rattle.log_grammar.specs.Demands.{Accounts, demands}
 use Rattle.log_grammar.specs.Sessions.{closing}

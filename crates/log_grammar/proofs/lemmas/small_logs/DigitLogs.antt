@@ -5,7 +5,7 @@ use Rattle.std.proofs.lemmas.Fmt.{decimal_digit}
 use Rattle.std.specs.List.{AllByRecursion}
 use Rattle.std.specs.Str.{byte}
 use Rattle.log_grammar.specs.Lines.{LogLine, header_one, header_two, log_line_text, said, mechs, IsLogLineWritable, log_bytes}
-use Rattle.log_grammar.specs.Bytes.{ended_by_lf}
+use Rattle.scram_text.specs.SplitLines.{ended_by_lf}
 use Rattle.log_grammar.specs.Demands.{Accounts}
 use Rattle.log_grammar.specs.Why.{Why}
 use Rattle.log_grammar.specs.Versions.{IsClean, IsWhy}

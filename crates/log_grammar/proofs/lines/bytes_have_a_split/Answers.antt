@@ -1,4 +1,4 @@
-use Rattle.log_grammar.proofs.lemmas.lines.Cuts.{some_split}
+use Rattle.scram_text.proofs.lemmas.SplitLines.{some_split}
 use Rattle.log_grammar.proofs.lines.bytes_have_a_split.Goals as goal
 
 pub returns : goal.returns

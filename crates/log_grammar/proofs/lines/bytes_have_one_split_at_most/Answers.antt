@@ -1,4 +1,4 @@
-use Rattle.log_grammar.proofs.lemmas.lines.Cuts.{one_split}
+use Rattle.scram_text.proofs.lemmas.SplitLines.{one_split}
 use Rattle.log_grammar.proofs.lines.bytes_have_one_split_at_most.Goals as goal
 
 pub returns : goal.returns

@@ -7,7 +7,7 @@ use Rattle.std.specs.declared.option.Option.TheVariants.{None, Some}
 use Rattle.book_format.specs.Book.{BookFields}
 use Rattle.account_book.specs.Store.{StoreFacts}
 use Rattle.log_grammar.specs.Books.{accounts_in}
-use Rattle.log_grammar.specs.Bytes.{ended_by_lf, IsSplit}
+use Rattle.scram_text.specs.SplitLines.{ended_by_lf, IsSplit}
 use Rattle.log_grammar.specs.Versions.{max_open_sessions, IsLogFront, IsClean}
 use Rattle.log_grammar.specs.Lines.{LogLine, header_two, said, halt, log_line_text}
 use Rattle.log_grammar.specs.Places.{Place}
@@ -18,7 +18,7 @@ use Rattle.log_grammar.proofs.lemmas.many_sessions.WithoutLast.{numbered_log_has
 use Rattle.log_grammar.proofs.lemmas.lines.NumberedReadBack.{numbered_line_lacks_lf}
 use Rattle.log_grammar.proofs.lemmas.lines.ReadAndWritten.{writable_lines_are_read, writable_lines_lack_lf}
 use Rattle.log_grammar.proofs.lemmas.many_sessions.HaltAndBusy.{visit_halt_leads_to_halted}
-use Rattle.log_grammar.proofs.lemmas.lines.Cuts.{ended_by_lf-append}
+use Rattle.scram_text.proofs.lemmas.SplitLines.{ended_by_lf-append}
 use Rattle.sasl_desk.specs.OpenSessions.{is_of}
 use Rattle.sasl_desk.specs.Halls.{HallFields, hall_lines, hall_bytes, IsStoredAfter, IsHallAfter, open_session_phase, phase_in}
 use Rattle.sasl_desk.specs.Runs.{Call}

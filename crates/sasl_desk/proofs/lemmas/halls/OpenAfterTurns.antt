@@ -5,7 +5,7 @@ use Rattle.std.specs.List.{AllByRecursion}
 use Rattle.log_grammar.specs.Places.{Place, between, halted, open_at}
 use Rattle.log_grammar.specs.Demands.{Accounts}
 use Rattle.log_grammar.specs.Numbered.{Numbered, of_number}
-use Rattle.log_grammar.proofs.lemmas.ListEnds.{appended_lists_keep_all}
+use Rattle.scram_text.proofs.lemmas.ListEnds.{appended_lists_keep_all}
 use Rattle.sasl_desk.specs.OpenSessions.{is_of}
 use Rattle.sasl_desk.specs.Halls.{IsOpenSessionAt}
 use Rattle.sasl_desk.specs.Runs.{Call, server_nonce_of}

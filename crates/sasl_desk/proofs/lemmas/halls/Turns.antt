@@ -16,7 +16,7 @@ use Rattle.log_grammar.specs.state_machine.NumberedSteps.{put}
 use Rattle.log_grammar.proofs.lemmas.many_sessions.OpenCounts.{open_number_is_in_range}
 use Rattle.log_grammar.proofs.lemmas.many_sessions.LinesOfNumber.{one_and_others_cover_each, put_sets_own, put_keeps_others, given_in-append}
 use Rattle.log_grammar.proofs.lemmas.many_sessions.LinesOfNumber.{closed_in-append}
-use Rattle.log_grammar.proofs.lemmas.ListEnds.{appended_lists_keep_all}
+use Rattle.scram_text.proofs.lemmas.ListEnds.{appended_lists_keep_all}
 use Rattle.sasl_desk.specs.Desks.{IsStoredAt, IsBookAfterReplies}
 use Rattle.sasl_desk.specs.Events.{ClientEvent}
 use Rattle.sasl_desk.specs.OpenSessions.{is_of}

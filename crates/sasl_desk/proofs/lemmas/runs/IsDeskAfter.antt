@@ -14,7 +14,7 @@ use Rattle.log_grammar.specs.Places.{Place, before_all, between, offered, waits_
 use Rattle.log_grammar.specs.Demands.{Accounts, demands}
 use Rattle.log_grammar.specs.Begins.{Begins}
 use Rattle.log_grammar.proofs.lemmas.lines.LackLf.{reply_is_writable}
-use Rattle.log_grammar.proofs.lemmas.ListEnds.{appended_lists_keep_all}
+use Rattle.scram_text.proofs.lemmas.ListEnds.{appended_lists_keep_all}
 use Rattle.log_grammar.proofs.lemmas.state_machine.LogSteps.{log_goes_on}
 use Rattle.log_grammar.proofs.lemmas.lines.Written.{offer_is_writable, header_is_writable, halt_is_writable}
 use Rattle.sasl_desk.specs.Events.{ClientEvent}

@@ -1,4 +1,4 @@
--- How the bytes of a log are split into lines.
+-- How bytes are split into lines.
 use Rattle.std.specs.Prelude.{ℕ, ◌≡◌, List, [], ◌∷◌, ◌++◌, flat_map}
 use Rattle.std.specs.List.{AllByRecursion}
 use Rattle.std.specs.Str.{byte}

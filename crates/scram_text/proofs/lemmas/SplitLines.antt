@@ -6,10 +6,9 @@ use Rattle.std.proofs.lemmas.Bool.{cases_Bool}
 use Rattle.std.proofs.lemmas.Bool.Decides.{eqb_tells}
 use Rattle.std.proofs.lemmas.Grind.{flat_map-append}
 use Rattle.std.specs.Str.{byte}
-use Rattle.log_grammar.specs.Bytes.{LacksLf, ended_by_lf, IsSplit}
+use Rattle.scram_text.specs.SplitLines.{LacksLf, ended_by_lf, IsSplit}
 use Rattle.scram_text.proofs.lemmas.CutAtByte.{lacking_text_is_not_cut, one_cut}
-use Rattle.scram_text.proofs.lemmas.ListEnds.{same_cons}
-use Rattle.log_grammar.proofs.lemmas.ListEnds.{appended_lists_keep_all}
+use Rattle.scram_text.proofs.lemmas.ListEnds.{same_cons, appended_lists_keep_all}
 
 -- the bytes of joined texts are those of the first texts, then those of the others
 pub ended_by_lf-append : (texts more : List (List ℕ)) → ended_by_lf (texts ++ more) ≡ ended_by_lf texts ++ ended_by_lf more
