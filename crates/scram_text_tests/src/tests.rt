@@ -185,32 +185,38 @@ fn server_final_again(text: &[u8], out: &mut Vec<u8>) -> bool {
 }
 
 fn reads_and_writes_again(rt: &impl Abort, alloc: Global, exchange: &[&str; 5]) {
-    let [name, first, challenge, last, outcome] = *exchange;
+    let [name, client_first, server_first, client_final, server_final] = *exchange;
     let mut out = Vec::new(alloc);
     assert!(rt;
-        client_first_again(first.as_bytes(), name.as_bytes(), &mut out),
-        "{first}"
+        client_first_again(client_first.as_bytes(), name.as_bytes(), &mut out),
+        "{client_first}"
     );
-    check_bytes(rt, out.as_slice(), first.as_bytes(), first);
+    check_bytes(rt, out.as_slice(), client_first.as_bytes(), client_first);
     out.clear();
     assert!(rt;
-        server_first_again(challenge.as_bytes(), &mut out),
-        "{challenge}"
+        server_first_again(server_first.as_bytes(), &mut out),
+        "{server_first}"
     );
-    check_bytes(rt, out.as_slice(), challenge.as_bytes(), challenge);
+    check_bytes(rt, out.as_slice(), server_first.as_bytes(), server_first);
     out.clear();
-    assert!(rt; client_final_again(last.as_bytes(), &mut out), "{last}");
-    check_bytes(rt, out.as_slice(), last.as_bytes(), last);
+    assert!(rt;
+        client_final_again(client_final.as_bytes(), &mut out),
+        "{client_final}"
+    );
+    check_bytes(rt, out.as_slice(), client_final.as_bytes(), client_final);
     out.clear();
-    assert!(rt; client_final_in_two(last.as_bytes(), &mut out), "{last}");
-    check_bytes(rt, out.as_slice(), last.as_bytes(), last);
+    assert!(rt;
+        client_final_in_two(client_final.as_bytes(), &mut out),
+        "{client_final}"
+    );
+    check_bytes(rt, out.as_slice(), client_final.as_bytes(), client_final);
     out.clear();
-    if !outcome.is_empty() {
+    if !server_final.is_empty() {
         assert!(rt;
-            server_final_again(outcome.as_bytes(), &mut out),
-            "{outcome}"
+            server_final_again(server_final.as_bytes(), &mut out),
+            "{server_final}"
         );
-        check_bytes(rt, out.as_slice(), outcome.as_bytes(), outcome);
+        check_bytes(rt, out.as_slice(), server_final.as_bytes(), server_final);
     }
 }
 

@@ -11,7 +11,7 @@ fn check_both(
     exchange: &Exchange,
     server_nonce: &str,
 ) -> Result<(), Fail> {
-    let [first, challenge, last, outcome] = exchange.messages;
+    let [client_first, challenge, client_final, server_final] = exchange.messages;
     let mechanism = exchange.mechanism;
     let name = PlainName::new(exchange.name.as_bytes()).ok_or("a name")?;
     let password = Password::new(exchange.password.as_bytes()).ok_or("a password")?;
@@ -21,7 +21,7 @@ fn check_both(
 
     let mut t1 = Vec::new(alloc);
     let client = Client::start(mechanism, &name, None, &nonce, Limits::usual(), &mut t1)?;
-    check_text(rt, t1.as_slice(), first, "the first");
+    check_text(rt, t1.as_slice(), client_first, "the first");
     let mut t2 = Vec::new(alloc);
     let Ok(server) = server_first(mechanism, &view, t1.as_slice(), &server_nonce, &mut t2) else {
         return Err(Fail::from("no challenge"));
@@ -31,11 +31,11 @@ fn check_both(
     let Ok(client) = client.first(&password, t2.as_slice(), &mut t3) else {
         return Err(Fail::from("no answer"));
     };
-    check_text(rt, t3.as_slice(), last, "the last");
+    check_text(rt, t3.as_slice(), client_final, "the last");
     let mut t4 = Vec::new(alloc);
     let verdict = server.finish(t3.as_slice(), &mut t4).ok();
     check(rt, &verdict, &Some(Verdict::Accepted), "the verdict");
-    check_text(rt, t4.as_slice(), outcome, "the outcome");
+    check_text(rt, t4.as_slice(), server_final, "the outcome");
     check(
         rt,
         &client.last(t4.as_slice()),

@@ -46,23 +46,23 @@ fn answered(exchange: &Exchange, alloc: Global) -> Option<ClientTwo> {
 }
 
 fn sends_the_messages(rt: &impl Abort, alloc: Global, exchange: &Exchange) {
-    let [first, challenge, reply, outcome] = exchange.messages;
+    let [client_first, server_first, client_final, server_final] = exchange.messages;
     let mut out = Vec::new(alloc);
     let Some(Ok(client)) = start(exchange, None, Limits::usual(), &mut out) else {
-        panic!(rt; "{first}");
+        panic!(rt; "{client_first}");
     };
-    check_text(rt, out.as_slice(), first, first);
+    check_text(rt, out.as_slice(), client_first, client_first);
     out.clear();
-    let Some(Ok(client)) = answer(client, exchange, challenge, &mut out) else {
-        panic!(rt; "{challenge}");
+    let Some(Ok(client)) = answer(client, exchange, server_first, &mut out) else {
+        panic!(rt; "{server_first}");
     };
-    check_text(rt, out.as_slice(), reply, challenge);
-    if !outcome.is_empty() {
+    check_text(rt, out.as_slice(), client_final, server_first);
+    if !server_final.is_empty() {
         check(
             rt,
-            &client.last(outcome.as_bytes()),
+            &client.last(server_final.as_bytes()),
             &Ok(Authenticated),
-            outcome,
+            server_final,
         );
     }
 }
@@ -236,25 +236,25 @@ fn refused_growth_of_a_first_message(rt: HostRuntime) -> Result<(), Fail> {
 #[test]
 fn refused_growth_of_an_answer(rt: HostRuntime) -> Result<(), Fail> {
     let exchange = &PUBLISHED[0];
-    let [_, challenge, reply, outcome] = exchange.messages;
+    let [_, server_first, client_final, server_final] = exchange.messages;
     let Some(client) = started(exchange, rt.alloc()) else {
         panic!(rt; "not started");
     };
     let heap = LocalHeap::new(rt.alloc(), 16)?;
     let mut none = Vec::new(&heap);
-    let back = answer(client, exchange, challenge, &mut none);
+    let back = answer(client, exchange, server_first, &mut none);
     let Some(Err(OneRefused::Back(client, WriteFault::NoMemory))) = back else {
         panic!(rt; "not handed back");
     };
     assert!(rt; none.is_empty());
     let mut out = Vec::new(rt.alloc());
-    let Some(Ok(client)) = answer(client, exchange, challenge, &mut out) else {
+    let Some(Ok(client)) = answer(client, exchange, server_first, &mut out) else {
         panic!(rt; "not answered");
     };
-    check_text(&rt, out.as_slice(), reply, "the answer");
+    check_text(&rt, out.as_slice(), client_final, "the answer");
     check(
         &rt,
-        &client.last(outcome.as_bytes()),
+        &client.last(server_final.as_bytes()),
         &Ok(Authenticated),
         "the end",
     );

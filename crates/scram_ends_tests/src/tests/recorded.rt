@@ -3,13 +3,20 @@ use super::exchanges::EXCHANGES;
 use super::*;
 
 fn check_login(rt: &impl Abort, alloc: Global, login: &[&str; 6]) -> Result<(), Fail> {
-    let [mechanism, password, first, challenge, last, want] = *login;
+    let [
+        mechanism,
+        password,
+        client_first,
+        server_first,
+        client_final,
+        want,
+    ] = *login;
     let mechanism = Mechanism::of_name(mechanism.as_bytes()).ok_or("a mechanism")?;
-    let challenge = challenge.as_bytes();
-    let view = view_of(mechanism, password.as_bytes(), challenge, &[]).ok_or("an account")?;
-    let wait = ServerWait::recorded(mechanism, &view, first.as_bytes(), challenge)?;
-    let judged = wait.judge(last.as_bytes());
-    check_text(rt, text_of(alloc, &judged)?.as_slice(), want, first);
+    let server_first = server_first.as_bytes();
+    let view = view_of(mechanism, password.as_bytes(), server_first, &[]).ok_or("an account")?;
+    let wait = ServerWait::recorded(mechanism, &view, client_first.as_bytes(), server_first)?;
+    let judged = wait.judge(client_final.as_bytes());
+    check_text(rt, text_of(alloc, &judged)?.as_slice(), want, client_first);
     Ok(())
 }
 

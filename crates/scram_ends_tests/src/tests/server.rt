@@ -14,18 +14,29 @@ fn check_login(
 ) -> Result<(), Fail>
     requires { 1 ≤ view.now.count }
 {
-    let [first, challenge, last, outcome] = *messages;
+    let [client_first, challenge, client_final, server_final] = *messages;
     let server_nonce = NoncePart::new(server_nonce.as_bytes()).ok_or("a nonce")?;
     let mut out = Vec::new(alloc);
-    let Ok(wait) = server_first(mechanism, view, first.as_bytes(), &server_nonce, &mut out) else {
+    let Ok(wait) = server_first(
+        mechanism,
+        view,
+        client_first.as_bytes(),
+        &server_nonce,
+        &mut out,
+    ) else {
         return Err(Fail::from("no challenge"));
     };
-    check_text(rt, out.as_slice(), challenge, first);
+    check_text(rt, out.as_slice(), challenge, client_first);
     out.clear();
-    let verdict = wait.finish(last.as_bytes(), &mut out).ok();
-    check_text(rt, out.as_slice(), outcome, last);
+    let verdict = wait.finish(client_final.as_bytes(), &mut out).ok();
+    check_text(rt, out.as_slice(), server_final, client_final);
     let is_accepted = matches!(verdict, Some(Verdict::Accepted));
-    check(rt, &is_accepted, &outcome.starts_with("v="), last);
+    check(
+        rt,
+        &is_accepted,
+        &server_final.starts_with("v="),
+        client_final,
+    );
     Ok(())
 }
 
@@ -261,7 +272,7 @@ fn an_extension_is_signed(rt: HostRuntime) -> Result<(), Fail> {
     let sha256 = Mechanism::ScramSha256;
     let challenge = "r=abcdef,s=c2FsdA==,i=4096";
     let view = view_of(sha256, b"open sesame", challenge.as_bytes(), &[]).ok_or("an account")?;
-    for (last, outcome) in [
+    for (client_final, server_final) in [
         (
             "c=biws,r=abcdef,p=TZdtRyHCpCuZdIdnPBlpAbIwqT6VUuwd2aV8Z4lkHyE=",
             "v=koIyyYIISGwtXbiR6QjT//gwhZ9OBZYDS9hG+FLLFWA=",
@@ -271,7 +282,7 @@ fn an_extension_is_signed(rt: HostRuntime) -> Result<(), Fail> {
             "e=invalid-proof",
         ),
     ] {
-        let messages = ["n,,n=user,r=abc,x=1", challenge, last, outcome];
+        let messages = ["n,,n=user,r=abc,x=1", challenge, client_final, server_final];
         check_login(&rt, rt.alloc(), sha256, &view, "def", &messages)?;
     }
     Ok(())
@@ -294,7 +305,7 @@ fn nonces_that_join_alike(rt: HostRuntime) -> Result<(), Fail> {
         "c=biws,r=abb,p=QWm98tpWXJLePSAGs9pqVsFG7aY=",
         "c=biws,r=abb,p=20eu7pJHMJPBsO8hysyWq0wz/k0=",
     ];
-    for (first, server_nonce, last, outcome) in [
+    for (client_first, server_nonce, client_final, server_final) in [
         (first_a, "bb", last_a, "v=xx+jew+BeJLNwZeV8s3Edjni0Wo="),
         (first_a, "bb", last_ab, "e=invalid-proof"),
         (first_ab, "b", last_a, "e=invalid-proof"),
@@ -302,7 +313,12 @@ fn nonces_that_join_alike(rt: HostRuntime) -> Result<(), Fail> {
         // The nonce that was sent only begins with this one.
         (first_ab, "b", "c=biws,r=ab,p=AA==", "e=other-error"),
     ] {
-        let messages = [first, "r=abb,s=QQ==,i=4294967295", last, outcome];
+        let messages = [
+            client_first,
+            "r=abb,s=QQ==,i=4294967295",
+            client_final,
+            server_final,
+        ];
         check_login(&rt, rt.alloc(), sha1, &view, server_nonce, &messages)?;
     }
     Ok(())
@@ -327,18 +343,18 @@ fn refused_memory_for_a_challenge(rt: HostRuntime) -> Result<(), Fail> {
 #[test]
 fn refused_memory_for_an_outcome(rt: HostRuntime) -> Result<(), Fail> {
     let view = pencil(&[]).ok_or("an account")?;
-    let [_, _, last, outcome] = SHA1;
+    let [_, _, client_final, server_final] = SHA1;
     let heap = LocalHeap::new(rt.alloc(), 16)?;
     let mut none = Vec::new(&heap);
-    let Err((wait, fault)) = waiting(&view)?.finish(last.as_bytes(), &mut none) else {
+    let Err((wait, fault)) = waiting(&view)?.finish(client_final.as_bytes(), &mut none) else {
         return Err(Fail::from("memory was there"));
     };
     check(&rt, &fault, &WriteFault::NoMemory, "no memory");
     check(&rt, &none.len(), &0, "nothing is written");
     // Once more, with room.
     let mut out = Vec::new(rt.alloc());
-    let verdict = wait.finish(last.as_bytes(), &mut out).ok();
+    let verdict = wait.finish(client_final.as_bytes(), &mut out).ok();
     check(&rt, &verdict, &Some(Verdict::Accepted), "with room");
-    check_text(&rt, out.as_slice(), outcome, "with room");
+    check_text(&rt, out.as_slice(), server_final, "with room");
     Ok(())
 }
