@@ -2,6 +2,8 @@
 ghost use Rattle.std.specs.Prelude.{◌≡◌, option_map, Some, None, codes, length, option_and_then};
 ghost use Rattle.toml.specs.Data.{get_member, as_integer};
 ghost use Rattle.toml.specs.View.{table_view};
+ghost use Rattle.mac_core.specs.Mechanism.{digest_len_by};
+ghost use Rattle.mac_core.specs.declared.mechanism.Mechanism.TheVariants.{ScramSha256};
 ghost use Rattle.book_format.specs.Readings.{IsReadAnswered};
 ghost use Rattle.book_format.specs.inner.Steps.{IsReadAs, IsReadOrFault, seen};
 ghost use Rattle.book_format.specs.inner.Books.{at_top, tree_in, top_of, accounts_of_table, book_in};
@@ -135,7 +137,7 @@ fn is_format(table: &Table) -> bool
 
 // The decoy key with these 32 bytes.
 fn decoy_key_of(bytes: &Tag) -> [u8; 32]
-    requires { length bytes.now.items ≡ 32 }
+    requires { length bytes.now.items ≡ digest_len_by ScramSha256 }
     ensures { result ≡ bytes.now.items }
 {
     let mut key = [0; 32];

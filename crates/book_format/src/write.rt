@@ -4,6 +4,8 @@ ghost use Rattle.hex.specs.Hex.{decode_of, encode_lower};
 ghost use Rattle.toml.specs.Data.{string};
 ghost use Rattle.toml.specs.Text.{IsDocumentText};
 ghost use Rattle.toml.specs.View.{table_view};
+ghost use Rattle.mac_core.specs.Mechanism.{digest_len_by};
+ghost use Rattle.mac_core.specs.declared.mechanism.Mechanism.TheVariants.{ScramSha256};
 ghost use Rattle.book_format.specs.Book.{AreAccounts};
 ghost use Rattle.book_format.specs.Put.{put_member};
 ghost use Rattle.book_format.specs.Trees.{AreAccountTrees, IsBookTree, IsBookText};
@@ -63,7 +65,7 @@ fn book_table(alloc: Global, book: &Contents) -> Result<Table, AllocError>
 fn put_decoy_key(alloc: Global, table: &mut Table, key: &[u8; 32]) -> Result<(), AllocError>
     ensures tree { OnOk result (table_view table.new
         ≡ put_member (codes "decoy_key") (string (encode_lower key.now)) (table_view table.old)) }
-    ensures len { length key.now ≡ 32 }
+    ensures len { length key.now ≡ digest_len_by ScramSha256 }
     ensures back { decode_of (encode_lower key.now) ≡ Ok key.now }
 {
     put_hex(alloc, table, "decoy_key", key)

@@ -6,6 +6,10 @@ use Rattle.std.specs.Str.{byte}
 use Rattle.mac_core.specs.Hmac.{hmac}
 use Rattle.otp_core.specs.Ranges.{IsDigitCount}
 
+-- the least number of bytes of a tag that is truncated: as many as a tag of SHA-1 has
+abbrev pub min_tag_len : ℕ
+min_tag_len = 20
+
 -- the offset of the dynamic truncation: the low four bits of the tag's last byte
 abbrev pub offset : List ℕ → ℕ
 offset tag = slice_index tag (length tag - 1) % 16

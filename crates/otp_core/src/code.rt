@@ -1,7 +1,7 @@
 //! HOTP values (RFC 4226, section 5) and the steps of TOTP (RFC 6238, section 4.2).
 ghost use Rattle.std.specs.Prelude.{◌≡◌, ◌≤◌, ◌<◌, ◌%◌, ◌^◌, ℕ, List, length, MatchOption};
 ghost use Rattle.mac_core.specs.Hmac.{IsPreparedFor};
-ghost use Rattle.otp_core.specs.Code.{truncated, last_digits, code_of, hotp_text, IsCodeText, steps_from};
+ghost use Rattle.otp_core.specs.Code.{min_tag_len, truncated, last_digits, code_of, hotp_text, IsCodeText, steps_from};
 ghost use Rattle.otp_core.specs.Ranges.{max_digits};
 
 use crate::digits::Digits;
@@ -40,7 +40,7 @@ impl Code {
 
 // The dynamic truncation of a tag (RFC 4226, section 5.3): the four bytes at its offset, as a number without the top bit.
 fn truncated_number(tag: &[u8]) -> u32
-    requires { 20 ≤ length tag.now }
+    requires { min_tag_len ≤ length tag.now }
     ensures { result ≡ truncated tag.now }
 {
     let at = usize::from(tag[tag.len() - 1] & 15);
@@ -63,7 +63,7 @@ fn digits_of(mut number: u32, count: usize) -> ArrayVec<u8, 8>
 /// The code of a tag (RFC 4226, section 5.3): its dynamic truncation modulo 10 ^ `digits`, written in that many digits, with
 /// leading zeros. The tag has at least 20 bytes; the offset is in its last byte.
 pub fn truncate(tag: &Tag, digits: Digits) -> Code
-    requires { 20 ≤ length tag.now.items }
+    requires { min_tag_len ≤ length tag.now.items }
     ensures { result ≡ code_of digits tag.now.items }
 {
     let count = digits.count();

@@ -1,7 +1,7 @@
 //! Reads the accounts of a book.
 ghost use Rattle.std.specs.Prelude.{◌≡◌, ◌≤◌, codes, [], Some};
 ghost use Rattle.toml.specs.View.{view, items_view, table_view};
-ghost use Rattle.book_format.specs.inner.Values.{plain_name_of, names_in, names_of, name_list_in};
+ghost use Rattle.book_format.specs.inner.Values.{max_tag_len, plain_name_of, names_in, names_of, name_list_in};
 ghost use Rattle.book_format.specs.Names.{are_texts};
 ghost use Rattle.book_format.specs.inner.Steps.{IsReadAs, IsReadOrFault};
 ghost use Rattle.book_format.specs.inner.Books.{named_account_of, accounts_from, in_account};
@@ -102,7 +102,7 @@ fn account_of(alloc: Global, value: &Value) -> Result<Account, BookWhy>
 
 // What is kept for a mechanism, or None if its key is missing. Errors: those of `mech_of`.
 fn keys_if_any(len: usize, table: &Table, key: &str) -> Result<Option<MechKeys>, BookWhy>
-    requires { len ≤ 64 }
+    requires { len ≤ max_tag_len }
     ensures { result ≡ read_some key.now (table_in (keys_table len) (keys_reading len)) (table_view table.now) }
 {
     match at(table, key) {

@@ -6,7 +6,7 @@ ghost use Rattle.toml.specs.Data.{get_member};
 ghost use Rattle.toml.specs.View.{view, table_view};
 ghost use Rattle.book_format.specs.Keys.{has_only};
 ghost use Rattle.hex.specs.Hex.{decode_of};
-ghost use Rattle.book_format.specs.inner.Values.{number_in, bytes_in, decoded, text_in, table_of};
+ghost use Rattle.book_format.specs.inner.Values.{max_tag_len, number_in, bytes_in, decoded, text_in, table_of};
 ghost use Rattle.book_format.specs.inner.Steps.{seen, pass_or};
 ghost use Rattle.book_format.specs.RowKinds.{bound_at};
 ghost use Rattle.book_format.specs.inner.Rows.{read_at, read_or};
@@ -117,7 +117,7 @@ pub(crate) fn number_at(
 
 // The bytes of a hexadecimal text in either case, or None if it is not one of `least` to `most` bytes.
 fn bytes_within(least: usize, most: usize, text: &str) -> Option<Tag>
-    requires { most ≤ 64 }
+    requires { most ≤ max_tag_len }
     ensures value { (why : BookWhy) → ok_or (option_map (λ bytes. bytes.items) result) why ≡ decoded why least most (decode_of text.now) }
     ensures least { IfSome result (λ bytes. least ≤ length bytes.items) }
     ensures most { IfSome result (λ bytes. length bytes.items ≤ most) }
@@ -141,7 +141,7 @@ pub(crate) fn bytes_at(
     most: usize,
     why: BookWhy,
 ) -> Result<Tag, BookWhy>
-    requires { most ≤ 64 }
+    requires { most ≤ max_tag_len }
     ensures value { seen (λ v. v.items) result ≡ read_at key.now (bytes_in why least most) (table_view table.now) }
     ensures least { IfOk result (λ bytes. least ≤ length bytes.items) }
     ensures most { IfOk result (λ bytes. length bytes.items ≤ most) }

@@ -2,6 +2,7 @@
 ghost use Rattle.std.specs.Prelude.{◌≡◌, ◌≤◌, length};
 ghost use Rattle.toml.specs.View.{view};
 ghost use Rattle.book_format.specs.inner.Rows.{table_in};
+ghost use Rattle.book_format.specs.inner.Values.{max_tag_len};
 ghost use Rattle.book_format.specs.inner.Tables.{keys_reading};
 ghost use Rattle.book_format.specs.Tables.{keys_table};
 
@@ -17,7 +18,7 @@ use toml::Value;
 /// type, else `Salt`, `Count` or `KeyLength` if the value is out of its range.
 #[tactic(auto, unfolding(crate::specs::inner::Rows::table_in, crate::specs::inner::Rows::read_table))]
 pub(crate) fn mech_of(len: usize, value: &Value) -> Result<MechKeys, BookWhy>
-    requires { len ≤ 64 }
+    requires { len ≤ max_tag_len }
     ensures { result ≡ table_in (keys_table len) (keys_reading len) (view value.now) }
 {
     let table = table_of(value)?;

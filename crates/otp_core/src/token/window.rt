@@ -1,5 +1,5 @@
 //! The counters that can pass at a moment, as one range.
-ghost use Rattle.std.specs.Prelude.{◌≡◌, ◌≤◌, ◌<◌, ◌↔◌, ◌+◌, ◌^◌, ℕ, pos, ◌-ℤ◌, [], nat_abs};
+ghost use Rattle.std.specs.Prelude.{◌≡◌, ◌≤◌, ◌<◌, ◌↔◌, ◌+◌, ℕ, pos, ◌-ℤ◌, [], nat_abs};
 ghost use Rattle.std.specs.Option.{ForSome};
 ghost use Rattle.otp_core.specs.TokenRanges.{IsHotpInRange, IsTotpInRange, IsInRange};
 ghost use Rattle.otp_core.specs.Window.{IsInHotpWindow, IsInTotpWindow, IsCandidate};
@@ -48,7 +48,7 @@ pub(crate) fn pair_candidates(token: &HotpFields) -> Counters
     requires { IsHotpInRange token.now }
     ensures pairs { (c : ℕ) → (IsInHotpWindow token.now.next token.now.sync_ahead c × (c + 1 ≤ max_counter))
         ↔ IsOneOf result c }
-    ensures most { result.end ≤ 2 ^ 63 }
+    ensures most { result.end ≤ max_counter }
 {
     Counters {
         first: token.next,
