@@ -292,6 +292,19 @@ def stale_sizes():
             yield f"{name}: {' '.join(told) or None}, and not {size}: {form}"
 
 
+def imported_modules(text):
+    """The crate and the module of each import of definitions in this text. A name that is imported from a crate's specs/Lib.antt, which
+    passes it on, comes from the module that is named there."""
+    for crate, module, names in re.findall(r"^use Rattle\.(\w+)\.specs\.([\w.]*)(?:\{([^}]*)\})?", text, re.MULTILINE):
+        if module:
+            yield crate, module
+        else:
+            passed_on = (TOP / "crates" / crate / "specs" / "Lib.antt").read_text(encoding="utf-8")
+            for lower, of_lower, these in re.findall(r"^pub use Rattle\.(\w+)\.specs\.([\w.]+)\{([^}]*)\}", passed_on, re.MULTILINE):
+                if {*names.split(", ")} & {*these.split(", ")}:
+                    yield lower, of_lower
+
+
 def definitions_under(files):
     """The lines of these files of definitions, and of all files of specs/ that they import."""
     found, left = set(), [*files]
@@ -299,7 +312,7 @@ def definitions_under(files):
         file = left.pop()
         if file not in found:
             found.add(file)
-            for crate, module in re.findall(r"^use Rattle\.(\w+)\.specs\.([\w.]+)", file.read_text(encoding="utf-8"), re.MULTILINE):
+            for crate, module in imported_modules(file.read_text(encoding="utf-8")):
                 names = module.rstrip(".").split(".")
                 paths = [TOP / "crates" / crate / "specs" / f"{'/'.join(names[:most])}.antt" for most in range(len(names), 0, -1)]
                 left += [path for path in paths if path.exists()][:1]

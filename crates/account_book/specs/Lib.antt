@@ -9,3 +9,10 @@ pub mod Store
 pub mod SavedBooks
 pub mod Faults
 pub mod Laws
+-- what contracts of this crate speak of, for callers that do not list the crates below
+pub use Rattle.book_format.specs.Account.{AccountFields, IsAccount, AreKeys}
+pub use Rattle.book_format.specs.Book.{BookFields, IsBook}
+pub use Rattle.book_format.specs.Trees.{IsBookText}
+pub use Rattle.book_format.specs.declared.account.MechKeys.{MechKeys}
+pub use Rattle.mac_core.specs.Mechanism.{name_of}
+pub use Rattle.mac_core.specs.declared.mechanism.Mechanism.{Mechanism}

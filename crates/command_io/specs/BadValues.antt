@@ -3,8 +3,7 @@ use Rattle.std.specs.Prelude.{ℕ, ◌≡◌, ◌≢◌, ◌⊎◌, List, [], �
 use Rattle.std.specs.Fmt.{decimal}
 use Rattle.hex.specs.Hex.{decode_of}
 use Rattle.clap.specs.declared.parser.matches.ArgMatches.{ArgMatches}
-use Rattle.mac_core.specs.Mechanism.{name_of}
-use Rattle.mac_core.specs.declared.mechanism.Mechanism.{Mechanism}
+use Rattle.account_book.specs.{name_of, Mechanism}
 use Rattle.scram_text.specs.Class.{IsNoncePart, IsPassword, IsPlainName, IsSalt}
 use Rattle.scram_text.specs.Parts.{IsCount}
 use Rattle.otp_core.specs.Hash.{hash_name}

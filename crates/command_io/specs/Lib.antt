@@ -4,3 +4,6 @@ pub mod File
 pub mod HeldBook
 pub mod Input
 pub mod Printed
+-- what contracts of this crate speak of, for callers that do not list the crates below
+pub use Rattle.book_keeper.specs.Keeper.{IsChangeUnsaved, IsSavingReplyDue}
+pub use Rattle.book_keeper.specs.declared.keeper.SaveFault.TheVariants.{NotSaved}

@@ -3,7 +3,7 @@ use Rattle.std.specs.Prelude.{ℕ, ◌≡◌, List, IfSome}
 use Rattle.std.specs.List.{AllByRecursion}
 use Rattle.std.specs.Io.KnownBytes.{Appends}
 use Rattle.std.specs.declared.option.Option.{Option}
-use Rattle.book_format.specs.Book.{BookFields}
+use Rattle.account_book.specs.{BookFields}
 use Rattle.log_grammar.specs.Books.{accounts_in}
 use Rattle.log_grammar.specs.Demands.{Accounts}
 use Rattle.log_grammar.specs.Lines.{log_bytes}

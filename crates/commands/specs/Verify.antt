@@ -6,11 +6,8 @@ use Rattle.std.specs.Io.KnownBytes.{Appends}
 use Rattle.std.specs.declared.option.Option.{Option}
 use Rattle.std.specs.declared.option.Option.TheVariants.{Some}
 use Rattle.scram_text.specs.Class.{IsPlainName}
-use Rattle.otp_core.specs.Attempt.{CodeTexts}
-use Rattle.otp_core.specs.Ranges.{IsMoment}
-use Rattle.otp_core.specs.declared.token.reply.Reply.{Reply}
-use Rattle.otp_core.specs.declared.token.reply.Reply.TheVariants.{Pass, Fail, Locked}
-use Rattle.book_format.specs.Book.{BookFields}
+use Rattle.sasl_desk.specs.{CodeTexts, IsMoment, Reply, Pass, Fail, Locked}
+use Rattle.account_book.specs.{BookFields}
 use Rattle.account_book.specs.Accounts.{account_at}
 use Rattle.account_book.specs.Store.{StoreFacts}
 use Rattle.book_file.specs.Saved.{IsSavedText}

@@ -2,8 +2,7 @@
 ghost use Rattle.std.specs.Prelude.{◌⊎◌, Bool, ℕ, List, [], ◌∷◌, ◌++◌, reverse};
 ghost use Rattle.std.specs.Io.KnownBytes.{Appends};
 ghost use Rattle.std.specs.declared.option.Option.{Option};
-ghost use Rattle.book_format.specs.Book.{BookFields};
-ghost use Rattle.book_format.specs.Trees.{IsBookText};
+ghost use Rattle.account_book.specs.{BookFields, IsBookText};
 ghost use Rattle.account_book.specs.Enrolled.{enrolled};
 ghost use Rattle.book_file.specs.Saved.{IsSavedText};
 ghost use Rattle.account_book.specs.AccountAttempt.{AccountAttempt};

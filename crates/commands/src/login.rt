@@ -1,8 +1,8 @@
 //! The command `login`: runs one login and its codes, as server and as client, and prints the server's log.
 ghost use Rattle.std.specs.Prelude.{◌≡◌, ◌⊎◌, true, ℕ, Bool, List, [], Option, Ok, decimal, option_map, IfOk, IfErr, IfSome, OnOk};
-ghost use Rattle.otp_core.specs.Ranges.{IsMoment};
+ghost use Rattle.sasl_desk.specs.{IsMoment};
 ghost use Rattle.scram_text.specs.Class.{IsPassword};
-ghost use Rattle.book_format.specs.Book.{BookFields};
+ghost use Rattle.account_book.specs.{BookFields};
 ghost use Rattle.log_grammar.specs.Versions.{IsClean, IsLogFront};
 ghost use Rattle.sasl_desk.specs.Desks.{desk_phase};
 ghost use Rattle.sasl_desk.specs.declared.session.phase.Phase.TheVariants as Phase;
@@ -41,7 +41,7 @@ use command_io::terminal::{TerminalInput, TerminalOutput};
 use command_line::{Fault, OptionName};
 use command_words::given;
 use options::read_options;
-use otp_core::Moment;
+use sasl_desk::Moment;
 use sasl_log::{MAX_LINE_LEN, Sink, Source};
 use scram_text::{NoncePart, Password};
 use socket::Connection;

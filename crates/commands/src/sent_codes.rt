@@ -1,8 +1,8 @@
 //! Reads an input line of `verify` or `login`: one code, or two in a row.
-ghost use Rattle.otp_core.specs.Attempt.{texts_of};
+ghost use Rattle.sasl_desk.specs.{texts_of};
 ghost use Rattle.commands.specs.SentCodes.{SaysCodes};
 
-use otp_core::SentCodes;
+use sasl_desk::SentCodes;
 use sasl_log::{ClientLine, Line, read_line};
 
 /// The codes in a line without its LF: two texts if it is a SYNC line of the protocol; otherwise the line itself, as one text.

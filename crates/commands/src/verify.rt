@@ -17,7 +17,7 @@ use command_io::prompt::{CODES, ask};
 use command_io::terminal::{TerminalInput, TerminalOutput};
 use command_line::{Fault, OptionName, value};
 use command_words::given;
-use otp_core::Moment;
+use sasl_desk::Moment;
 use sasl_log::write_reply;
 use scram_text::PlainName;
 use std::alloc::Global;

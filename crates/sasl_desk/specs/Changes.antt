@@ -1,7 +1,6 @@
 -- What happens to a book over its life: runs of desks and of halls, one after another, and what is done with it between them.
 use Rattle.std.specs.Prelude.{ℕ, ◌≡◌, ◌⊎◌, List, [], ◌∷◌, flat_map, reverse}
-use Rattle.book_format.specs.Account.{AccountFields}
-use Rattle.book_format.specs.Book.{BookFields}
+use Rattle.account_book.specs.{AccountFields, BookFields}
 use Rattle.account_book.specs.Accounts.{IsAdded}
 use Rattle.account_book.specs.Store.{StoreFacts}
 use Rattle.account_book.specs.Tokens.{IsUnlocked, IsBookAttempt}

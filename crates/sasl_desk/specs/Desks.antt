@@ -1,7 +1,6 @@
 -- What a desk stands for: the book with which it began, and the run since.
 use Rattle.std.specs.Prelude.{ℕ, ◌≡◌, ◌⊎◌, true, false, List, [], ◌∷◌, ◌++◌, flat_map, reverse}
-use Rattle.book_format.specs.Book.{BookFields}
-use Rattle.book_format.specs.Trees.{IsBookText}
+use Rattle.account_book.specs.{BookFields, IsBookText}
 use Rattle.account_book.specs.SavedBooks.{HasStoredText}
 use Rattle.account_book.specs.Store.{StoreFacts}
 use Rattle.account_book.specs.AccountAttempt.{AccountAttempt}

@@ -1,6 +1,6 @@
 -- The faults of a desk and a hall, their numbers, and why a desk or a hall does not begin.
 use Rattle.std.specs.Prelude.{ℕ, ◌≡◌}
-use Rattle.book_format.specs.Book.{BookFields}
+use Rattle.account_book.specs.{BookFields}
 use Rattle.account_book.specs.Store.{StoreFacts}
 use Rattle.book_keeper.specs.Keeper.{FailsToSave}
 use Rattle.book_keeper.specs.declared.keeper.SaveFault.{SaveFault}

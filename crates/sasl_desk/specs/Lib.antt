@@ -21,3 +21,9 @@ pub mod Inputs
 pub mod Outputs
 pub mod Serves
 pub mod inner
+-- what contracts of this crate speak of, for callers that do not list the crates below
+pub use Rattle.otp_core.specs.Ranges.{IsMoment}
+pub use Rattle.otp_core.specs.Attempt.{CodeTexts, texts_of}
+pub use Rattle.otp_core.specs.Attempt.CodeTexts.{one_text, two_texts}
+pub use Rattle.otp_core.specs.declared.token.reply.Reply.{Reply}
+pub use Rattle.otp_core.specs.declared.token.reply.Reply.TheVariants.{Pass, Fail, Locked}

@@ -1,7 +1,6 @@
 -- What was saved of a log's replies: the text of the book to which they lead, and in each text the counters that they used.
 use Rattle.std.specs.Prelude.{ℕ, ◌≡◌, List, ◌++◌, reverse}
-use Rattle.book_format.specs.Book.{BookFields}
-use Rattle.book_format.specs.Trees.{IsBookText}
+use Rattle.account_book.specs.{BookFields, IsBookText}
 use Rattle.account_book.specs.SavedBooks.{HasStoredText}
 use Rattle.account_book.specs.Store.{StoreFacts}
 use Rattle.account_book.specs.AccountAttempt.{AccountAttempt}

@@ -1,7 +1,6 @@
 -- What a call of a desk or a hall does to its keeper: what its lines record has been saved, and nothing else is asked of the store.
 use Rattle.std.specs.Prelude.{◌≡◌, ◌+◌, true, false, Bool, List, [], ◌∷◌, length, filter}
-use Rattle.book_format.specs.Book.{BookFields}
-use Rattle.book_format.specs.Trees.{IsBookText}
+use Rattle.account_book.specs.{BookFields, IsBookText}
 use Rattle.account_book.specs.SavedBooks.{needs_save}
 use Rattle.account_book.specs.Store.{StoreFacts}
 use Rattle.account_book.specs.AccountAttempt.{AccountAttempt}

@@ -8,7 +8,7 @@ use Rattle.otp_core.specs.Window.{CanPass}
 use Rattle.otp_core.specs.History.{IsLegal}
 use Rattle.otp_core.specs.declared.token.reply.Reply.{Reply}
 use Rattle.otp_core.specs.declared.token.kinds.TokenFields.{TokenFields}
-use Rattle.book_format.specs.Book.{BookFields}
+use Rattle.account_book.specs.{BookFields}
 use Rattle.account_book.specs.Tokens.{token_at, IsBookAttempt}
 use Rattle.account_book.specs.AccountAttempt.{AccountAttempt}
 

@@ -1,7 +1,6 @@
 //! Laws of sessions, of a keeper of books and of desks. Each is the contract of a function that does nothing.
 ghost use Rattle.std.specs.Prelude.{◌≡◌, ◌⊎◌, true, ℕ, List, [], ◌∷◌, ◌++◌};
-ghost use Rattle.book_format.specs.Book.{BookFields};
-ghost use Rattle.book_format.specs.Trees.{IsBookText};
+ghost use Rattle.account_book.specs.{BookFields, IsBookText};
 ghost use Rattle.account_book.specs.AccountAttempt.{AccountAttempt};
 ghost use Rattle.account_book.specs.Tokens.{IsBookAttempt};
 ghost use Rattle.log_grammar.specs.Books.{accounts_in};

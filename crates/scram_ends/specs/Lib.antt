@@ -13,3 +13,7 @@ pub mod Client
 pub mod Faults
 pub mod Laws
 pub mod inner
+-- what contracts of this crate speak of, for callers that do not list the crates below
+pub use Rattle.mac_core.specs.Mechanism.{name_of, IsOffered}
+pub use Rattle.mac_core.specs.declared.mechanism.Mechanism.{Mechanism}
+pub use Rattle.mac_core.specs.declared.mechanism.Mechanism.TheVariants.{ScramSha256}

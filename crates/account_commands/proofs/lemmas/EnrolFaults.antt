@@ -2,8 +2,7 @@
 use Rattle.std.proofs.Common.{◌≡◌, ◌⊎◌, inl, inr, ℕ, List, Option, refl, sym, subst, ap, ◌∙◌}
 use Rattle.std.specs.Prelude.{None, Some, true, false, is_some, MatchOption}
 use Rattle.clap.specs.declared.parser.matches.ArgMatches.{ArgMatches}
-use Rattle.book_format.specs.Account.{AccountFields}
-use Rattle.book_format.specs.Book.{BookFields}
+use Rattle.account_book.specs.{AccountFields, BookFields}
 use Rattle.account_book.specs.Accounts.{account_at}
 use Rattle.command_line.specs.Fault.{IsFileUnwrittenOrNoMemory}
 use Rattle.command_line.specs.declared.fault.Fault.{Fault}

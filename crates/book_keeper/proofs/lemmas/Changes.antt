@@ -12,8 +12,7 @@ use Rattle.std.proofs.lemmas.Bool.{cases_Bool}
 use Rattle.std.proofs.lemmas.Map.Text.{is_eq-slice_cmp}
 use Rattle.std.proofs.lemmas.Slice.Eq.{bytes_eq-Decides}
 use Rattle.otp_core.specs.declared.token.kinds.TokenFields.{TokenFields}
-use Rattle.book_format.specs.Account.{AccountFields}
-use Rattle.book_format.specs.Book.{BookFields}
+use Rattle.account_book.specs.{AccountFields, BookFields}
 use Rattle.account_book.specs.Accounts.{name_cmp, with_changed, without_account, IsAdded, IsChanged, IsRemoved}
 use Rattle.account_book.specs.Tokens.{token_at, with_token}
 use Rattle.account_book.specs.declared.book.enrol.EnrolFault.{EnrolFault}

@@ -8,7 +8,7 @@ use Rattle.otp_core.specs.TokenAttempt.{IsTokenAttempt}
 use Rattle.otp_core.specs.declared.token.reply.Reply.{Reply}
 use Rattle.otp_core.specs.declared.token.reply.Reply.TheVariants.{Pass, Fail, Locked}
 use Rattle.otp_core.specs.declared.token.kinds.TokenFields.{TokenFields}
-use Rattle.book_format.specs.Book.{BookFields}
+use Rattle.account_book.specs.{BookFields}
 use Rattle.account_book.specs.AccountAttempt.{account_attempt_of}
 use Rattle.account_book.specs.Accounts.{IsChanged, with_changed}
 use Rattle.account_book.specs.SavedBooks.{needs_save}

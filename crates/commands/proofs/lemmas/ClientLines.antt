@@ -4,9 +4,7 @@ use Rattle.std.specs.Prelude.{IfOk, IfNone}
 use Rattle.std.specs.Option.{option_or}
 use Rattle.std.specs.declared.result.Result.{Result}
 use Rattle.std.proofs.lemmas.Result.{IfOk-weaker}
-use Rattle.mac_core.specs.Mechanism.{IsOffered}
-use Rattle.mac_core.specs.declared.mechanism.Mechanism.{Mechanism}
-use Rattle.mac_core.specs.declared.mechanism.Mechanism.TheVariants.{ScramSha256}
+use Rattle.scram_ends.specs.{IsOffered, Mechanism, ScramSha256}
 use Rattle.command_line.specs.declared.fault.Fault.{Fault}
 use Rattle.log_grammar.specs.Lines.{IsLine, ServerLine, from_server, mechs, cont, accepts}
 use Rattle.log_grammar.proofs.lemmas.lines.ReadBack.{one_line}

@@ -1,7 +1,7 @@
 -- The log of a login: that it stays the desk's log at each step, what of it is printed, and which faults end a talk.
 use Rattle.std.proofs.Common.{◌≡◌, ◌≢◌, inl, inr, ℕ, Bool, Option, List, [], ◌∷◌, refl, sym, subst}
 use Rattle.std.specs.Io.KnownBytes.{Appends}
-use Rattle.book_format.specs.Book.{BookFields}
+use Rattle.account_book.specs.{BookFields}
 use Rattle.account_book.specs.Store.{StoreFacts}
 use Rattle.log_grammar.specs.Lines.{log_bytes, header_one}
 use Rattle.log_grammar.specs.Versions.{IsClean, IsLogFront}

@@ -6,15 +6,13 @@ ghost use Rattle.scram_ends.specs.Client.{StandsForStarted, IsAnswerable, Stands
 ghost use Rattle.scram_ends.specs.Login.{IsAuthentic};
 ghost use Rattle.scram_ends.specs.Stages.{Started, Answered};
 ghost use Rattle.scram_text.specs.Messages.{ServerFirstParts};
-ghost use Rattle.mac_core.specs.Mechanism.{name_of};
-ghost use Rattle.mac_core.specs.declared.mechanism.Mechanism.{Mechanism};
+ghost use Rattle.scram_ends.specs.{name_of, Mechanism};
 ghost use Rattle.commands.specs.ClientEnd.{IsChosen};
 ghost use Rattle.commands.specs.inner.ClientSteps.{IfSays, BeginsLogin, AnswersChallenge, MaySay, ShowsKeys, HasToLeave};
 
 use command_line::Fault;
-use mac_core::Mechanism;
 use sasl_log::{Line, Payload, ServerLine, read_line, word, write_message_line};
-use scram_ends::{Client, ClientOne, ClientTwo, Limits, OneRefused};
+use scram_ends::{Client, ClientOne, ClientTwo, Limits, Mechanism, OneRefused};
 use scram_text::{NoncePart, Password, PlainName};
 use std::alloc::Global;
 use std::mem;

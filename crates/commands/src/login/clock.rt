@@ -2,7 +2,7 @@
 ghost use Rattle.std.specs.Prelude.{◌≡◌, ℕ, Option, None};
 ghost use Rattle.commands.specs.DeskLog.{IsGiven};
 
-use otp_core::Moment;
+use sasl_desk::Moment;
 use std::marker::{Brand, PhantomData};
 use std::time::{Clock, SystemTime, UNIX_EPOCH};
 

@@ -1,14 +1,14 @@
 //! The line that a client sends for an input line: one code, or two in a row.
 ghost use Rattle.std.specs.Prelude.{◌≡◌, [], ◌∷◌, ◌++◌, IfOk, IfErr, take};
 ghost use Rattle.std.specs.Str.{byte};
-ghost use Rattle.otp_core.specs.Attempt.{CodeTexts};
+ghost use Rattle.sasl_desk.specs.{CodeTexts};
 ghost use Rattle.commands.specs.SentCodes.{sent_for, SaysCodes};
 ghost use Rattle.commands.specs.declared.login.TheConstants.{MAX_LINE_AND_LF_LEN};
 
 use crate::login::MAX_LINE_AND_LF_LEN;
 use crate::sent_codes::codes_in;
 use command_line::Fault;
-use otp_core::SentCodes;
+use sasl_desk::SentCodes;
 use sasl_log::word;
 use std::alloc::Global;
 

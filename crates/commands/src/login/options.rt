@@ -1,6 +1,6 @@
 //! Checks the options of a login.
 ghost use Rattle.std.specs.Prelude.{◌≡◌, ℕ, List, Some, decimal, option_map, IfOk, IfErr, IfSome};
-ghost use Rattle.otp_core.specs.Ranges.{IsMoment};
+ghost use Rattle.sasl_desk.specs.{IsMoment};
 ghost use Rattle.scram_text.specs.Class.{IsNoncePart};
 ghost use Rattle.command_words.specs.Values.{value_of};
 ghost use Rattle.commands.specs.Login.{IsUserAsked};
@@ -10,7 +10,7 @@ use crate::login::client_end::User;
 use clap::ArgMatches;
 use command_line::{Fault, OptionName, value};
 use command_words::{given, optional};
-use otp_core::Moment;
+use sasl_desk::Moment;
 use scram_text::NoncePart;
 
 /// What the words say about a login.

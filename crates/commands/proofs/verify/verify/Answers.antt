@@ -2,7 +2,7 @@ use Rattle.std.proofs.Common.{◌≡◌, inr, false, ℕ, List, Option, refl, sy
 use Rattle.std.specs.Fmt.{decimal}
 use Rattle.std.proofs.lemmas.Result.{IfOk-weaker, IfErr-weaker}
 use Rattle.scram_text.specs.Class.{IsPlainName}
-use Rattle.otp_core.specs.Ranges.{IsMoment}
+use Rattle.sasl_desk.specs.{IsMoment}
 use Rattle.clap.specs.declared.parser.matches.ArgMatches.{ArgMatches}
 use Rattle.command_line.specs.declared.option_name.OptionName.TheVariants as option
 use Rattle.command_words.specs.Values.{given_value}

@@ -5,7 +5,7 @@ use Rattle.log_grammar.specs.Demands.{Accounts}
 use Rattle.sasl_desk.specs.Alone.{HaveSameRequests, up_to_acceptance, HaveSameEntries}
 use Rattle.sasl_desk.specs.Halls.{HallFields, IsTurnedAway, IsSessionRun, IsHallAfter}
 use Rattle.sasl_desk.specs.Runs.{Call, IsRun, call_lines}
-use Rattle.book_format.specs.Book.{BookFields}
+use Rattle.account_book.specs.{BookFields}
 use Rattle.account_book.specs.Store.{StoreFacts}
 use Rattle.log_grammar.specs.Books.{accounts_in}
 use Rattle.log_grammar.specs.Numbered.{Numbered, of_number}

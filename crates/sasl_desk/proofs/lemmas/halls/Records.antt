@@ -1,6 +1,6 @@
 -- The calls of each number have their records.
 use Rattle.std.proofs.Common.{inl, inr, ℕ, List}
-use Rattle.book_format.specs.Book.{BookFields}
+use Rattle.account_book.specs.{BookFields}
 use Rattle.account_book.specs.Store.{StoreFacts}
 use Rattle.log_grammar.specs.Books.{accounts_in}
 use Rattle.log_grammar.specs.Places.{Place}

@@ -1,6 +1,6 @@
 -- What the store of a hall holds, wherever the hall stops: what a desk's does (`runs/Stores.antt`), at the place of the latest session.
 use Rattle.std.proofs.Common.{ℕ, List, [], ◌∷◌, refl}
-use Rattle.book_format.specs.Book.{BookFields}
+use Rattle.account_book.specs.{BookFields}
 use Rattle.account_book.specs.Store.{StoreFacts}
 use Rattle.log_grammar.specs.Books.{accounts_in}
 use Rattle.log_grammar.specs.Places.{Place, between}

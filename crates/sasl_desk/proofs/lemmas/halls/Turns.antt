@@ -2,7 +2,7 @@
 use Rattle.std.proofs.Common.{◌≡◌, inl, false, ℕ, List, [], ◌∷◌, ◌++◌, map, reverse, refl, sym, ◌∙◌, ap, subst, arith}
 use Rattle.std.specs.Prelude.{count_by}
 use Rattle.std.specs.List.{AllByRecursion}
-use Rattle.book_format.specs.Book.{BookFields}
+use Rattle.account_book.specs.{BookFields}
 use Rattle.account_book.specs.Store.{StoreFacts}
 use Rattle.account_book.specs.AccountAttempt.{AccountAttempt}
 use Rattle.log_grammar.specs.Books.{accounts_in}

@@ -1,6 +1,6 @@
 -- What was spent stays spent over runs of desks and halls, one after another, and over what is done with the book between them.
 use Rattle.std.proofs.Common.{◌≡◌, inl, inr, ℕ, List, [], ◌∷◌, ◌++◌, reverse, sym, subst, append_assoc}
-use Rattle.book_format.specs.Book.{BookFields}
+use Rattle.account_book.specs.{BookFields}
 use Rattle.account_book.specs.Store.{StoreFacts}
 use Rattle.account_book.specs.AccountAttempt.{AccountAttempt}
 use Rattle.log_grammar.proofs.lemmas.ListEnds.{back_keeps_all}

@@ -2,8 +2,7 @@
 use Rattle.std.proofs.Common.{◌≡◌, inl, inr, ◌⊎◌, Bool, true, false, ℕ, List, ◌∷◌, refl, sym, subst}
 use Rattle.std.proofs.lemmas.Bool.{false≢true}
 use Rattle.otp_core.specs.Attempt.{CodeTexts}
-use Rattle.book_format.specs.Book.{BookFields}
-use Rattle.book_format.specs.Trees.{IsBookText}
+use Rattle.account_book.specs.{BookFields, IsBookText}
 use Rattle.account_book.specs.SavedBooks.{SavesBook}
 use Rattle.account_book.specs.Store.{StoreFacts}
 use Rattle.account_book.specs.AccountAttempt.{account_attempt_of}

@@ -1,6 +1,6 @@
 -- A desk's log is a front, and it is clean between sessions, when the store has failed, and after `S HALT`.
 use Rattle.std.proofs.Common.{◌≡◌, inl, inr, ◌⊎◌, true, ℕ, List, [], ◌∷◌, ◌++◌, map, refl, sym, subst, append-nil}
-use Rattle.book_format.specs.Book.{BookFields}
+use Rattle.account_book.specs.{BookFields}
 use Rattle.account_book.specs.Store.{StoreFacts}
 use Rattle.log_grammar.specs.Books.{accounts_in}
 use Rattle.log_grammar.specs.Lines.{LogLine, said, halt, log_line_text, IsLogLine, log_bytes}

@@ -14,7 +14,7 @@ use Rattle.otp_core.specs.declared.token.reply.Reply.TheVariants.{Pass, Fail, Lo
 use Rattle.otp_core.specs.declared.token.kinds.TokenFields.{TokenFields}
 use Rattle.otp_core.proofs.lemmas.Joins.{legal_histories_join}
 use Rattle.otp_core.proofs.lemmas.Used.{candidates_are_new}
-use Rattle.book_format.specs.Book.{BookFields}
+use Rattle.account_book.specs.{BookFields}
 use Rattle.account_book.specs.Tokens.{token_at}
 use Rattle.account_book.specs.AccountAttempt.{AccountAttempt, account_attempt_of}
 use Rattle.log_grammar.specs.Books.{accounts_in}

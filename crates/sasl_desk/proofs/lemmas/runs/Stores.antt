@@ -1,8 +1,7 @@
 -- What the store of a desk or a hall holds, wherever it stops: a book that its run may leave, in which all that was told is spent. The
 -- file of a hall is `halls/Stores.antt`; what it shares with a desk is here.
 use Rattle.std.proofs.Common.{inl, inr, ℕ, List, ◌++◌, reverse, refl, sym, subst}
-use Rattle.book_format.specs.Book.{BookFields}
-use Rattle.book_format.specs.Trees.{IsBookText}
+use Rattle.account_book.specs.{BookFields, IsBookText}
 use Rattle.account_book.specs.SavedBooks.{HasStoredText}
 use Rattle.account_book.specs.Store.{StoreFacts}
 use Rattle.account_book.specs.AccountAttempt.{AccountAttempt}

@@ -17,8 +17,7 @@ use Rattle.otp_core.specs.declared.token.reply.Reply.{Reply}
 use Rattle.otp_core.specs.declared.token.reply.Reply.TheVariants.{Pass}
 use Rattle.otp_core.specs.declared.token.kinds.TokenFields.{TokenFields}
 use Rattle.otp_core.specs.declared.token.kinds.TokenFields.TheVariants.{Hotp, Totp}
-use Rattle.book_format.specs.Account.{AccountFields}
-use Rattle.book_format.specs.Book.{BookFields}
+use Rattle.account_book.specs.{AccountFields, BookFields}
 use Rattle.account_book.specs.Accounts.{account_at, with_account, with_changed, IsAdded}
 use Rattle.account_book.proofs.lemmas.Maps.{added_is_apart}
 use Rattle.account_book.proofs.lemmas.Tokens.{tokens_are_apart}

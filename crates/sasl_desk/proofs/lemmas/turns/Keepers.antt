@@ -7,7 +7,7 @@ use Rattle.std.proofs.lemmas.Bool.{false≢true}
 use Rattle.otp_core.specs.Ranges.{max_counter}
 use Rattle.otp_core.specs.declared.token.reply.Reply.{Reply}
 use Rattle.otp_core.specs.declared.token.reply.Reply.TheVariants.{Pass, Fail, Locked}
-use Rattle.book_format.specs.Book.{BookFields}
+use Rattle.account_book.specs.{BookFields}
 use Rattle.account_book.specs.Store.{StoreFacts, IsFailedSave, IsNotSaved}
 use Rattle.account_book.specs.Tokens.{token_at, ChangesToken, IsBookAttempt}
 use Rattle.otp_core.specs.Attempt.{CodeTexts}

@@ -1,7 +1,7 @@
 use Rattle.std.proofs.Common.{◌≢◌, ◌∷◌, ◌++◌, ℕ, List}
 use Rattle.std.specs.Prelude.{decimal}
 use Rattle.std.specs.Str.{byte}
-use Rattle.otp_core.specs.Ranges.{IsMoment}
+use Rattle.sasl_desk.specs.{IsMoment}
 use Rattle.log_grammar.proofs.lemmas.lines.Words.{moment_fits_64_bits}
 use Rattle.scram_text.proofs.lemmas.CutAtByte.{lacking_text_is_not_cut}
 use Rattle.sasl_log.proofs.lemmas.texts.Spaces.{front_is_decimal}

@@ -1,6 +1,6 @@
 use Rattle.std.proofs.Common.{◌≡◌, ◌++◌, ◌∷◌, [], List, ℕ, arith, subst}
 use Rattle.std.specs.Str.{byte}
-use Rattle.otp_core.specs.Attempt.CodeTexts.{two_texts}
+use Rattle.sasl_desk.specs.{two_texts}
 use Rattle.std.proofs.lemmas.List.{take_all}
 use Rattle.std.proofs.lemmas.Result.{IfOk-weaker}
 use Rattle.commands.proofs.login.code_line.code_line.Goals as goal

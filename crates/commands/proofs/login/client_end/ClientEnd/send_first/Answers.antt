@@ -1,6 +1,6 @@
 use Rattle.std.proofs.Common.{◌≡◌, ◌++◌, ◌∙◌, sym, rules}
 use Rattle.std.specs.Prelude.{codes}
-use Rattle.mac_core.specs.Mechanism.{name_of}
+use Rattle.scram_ends.specs.{name_of}
 use Rattle.commands.proofs.lemmas.ClientLines.{asked_or_best_is_chosen, no_mechanism_is_chosen}
 use Rattle.commands.proofs.login.client_end.ClientEnd.send_first.Goals as goal
 
