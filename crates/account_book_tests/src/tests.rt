@@ -1,6 +1,6 @@
 //! What each call does, checked with values from outside: the published examples of RFC 5802, RFC 7677 and RFC 4226, the keys
 //! of the former two computed with Python's hashlib, and decoys' salts with its hmac.
-use account_book::{Book, EnrolFault};
+use account_book::{Book, EnrolFault, Mechanism};
 use scram_text::{Password, PlainName, Salt};
 use std::process::Abort;
 use std::test::Fail;
@@ -25,6 +25,34 @@ const SALT_1: [u8; 12] = [
 const SALT_256: [u8; 16] = [
     0x5b, 0x6d, 0x99, 0x68, 0x9d, 0x12, 0x35, 0x8e, 0xec, 0xa0, 0x4b, 0x14, 0x12, 0x36, 0xfa, 0x81,
 ];
+
+// Of the users of these examples, for each mechanism: the salt, the stored key and the server key. The keys are computed with Python's
+// hashlib, since the RFCs print only the proofs and signatures made with them.
+const PUBLISHED_KEYS: [(Mechanism, &str, &str, &str); 2] = [
+    (
+        Mechanism::ScramSha1,
+        "4125c247e43ab1e93c6dff76",
+        "e9d94660c39d65c38fbad91c358f14da0eef2bd6",
+        "0fe09258b3ac852ba502cc62ba903eaacdbf7d31",
+    ),
+    (
+        Mechanism::ScramSha256,
+        "5b6d99689d12358eeca04b141236fa81",
+        "586e5df283e6dceb5c3e791d8b8528ec191e664045ce971792e2e6b5bb13e2a6",
+        "c1f3cbc1c13a9d35a14c0990eed97629ea225863e566a4314ab99f3f00e5d9d5",
+    ),
+];
+
+// Asserts that these bytes are those that `want` spells in hexadecimal; `at` says what they are.
+fn check_hex(
+    rt: &(impl Abort + AllocGlobal),
+    bytes: &[u8],
+    want: &str,
+    at: &str,
+) -> Result<(), Fail> {
+    assert_eq!(rt; hex::encode(rt.alloc(), bytes)?.as_str(), want, "{at}");
+    Ok(())
+}
 
 fn name(rt: &impl Abort, bytes: &[u8]) -> PlainName {
     PlainName::new(bytes).expect(rt, "a name")

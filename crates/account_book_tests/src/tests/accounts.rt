@@ -1,59 +1,28 @@
 //! Accounts that are added, changed and removed.
-use crate::tests::{DECOY_KEY, enrol, name, two_accounts};
-use account_book::{Account, Book, EnrolFault, MechKeys};
+use crate::tests::{DECOY_KEY, PUBLISHED_KEYS, check_hex, enrol, name, two_accounts};
+use account_book::{Account, Book, EnrolFault, Mechanism};
 use scram_text::PlainName;
 use std::process::Abort;
 use std::test::Fail;
 
-// Asserts that these are keys with the count 4096 and this salt, stored key and server key; `at` says whose they are.
-fn check_keys(
-    rt: &(impl Abort + AllocGlobal),
-    keys: Option<&MechKeys>,
-    salt: &str,
-    stored: &str,
-    server: &str,
-    at: &str,
-) -> Result<(), Fail> {
-    let keys = keys.ok_or("keys")?;
-    assert_eq!(rt; keys.count, 4096, "{at}");
-    check_hex(rt, keys.salt.bytes(), salt, at)?;
-    check_hex(rt, keys.keys.stored.as_slice(), stored, at)?;
-    check_hex(rt, keys.keys.server.as_slice(), server, at)
-}
-
-// Asserts that these bytes are those that `want` spells in hexadecimal; `at` says what they are.
-fn check_hex(
-    rt: &(impl Abort + AllocGlobal),
-    bytes: &[u8],
-    want: &str,
-    at: &str,
-) -> Result<(), Fail> {
-    assert_eq!(rt; hex::encode(rt.alloc(), bytes)?.as_str(), want, "{at}");
-    Ok(())
-}
-
-// Asserts that the account has the keys of the users of RFC 5802, section 5, and RFC 7677, section 3, no token, and no names
-// to act as. The keys are computed with Python's hashlib, since the RFCs print only the proofs and signatures made with them.
+// Asserts that the account has the keys of the published examples, with the count 4096, no token, and no names to act as.
 fn check_published(rt: &(impl Abort + AllocGlobal), account: Option<&Account>) -> Result<(), Fail> {
     let account = account.ok_or("an account")?;
     assert_eq!(rt; account.act_as.len(), 0);
     assert!(rt; account.token.is_none());
-    check_keys(
-        rt,
-        account.sha1.as_ref(),
-        "4125c247e43ab1e93c6dff76",
-        "e9d94660c39d65c38fbad91c358f14da0eef2bd6",
-        "0fe09258b3ac852ba502cc62ba903eaacdbf7d31",
-        "SCRAM-SHA-1",
-    )?;
-    check_keys(
-        rt,
-        account.sha256.as_ref(),
-        "5b6d99689d12358eeca04b141236fa81",
-        "586e5df283e6dceb5c3e791d8b8528ec191e664045ce971792e2e6b5bb13e2a6",
-        "c1f3cbc1c13a9d35a14c0990eed97629ea225863e566a4314ab99f3f00e5d9d5",
-        "SCRAM-SHA-256",
-    )
+    for (mechanism, salt, stored, server) in PUBLISHED_KEYS {
+        let keys = match mechanism {
+            Mechanism::ScramSha1 => account.sha1.as_ref(),
+            Mechanism::ScramSha256 => account.sha256.as_ref(),
+        };
+        let keys = keys.ok_or("keys")?;
+        let at = mechanism.name();
+        assert_eq!(rt; keys.count, 4096, "{at}");
+        check_hex(rt, keys.salt.bytes(), salt, at)?;
+        check_hex(rt, keys.keys.stored.as_slice(), stored, at)?;
+        check_hex(rt, keys.keys.server.as_slice(), server, at)?;
+    }
+    Ok(())
 }
 
 /// A new account has the keys of the published examples, whose password and salts it was enrolled with. A name in another case is
