@@ -8,6 +8,16 @@ use Rattle.scram_text.specs.declared.client_first.Flag.TheVariants.{NoBinding}
 use Rattle.scram_ends.specs.Stages.{Answered}
 use Rattle.scram_ends.specs.Auth.{auth_message, proof_of, expected_signature}
 
+-- the most bytes of the client-first message of an honest client: `n,a=`, `,n=` and `,r=`, two names, each byte of which may take three,
+-- and its part of the nonce
+abbrev pub max_honest_first_len : ℕ
+max_honest_first_len = 1796
+
+-- the most bytes of the client-final message of an honest client: `c=`, `,r=` and `,p=`, the base64 of the longest gs2-header, the longest
+-- nonce, and the base64 of the longest proof
+abbrev pub max_honest_final_len : ℕ
+max_honest_final_len = 1592
+
 -- the text is client-first with this name, name to act as and nonce, the flag `n` and no extensions
 pub record IsHonestFirst (name : List ℕ) (authzid : Option (List ℕ)) (nonce client_first : List ℕ) (first : ClientFirstParts) : Type 0 where
   pub is_first : IsClientFirst client_first first

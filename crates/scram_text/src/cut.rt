@@ -144,7 +144,7 @@ pub(crate) struct Extensions<'a> {
 /// Reads the extensions at the end of a message: `text` is what follows its fixed parts, if anything does. Its first part has the
 /// index `first` in the message. Errors: 12 Extension for the first part that is not an attr-val.
 pub(crate) fn extensions_of(text: Option<&[u8]>, first: usize) -> Result<Extensions<'_>, TextFault>
-    requires few { first + length (parts_of_some (option_copied text)) < 10000 }
+    requires few { first + length (parts_of_some (option_copied text)) ≤ most_parts + 2 }
     ensures found { OnOk result (AreExtensions (parts_of_some (option_copied text.entry))) }
     ensures text { IfOk result (λ e. e.text.now
         ≡ joined (parts_of_some (option_copied text.entry))) }
@@ -164,7 +164,7 @@ pub(crate) fn extensions_of(text: Option<&[u8]>, first: usize) -> Result<Extensi
 
 // Checks that each part is an attr-val and returns whether one is named `m`.
 fn check_extensions(text: &[u8], first: usize) -> Result<bool, TextFault>
-    requires few { first + length (parts text.now) < 10000 }
+    requires few { first + length (parts text.now) ≤ most_parts + 2 }
     ensures found { OnOk result (AreExtensions (parts text.now)) }
     ensures mandatory { IfOk result (λ mandatory. mandatory ≡ have_mandatory (parts text.now)) }
     ensures fault { IfErr result (λ f. IsExtensionMisfit first (parts text.now) f) }

@@ -20,7 +20,7 @@ use Rattle.scram_ends.specs.Opening.{IsOpening}
 use Rattle.scram_ends.specs.Verdict.{accept, IsDue, due_text, final_due}
 use Rattle.scram_ends.specs.Login.{IsAuthentic, IsValidLogin}
 use Rattle.scram_ends.specs.First.{IsChallengeTo}
-use Rattle.scram_ends.specs.Honest.{IsHonest, honest_signature}
+use Rattle.scram_ends.specs.Honest.{IsHonest, honest_signature, max_honest_final_len}
 use Rattle.scram_ends.specs.Laws.{HonestLogsIn}
 use Rattle.scram_ends.proofs.lemmas.client_messages.ClientFirst.{honest_is_taken_up}
 use Rattle.scram_ends.proofs.lemmas.client_messages.ClientFinal.{length-client_final_text}
@@ -61,8 +61,8 @@ password_proof_passes m password salt auth proof count is =
           (xor_bytes_cancels key signature same);
     }
 
--- the client-final message of an honest client has at most 1592 bytes
-pub honest_final_is_short : (l : Answered) → IsHonest l → length l.client_final ≤ 1592
+-- the client-final message of an honest client has at most so many bytes
+pub honest_final_is_short : (l : Answered) → IsHonest l → length l.client_final ≤ max_honest_final_len
 honest_final_is_short l honest =
     let final = honest.final in
     let header = honest_header_is_short honest.is_first final.channel honest.is_final.channel in

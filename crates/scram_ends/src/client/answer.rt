@@ -7,7 +7,7 @@ ghost use Rattle.scram_text.specs.Shown.{ShowsServerFirst};
 ghost use Rattle.scram_text.specs.Appended.{LeavesOnErr, LacksRoom};
 ghost use Rattle.scram_ends.specs.Stages.{Started, answered_login};
 ghost use Rattle.scram_ends.specs.Auth.{auth_to_challenge, proof_of, expected_signature};
-ghost use Rattle.scram_ends.specs.Honest.{IsHonest};
+ghost use Rattle.scram_ends.specs.Honest.{IsHonest, max_honest_final_len};
 ghost use Rattle.scram_ends.specs.Client.{StandsForStarted, IsAnswerable, StandsForAnswered, IsChallengeFault, IsUnspent, IfSpent, IfBack};
 
 use crate::client::{ClientFault, ClientOne, ClientTwo, OneRefused};
@@ -39,7 +39,7 @@ impl ClientOne {
             → (client_final : List ℕ) × (out.new.items ≡ out.old.items ++ client_final)
             × StandsForAnswered two (answered_login l password.now server_first.now client_final)) }
         ensures leaves { LeavesOnErr result out.old out.new }
-        ensures most_bytes { (l : Started) → StandsForStarted self l → length out.new.items ≤ length out.old.items + 1592 }
+        ensures most_bytes { (l : Started) → StandsForStarted self l → length out.new.items ≤ length out.old.items + max_honest_final_len }
         // If it is answered, or its answer could not be written, it is a challenge to this client with nothing wrong.
         ensures answerable { IsUnspent result → (l : Started) → StandsForStarted self l
             → (challenge : ServerFirstParts) × IsAnswerable l.limits l.nonce server_first.now challenge }

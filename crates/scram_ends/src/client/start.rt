@@ -5,7 +5,7 @@ ghost use Rattle.scram_text.specs.Class.{IsPlainName, IsNoncePart};
 ghost use Rattle.scram_text.specs.Messages.{ClientFirstParts};
 ghost use Rattle.scram_text.specs.Appended.{LeavesOnErr, LacksRoom};
 ghost use Rattle.scram_ends.specs.Stages.{started_login};
-ghost use Rattle.scram_ends.specs.Honest.{IsHonestFirst};
+ghost use Rattle.scram_ends.specs.Honest.{IsHonestFirst, max_honest_first_len};
 ghost use Rattle.scram_ends.specs.Client.{StandsForStarted};
 
 use crate::client::{Client, ClientOne, Limits};
@@ -31,7 +31,7 @@ impl Client {
             × StandsForStarted client (started_login mechanism limits name.now (option_copied authzid.entry)
             nonce.now client_first)) }
         ensures leaves { LeavesOnErr result out.old out.new }
-        ensures most_bytes { length out.new.items ≤ length out.old.items + 1796 }
+        ensures most_bytes { length out.new.items ≤ length out.old.items + max_honest_first_len }
         ensures no_memory { IfErr result (λ fault. (fault ≡ WriteFault.NoMemory)
             × ((client_first : List ℕ) × (first : ClientFirstParts)
             × IsHonestFirst name.now (option_copied authzid.entry) nonce.now client_first first

@@ -14,6 +14,7 @@ use Rattle.scram_text.specs.declared.fault.WriteFault.TheVariants.{Unwritable, O
 use Rattle.scram_text.specs.declared.client_final.ClientFinalWithoutProof.{ClientFinalWithoutProof}
 use Rattle.scram_text.proofs.lemmas.Base64.{length-base64, bytes_are_field}
 use Rattle.scram_text.proofs.lemmas.Texts.{empty_is_text}
+use Rattle.scram_ends.specs.Honest.{max_honest_final_len}
 use Rattle.scram_ends.specs.declared.lengths.TheConstants.{MAX_HEADER_LEN}
 use Rattle.mac_core.proofs.lemmas.Digests.{AreBytes}
 use Rattle.scram_ends.proofs.lemmas.client_messages.WriteFaults.{write_fault_is_memory}
@@ -62,10 +63,11 @@ client_final_is_short header nonce proof short is_nonce is_proof =
     (final_parts_are_short _ _ _ (omega (arith, base64_is_short header 257 (omega arith))) (omega arith)
     (omega (arith, base64_is_short proof 22 (omega arith))))
 
--- a client-final message of a header and a nonce within their bounds and a proof of at most 32 bytes has at most 1592 bytes
+-- a client-final message of a header and a nonce within their bounds and a proof of at most 32 bytes has at most the bytes of one of an
+-- honest client
 pub length-client_final_text : (header nonce proof : List ℕ)
     → length header ≤ MAX_HEADER_LEN → length nonce ≤ max_nonce_len → length proof ≤ 32
-    → length (client_final_text (client_final_of header nonce [] proof)) ≤ 1592
+    → length (client_final_text (client_final_of header nonce [] proof)) ≤ max_honest_final_len
 unfolding client_final_text client_final_without_proof
 length-client_final_text header nonce proof short is_nonce is_proof =
     omega (

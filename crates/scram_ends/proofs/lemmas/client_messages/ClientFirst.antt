@@ -15,7 +15,7 @@ use Rattle.scram_text.specs.declared.fault.WriteFault.TheVariants.{Unwritable, O
 use Rattle.scram_text.specs.declared.client_first.Flag.TheVariants.{NoBinding}
 use Rattle.scram_text.proofs.lemmas.Texts.{empty_is_text}
 use Rattle.scram_ends.specs.Opening.{IsAuthzidOf, IsTakenUp}
-use Rattle.scram_ends.specs.Honest.{IsHonestFirst}
+use Rattle.scram_ends.specs.Honest.{IsHonestFirst, max_honest_first_len}
 use Rattle.scram_ends.proofs.lemmas.client_messages.Lengths.{unbound_header_is_short, plain_bare_is_short}
 use Rattle.scram_ends.proofs.lemmas.client_messages.WriteFaults.{write_fault_is_memory}
 
@@ -28,10 +28,10 @@ pub spelling_is_authzid : (authzid : Option (List ℕ)) → IfSome authzid IsPla
 spelling_is_authzid None is = tt
 spelling_is_authzid (Some name) is = record { plain = is; spelled = refl }
 
--- a client-first message of plain names and a part of a nonce has at most 1796 bytes
+-- a client-first message of plain names and a part of a nonce has at most the bytes of one of an honest client
 pub length-client_first_text : (authzid : Option (List ℕ)) (name nonce : List ℕ)
     → IfSome authzid IsPlainName → IsPlainName name → IsNoncePart nonce
-    → length (client_first_text (client_first_of NoBinding authzid name nonce [])) ≤ 1796
+    → length (client_first_text (client_first_of NoBinding authzid name nonce [])) ≤ max_honest_first_len
 unfolding client_first_text
 length-client_first_text authzid name nonce is_authzid is_name is_nonce =
     let p = client_first_of NoBinding authzid name nonce [] in
