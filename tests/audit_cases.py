@@ -21,12 +21,12 @@ class Case(NamedTuple):
     shows: str
 
 
-def case(row):
+def case(row: dict[str, str]) -> Case:
     """The case that a row describes."""
     log = edited((AUDITS / row["log"]).with_suffix(".log").read_bytes(), row)
     return Case((AUDITS / row["book"]).with_suffix(".toml"), log, row["answer"], row["shows"])
 
 
-def cases():
+def cases() -> list[Case]:
     """The cases of all rows, in the table's order."""
     return [case(row) for row in rows_of(TABLE)]

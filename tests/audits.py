@@ -36,13 +36,13 @@ HEADER = b"SCRAMLOG 1\n"
 ABORTED = b"S MECHS SCRAM-SHA-256 SCRAM-SHA-1\nC ABORT\nS NO :\nE\n"
 
 
-def reason(answer):
+def reason(answer: str) -> str | None:
     """The reason for which an answer calls a line at fault, or None."""
     found = re.fullmatch(r"line \d+: ([a-z ]+)(?:, due .*)?", answer)
     return found and found[1]
 
 
-def rows_of_table(folder):
+def rows_of_table(folder: str) -> None:
     """Each row has its answer, and leaves the book unchanged. Each reason has a row."""
     rows, log = cases(), pathlib.Path(folder, "log")
     equal({reason(row.answer) for row in rows} - {None}, REASONS, "the reasons that have a row")
@@ -54,7 +54,7 @@ def rows_of_table(folder):
             equal(book.read_bytes(), before, f"{where}: the book")
 
 
-def signed(challenge):
+def signed(challenge: str) -> list[str]:
     """The proof and the signature of the first log's login for this challenge (RFC 5802, section 3)."""
     client, server = login_keys("sha1", b"pencil", bytes.fromhex(SALT), 4096)
     nonce = challenge.split(",")[0]
@@ -62,7 +62,7 @@ def signed(challenge):
     return [base64.b64encode(data).decode() for data in proved("sha1", client, server, joined)]
 
 
-def other_challenges(folder):
+def other_challenges(folder: str) -> None:
     """A recorded challenge may have extensions and a long server's part of the nonce; the proof is over the challenge as recorded."""
     log = pathlib.Path(folder, "log")
     first = "r=fyko+d2lbbFgONRv9qkxdawL3rfcNHYJY1ZVvWVs7j,s=QSXCR+Q6sek8bf92,i=4096"
@@ -89,7 +89,7 @@ def other_challenges(folder):
     audit_says(KEYS, log, "line 6: outcome, due NO :e=invalid-proof", "a proof without the extension")
 
 
-def logs_from_pipes(folder):
+def logs_from_pipes(folder: str) -> None:
     """A log is read as it arrives, and not past the line at fault: an audit does not wait for a pipe that stays open."""
     words = [PROGRAM, "audit", "--book", KEYS, "--log", "/dev/stdin"]
     audit_says(KEYS, "/dev/stdin", CLEAN, "a pipe", text=LOGIN.read_bytes())
@@ -104,7 +104,7 @@ def logs_from_pipes(folder):
     writer.join()
 
 
-def shown_at(terminal):
+def shown_at(terminal: int) -> bytes:
     """The bytes shown at a terminal, up to an exclamation mark."""
     shown = b""
     while not shown.endswith(b"!"):
@@ -112,7 +112,7 @@ def shown_at(terminal):
     return shown
 
 
-def audit_at_a_terminal(wait):
+def audit_at_a_terminal(wait: float) -> tuple[bytes, float]:
     """Runs an audit whose standard error is a terminal, and which waits `wait` seconds for more of its log. Returns what it shows at
     the terminal, and how many seconds it took."""
     terminal, end = os.openpty()
@@ -131,7 +131,7 @@ def audit_at_a_terminal(wait):
     return shown.removesuffix(b"!"), seconds
 
 
-def progress_on_a_terminal(folder):
+def progress_on_a_terminal(folder: str) -> None:
     """If standard error is a terminal, a run of two seconds shows its progress there, and clears it at the end."""
     shown, _ = audit_at_a_terminal(2.2)
     counts = f"\r7 lines, {len(HEADER + SESSION_LEFT * 2)} bytes".encode()
@@ -139,7 +139,7 @@ def progress_on_a_terminal(folder):
     equal(shown.replace(counts * 2, counts), counts + b"\r\x1b[K", "what is shown at the terminal")
 
 
-def no_progress_of_a_short_run(folder):
+def no_progress_of_a_short_run(folder: str) -> None:
     """A run of less than two seconds shows nothing at the terminal."""
     # A busy machine may delay even a short run, which is then tried again.
     runs = (audit_at_a_terminal(0) for _ in range(20))
@@ -147,7 +147,7 @@ def no_progress_of_a_short_run(folder):
     equal(shown, b"", "what is shown at the terminal in a short run, of which one takes less than 1.5 seconds")
 
 
-def long_logs(folder):
+def long_logs(folder: str) -> None:
     """A log may have 1000000 lines: the limit of the audit itself."""
     log = pathlib.Path(folder, "log")
     sessions = HEADER + SESSION_LEFT * 333333
@@ -163,12 +163,12 @@ def long_logs(folder):
             audit_says(KEYS, log, answer, name)
 
 
-def refuses(what, book, log, status, fault):
+def refuses(what: str, book: str | pathlib.Path, log: str | pathlib.Path, status: int, fault: str) -> None:
     """Runs an audit that prints nothing, and compares its status and its fault, which is given without its prefix."""
     prints([PROGRAM, "audit", "--book", book, "--log", log], b"", status, "", fault, what)
 
 
-def unreadable_files(folder):
+def unreadable_files(folder: str) -> None:
     """The faults of files that can't be read, in the order in which they are read: first the book."""
     nothing, book = pathlib.Path(folder, "nothing"), pathlib.Path(folder, "book")
     refuses("no book, no log", nothing, nothing, 3, f"cannot read {nothing}")
@@ -186,7 +186,7 @@ def unreadable_files(folder):
     audit_says(book, LOGIN, CLEAN, "a book with two names")
 
 
-def without_the_lock(folder):
+def without_the_lock(folder: str) -> None:
     """An audit does not wait for a book that another run holds, and leaves nothing in the book's folder."""
     book, log = pathlib.Path(folder, "book"), pathlib.Path(folder, "log")
     book.write_bytes(KEYS.read_bytes())

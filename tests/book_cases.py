@@ -20,11 +20,11 @@ class Case(NamedTuple):
     shows: str
 
 
-def case(row):
+def case(row: dict[str, str]) -> Case:
     """The case that a row describes."""
     return Case(edited((BOOK_FAULTS / row["base"]).with_suffix(".toml").read_bytes(), row), row["answer"], row["shows"])
 
 
-def cases():
+def cases() -> list[Case]:
     """The cases of all rows, in the table's order."""
     return [case(row) for row in rows_of(TABLE)]

@@ -16,10 +16,11 @@ import shutil
 import sys
 import tempfile
 from concurrent.futures import ThreadPoolExecutor
+from typing import Any
 
 import suite
 from checks import equal, holds
-from processes import ran
+from processes import Answer, ran
 from suite import BOOK_OF_USER, CODES, MOST_BYTES, ROOT, as_nobody, each, fault_text, hotp, is_root, nobody, read_book, seen, token
 
 # A copy of the program that the user nobody can run, wherever the program is.
@@ -41,39 +42,39 @@ GOOD = {
 }
 
 
-def run(command, options, text="", **how):
+def run(command: str, options: dict[str, Any], text: str | int = "", **how: Any) -> Answer:
     """Runs a command. Its input is `text`, or the open file with that descriptor if it is a number."""
     words = [f"--{name}={value}" for name, value in options.items()]
     given = {"stdin": text} if isinstance(text, int) else {"data": text}
     return ran([PROGRAM, command, *words], **given, **how)
 
 
-def well(command, book, **how):
+def well(command: str, book: str, **how: Any) -> Answer:
     """Runs a command on a book, with nothing else wrong."""
     options, text, _ = GOOD[command]
     return run(command, {"book": book, **options}, text, **how)
 
 
-def says(what, done, status, output, fault=""):
+def says(what: str, done: Answer, status: int, output: str, fault: str = "") -> None:
     """Compares what a run answered. A fault is given without its prefix."""
     equal(done, (status, output, fault_text(fault)), what)
 
 
-def succeeds(command, book, **how):
+def succeeds(command: str, book: str, **how: Any) -> None:
     says(command, well(command, book, **how), 0, GOOD[command][2])
 
 
-def put(path, text=BOOK):
+def put(path: str, text: str = BOOK) -> str:
     pathlib.Path(path).write_text(text)
     return path
 
 
-def access(path):
+def access(path: str | pathlib.Path) -> tuple[int, int, int]:
     found = os.stat(path)
     return found.st_mode, found.st_uid, found.st_gid
 
 
-def climb(command, options, text, rungs, printed):
+def climb(command: str, options: dict[str, Any], text: str, rungs: list[tuple], printed: str) -> None:
     """Runs a command that has many faults, and mends the one that it reports, until it prints this. Each rung is a status, a fault and what
     mends it: options, another input, or a call."""
     for status, fault, mended in rungs:
@@ -87,7 +88,7 @@ def climb(command, options, text, rungs, printed):
     says(f"{command} {options}", run(command, options, text), 0, printed)
 
 
-def order_of_enrol(folder):
+def order_of_enrol(folder: str) -> None:
     """`enrol` checks the options, the password, the book, the random file, and only then whether the name is taken."""
     book, random = os.path.join(folder, "book"), pathlib.Path(folder, "random")
     random.write_bytes(bytes(31))
@@ -103,7 +104,7 @@ def order_of_enrol(folder):
     climb("enrol", {"random": random, "count": "0", "name": "", "book": book}, "", rungs, "enrolled new\n")
 
 
-def order_of_a_new_book(folder):
+def order_of_a_new_book(folder: str) -> None:
     """After a bad password, or with a random file that is missing or has less than 64 bytes, no book is made."""
     book, random = os.path.join(folder, "book"), pathlib.Path(folder, "random")
     options = {"random": random, "name": "user", "count": "1", "book": book}
@@ -120,7 +121,7 @@ def order_of_a_new_book(folder):
     says("64 random bytes", run("enrol", options, "pencil"), 0, "enrolled user\n")
 
 
-def order_of_verify(folder):
+def order_of_verify(folder: str) -> None:
     """`verify` checks the options, the book, the account, its token, and only then the input, which can't be read here."""
     book = os.path.join(folder, "book")
     unreadable = os.open(folder, os.O_RDONLY)
@@ -137,7 +138,7 @@ def order_of_verify(folder):
     os.close(unreadable)
 
 
-def order_of_unlock(folder):
+def order_of_unlock(folder: str) -> None:
     """`unlock` checks the name, the book, the account and its token."""
     book = os.path.join(folder, "book")
     rungs = [
@@ -150,7 +151,7 @@ def order_of_unlock(folder):
     climb("unlock", {"name": "", "book": book}, "", rungs, "unlocked user\n")
 
 
-def bad_values(folder):
+def bad_values(folder: str) -> None:
     """Each bad value of an option is refused before the book is read, whose text is bad here too."""
     book = put(os.path.join(folder, "book"), "")
     numbers = ["", "-1", "+1", "01", "1 ", "1.0", "1e3", "0x1", "one", "18446744073709551616"]
@@ -165,7 +166,7 @@ def bad_values(folder):
             says(f"{command} --{option}={value!r}", done, 2, "", f"bad value for --{option}")
 
 
-def values_at_their_limits(folder):
+def values_at_their_limits(folder: str) -> None:
     """Each option accepts its limits. The greatest count would take long, so the password is a bad one there."""
     book = put(os.path.join(folder, "book"))
     done = run("enrol", {"book": book, "name": "n" * 255, "count": "4294967295"}, "")
@@ -176,7 +177,7 @@ def values_at_their_limits(folder):
             says(f"moment {moment}", done, 0, f"PASS {moment} {counter}\n")
 
 
-def no_file(folder):
+def no_file(folder: str) -> None:
     """A folder, a pipe, a link to nothing, a path in a folder that does not exist, and an empty path are no book. Nor
     is a path with a slash at its end, even if nothing is there yet."""
     inner, pipe, link = (os.path.join(folder, name) for name in ["inner", "pipe", "link"])
@@ -191,7 +192,7 @@ def no_file(folder):
     equal(sorted(os.listdir(folder)), ["inner", "link", "pipe"], "folder")
 
 
-def unreadable(folder):
+def unreadable(folder: str) -> None:
     """A book that may not be read, and a book in a folder that may not be read."""
     os.chmod(folder, 0o755)
     book = put(os.path.join(folder, "book"))
@@ -205,7 +206,7 @@ def unreadable(folder):
     equal(pathlib.Path(book).read_text(), BOOK, "the book")
 
 
-def longest(folder):
+def longest(folder: str) -> None:
     """A book of 16777216 bytes is read, and a book of one more byte is not."""
     book = os.path.join(folder, "book")
     for trial, command in each(GOOD):
@@ -217,7 +218,7 @@ def longest(folder):
             succeeds(command, book)
 
 
-def unwritable(folder):
+def unwritable(folder: str) -> None:
     """If the folder may not be written, the old book stays, and no change is reported."""
     book, new = put(os.path.join(folder, "book")), os.path.join(folder, "new")
     if ROOT:
@@ -237,7 +238,7 @@ def unwritable(folder):
             succeeds(command, book, **as_nobody())
 
 
-def each_line(folder):
+def each_line(folder: str) -> None:
     """Each line is judged as a code as it stands, whatever came before it. If one is refused, the status says so. The book is left with
     the failures in a row and the next counter that follow from the replies, and with nothing else changed since it was last saved."""
     book, right = os.path.join(folder, "book"), CODES[0]
@@ -258,7 +259,7 @@ def each_line(folder):
             equal(read_book(book), left, f"the book after {text!r}")
 
 
-def random_bytes(folder):
+def random_bytes(folder: str) -> None:
     """A new account takes 16 random bytes for each salt, that of SHA-1 first. The book keeps its decoy key."""
     book, random = put(os.path.join(folder, "book")), pathlib.Path(folder, "random")
     random.write_bytes(bytes(range(64)))
@@ -271,7 +272,7 @@ def random_bytes(folder):
     equal(after["decoy_key"], before["decoy_key"], after)
 
 
-def fresh_random_bytes(folder):
+def fresh_random_bytes(folder: str) -> None:
     """Two new books, made without --random, share no decoy key and no salt."""
     options, text, printed = GOOD["enrol"]
     books = []
@@ -283,7 +284,7 @@ def fresh_random_bytes(folder):
     equal((len({book["decoy_key"] for book in books}), len(salts)), (2, 4), "how many decoy keys and salts differ", books)
 
 
-def unsaved(folder):
+def unsaved(folder: str) -> None:
     """Nothing is saved for the reply LOCKED, for a command that is refused, or for an empty input."""
     book = put(os.path.join(folder, "book"), LOCKED)
     before = seen(book)
@@ -295,7 +296,7 @@ def unsaved(folder):
     equal(seen(book), before, "the book after runs that have nothing to save")
 
 
-def unlocked(folder):
+def unlocked(folder: str) -> None:
     """`unlock` always saves, even if no code has failed."""
     book = put(os.path.join(folder, "book"), LOCKED)
     for _ in range(2):
@@ -305,7 +306,7 @@ def unlocked(folder):
         holds(seen(book)[0] != before[0], "the file is the same one", before)
 
 
-def owner(folder):
+def owner(folder: str) -> None:
     """A book keeps its owner and its group, or it is not saved. Only root can try this."""
     book = put(os.path.join(folder, "book"))
     os.chown(book, 1234, 4321)
@@ -322,7 +323,7 @@ def owner(folder):
     check_refused(book, as_nobody())
 
 
-def shared_book(folder):
+def shared_book(folder: str) -> None:
     """A member of the group that shares a book of root's can't use it, since a save could not keep its owner. Root can,
     and then the group has no rights to it. Only root can try this."""
     book = put(os.path.join(folder, "book"))
@@ -334,7 +335,7 @@ def shared_book(folder):
     equal((os.stat(book).st_uid, os.stat(book).st_gid, os.stat(book).st_mode & 0o7777), (0, 4321, 0o600), "access")
 
 
-def group_of_others(folder):
+def group_of_others(folder: str) -> None:
     """A book whose owner is not in its group can be used and saved: the file then has the owner's group, and only
     the owner may read it. Only root can try this."""
     book = put(os.path.join(folder, "book"))
@@ -348,7 +349,7 @@ def group_of_others(folder):
             equal((found.st_uid, found.st_gid, found.st_mode & 0o7777), (nobody().pw_uid, nobody().pw_gid, 0o600), "access")
 
 
-def check_refused(book, runner):
+def check_refused(book: str, runner: dict[str, Any]) -> None:
     """Each command on another user's book says why it can't be used, and leaves it as it was."""
     before = seen(book)
     for trial, command in each(GOOD):
@@ -359,7 +360,7 @@ def check_refused(book, runner):
     equal(os.listdir(os.path.dirname(book)), ["book"], "its folder")
 
 
-def others_book(folder):
+def others_book(folder: str) -> None:
     """Another user's book is not read in a folder that others may write or that belongs to another user. Only root can
     try this."""
     book = put(os.path.join(folder, "book"))
@@ -380,7 +381,7 @@ def others_book(folder):
             succeeds(command, book)
 
 
-def others_next(folder):
+def others_next(folder: str) -> None:
     """If another user's file is at the path of the next text and can't be removed, the fault names it. Only root can
     try this."""
     book, next_text = os.path.join(folder, "book"), put(os.path.join(folder, "book.new"))
@@ -398,7 +399,7 @@ def others_next(folder):
     equal(os.listdir(folder), ["book.new"], "the folder")
 
 
-def closed_next(folder):
+def closed_next(folder: str) -> None:
     """If a file at the path of the next text may not be opened by its owner, the fault names it, and it stays: no run can tell whether
     another one holds it. Once it may be opened, the next run removes it."""
     book, next_text = (put(os.path.join(folder, name)) for name in ["book", "book.new"])
@@ -427,7 +428,7 @@ NAMES = [
 ]
 
 
-def names(folder):
+def names(folder: str) -> None:
     """Each name is in the book as it was given, and is found there, even if a person quoted it in another way."""
     book = put(os.path.join(folder, "book"), EMPTY)
     for trial, name in each(NAMES):
@@ -447,7 +448,7 @@ def names(folder):
     equal({token(book, name)["next"] for name in NAMES}, {1}, "counters")
 
 
-def hard_links(folder):
+def hard_links(folder: str) -> None:
     """A file with two names can't be read as a book: a save would leave the old text under one of them."""
     book, other = put(os.path.join(folder, "book")), os.path.join(folder, "other")
     os.link(book, other)
@@ -463,7 +464,7 @@ def hard_links(folder):
             succeeds(command, book)
 
 
-def held_by_another(folder):
+def held_by_another(folder: str) -> None:
     """Commands that wait in vain for a lock leave the book as it was, and no other file."""
     book, new = put(os.path.join(folder, "book")), os.path.join(folder, "new")
     runs = [*[(command, book) for command in GOOD], ("enrol", new)]

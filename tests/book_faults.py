@@ -9,21 +9,21 @@ says which is named. A book is judged before a name is looked up, and a book tha
 import pathlib
 
 import suite
-from book_cases import TABLE, cases
+from book_cases import TABLE, Case, cases
 from checks import equal
 from suite import PROGRAM, each, prints
 
 NUMBERS = {str(number) for number in range(60, 68)}
 
 
-def due(answer):
+def due(answer: str) -> tuple[int, str, str]:
     """The status, the output and the fault of `unlock` for this answer."""
     if answer == "unlocked user":
         return 0, "unlocked user\n", ""
     return 1, "", f"bad book: {answer}" if answer in NUMBERS else answer
 
 
-def check(where, path, case):
+def check(where: str, path: pathlib.Path, case: Case) -> None:
     """Runs a case, and compares what the program answers; a book that it refuses has to be unchanged."""
     path.write_bytes(case.book)
     status, output, fault = due(case.answer)
@@ -32,7 +32,7 @@ def check(where, path, case):
         equal(path.read_bytes(), case.book, f"{where}: the book")
 
 
-def rows_of_table(folder):
+def rows_of_table(folder: str) -> None:
     """Each row has its answer, and each fault's number has a row."""
     rows = cases()
     for trial, (line, case) in each(enumerate(rows, 2)):

@@ -21,6 +21,7 @@ import signal
 import struct
 import threading
 import time
+from typing import Any
 
 import suite
 from checks import equal, holds
@@ -38,24 +39,24 @@ PASSES = (0, "PASS 5 0\n", "")
 NONE = 0xFFFFFFFF
 
 
-def mode_of(path):
+def mode_of(path: str | pathlib.Path) -> str:
     """The mode of a file, in octal digits."""
     return f"{path.stat().st_mode & 0o7777:o}"
 
 
-def start_enrol(path, name, count):
+def start_enrol(path: str | pathlib.Path, name: str, count: int) -> Running:
     """Starts a run that adds an account, to a new book if there is none."""
     return whole([PROGRAM, "enrol", "--book", path, "--name", name, "--count", str(count)], "pencil\n")
 
 
-def locked(path):
+def locked(path: str | pathlib.Path) -> int:
     """Locks a file or a folder, and returns the descriptor that holds the lock."""
     held = os.open(path, os.O_RDONLY)
     fcntl.flock(held, fcntl.LOCK_EX | fcntl.LOCK_NB)
     return held
 
 
-def waiting_verify(path, text=""):
+def waiting_verify(path: str | pathlib.Path, text: str = "") -> Running:
     """Starts a run that holds the book, is sent this text, and waits for more input."""
     run = Running(verify_words(path), text)
     until(lambda: is_locked(path), "the run should hold", path)
@@ -63,7 +64,7 @@ def waiting_verify(path, text=""):
     return run
 
 
-def twenty_at_once(folder):
+def twenty_at_once(folder: str) -> None:
     """A code passes once, whichever of the book's two names each run is given."""
     here = BookFolder(folder, BOOK)
     link = here.folder / "link"
@@ -77,11 +78,11 @@ def twenty_at_once(folder):
         here.has_only("book", "link")
 
 
-def killed_before_any_call(folder):
+def killed_before_any_call(folder: str) -> None:
     """Runs are killed before any of their calls, and each next one goes on from the book that they leave."""
     here = BookFolder(folder, BOOK)
 
-    def started(at, **how):
+    def started(at: int, **how: Any) -> Running:
         codes = [code(counter) for counter in range(max(at - 2, 0), at + 10)]
         return whole(verify_words(here.book), "".join(f"{it}\n" for it in codes), **how)
 
@@ -91,7 +92,7 @@ def killed_before_any_call(folder):
     here.has_only("book")
 
 
-def modes(folder):
+def modes(folder: str) -> None:
     """Only its owner can read a new book, whatever the umask. A rewritten book keeps only the owner's bits of its mode."""
     here = BookFolder(folder, BOOK)
     for trial, mask in each([0o000, 0o022, 0o077]):
@@ -112,7 +113,7 @@ def modes(folder):
             equal(mode_of(here.book), after, f"the mode after a save, which was {before:o}")
 
 
-def access_lists(folder):
+def access_lists(folder: str) -> None:
     """A save gives nobody more access through an access list: neither the group, whose bits in the mode are the list's mask,
     nor the users and groups that the folder's list names for new files."""
     here = BookFolder(folder, BOOK)
@@ -131,7 +132,7 @@ def access_lists(folder):
     equal(mode_of(here.book), "600", "the mode after a save")
 
 
-def unwritable(folder):
+def unwritable(folder: str) -> None:
     """A save that can't be made leaves the old book, and nothing is printed."""
     here = BookFolder(folder, BOOK)
     here.next_text.mkdir()
@@ -141,7 +142,7 @@ def unwritable(folder):
     here.verifies(FIRST_CODE, *PASSES)
 
 
-def locked_by_another(folder):
+def locked_by_another(folder: str) -> None:
     """A run waits for up to 30 seconds for the lock, and goes on as soon as it becomes free."""
     here = BookFolder(folder, BOOK)
     lock = locked(here.book)
@@ -157,7 +158,7 @@ def locked_by_another(folder):
     run.ends(*PASSES)
 
 
-def locked_folder(folder):
+def locked_folder(folder: str) -> None:
     """A run does not wait for a run on another book in the folder, or for a lock on the folder."""
     here = BookFolder(folder, BOOK)
     other = here.folder / "other"
@@ -170,7 +171,7 @@ def locked_folder(folder):
     os.close(lock)
 
 
-def one_lock(folder):
+def one_lock(folder: str) -> None:
     """The book is opened once, and the file of each next text once: the run keeps its lock, even when it saves."""
     here = BookFolder(folder, BOOK)
     kinds = {0x20: "open", 0x80: "take its place"}
@@ -193,29 +194,29 @@ def one_lock(folder):
     holds(not is_locked(here.book), "the book is locked after the run")
 
 
-def swapped(folder):
+def swapped(folder: str) -> None:
     """A file that takes the book's path while a run waits for input is not overwritten, and the run ends."""
     held = pathlib.Path(folder, "held")
     held.mkdir()
     here = BookFolder(held, BOOK)
     other, away = held / "other", held / "away"
 
-    def move():
+    def move() -> None:
         here.book.rename(away)
 
-    def link():
+    def link() -> None:
         move()
         here.book.symlink_to("other")
 
-    def copy():
+    def copy() -> None:
         move()
         shutil.copy(away, here.book)
 
-    def edit():
+    def edit() -> None:
         with open(here.book, "r+") as file:
             file.write("#ormat")
 
-    def rename_folder():
+    def rename_folder() -> None:
         old = held.rename(f"{held}.old")
         held.mkdir()
         shutil.copy(old / "book", here.book)
@@ -235,7 +236,7 @@ def swapped(folder):
             equal(after, before, "the files after", turn.__name__)
 
 
-def keys_before_the_lock(folder):
+def keys_before_the_lock(folder: str) -> None:
     """`enrol` makes its keys while other runs use or make the book, and adds its account to the book as it is afterwards."""
     here = BookFolder(folder, BOOK)
     new = here.folder / "new"
@@ -260,7 +261,7 @@ def keys_before_the_lock(folder):
     here.has_only("book", "new")
 
 
-def made_at_once(folder):
+def made_at_once(folder: str) -> None:
     """Runs that make a book at the same time find what the others have added, even if some are killed."""
     here, killed = BookFolder(folder, BOOK), 0
     began = time.monotonic()
@@ -286,7 +287,7 @@ def made_at_once(folder):
     holds(killed > 8, "too few runs were killed", killed)
 
 
-def pipes(folder):
+def pipes(folder: str) -> None:
     """In a folder that others may write, no run waits for a pipe that takes the book's place at any moment. The file that takes turns with
     the pipe has a second name, so a run is refused at once, except in rare moments; one that opened the pipe to read would never end."""
     here = BookFolder(folder, BOOK)
@@ -297,7 +298,7 @@ def pipes(folder):
     pipe.chmod(0o666)
     is_over, turns = threading.Event(), 0
 
-    def turn():
+    def turn() -> None:
         nonlocal turns
         while not is_over.is_set():
             for path in [file, pipe]:
@@ -317,7 +318,7 @@ def pipes(folder):
         turning.join()
 
 
-def left_by_a_killed_run(folder):
+def left_by_a_killed_run(folder: str) -> None:
     """The next run removes the file of a next text that a killed run left, even if it saves nothing."""
     here = BookFolder(folder, BOOK)
     here.next_text.write_text(BOOK)
@@ -329,7 +330,7 @@ def left_by_a_killed_run(folder):
     here.has_only("book")
 
 
-def too_long(folder):
+def too_long(folder: str) -> None:
     """A text that no command would read is not saved: here the accounts take three times the bytes when they are written."""
     here = BookFolder(folder, BOOK, "[accounts]\n", *(f"a{number} = {{}}\n" for number in range(560000)))
     holds(len(here.before) < MOST_BYTES, "the book is too long to be read", len(here.before))
@@ -339,7 +340,7 @@ def too_long(folder):
     here.has_only("book")
 
 
-def shown_texts(folder):
+def shown_texts(folder: str) -> None:
     """No path or word sends control characters to a terminal, or starts a new line there."""
     book = os.path.join(folder, "a\n\x1b[2J\x7f\u009b\u00e9")
     shown = os.path.join(folder, "a\\x0a\\x1b[2J\\x7f\\x9b\u00e9")
@@ -357,14 +358,14 @@ def shown_texts(folder):
             holds("\nscramotp" not in faults, "the word starts a line", words, faults)
 
 
-def input_limit(folder):
+def input_limit(folder: str) -> None:
     """All lines together may have 16777216 bytes. The replies to the lines before the limit are printed."""
     here = BookFolder(folder, BOOK)
     here.verifies("x\n" + "a" * (MOST_BYTES - 2), 1, "FAIL 5\nFAIL 5\n")
     here.verifies("x\n" + "a" * (MOST_BYTES - 1), 3, "FAIL 5\n", "cannot read input")
 
 
-def told_at_once(folder):
+def told_at_once(folder: str) -> None:
     """A reply is printed while the input is still open."""
     here = BookFolder(folder, BOOK)
     run = Running(verify_words(here.book))

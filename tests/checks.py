@@ -1,4 +1,6 @@
 """The checks of the tests. Each fails with what was found and what was expected, also under `python3 -O`."""
+from collections.abc import Iterable, Iterator
+from typing import Any, NoReturn
 
 # How many characters of a value are shown.
 LONGEST = 2000
@@ -6,17 +8,17 @@ LONGEST = 2000
 AROUND = 300
 
 
-def cut(text):
+def cut(text: str) -> str:
     """A text, or the first part of a long one."""
     return text if len(text) <= LONGEST else f"{text[:LONGEST]}.. ({len(text)} characters)"
 
 
-def shown(value):
+def shown(value: Any) -> str:
     """A value as Python writes it."""
     return cut(repr(value))
 
 
-def entries(got, want):
+def entries(got: dict, want: dict) -> Iterator[str]:
     """Each entry in which two dictionaries differ."""
     for key in {**want, **got}:
         if key not in want:
@@ -27,7 +29,7 @@ def entries(got, want):
             yield f"{key}: {difference(got[key], want[key])}"
 
 
-def difference(got, want):
+def difference(got: Any, want: Any) -> str:
     """Two values that differ: of tuples and dictionaries only the parts that do, and of long texts what is around the first difference."""
     if isinstance(got, dict) and isinstance(want, dict):
         return "; ".join(entries(got, want))
@@ -42,18 +44,18 @@ def difference(got, want):
     return f"{shown(got)}, not {shown(want)}"
 
 
-def fail(about, why):
+def fail(about: Iterable[Any], why: list[str]) -> NoReturn:
     """Fails the test of `run_all`, or else the script, which ends with status 1. Shows `about` first, texts as they are."""
     raise AssertionError(": ".join([*(cut(it) if isinstance(it, str) else shown(it) for it in about), *why]))
 
 
-def equal(got, want, *about):
+def equal(got: Any, want: Any, *about: Any) -> None:
     """Fails if these differ, and shows how."""
     if got != want:
         fail(about, [difference(got, want)])
 
 
-def holds(is_so, *about):
+def holds(is_so: Any, *about: Any) -> None:
     """Fails if this is not true, and shows what the caller says about it: what is wrong, as in "the socket is left"."""
     if not is_so:
         fail(about, [])

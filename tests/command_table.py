@@ -7,12 +7,12 @@ import re
 import shutil
 import stat
 import tomllib
-from typing import NamedTuple
+from typing import Any, NamedTuple
 
 import suite
 from checks import equal
 from expected import ACCEPTED, AUDITS, AUTH, GONE, RESP, keys_of, numbered
-from processes import ran
+from processes import Answer, ran
 from suite import CODES, KEYS_OF_PENCIL, PROGRAM, PUBLISHED, SALT, SECRET
 
 # RFC 5802's user with RFC 4226's token, at which two codes have failed.
@@ -23,7 +23,7 @@ LOG = ACCEPTED + GONE
 RANDOM = bytes(range(64))
 
 
-def parsed_book(text):
+def parsed_book(text: str) -> dict[str, Any]:
     """What a book states, with values for the keys that it may leave out."""
     book = tomllib.loads(text)
     for account in book.get("accounts", {}).values():
@@ -33,14 +33,14 @@ def parsed_book(text):
     return book
 
 
-def with_token(book, **fields):
+def with_token(book: dict[str, Any], **fields: Any) -> dict[str, Any]:
     """The book with these values for its token."""
     changed = copy.deepcopy(book)
     changed["accounts"]["user"]["token"].update(fields)
     return changed
 
 
-def new_account(salts):
+def new_account(salts: list[bytes]) -> dict[str, Any]:
     """The account that `enrol` makes with these salts and the password `pencil`."""
     tables = {"act_as": []}
     for function, salt in zip(["sha1", "sha256"], salts):
@@ -49,7 +49,7 @@ def new_account(salts):
     return tables
 
 
-def with_account(book, name="new"):
+def with_account(book: dict[str, Any] | None, name: str = "new") -> dict[str, Any]:
     """The book after `enrol` has added an account with the salts with which RANDOM begins. A book that was not there is made, and then
     RANDOM begins with its decoy key."""
     if book is None:
@@ -60,7 +60,7 @@ def with_account(book, name="new"):
     return changed
 
 
-def after_codes(book, count):
+def after_codes(book: dict[str, Any], count: int) -> list[dict[str, Any]]:
     """A book before `count` codes that all pass, and after each of them."""
     return [book] + [with_token(book, next=number, failures=0) for number in range(1, count + 1)]
 
@@ -75,31 +75,31 @@ class Command(NamedTuple):
     printed: str
     books: list
 
-    def in_folder(self, folder):
+    def in_folder(self, folder: str | pathlib.Path) -> list[str]:
         """All words, with the paths of files in this folder."""
         paths = {name: os.path.join(folder, name) for name in ["book", "log", "random", "socket"]}
         return [PROGRAM, self.name, *[word.format(**paths) for word in self.words]]
 
-    def saves_told(self, printed):
+    def saves_told(self, printed: str) -> int:
         """How many saves the printed text implies."""
         if self.name in ("login", "hall"):
             return printed.startswith("SCRAMLOG") + printed.count(" PASS ")
         return len(re.findall(r"^(?:(?:PASS|FAIL) .*|enrolled new|unlocked user)\n", printed, re.M)) if len(self.books) > 1 else 0
 
 
-def events(count):
+def events(count: int) -> tuple[str, str]:
     """The events of a hall with one login and `count` codes, and its log."""
     sent = [f"line 1 5 {AUTH[2:]}", f"line 1 5 {RESP[2:]}", *[f"line 1 5 CODE {code}" for code in CODES[:count]], "gone 1 5"]
     text = "".join(f"{line}\n" for line in ["open 3rfcNHYJY1ZVvWVs7j", *sent])
     return text, numbered(login_log(count))
 
 
-def login_log(count):
+def login_log(count: int) -> str:
     """The log of a login with `count` codes."""
     return ACCEPTED + "".join(f"C CODE {code}\nS PASS 5 {number}\n" for number, code in enumerate(CODES[:count])) + GONE
 
 
-def commands(count=2):
+def commands(count: int = 2) -> list[Command]:
     """All commands. Those that take codes are sent `count` of them."""
     book, codes = parsed_book(BOOK), "".join(f"{code}\n" for code in CODES[:count])
     on = ["--book", "{book}", "--name"]
@@ -120,18 +120,18 @@ def commands(count=2):
     ]
 
 
-def command_of(name, count=2):
+def command_of(name: str, count: int = 2) -> Command:
     """The command of this name."""
     [found] = [command for command in commands(count) if command.name == name]
     return found
 
 
-def new_book():
+def new_book() -> Command:
     """`enrol` for a book that does not exist yet."""
     return command_of("enrol")._replace(books=[None, with_account(None)])
 
 
-def prepare(folder, command, mode=0o600):
+def prepare(folder: str | pathlib.Path, command: Command, mode: int = 0o600) -> None:
     """Empties a folder of an earlier run's files, and makes there the log, the random file and, unless the command makes it, the book."""
     here = pathlib.Path(folder)
     for name in os.listdir(folder):
@@ -146,17 +146,17 @@ def prepare(folder, command, mode=0o600):
     (here / "random").write_bytes(RANDOM)
 
 
-def left(folder):
+def left(folder: str | pathlib.Path) -> set[str]:
     """The names in a folder, except those of files that every run finds there."""
     return set(os.listdir(folder)) - {"book", "log", "random"}
 
 
-def run(command, folder, **how):
+def run(command: Command, folder: str | pathlib.Path, **how: Any) -> Answer:
     """Runs a command on the files of a folder, with its input unless another is given as `stdin`. Returns its answer."""
     return ran(command.in_folder(folder), command.text, **how)
 
 
-def book_of(folder):
+def book_of(folder: str | pathlib.Path) -> dict[str, Any] | str | None:
     """What the book in a folder states, or None if there is none; its text if that is not TOML."""
     path = pathlib.Path(folder, "book")
     if not path.exists():
@@ -167,7 +167,7 @@ def book_of(folder):
         return path.read_text()
 
 
-def is_untouched(folder, command, mode=0o600):
+def is_untouched(folder: str | pathlib.Path, command: Command, mode: int = 0o600) -> bool:
     """Whether the book's bytes and mode are as they were, or there still is no book."""
     path = pathlib.Path(folder, "book")
     if command.books[0] is None:
@@ -175,7 +175,7 @@ def is_untouched(folder, command, mode=0o600):
     return path.read_text() == BOOK and stat.S_IMODE(path.stat().st_mode) == mode
 
 
-def is_kept(folder, command, printed):
+def is_kept(folder: str | pathlib.Path, command: Command, printed: str) -> bool:
     """Whether the book is whole, has each change that was reported and at most one more, and only its owner can read it."""
     saved = command.saves_told(printed)
     path = pathlib.Path(folder, "book")
@@ -184,12 +184,12 @@ def is_kept(folder, command, printed):
     return book_of(folder) in command.books[saved:saved + 2] and (len(command.books) > 1 or is_untouched(folder, command))
 
 
-def is_done(folder, command):
+def is_done(folder: str | pathlib.Path, command: Command) -> bool:
     """Whether the command has saved all that it has to save, and left no other file."""
     return is_kept(folder, command, command.printed) and book_of(folder) == command.books[-1] and left(folder) == set()
 
 
-def audited(folder, before, log):
+def audited(folder: str | pathlib.Path, before: str, log: str) -> None:
     """Audits a log of one login by the book with the text `before`: the log is clean, with as many codes passed as it has PASS lines."""
     book = pathlib.Path(folder, "book")
     after = book.read_text()
@@ -200,7 +200,7 @@ def audited(folder, before, log):
     book.write_text(after)
 
 
-def printed_begins_clean(folder, printed):
+def printed_begins_clean(folder: str | pathlib.Path, printed: str) -> bool:
     """Whether no line of a log of `login` or `hall`, whole or not, is at fault by the book that it began with."""
     before = pathlib.Path(folder, "before")
     before.write_text(BOOK)
@@ -209,7 +209,7 @@ def printed_begins_clean(folder, printed):
     return is_clean
 
 
-def is_front(command, printed):
+def is_front(command: Command, printed: str) -> bool:
     """Whether what was printed begins the command's whole output; or is the log of a desk or a hall that halted at the last code that it
     judged, or of a desk that could no longer hear its client."""
     ends = {"login": r"(?:C CODE \d+\nS HALT|C GONE\nE)\n\Z", "hall": r"1 C CODE \d+\n1 S HALT\n\Z"}

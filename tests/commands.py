@@ -45,28 +45,28 @@ EXAMPLES = [
 ]
 
 
-def check(words, text, status, printed="", fault=""):
+def check(words: list, text: str | bytes, status: int, printed: str = "", fault: str = "") -> None:
     """Runs the program, and compares its status, output and fault, which is given without its prefix."""
     prints([PROGRAM, *words], text, status, printed, fault)
 
 
-def check_usage(words, begin):
+def check_usage(words: list, begin: str) -> None:
     """Runs the program with faulty words, and compares its status; its fault has to begin with `begin`."""
     status, output, faults = ran([PROGRAM, *words], "pencil\n")
     equal((status, output), (2, ""), words, faults)
     equal(faults[:len(begin)], begin, words, "the beginning of the fault")
 
 
-def keys(mechanism, salt, count):
+def keys(mechanism: str, salt: str, count: str) -> list[str]:
     return ["keys", "--mechanism", mechanism, "--salt", salt, "--count", count]
 
 
-def words_on(book, command, *more):
+def words_on(book: str | Path, command: str, *more: str | Path) -> list:
     """The words of a command on the account `user`."""
     return [command, "--book", book, "--name", "user", *more]
 
 
-def passwords(folder):
+def passwords(folder: str) -> None:
     """The first line is the password: 1 to 1024 bytes from space to tilde."""
     words = keys("SCRAM-SHA-1", SALT, "4096")
     for trial, text in each([b"pencil\n", b"pencil", b"pencil\nanother\n", b"pencil\n\x7f", b"pencil\n\xff"]):
@@ -77,13 +77,13 @@ def passwords(folder):
             check(words, text, 2, fault="bad password")
 
 
-def key_lines(name, password, salt, count):
+def key_lines(name: str, password: bytes, salt: bytes, count: int) -> str:
     """The two lines of `keys`, from Python's own Hi and HMAC (RFC 5802, section 3)."""
     stored, server = keys_of({"SCRAM-SHA-1": "sha1", "SCRAM-SHA-256": "sha256"}[name], password, salt, count)
     return f"stored={stored}\nserver={server}\n"
 
 
-def values_at_their_limits(folder):
+def values_at_their_limits(folder: str) -> None:
     """The longest password and salts, and the least count. The greatest count takes too long, so it is only seen to be accepted."""
     mechanisms = ["SCRAM-SHA-1", "SCRAM-SHA-256"]
     for trial, (mechanism, (salt, count)) in each(itertools.product(mechanisms, [("00", 1), (LONGEST, 2)])):
@@ -95,7 +95,7 @@ def values_at_their_limits(folder):
             check(keys(mechanism, "00", "4294967295"), "", 2, fault="bad password")
 
 
-def bad_values(folder):
+def bad_values(folder: str) -> None:
     """Options are checked in the order mechanism, salt, count, and before the password."""
     for trial, (mechanism, salt, count, option) in each([
         ("SCRAM-SHA-512", SALT, "4096", "mechanism"),
@@ -120,7 +120,7 @@ def bad_values(folder):
             check(keys(mechanism, salt, count), "", 2, fault=f"bad value for --{option}")
 
 
-def codes(folder):
+def codes(folder: str) -> None:
     """RFC 4226, appendix D, and RFC 6238, appendix B."""
     for trial, (secret, words, printed) in each([
         (SECRET, "--counter 0", "755224"),
@@ -136,9 +136,9 @@ def codes(folder):
             check(["code", "--secret", secret, *words.split()], "", 0, printed + "\n")
 
 
-def bad_codes(folder):
+def bad_codes(folder: str) -> None:
     """Options are checked in the order secret, digits, counter, moment, hash, t0, step, and only then used."""
-    def refused(words, status, fault, secret=SECRET):
+    def refused(words: list, status: int, fault: str, secret: str = SECRET) -> None:
         check(["code", "--secret", secret, *words.split()], "", status, fault=fault)
 
     refused("", 2, "needs --counter or --moment")
@@ -157,7 +157,7 @@ def bad_codes(folder):
             refused(words, 2, f"bad value for --{option}")
 
 
-def usage(folder):
+def usage(folder: str) -> None:
     """Words that name no command or no option, or that leave out what is needed."""
     for trial, (words, begin) in each([
         ("", "error: 'scramotp' requires a subcommand but one was not provided"),
@@ -183,7 +183,7 @@ def usage(folder):
             check_usage(words.split(), begin)
 
 
-def help_of(words):
+def help_of(words: list) -> str:
     """The output of --help, whose lines have at most 100 columns."""
     status, output, faults = ran([PROGRAM, *words, "--help"])
     equal((status, faults), (0, ""), words, output)
@@ -191,7 +191,7 @@ def help_of(words):
     return output
 
 
-def help_and_version(folder):
+def help_and_version(folder: str) -> None:
     """Each help page is that in data/help, and each page there belongs to a command or to the program."""
     check(["--version"], "", 0, "scramotp 0.1.0\n")
     pages = {"scramotp": [], **{command: [command] for command, _ in EXAMPLES}}
@@ -203,14 +203,14 @@ def help_and_version(folder):
     equal(sorted(listed), sorted(command for command, _ in EXAMPLES), "the commands that the help lists")
 
 
-def example_of(command):
+def example_of(command: str) -> tuple[list[str], str]:
     """The commands whose examples have to be run before that of this command, as its help names them; and its example."""
     form = r"^Examples?(?:, after (?:that|those) of ([a-z]+(?: and [a-z]+)*))?:.*\n((?:  .*\n?)+)\Z"
     [(before, example)] = re.findall(form, help_of([command]), re.M)
     return before.split(" and ") if before else [], example
 
 
-def runs_example(folder, command):
+def runs_example(folder: str | Path, command: str) -> None:
     """The example of a command runs as it stands, with the program on the PATH; that of `verify` prints the present moment."""
     with tempfile.TemporaryDirectory() as beside:
         environment, words = program_on_path(beside), ["sh", "-ec", example_of(command)[1]]
@@ -222,7 +222,7 @@ def runs_example(folder, command):
     holds(output in due, f"what the example of {command} prints is none of", due, output)
 
 
-def examples(folder):
+def examples(folder: str) -> None:
     """All examples run in a folder that is empty at first. Nobody else can read what they leave, even with umask 0."""
     for command, _ in EXAMPLES:
         runs_example(folder, command)
@@ -231,7 +231,7 @@ def examples(folder):
     equal(modes, {"logins": 0o700, "book.toml": 0o600}, "the modes of the folder and of the book")
 
 
-def examples_alone(folder):
+def examples_alone(folder: str) -> None:
     """Each example needs only those that it names."""
     for trial, (command, _) in each(EXAMPLES):
         with trial:
@@ -242,14 +242,14 @@ def examples_alone(folder):
                 runs_example(place, needed)
 
 
-def input_limit(folder):
+def input_limit(folder: str) -> None:
     """The first line may have 16777216 bytes, and is then a bad password."""
     words = keys("SCRAM-SHA-1", SALT, "1")
     check(words, b"a" * MOST_BYTES, 2, fault="bad password")
     check(words, b"a" * (MOST_BYTES + 1), 3, fault="cannot read input")
 
 
-def server_signature(folder):
+def server_signature(folder: str) -> None:
     """The server key makes the signature that RFC 7677, section 3, prints for its example."""
     auth_message = (
         b"n=user,r=rOprNGfwEbeRWgbNEkqO,"
@@ -265,7 +265,7 @@ def server_signature(folder):
     equal(signature, "eabae24d1062db75a9451ff0b6ea7e98c8546549ff741e672d3251b2397de46e", "the signature made with", server)
 
 
-def hotp_codes(folder):
+def hotp_codes(folder: str) -> None:
     """Codes of RFC 4226, appendix D: each passes once, in order, and at most three counters ahead."""
     here = BookFolder(folder, BOOK_OF_USER, hotp(3, 3))
     text = "755224\n755224\n338314\n359152\n162583\n755224x\n"
@@ -281,7 +281,7 @@ def hotp_codes(folder):
 FAR_PAIR = "SYNC 399871 520489\n"
 
 
-def pairs_of_codes(folder):
+def pairs_of_codes(folder: str) -> None:
     """A line `SYNC text text` passes with two codes of RFC 4226, appendix D, in a row, and spends both. Without the key sync_ahead it
     passes only with those of the next two counters."""
     here = BookFolder(folder)
@@ -300,14 +300,14 @@ def pairs_of_codes(folder):
             here.token_has(sync_ahead=sync_ahead or 0)
 
 
-def a_far_pair(folder):
+def a_far_pair(folder: str) -> None:
     """Two codes in a row beyond the window of one code move the token on, and count no failure."""
     here = BookFolder(folder, BOOK_OF_USER, hotp(3, 3, 8))
     here.verifies(FAR_PAIR, 0, "PASS 5 9\n")
     here.token_has(next=10, failures=0)
 
 
-def texts_that_are_no_pair(folder):
+def texts_that_are_no_pair(folder: str) -> None:
     """Lines that only look like `SYNC text text` are codes that fail."""
     here = BookFolder(folder, BOOK_OF_USER, hotp(3, 100, 8))
     for trial, line in each(["SYNC 755224", "SYNC 755224  287082", "SYNC  755224 287082", "SYNC 755224 287082 ", " SYNC 755224 287082",
@@ -318,14 +318,14 @@ def texts_that_are_no_pair(folder):
     here.verifies("SYNC 755224 287082", 0, "PASS 5 1\n")
 
 
-def two_steps_in_a_row(folder):
+def two_steps_in_a_row(folder: str) -> None:
     """A TOTP token accepts no two codes in a row: a line `SYNC text text` fails, and counts as a failure."""
     here = BookFolder(folder, BOOK_OF_USER, TOTP)
     here.verifies("SYNC 94287082 37359152\n94287082\n", 1, "FAIL 59\nPASS 59 1\n", moment="59")
     here.verifies("SYNC 37359152 37359152\n" * 4, 1, "FAIL 59\n" * 3 + "LOCKED 59\n", moment="59")
 
 
-def totp_codes(folder):
+def totp_codes(folder: str) -> None:
     """Codes of RFC 6238, appendix B: that of the next step passes too, and no code passes again, or after one of a later step."""
     here, moment = BookFolder(folder, BOOK_OF_USER, TOTP), "1111111109"
     here.verifies("14050471\n07081804\n", 1, f"PASS {moment} 37037037\nFAIL {moment}\n", moment=moment)
@@ -340,7 +340,7 @@ def totp_codes(folder):
     here.verifies("94287082", 1, "FAIL 59\n", moment="59")
 
 
-def totp_codes_of_each_hash(folder):
+def totp_codes_of_each_hash(folder: str) -> None:
     """Codes of RFC 6238, appendix B, at tokens with each hash function: each passes once, and none at a token with another one."""
     here, moment = BookFolder(folder), "1111111109"
     codes_of = {"sha1": "07081804", "sha256": "68084774", "sha512": "25091201"}
@@ -353,7 +353,7 @@ def totp_codes_of_each_hash(folder):
             here.token_has(hash=function, last=37037036, failures=1)
 
 
-def locked_tokens(folder):
+def locked_tokens(folder: str) -> None:
     """A locked token accepts no code until it is unlocked, and never again a code that has passed."""
     here = BookFolder(folder, BOOK_OF_USER, hotp(0, 2))
     here.verifies("000000\n111111\n755224\n", 1, "FAIL 5\nFAIL 5\nLOCKED 5\n")
@@ -366,7 +366,7 @@ def locked_tokens(folder):
     here.verifies("755224", 1, "FAIL 5\n")
 
 
-def enrolling(folder):
+def enrolling(folder: str) -> None:
     """A new book, its account's keys for both mechanisms, and a name that is taken."""
     book, file = Path(folder, "book"), Path(folder, "random")
     file.write_bytes(bytes(range(64)))
@@ -385,12 +385,12 @@ def enrolling(folder):
     equal(sorted(os.listdir(folder)), ["book", "random"], "the files in the folder")
 
 
-def words_that_are_no_text(folder):
+def words_that_are_no_text(folder: str) -> None:
     """A word that is not UTF-8 is refused before any word is looked at."""
     equal(ran([PROGRAM, "keys", "--salt", b"\xff"]), (2, "", "error: the arguments are not UTF-8 text\n"), "words that are not UTF-8")
 
 
-def unprinted_help(folder):
+def unprinted_help(folder: str) -> None:
     """Help that can't be printed is a fault of the output."""
     with open("/dev/full", "wb") as full:
         equal(ran([PROGRAM, "--help"], stdout=full), (3, "", fault_text("cannot write output")), "help on a full device")

@@ -28,6 +28,7 @@ import struct
 import subprocess
 import sys
 import tempfile
+from collections.abc import Iterable, Iterator
 from pathlib import Path
 from typing import NamedTuple
 
@@ -52,28 +53,28 @@ class Instruction(NamedTuple):
     rest: str
 
     @property
-    def next(self):
+    def next(self) -> int:
         """The address after it."""
         return self.at + len(self.code)
 
     @property
-    def target(self):
+    def target(self) -> int | None:
         """Where a direct jump goes, or None."""
         found = re.match(r"([0-9a-f]+) <", self.rest)
         return int(found[1], 16) if found and self.name.startswith("j") else None
 
     @property
-    def is_jump(self):
+    def is_jump(self) -> bool:
         """Whether it is a conditional jump."""
         return self.name.startswith("j") and self.name != "jmp"
 
     @property
-    def is_end(self):
+    def is_end(self) -> bool:
         """Whether what follows it is never run after it."""
         return self.name in ("jmp", "ret", "ud2", "hlt", "int3")
 
     @property
-    def is_padding(self):
+    def is_padding(self) -> bool:
         """Whether it does nothing."""
         return self.name.startswith("nop") or (self.name, self.rest) == ("xchg", "%ax,%ax")
 
@@ -89,17 +90,17 @@ class Function(NamedTuple):
     single: set[int]
 
 
-def printed(*words):
+def printed(*words: str | Path) -> str:
     """What a command prints."""
     return subprocess.run(words, stdout=subprocess.PIPE, check=True, text=True, errors="replace").stdout
 
 
-def our_crates():
+def our_crates() -> set[str]:
     """The names of this repository's crates."""
     return set(re.findall(r"^(\w+):", (TOP / "crates.txt").read_text(encoding="utf-8"), re.M))
 
 
-def instructions(program):
+def instructions(program: str) -> list[Instruction]:
     """All instructions of a program, in their order."""
     line = re.compile(r"^ *([0-9a-f]+):\t((?:[0-9a-f]{2} )+) *(?:\t(?:(?:bnd|notrack|cs|data16|rep) )*(\S+) *(.*))?$", re.M)
     found = line.findall(printed("objdump", "-dw", program))
@@ -109,12 +110,12 @@ def instructions(program):
 class Tables:
     """The tables of jumps in a program's read-only data: addresses relative to the table's own."""
 
-    def __init__(self, program):
+    def __init__(self, program: str) -> None:
         self.bytes = Path(program).read_bytes()
         rows = re.findall(r"^ +LOAD +(0x\w+) (0x\w+) 0x\w+ (0x\w+)", printed("readelf", "-lW", program), re.M)
         self.parts = [tuple(int(it, 16) for it in row) for row in rows]
 
-    def targets(self, at, code):
+    def targets(self, at: int, code: dict[int, Instruction]) -> Iterator[int]:
         """The instructions of this code to which a table at this address leads, as far as it does."""
         for begins, address, size in self.parts:
             if address <= at < address + size:
@@ -125,7 +126,7 @@ class Tables:
                     yield to
 
 
-def by_tables(code, tables):
+def by_tables(code: dict[int, Instruction], tables: Tables) -> list[int]:
     """Where a function's jumps by tables may go: the addresses of tables that it loads before such a jump."""
     if not any(it.name == "jmp" and it.rest.startswith("*%") for it in code.values()):
         return []
@@ -133,7 +134,7 @@ def by_tables(code, tables):
     return [to for it in loaded if it for to in tables.targets(int(it[1], 16), code)]
 
 
-def function(crate, name, listed, tables):
+def function(crate: str, name: str, listed: list[Instruction], tables: Tables) -> Function:
     """The function that has these instructions."""
     code = {it.at: it for it in listed}
     ways = collections.Counter([it.target for it in listed if it.target in code] + by_tables(code, tables))
@@ -148,7 +149,7 @@ def function(crate, name, listed, tables):
     return Function(crate, name, code, sorted(blocks), single)
 
 
-def functions(program):
+def functions(program: str) -> list[Function]:
     """The functions of this repository's crates, by address."""
     ours, tables, listed = our_crates(), Tables(program), instructions(program)
     addresses, found = [it.at for it in listed], {}
@@ -161,12 +162,12 @@ def functions(program):
     return [found[at] for at in sorted(found)]
 
 
-def is_watched(it, which):
+def is_watched(it: Instruction, which: Function) -> bool:
     """Whether the ways of a conditional jump do not show by the blocks that are entered."""
     return it.is_jump and not {it.next, it.target} <= which.single
 
 
-def places(which):
+def places(which: Function) -> dict[int, tuple]:
     """What is watched in a function, by address."""
     found = {}
     for at in which.blocks:
@@ -182,7 +183,7 @@ def places(which):
 class Notes:
     """What was seen of a program's functions: the table that note_jumps.c reads, and the notes that follow it."""
 
-    def __init__(self, path, program):
+    def __init__(self, path: Path, program: str) -> None:
         self.functions = functions(program)
         table = sorted(place for it in self.functions for place in places(it).values())
         ends = min(it[0] for it in table) // PAGE * PAGE, (max(it[0] for it in table) // PAGE + 2) * PAGE
@@ -196,15 +197,15 @@ class Notes:
         path.chmod(0o666)
         self.noted = b""
 
-    def read(self):
+    def read(self) -> None:
         """Reads what is noted by now."""
         self.noted = self.path.read_bytes()[self.begins:]
 
-    def has(self, at, what):
+    def has(self, at: int, what: int) -> bool:
         """Whether this is noted of a place."""
         return at in self.index and self.noted[self.index[at]] & what != 0
 
-    def ways(self, which):
+    def ways(self, which: Function) -> Iterator[tuple[Instruction, bool, bool]]:
         """Each way of each conditional jump of a function: the jump, whether the way is that of the taken jump, and whether it was seen."""
         for it in which.code.values():
             if it.is_jump:
@@ -213,13 +214,13 @@ class Notes:
                     yield it, is_taken, self.has(to, ENTERED) if to in which.single else self.has(it.at, what)
 
 
-def told(parts):
+def told(parts: Iterable[bool]) -> str:
     """How many of these are so, and how many there are, in a column."""
     parts = [*parts]
     return f"{sum(parts)}/{len(parts)}".rjust(14)
 
 
-def report(notes):
+def report(notes: Notes) -> None:
     """Prints what was seen of each crate, and which functions were never entered."""
     crates = collections.defaultdict(list)
     for it in notes.functions:
@@ -233,7 +234,7 @@ def report(notes):
     print(f"\nNever entered ({len(never)}):", *never, sep="\n")
 
 
-def missed(notes):
+def missed(notes: Notes) -> None:
     """Prints which blocks of functions that were entered were not, and which ways were not taken."""
     for it in notes.functions:
         if notes.has(it.blocks[0], ENTERED):
@@ -251,13 +252,13 @@ def missed(notes):
                 print(f"\n{it.name}", *lines, sep="\n")
 
 
-def stand_in(program, notes, folder):
+def stand_in(program: str, notes: Path, folder: Path) -> Path:
     """The small program that becomes the program: its path."""
     library = shims.compiled("note_jumps", TOP / "tests" / "note_jumps.c", folder, f'-DRECORD="{notes}"')
     return shims.stand_in(program, library, folder / "scramotp")
 
 
-def main():
+def main() -> int:
     """Runs the scripts, prints what they have run of the program, and returns the exit status."""
     words = argparse.ArgumentParser(description="Measures how much of the program's machine code the scripts of tests run.")
     words.add_argument("--notes", metavar="FILE", type=Path, help="keep what was seen in this file, and add to what it has")

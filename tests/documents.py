@@ -25,6 +25,7 @@ import ast
 import csv
 import re
 import sys
+from collections.abc import Iterable, Iterator
 from pathlib import Path
 
 import run
@@ -63,7 +64,7 @@ NAME_FIRST = re.compile(rf"((?:`[^`\n]+`,\s+)*`[^`\n]+`)\s+(?:in|of)\s+{FILE}")
 FILE_FIRST = re.compile(rf"{FILE}(?: \| |\s+\()((?:`[^`\n]+`,\s+)*`[^`\n]+`)")
 
 
-def prose(page):
+def prose(page: Path) -> Iterator[tuple[int, str]]:
     """The lines of a page, numbered from 1, without those of its code blocks."""
     is_block = False
     for number, line in enumerate(page.read_text(encoding="utf-8").splitlines(), 1):
@@ -73,13 +74,13 @@ def prose(page):
             yield number, line
 
 
-def sections(page):
+def sections(page: Path) -> set[str]:
     """The anchors of a page's sections, made from their titles as GitHub makes them."""
     titles = [line.lstrip("#").strip().lower() for _, line in prose(page) if re.match(r"#+ ", line)]
     return {re.sub(r"[^\w\- ]", "", title).replace(" ", "-") for title in titles}
 
 
-def broken_links(page):
+def broken_links(page: Path) -> Iterator[str]:
     """The links of a page that lead to no file, or to no section of the file."""
     for number, line in prose(page):
         for target in re.findall(r"\]\(([^)\s]+)\)|^\[\w+\]: (\S+)", line):
@@ -91,7 +92,7 @@ def broken_links(page):
                 yield f"{page.name}:{number}: {path}#{section}"
 
 
-def missing_paths(page):
+def missing_paths(page: Path) -> Iterator[str]:
     """The paths of a page, relative to the repository's top, at which nothing exists."""
     for number, line in prose(page):
         for path in re.findall(r"`((?:bench|crates|docs|tests|tools)/[\w./-]+)`", line):
@@ -101,17 +102,17 @@ def missing_paths(page):
                 yield f"{page.name}:{number}: {path}"
 
 
-def texts_of(files):
+def texts_of(files: Iterable[Path]) -> dict[str, str]:
     """The text of each of these files, by its path from the repository's top."""
     return {str(file.relative_to(TOP)): file.read_text(encoding="utf-8") for file in files}
 
 
-def sources():
+def sources() -> dict[str, str]:
     """The text of each source file of all crates, by its path from the repository's top."""
     return texts_of(file for file in sorted(TOP.glob("crates/**/*")) if file.suffix in (".rt", ".antt") and "out" not in file.parts)
 
 
-def missing_blocks(page, texts):
+def missing_blocks(page: Path, texts: dict[str, str]) -> Iterator[str]:
     """The blocks of code, definitions, proofs or an edit of a page that do not stand in any source or edit as they are shown."""
     page_text = page.read_text(encoding="utf-8")
     for block in re.finditer(r"^```(?:rust|antt|edit)\n(.*?)^```$", page_text, re.MULTILINE | re.DOTALL):
@@ -119,18 +120,18 @@ def missing_blocks(page, texts):
             yield f"{page.name}:{page_text.count(chr(10), 0, block.start()) + 1}"
 
 
-def heads_of(texts):
+def heads_of(texts: dict[str, str]) -> dict[str, str]:
     """The head of each library, without the marks of its comment."""
     heads = {f"head of {path}": text for path, text in texts.items() if path.endswith("/src/lib.rt")}
     return {path: "\n".join(re.findall(r"^//! ?(.*)$", text, re.MULTILINE)) + "\n" for path, text in heads.items()}
 
 
-def without_blanks(name, rest):
+def without_blanks(name: str, rest: str) -> str:
     """A signature as it is compared: without blanks, and without a comma after the last argument."""
     return name + re.sub(r"\s|,(?=\s*\))", "", rest)
 
 
-def unknown_signatures():
+def unknown_signatures() -> Iterator[str]:
     """The signatures in docs/EMBEDDING.md that no public function has, without its type parameters."""
     form = re.compile(r"pub fn (\w+)(?:<[^(]*>)?(\([^{]*?)\s*(?=//|\{|requires\b|ensures\b)")
     has = {without_blanks(*match.groups()) for text in sources().values() for match in form.finditer(text)}
@@ -140,19 +141,19 @@ def unknown_signatures():
                 yield f"{number}: {name}{rest}"
 
 
-def words_of(text):
+def words_of(text: str) -> set[str]:
     """The names in a text of sources or scripts."""
     return set(re.findall(r"[\w◌'-]+", text))
 
 
-def quoted(page):
+def quoted(page: Path) -> Iterator[tuple[str, str]]:
     """The names between backquotes in a page, each with its place."""
     for number, line in prose(page):
         for name in re.findall(r"`([^`]+)`", line):
             yield f"{page.name}:{number}: {name}", name
 
 
-def unknown_files(page, paths):
+def unknown_files(page: Path, paths: list[str]) -> Iterator[str]:
     """The source files and edits that a page names, by the end of their path, and that are nowhere."""
     for where, name in quoted(page):
         is_file = re.fullmatch(r"[\w/-]+\.(rt|antt|edit)", name) and "NAME" not in name
@@ -160,7 +161,7 @@ def unknown_files(page, paths):
             yield where
 
 
-def unknown_names(page, paths, known, skipped=r"\.(rt|antt)$"):
+def unknown_names(page: Path, paths: list[str], known: set[str], skipped: str = r"\.(rt|antt)$") -> Iterator[str]:
     """The names of a page that are unknown, without those skipped, such as source files. A path has to exist; of any other name, each
     word has to be known."""
     for where, name in quoted(page):
@@ -175,7 +176,7 @@ def unknown_names(page, paths, known, skipped=r"\.(rt|antt)$"):
             yield where
 
 
-def misplaced_names(page, texts):
+def misplaced_names(page: Path, texts: dict[str, str]) -> Iterator[str]:
     """The names of a page that it gives together with a file, of sources or a script, and that do not stand in that file."""
     lines = dict(prose(page))
     text = "\n".join(lines.get(number, "") for number in range(1, max(lines) + 1))
@@ -189,7 +190,7 @@ def misplaced_names(page, texts):
                 yield f"{page.name}:{text.count(chr(10), 0, match.start()) + 1}: {name} in {file}"
 
 
-def misplaced_laws(page, texts):
+def misplaced_laws(page: Path, texts: dict[str, str]) -> Iterator[str]:
     """The laws in the first column of a page's tables that none of the files has which the paragraph before the table names."""
     for files, table in re.findall(r"^\*\*[^|]*? \(((?:[^()|]*`[\w/]+\.rt`)+)[^|]*((?:\|.*\n)+)", page.read_text(encoding="utf-8"), re.M):
         named = tuple(f"/{it}" for it in re.findall(r"`([\w/]+\.rt)`", files))
@@ -198,13 +199,13 @@ def misplaced_laws(page, texts):
         yield from (f"{page.name}: {law} in {' '.join(named)}" for law in told if law not in has)
 
 
-def words_of_scripts():
+def words_of_scripts() -> set[str]:
     """The words in the tests, the benchmarks, the tools, the Makefile and the list of crates."""
     files = [TOP / "Makefile", TOP / "crates.txt", *TOP.glob("tests/*.*"), *TOP.glob("bench/*.py"), *TOP.glob("tools/*")]
     return {word for file in files for word in re.findall(r"[\w-]+", file.read_text(encoding="utf-8"))}
 
 
-def untold_tests():
+def untold_tests() -> Iterator[str]:
     """The scripts in this folder that docs/TESTING.md does not name, or that take a program but are not run by run.py."""
     told = (TOP / "docs" / "TESTING.md").read_text(encoding="utf-8")
     for path in sorted(TOP.glob("tests/*.py")):
@@ -214,7 +215,7 @@ def untold_tests():
             yield path.name
 
 
-def unused_functions():
+def unused_functions() -> Iterator[str]:
     """The functions that their script never uses, such as a test that is not in the list for `run_all`."""
     for path in sorted(TOP.glob("tests/*.py")):
         text = path.read_text(encoding="utf-8")
@@ -224,18 +225,18 @@ def unused_functions():
             yield from (f"{path.name}: {it.name}" for it in script.body if isinstance(it, ast.FunctionDef) and it.name not in used)
 
 
-def lines_of(*patterns):
+def lines_of(*patterns: str) -> int:
     """How many lines the files have that match these patterns, relative to the repository's top."""
     return sum(file.read_bytes().count(b"\n") for pattern in patterns for file in TOP.glob(pattern))
 
 
-def rows_of(table):
+def rows_of(table: str) -> int:
     """How many rows a table in tests/data has."""
     with open(TOP / "tests" / "data" / table, newline="", encoding="utf-8") as file:
         return sum(1 for _ in csv.DictReader(file))
 
 
-def tests_of_scripts():
+def tests_of_scripts() -> Iterator[tuple[str, str]]:
     """The tests in the lists of the scripts, each with its script."""
     for path in TOP.glob("tests/*.py"):
         script = ast.parse(path.read_text(encoding="utf-8"))
@@ -246,17 +247,17 @@ def tests_of_scripts():
                 yield from ((path.name, test.id) for part in lists for test in part.elts if isinstance(test, ast.Name))
 
 
-def libraries():
+def libraries() -> list[str]:
     """The names of the libraries on which the program stands, as the Makefile lists them."""
     return re.search(r"^LIBRARIES = (.+)$", (TOP / "Makefile").read_text(encoding="utf-8"), re.MULTILINE).group(1).split()
 
 
-def test_functions():
+def test_functions() -> int:
     """How many tests in Rattle all crates have."""
     return sum(file.read_text(encoding="utf-8").count("#[test]") for file in TOP.glob("crates/*/src/**/*.rt"))
 
 
-def stale_sizes():
+def stale_sizes() -> Iterator[str]:
     """The sizes that a page does not state, or states wrongly: of the sources by more than one in fifty, of bugs and of tests in Rattle by
     more than one in ten, of a table or of the scripts by any."""
     edits = len([*TOP.glob("crates/*/edits/*.edit"), *TOP.glob("crates/*/must-fail/*.edit")])
@@ -292,7 +293,7 @@ def stale_sizes():
             yield f"{name}: {' '.join(told) or None}, and not {size}: {form}"
 
 
-def imported_modules(text):
+def imported_modules(text: str) -> Iterator[tuple[str, str]]:
     """The crate and the module of each import of definitions in this text. A name that is imported from a crate's specs/Lib.antt, which
     passes it on, comes from the module that is named there."""
     for crate, module, names in re.findall(r"^use Rattle\.(\w+)\.specs\.([\w.]*)(?:\{([^}]*)\})?", text, re.MULTILINE):
@@ -305,7 +306,7 @@ def imported_modules(text):
                     yield lower, of_lower
 
 
-def definitions_under(files):
+def definitions_under(files: list[Path]) -> int:
     """The lines of these files of definitions, and of all files of specs/ that they import."""
     found, left = set(), [*files]
     while left:
@@ -319,7 +320,7 @@ def definitions_under(files):
     return sum(len(file.read_text(encoding="utf-8").splitlines()) for file in found)
 
 
-def stale_readings():
+def stale_readings() -> Iterator[str]:
     """The lines of definitions to be read for a promise of docs/PROMISES.md, which it states wrongly by more than one in fifty, or not; and
     those for all of them, in README.md."""
     text = (TOP / "docs" / "PROMISES.md").read_text(encoding="utf-8")
@@ -347,7 +348,7 @@ def stale_readings():
             yield f"{number}, and not {size}"
 
 
-def stale_crates():
+def stale_crates() -> Iterator[str]:
     """The libraries that have no row in docs/ARCHITECTURE.md with their lines of code, definitions and proofs, in hundreds, or one that is
     off by more than one hundred and more than a tenth; and the crates with such a row that are no libraries."""
     row = re.compile(r"^\| `(\w+)` \| (\d+) \| (\d+) \| (\d+) \|", re.MULTILINE)
@@ -360,14 +361,14 @@ def stale_crates():
             yield f"`{name}`: {' | '.join(str(-(-size // 100) * 100) for size in sizes)}"
 
 
-def pages_of_another_kit():
+def pages_of_another_kit() -> Iterator[str]:
     """The pages that do not name the kit: docs/PROMISES.md has to give all of KIT, README.md only its name."""
     for page, told in [(TOP / "docs" / "PROMISES.md", KIT), (TOP / "README.md", KIT.split()[0])]:
         if not any(name == told for _, name in quoted(page)):
             yield f"{page.name}: {told}"
 
 
-def taken_unproved():
+def taken_unproved() -> Iterator[str]:
     """The lines of sources, without their comments, that have a word of UNPROVED."""
     for path, text in sources().items():
         for number, line in enumerate(text.splitlines(), 1):
@@ -375,7 +376,7 @@ def taken_unproved():
                 yield f"{path}:{number}: {line.strip()}"
 
 
-def cited_inner():
+def cited_inner() -> Iterator[str]:
     """The public functions whose contracts cite a definition of specs/inner, which docs/ARCHITECTURE.md lets a reader skip."""
     for file in sorted(TOP.glob("crates/*/src/**/*.rt")):
         text = file.read_text(encoding="utf-8")
@@ -388,7 +389,7 @@ def cited_inner():
                 yield f"{function[1]} of {file.relative_to(TOP)} cites {name}"
 
 
-def stale_bugs():
+def stale_bugs() -> Iterator[str]:
     """The rows of planted.csv that have no edit, no test or too little of what the test says, and the edits in a folder planted/ that have
     no row or do not apply."""
     rows = planted_rows(TOP)
@@ -408,20 +409,20 @@ def stale_bugs():
             yield f"{name}: {row.test} of {row.by}: the row names a check, and not what the test has seen: {row.says!r}"
 
 
-def untimed_crates():
+def untimed_crates() -> Iterator[str]:
     """The libraries of which docs/TIMES.md gives no time."""
     told = (TOP / "docs" / "TIMES.md").read_text(encoding="utf-8")
     yield from (name for name in libraries() if f"`{name}`" not in told)
 
 
-def wide_lines(page):
+def wide_lines(page: Path) -> Iterator[str]:
     """The lines of a page that have over 140 columns, outside its tables and code blocks."""
     for number, line in prose(page):
         if len(line) > 140 and not line.startswith("|"):
             yield f"{page.name}:{number}"
 
 
-def miscounted_edits():
+def miscounted_edits() -> Iterator[str]:
     """The rows of the table in docs/MUTATIONS.md that do not give the numbers of edits in a crate's folders, and those that are missing."""
     places = [*TOP.glob("crates/*/*/*.edit"), *TOP.glob("tests/planted/*.edit")]
     found = [(path.parent.parent.name, path.parent.name) for path in places]
@@ -435,7 +436,7 @@ def miscounted_edits():
     yield from (f"it should not have: {line}" for line in sorted(told - due))
 
 
-def stale_edits():
+def stale_edits() -> Iterator[str]:
     """Finds the edits in must-fail/ and edits/ that do not apply."""
     for crate in sorted(TOP.glob("crates/*")):
         for path in edits_of(crate):
@@ -445,7 +446,7 @@ def stale_edits():
                 yield f"{path.relative_to(TOP)}: {fault}"
 
 
-def checks():
+def checks() -> Iterator[tuple[str, str, list[str]]]:
     """Each check of the documents or of the lists of tests: its kind of fault, its function's name, and the faults."""
     texts = sources()
     paths = list(texts)
@@ -488,7 +489,7 @@ def checks():
         yield kind, find.__name__, [*find()]
 
 
-def main():
+def main() -> int:
     """Prints the faults, and how many checks pass and fail. Returns the exit status."""
     names, made = sys.argv[1:], list(checks())
     if strangers := set(names) - {name for _, name, _ in made}:

@@ -30,26 +30,26 @@ GONE = "C GONE\nE\n"
 SESSION_LEFT = f"{MECHS}\n{GONE}".encode()
 
 
-def code(secret, counter, digits=6, function="sha1"):
+def code(secret: bytes, counter: int, digits: int = 6, function: str = "sha1") -> str:
     """The code for a counter (RFC 4226, section 5.3; RFC 6238 for other hash functions)."""
     tag = hmac.digest(secret, counter.to_bytes(8, "big"), function)
     at = tag[-1] & 15
     return f"{(int.from_bytes(tag[at:at + 4], 'big') & 0x7FFFFFFF) % 10**digits:0{digits}}"
 
 
-def login_keys(function, password, salt, count):
+def login_keys(function: str, password: bytes, salt: bytes, count: int) -> tuple[bytes, bytes]:
     """The client key and the server key of a password (RFC 5802, section 3)."""
     salted = hashlib.pbkdf2_hmac(function, password, salt, count)
     return hmac.digest(salted, b"Client Key", function), hmac.digest(salted, b"Server Key", function)
 
 
-def keys_of(function, password, salt, count):
+def keys_of(function: str, password: bytes, salt: bytes, count: int) -> tuple[str, str]:
     """The stored key and the server key of a password, in hexadecimal (RFC 5802, section 3)."""
     client, server = login_keys(function, password, salt, count)
     return hashlib.new(function, client).hexdigest(), server.hex()
 
 
-def proved(function, client, server, auth_message):
+def proved(function: str, client: bytes, server: bytes, auth_message: bytes) -> tuple[bytes, bytes]:
     """The proof and the signature of a login with this AuthMessage, from the client key and the server key (RFC 5802, section 3)."""
     mask = hmac.digest(hashlib.new(function, client).digest(), auth_message, function)
     return bytes(one ^ other for one, other in zip(client, mask)), hmac.digest(server, auth_message, function)
@@ -59,12 +59,12 @@ def proved(function, client, server, auth_message):
 DECOY_KEY = bytes(range(32))
 
 
-def decoy_salt(name):
+def decoy_salt(name: str) -> bytes:
     """The salt in the SCRAM-SHA-1 challenge for a name without an account. The form is this project's own, given in docs/FORMATS.md."""
     return hmac.digest(DECOY_KEY, b"SCRAM-SHA-1\0" + name.encode(), "sha256")[:16]
 
 
-def orders_of_turns():
+def orders_of_turns() -> list[tuple]:
     """All orders of three turns of each of three sessions; or if RUNS is in the environment, at most so many of them, chosen at random."""
     orders = sorted(set(itertools.permutations([0, 0, 0, 1, 1, 1, 2, 2, 2])))
     equal(len(orders), 1680, "the number of orders")
@@ -72,12 +72,12 @@ def orders_of_turns():
     return random.sample(orders, count) if count < len(orders) else orders
 
 
-def spelled(text):
+def spelled(text: str) -> bytes:
     """The bytes that the text in a table's cell stands for."""
     return text.encode("latin-1").decode("unicode_escape").encode("latin-1")
 
 
-def rows_of(table):
+def rows_of(table: pathlib.Path) -> list[dict[str, str]]:
     """The rows of a table, a CSV file, of which there is at least one."""
     with open(table, newline="", encoding="utf-8") as file:
         rows = [*csv.DictReader(file)]
@@ -85,7 +85,7 @@ def rows_of(table):
     return rows
 
 
-def edited(text, row):
+def edited(text: bytes, row: dict[str, str]) -> bytes:
     """A text in which `old` of a table's row, which occurs once, is replaced by `new`, and then `old2` by `new2`."""
     for old, new in [(row["old"], row["new"]), (row["old2"], row["new2"])]:
         if old:
@@ -94,7 +94,7 @@ def edited(text, row):
     return text
 
 
-def numbered(log):
+def numbered(log: str) -> str:
     """A log of version 1, converted to version 2."""
     first, *lines = log.splitlines(keepends=True)
     equal(first, "SCRAMLOG 1\n", log)

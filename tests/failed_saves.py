@@ -11,12 +11,14 @@ codes, and no code passes again that has passed. Each log is audited by the book
 import itertools
 import os
 import pathlib
+from collections.abc import Iterator
 
 import shims
 import suite
 from checks import equal, holds
-from command_table import BOOK, LIMIT_100, audited, book_of, commands, left, new_book, prepare, run
+from command_table import BOOK, LIMIT_100, Command, audited, book_of, commands, left, new_book, prepare, run
 from expected import ACCEPTED, GONE, numbered
+from processes import Answer
 from suite import CODES, each, token
 
 # For the token of BOOK (RFC 4226, appendix D), a single code may be up to three counters ahead, and the first of two in a row has to be
@@ -31,7 +33,7 @@ SENT = [
 COUNTERS = {text: counter for counter, text in enumerate(CODES)}
 
 
-def replied(next_counter, line):
+def replied(next_counter: int, line: str) -> list[int]:
     """The counters that a line uses if it passes when this counter is the next; else none (RFC 4226, sections 7.2 and 7.4)."""
     texts = line.removeprefix("SYNC ").split()
     first, *second = (COUNTERS.get(text, -1) for text in texts)
@@ -40,7 +42,7 @@ def replied(next_counter, line):
     return [first] if next_counter <= first <= next_counter + AHEAD else []
 
 
-def exchanged(next_counter, lines):
+def exchanged(next_counter: int, lines: list[str]) -> Iterator[tuple[str, list[int], int]]:
     """The replies to these lines, the counters that each uses, and the next counter after each."""
     for line in lines:
         used = replied(next_counter, line)
@@ -48,7 +50,7 @@ def exchanged(next_counter, lines):
         yield f"PASS 5 {used[-1]}" if used else "FAIL 5", used, next_counter
 
 
-def printed(name, lines, replies, is_halted):
+def printed(name: str, lines: list[str], replies: list[str], is_halted: bool) -> str:
     """What a run prints for lines with these replies. If it halted, it did so at the line after them."""
     if name == "verify":
         return "".join(f"{reply}\n" for reply in replies)
@@ -58,7 +60,7 @@ def printed(name, lines, replies, is_halted):
     return numbered(log) if name == "hall" else log
 
 
-def sent(command, lines):
+def sent(command: Command, lines: list[str]) -> Command:
     """The command with these lines instead of its codes."""
     if command.name == "hall":
         codes = "".join(f"line 1 5 {line if line.startswith('SYNC') else f'CODE {line}'}\n" for line in lines)
@@ -78,25 +80,25 @@ class Saves:
         ("fsync", "refused", 2, 0, True),
     ]
 
-    def __init__(self, folder):
+    def __init__(self, folder: str) -> None:
         self.folder = os.path.join(folder, "files")
         os.mkdir(self.folder)
         self.shim = shims.built("refuse_io")
         self.book = pathlib.Path(self.folder, "book")
         self.count = 0
 
-    def fails(self, command, number, way):
+    def fails(self, command: Command, number: int, way: tuple) -> Answer:
         """Runs a command whose save with this number fails, and returns its answer."""
         call, how, calls, before, _ = way
         more = {"LD_PRELOAD": self.shim, "CALLS": call, "REFUSED": str(number * calls - before), "HOW": how}
         self.count += 1
         return run(command, self.folder, env={**os.environ, **more})
 
-    def unsaved(self, output):
+    def unsaved(self, output: str) -> tuple[int, str, str]:
         return 3, output, f"scramotp: cannot write {self.book}\n"
 
 
-def twice(here, command, lines, number, way):
+def twice(here: Saves, command: Command, lines: list[str], number: int, way: tuple) -> None:
     """Makes a run whose save fails, and then a run that is sent the same lines: no counter passes in both."""
     first_save = 0 if command.name == "verify" else 1
     prepare(here.folder, command)
@@ -122,7 +124,7 @@ def twice(here, command, lines, number, way):
         audited(here.folder, saved, more)
 
 
-def codes_of_two_runs(folder):
+def codes_of_two_runs(folder: str) -> None:
     """Whichever save of a code fails, no counter passes in that run and again in the next."""
     here = Saves(folder)
     taking_codes = [command for command in commands(0) if command.name in ("verify", "login", "hall")]
@@ -134,7 +136,7 @@ def codes_of_two_runs(folder):
     print(f"failed_saves.py: {here.count} saves of a code fail, and no counter passes twice")
 
 
-def first_saves(folder):
+def first_saves(folder: str) -> None:
     """If the first save fails, nothing is printed, and the book has the old text or the new one."""
     here = Saves(folder)
     saving = [command for command in commands() if len(command.books) > 1]

@@ -26,7 +26,7 @@ SERVING = suite.TOP / "docs" / "SERVING.md"
 LOGIN, TWO_SESSIONS = "clean sessions=1 accepted=1 codes=0", "clean sessions=2 accepted=0 codes=0"
 
 
-def block(title, language="", page=DOCUMENT):
+def block(title: str, language: str = "", page: Path = DOCUMENT) -> str:
     """The only block in this language in the section of a page with this title."""
     [text] = [text for *place, text in blocks_of(page) if place == [title, language]]
     return text
@@ -70,7 +70,7 @@ BAD = {
 }
 
 
-def with_files(folder, **logs):
+def with_files(folder: str, **logs: str) -> dict[str, str]:
     """Puts these logs into a folder, each with the book, and returns the environment of a run that finds the program."""
     here = Path(folder)
     for name, log in logs.items():
@@ -79,20 +79,20 @@ def with_files(folder, **logs):
     return program_on_path(folder)
 
 
-def ran(folder, commands, environment):
+def ran(folder: str, commands: str, environment: dict[str, str]) -> tuple[int, list[str], str]:
     """The status, the output lines and the faults of commands run in a folder."""
     status, output, faults = processes.ran(["sh", "-c", commands], cwd=folder, env=environment)
     return status, sorted(output.splitlines()), faults
 
 
-def the_book(folder):
+def the_book(folder: str) -> None:
     """The book has the form in which a command saves it: a save leaves its text unchanged."""
     held = suite.BookFolder(folder, BOOK)
     held.prints([PROGRAM, "unlock", "--book", held.book, "--name", "user"], "", 0, "unlocked user\n")
     equal(held.book.read_text(), BOOK, "the saved book")
 
 
-def the_logs(folder):
+def the_logs(folder: str) -> None:
     """The logs are clean by that book, and the first is the recorded login."""
     held = suite.BookFolder(folder, BOOK)
     equal(LOG, (AUDITS / "sha1.log").read_text(), "the login")
@@ -100,7 +100,7 @@ def the_logs(folder):
     held.audited(NUMBERED, TWO_SESSIONS)
 
 
-def many_logs(folder):
+def many_logs(folder: str) -> None:
     """Each log has its answer, and the status is 123 if one is at fault. A compressed log is read from a pipe."""
     lines = COMMANDS.splitlines(keepends=True)
     [at] = [at for at, line in enumerate(lines) if line.startswith("parallel ")]
@@ -115,13 +115,13 @@ def many_logs(folder):
 
 
 @functools.cache
-def rules():
+def rules() -> dict[str, str]:
     """The elements of each rule of the grammar by its name, without comments, and of the rules of CORE."""
     return CORE | dict(re.findall(r"^([a-z-]+) *=((?:.*\n)(?: +.*\n)*)", re.sub(r" *;.*", "", GRAMMAR), re.M))
 
 
 @functools.cache
-def pattern(name):
+def pattern(name: str) -> str:
     """A regular expression for a rule. No rule may cite itself."""
     found, times, groups = "", "", []
     parts = list(PART.finditer(rules()[name]))
@@ -146,12 +146,12 @@ def pattern(name):
     return found
 
 
-def has(name, text):
+def has(name: str, text: bytes) -> bool:
     """Whether a text is one of a rule."""
     return re.fullmatch(pattern(name).encode(), text) is not None
 
 
-def no_line(log):
+def no_line(log: bytes) -> float:
     """The number of the first line of a log that is in no form, or has a number that is too great; else infinity."""
     lines = log.split(b"\n")[:-1]
     rule = "numbered-line" if lines[:1] == FIRST_LINES[1:] else "log-line"
@@ -162,7 +162,7 @@ def no_line(log):
     return math.inf
 
 
-def the_grammar(folder):
+def the_grammar(folder: str) -> None:
     """The grammar has the logs of this page, and of each log of audit_cases.py the lines that an audit takes for lines."""
     equal([has("log", LOG.encode()), has("numbered-log", NUMBERED.encode())], [True, True], "the logs of this page")
     equal([text for rule, texts in GOOD.items() for text in texts if not has(rule, text)], [], "lines that the grammar lacks")
@@ -178,7 +178,7 @@ def the_grammar(folder):
                 holds(no_line(log) > (number or log.count(b"\n")), "the grammar lacks a line of the log", shows)
 
 
-def a_session_of_a_hall(folder):
+def a_session_of_a_hall(folder: str) -> None:
     """The command of docs/SERVING.md prints what is shown below it: the login that this page has in a log, and a code. An audit calls it
     clean."""
     environment = with_files(folder, book="")
@@ -190,7 +190,7 @@ def a_session_of_a_hall(folder):
     suite.BookFolder(folder, BOOK).audited(shown, "clean sessions=1 accepted=1 codes=1")
 
 
-def let_in(lines, needs_code):
+def let_in(lines: list[str], needs_code: bool) -> list[tuple[str, tuple[str, str]]]:
     """The lines of a session at which the code of docs/SERVING.md lets someone in, with the names that it returns."""
     there = {}
     exec(LETS_IN, there)
@@ -198,7 +198,7 @@ def let_in(lines, needs_code):
     return [(line, names) for line in lines if (names := session.hears(line))]
 
 
-def who_has_logged_in(folder):
+def who_has_logged_in(folder: str) -> None:
     """The code of docs/SERVING.md lets a client in at OK, or, if it needs a code, only at a PASS after it, and by the names that it gave."""
     lines = [line.removeprefix(SHOWN)[2:] for line in TRANSCRIPT.splitlines() if line.startswith(f"{SHOWN}1 ")]
     [accepted] = [line for line in lines if line.startswith("S OK ")]
@@ -223,7 +223,7 @@ def who_has_logged_in(folder):
             equal([given for _, given in let_in(log.splitlines(), False)], [names], log)
 
 
-def every_block(folder):
+def every_block(folder: str) -> None:
     """No block of the documents is left out."""
     for trial, (page, taken) in each([(DOCUMENT, [BOOK, LOG, NUMBERED, GRAMMAR, COMMANDS]), (SERVING, [TRANSCRIPT, LETS_IN])]):
         with trial:

@@ -23,6 +23,8 @@ import re
 import subprocess
 import tempfile
 import tomllib
+from collections.abc import Callable, Iterator
+from typing import Any
 
 import suite
 from checks import equal, fail, holds
@@ -59,7 +61,7 @@ BITS = [
 ]
 
 
-def run(words, data=b""):
+def run(words: list, data: bytes = b"") -> tuple[int, bytes]:
     """The status and the output of a run, whose faults have to be documented ones."""
     before = processor_time()
     try:
@@ -80,7 +82,7 @@ def run(words, data=b""):
     return done.returncode, done.stdout
 
 
-def altered(chosen, text, others):
+def altered(chosen: random.Random, text: bytes, others: list[bytes]) -> bytes:
     """The text after one to three edits: a part of it is removed, doubled or replaced."""
     for _ in range(chosen.randint(1, 3)):
         start = chosen.randrange(len(text) + 1)
@@ -106,7 +108,7 @@ def altered(chosen, text, others):
     return text
 
 
-def a_book(folder, chosen):
+def a_book(folder: pathlib.Path, chosen: random.Random) -> Iterator[str | bytes]:
     """A book: the program reads what tomllib reads, a save changes only what its command says, and a second save changes nothing."""
     texts = [book.read_bytes() for book in BOOKS]
     text = altered(chosen, chosen.choice(texts), texts)
@@ -131,7 +133,7 @@ def a_book(folder, chosen):
     yield "a book that is read"
 
 
-def plain(book):
+def plain(book: dict[str, Any]) -> dict[str, Any]:
     """A book with values for what may be missing, and with its bytes in lower case."""
     accounts = {}
     for name, account in book.get("accounts", {}).items():
@@ -142,12 +144,12 @@ def plain(book):
     return {**book, "accounts": accounts, "decoy_key": book["decoy_key"].lower()}
 
 
-def lowered(table):
+def lowered(table: dict[str, Any]) -> dict[str, Any]:
     """A table with its texts in lower case."""
     return {key: value.lower() if isinstance(value, str) else value for key, value in table.items()}
 
 
-def logs():
+def logs() -> Iterator[bytes]:
     """The recorded logs, each as it is, and those of version 1 also with numbers."""
     for path in sorted(AUDITS.glob("*.log")):
         text = path.read_bytes()
@@ -156,7 +158,7 @@ def logs():
             yield numbered(text.decode()).encode()
 
 
-def a_log(folder, chosen):
+def a_log(folder: pathlib.Path, chosen: random.Random) -> Iterator[str | bytes]:
     """A log: the lines before the one at fault begin a clean log, and an upgrade keeps the answer."""
     texts = [*logs()]
     text = altered(chosen, chosen.choice(texts), texts)
@@ -184,7 +186,7 @@ def a_log(folder, chosen):
     yield "the lines before a fault"
 
 
-def lines_of(text):
+def lines_of(text: bytes) -> list[bytes]:
     """The lines of a text, each with its LF."""
     return [line + b"\n" for line in text.split(b"\n")[:-1]]
 
@@ -193,13 +195,13 @@ def lines_of(text):
 RANGES = {"--digits": (6, 8), "--counter": (0, 2**63 - 2), "--moment": (0, 253402300799), "--t0": (0, 253402300799), "--step": (1, 3600)}
 
 
-def is_in_range(name, text):
+def is_in_range(name: str, text: str) -> bool:
     """Whether a text is a number that this option of `code` takes."""
     least, most = RANGES[name]
     return re.fullmatch("0|[1-9][0-9]*", text) is not None and least <= int(text) <= most
 
 
-def status_of_code(given):
+def status_of_code(given: dict[str, str]) -> int:
     """The status with which `code` has to end for these options: 2 if a value is bad or one is missing, and 1 before the first step."""
     is_secret = re.fullmatch("(?:[0-9A-Fa-f]{2}){10,64}", given.get("--secret", "")) is not None
     is_hash = given.get("--hash", "sha1") in ("sha1", "sha256", "sha512")
@@ -209,7 +211,7 @@ def status_of_code(given):
     return 0 if "--counter" in given or int(given["--moment"]) >= int(given.get("--t0", 0)) else 1
 
 
-def words_of_code(_, chosen):
+def words_of_code(_: pathlib.Path, chosen: random.Random) -> Iterator[str | bytes]:
     """The words of `code`: it prints a code if all of them are right, and Python's hmac gives the same one."""
     odd = [it.decode() for it in NUMBERS]
     some = {
@@ -239,7 +241,7 @@ def words_of_code(_, chosen):
     yield "a code of a counter" if "--counter" in given else "a code of a moment"
 
 
-def words_of_keys(_, chosen):
+def words_of_keys(_: pathlib.Path, chosen: random.Random) -> Iterator[str | bytes]:
     """The words and the password of `keys`: the keys are those from Python's hashlib."""
     salt = bytes(chosen.randrange(256) for _ in range(chosen.choice([0, 1, 12, 16, 64, 65])))
     name, function = chosen.choice([("SCRAM-SHA-1", "sha1"), ("SCRAM-SHA-256", "sha256")])
@@ -264,7 +266,7 @@ def words_of_keys(_, chosen):
 MOST_MOMENT = 253402300799
 
 
-def a_token(chosen):
+def a_token(chosen: random.Random) -> tuple[dict[str, Any], int]:
     """The keys of a token of either kind, each in its range, and a moment near which its codes are sent."""
     limit = chosen.choice([1, 2, 3, 3, 100, 100])
     token = {"secret": chosen.randbytes(chosen.choice([10, 20, 20, 32, 64])).hex(), "digits": chosen.choice([6, 7, 8])}
@@ -281,7 +283,7 @@ def a_token(chosen):
     return {**token, **chosen.choice([{}, {"last": near}])}, moment
 
 
-def a_line(chosen, token, moment):
+def a_line(chosen: random.Random, token: dict[str, Any], moment: int) -> bytes:
     """A line without its LF: a code, or two in a row, of a counter that can pass or is near one that can; or a text that is no code."""
     singles, pairs = window(token, moment), firsts_of_pairs(token)
     edges = [singles.start, singles.stop, pairs.start, pairs.stop, *chosen.choices(singles or [0], k=3)]
@@ -293,7 +295,7 @@ def a_line(chosen, token, moment):
     return chosen.choice([first, first, first, first, pair, pair, chosen.choice(no_code)])
 
 
-def some_runs(chosen, token, moment):
+def some_runs(chosen: random.Random, token: dict[str, Any], moment: int) -> Iterator[tuple]:
     """Runs of `verify` that follow each other: the moment and the lines of each, the replies that are due with the counters that they use
     up, and the token after it. Before some of them the token is unlocked, which None stands for."""
     token = dict(token)
@@ -309,7 +311,7 @@ def some_runs(chosen, token, moment):
         yield at, lines, replies, dict(token)
 
 
-def lines_of_verify(folder, chosen):
+def lines_of_verify(folder: pathlib.Path, chosen: random.Random) -> Iterator[str | bytes]:
     """Runs of `verify` over one book: the replies, the status and the book that is left are those that are due, and no counter passes
     twice. The account whose token has the same keys stays as it was."""
     token, moment = a_token(chosen)
@@ -344,7 +346,7 @@ def lines_of_verify(folder, chosen):
         yield "a locked token"
 
 
-def some_events(chosen):
+def some_events(chosen: random.Random) -> Iterator[bytes]:
     """Input lines of `hall`: sessions begin, log in as in RFC 5802's example, send codes and go away, in any order, with edits."""
     mechs, auth, resp = [line[2:].encode() for line in (MECHS, AUTH, RESP)]
     odd = [b"ABORT", b"AUTH SCRAM-SHA-1", b"AUTH PLAIN", b"CODE 755224", mechs, auth, resp]
@@ -363,7 +365,7 @@ def some_events(chosen):
         yield (altered(chosen, event, odd) if chosen.random() < 0.02 else event).replace(b"\n", b"")
 
 
-def a_hall(folder, chosen):
+def a_hall(folder: pathlib.Path, chosen: random.Random) -> Iterator[str | bytes]:
     """Events of a hall: the log that it prints begins a clean one, and is clean once the open sessions have ended."""
     opening = (AUDITS / "hotp.toml").read_bytes()
     events = [*some_events(chosen)]
@@ -371,7 +373,7 @@ def a_hall(folder, chosen):
     before, book, log = (folder / name for name in ("before", "book", "log"))
     before.write_bytes(opening)
 
-    def heard(lines):
+    def heard(lines: list[bytes]) -> tuple:
         book.write_bytes(opening)
         status, printed = run(["hall", "--book", book], b"".join(line + b"\n" for line in lines))
         log.write_bytes(printed)
@@ -394,7 +396,7 @@ def a_hall(folder, chosen):
         yield "a code in a hall"
 
 
-def results_of(kind, number):
+def results_of(kind: Callable, number: int) -> list[str]:
     """The results of an input of this kind. An input with an unexpected result, or that Python can't judge, is kept."""
     chosen = random.Random(f"{kind.__name__} {SEED} {number}")
     with tempfile.TemporaryDirectory(dir=MEMORY) as folder:
@@ -409,7 +411,7 @@ def results_of(kind, number):
             raise
 
 
-def tried(kind, **one_in):
+def tried(kind: Callable, **one_in: int) -> None:
     """Tries COUNT inputs of this kind. `one_in` names results, and says in how many inputs each has to come once at least: about half as
     often as with seed 1."""
     seen = collections.Counter(result for number in range(COUNT) for result in results_of(kind, number))
@@ -418,32 +420,32 @@ def tried(kind, **one_in):
     print(f"fuzz.py: {COUNT} inputs by {kind.__name__}, from seed {SEED}")
 
 
-def books(_):
+def books(_: str) -> None:
     """Books that are a few edits from good or faulty ones."""
     tried(a_book, a_book_that_is_read=30)
 
 
-def recorded_logs(_):
+def recorded_logs(_: str) -> None:
     """Logs that are a few edits from recorded ones."""
     tried(a_log, an_upgraded_log=25, a_clean_log=100, the_lines_before_a_fault=2)
 
 
-def codes(_):
+def codes(_: str) -> None:
     """Words of `code`."""
     tried(words_of_code, a_code_of_a_counter=25, a_code_of_a_moment=40)
 
 
-def keys(_):
+def keys(_: str) -> None:
     """Words and passwords of `keys`."""
     tried(words_of_keys, the_keys_of_a_password=10)
 
 
-def lines(_):
+def lines(_: str) -> None:
     """Lines of `verify`."""
     tried(lines_of_verify, a_counter_that_passes=6, a_pair_that_passes=12, a_step_that_passes=8, a_locked_token=5)
 
 
-def halls(_):
+def halls(_: str) -> None:
     """Events of halls."""
     tried(a_hall, a_login_in_a_hall=2, a_code_in_a_hall=4)
 

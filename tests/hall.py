@@ -16,7 +16,7 @@ import tempfile
 import clients
 import suite
 from checks import equal
-from clients import Account, book, dealt, gone, logged_in, of_session, opened, said, turned_away
+from clients import Account, Turn, book, dealt, gone, logged_in, of_session, opened, said, turned_away
 from expected import AUDITS, AUTH, MECHS, RESP, orders_of_turns
 from hall_support import HOTP_BOOK, OWN, Hall, clean, login
 from suite import MEMORY, each, read_book
@@ -25,7 +25,7 @@ from suite import MEMORY, each, read_book
 SHUFFLES = int(os.environ.get("RUNS") or 1000)
 
 
-def two_sessions(folder):
+def two_sessions(folder: str) -> None:
     """RFC 5802's login with a code, and in the middle of it a client that asks for another mechanism."""
     here = Hall(folder)
     events = [
@@ -51,7 +51,7 @@ def two_sessions(folder):
     equal(read_book(here.book)["accounts"]["user"]["sha1"], read_book(AUDITS / "hotp.toml")["accounts"]["user"]["sha1"], "the keys")
 
 
-def sixty_four(folder):
+def sixty_four(folder: str) -> None:
     """While 64 sessions are open, a client that comes is turned away. Each number is given once."""
     here = Hall(folder)
     text = "open zz\n" * 64
@@ -67,7 +67,7 @@ def sixty_four(folder):
     here.prints(text + "gone 67 0\n", 1, log, "bad event")
 
 
-def bounds(folder):
+def bounds(folder: str) -> None:
     """The longest nonce, and the first and the last moment."""
     here = Hall(folder)
     for trial, own in each(["z" * 256, "!", "~", "open"]):
@@ -88,7 +88,7 @@ BAD_LINES = [
 ]
 
 
-def lines_that_are_none(folder):
+def lines_that_are_none(folder: str) -> None:
     """A text that is no protocol line, or is not due, is recorded as bad, and ends only the session of its client."""
     here = Hall(folder)
     for trial, line in each(BAD_LINES):
@@ -111,7 +111,7 @@ REFUSED_FIRST = [
 ]
 
 
-def first_messages(folder):
+def first_messages(folder: str) -> None:
     """A first message that asks for channel binding, or has an extension that is none, is refused. Other extensions change nothing."""
     here = Hall(folder)
     for trial, first in each(REFUSED_FIRST):
@@ -129,7 +129,7 @@ def first_messages(folder):
             here.audited(log, clean(1))
 
 
-def codes_of_one_account(folder):
+def codes_of_one_account(folder: str) -> None:
     """The codes of all sessions are attempts at one token, in the order in which they arrive (RFC 4226, appendix D)."""
     here = Hall(folder)
     codes = [("755224", "PASS 5 0"), ("755224", "FAIL 5"), ("359152", "PASS 5 2"), ("287082", "FAIL 5"), ("359152", "FAIL 5")]
@@ -141,7 +141,7 @@ def codes_of_one_account(folder):
     here.token_has(next=3, failures=3)
 
 
-def told_at_once(folder):
+def told_at_once(folder: str) -> None:
     """Each line is in the log while the input is still open, and a code is spent before its reply is printed."""
     here = Hall(folder)
     running = here.start()
@@ -152,7 +152,7 @@ def told_at_once(folder):
     running.ends(0)
 
 
-def three_visits():
+def three_visits() -> tuple[list[Account], list[list[Turn]]]:
     """One client is let in and sends its token's code, one has a wrong proof, one is let in and sends two codes in a row. After `open`
     each has three turns, and those that are let in then go away."""
     anne, bob, carl = Account("anne", "SCRAM-SHA-256"), Account('bob, =7% of \\ "', "SCRAM-SHA-1"), Account("carl", "SCRAM-SHA-256")
@@ -163,7 +163,7 @@ def three_visits():
     ]
 
 
-def all_orders(folder):
+def all_orders(folder: str) -> None:
     """Whatever the other two do in between, each session has the lines that it has when it runs by itself, and the log is clean."""
     accounts, visits = three_visits()
     here, text, alone = Hall(folder, book(accounts)), book(accounts), []
@@ -179,7 +179,7 @@ def all_orders(folder):
             here.audited(log, clean(3, 2, 2))
 
 
-def shuffled(_):
+def shuffled(_: str) -> None:
     """64 logins to 64 accounts, each with a code, in random orders: each line of a session belongs to its own login, and the log
     is clean."""
     accounts = [Account(f"user {number}", list(clients.HASHES)[number % 2]) for number in range(64)]
@@ -194,7 +194,7 @@ def shuffled(_):
             here.audited(log, clean(64, 64, log.count(" S PASS ")))
 
 
-def shuffle_of(accounts):
+def shuffle_of(accounts: list[Account]) -> tuple[list[int], list[list[Turn]]]:
     """A login to each account, with a code that passes or fails, and an order of their turns, all at random."""
     visits = []
     for account in accounts:

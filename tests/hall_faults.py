@@ -10,13 +10,14 @@ an output that fails.
 import resource
 import socket
 import time
+from typing import Any
 
 import clients
 import suite
 from checks import equal, holds
 from clients import Account, book, dealt, gone, logged_in, opened, said
 from hall_support import HOTP_BOOK, Hall, clean, login
-from processes import ran, whole
+from processes import Running, ran, whole
 from suite import MOST_BYTES, each, fault_text, verify_words
 
 # Input lines that state no event when sessions 2 and 3 are open, session 1 has ended and no other has begun.
@@ -33,13 +34,13 @@ NO_NUMBERS += [b"18446744073709551618", b"34028236692093846346337460743176821145
 NO_MOMENTS = [b"05", b"00", b"+5", b"-5", b"5.0", b"5s", b"now", b"0x5", b"253402300800", b"18446744073709551621", b"5" * 7000]
 
 
-def let_in():
+def let_in() -> tuple[str, str]:
     """The input and the log of a session that is let in and sends a code, and of two that begin."""
     visits = [login() + [said("CODE 755224", "S PASS 5 0"), gone()], [opened("aa")], [opened("bb")]]
     return dealt([0, 0, 0, 0, 0, 1, 2], visits)
 
 
-def bad_events(folder):
+def bad_events(folder: str) -> None:
     """A line that states no event ends the hall there: the log so far is printed, the book is saved as the log says, and no
     later line is heard."""
     here = Hall(folder)
@@ -57,17 +58,17 @@ def bad_events(folder):
     here.prints(b"\n", 1, clients.FIRST_LINE, "bad event")
 
 
-def full_device(running, _):
+def full_device(running: Running, _: Any) -> None:
     """Keeps a run from writing another byte to a file. Pipes are not files."""
     resource.prlimit(running.process.pid, resource.RLIMIT_FSIZE, (0, 0))
 
 
-def taken_name(_, here):
+def taken_name(_: Any, here: Hall) -> None:
     """Makes a folder at the path where the book's next text is written."""
     here.next_text.mkdir()
 
 
-def failed_saves(folder):
+def failed_saves(folder: str) -> None:
     """If the book can't be saved, the hall halts: its last line is sent to the client whose code it was, and nothing to anyone else."""
     anne, bob = Account("anne", "SCRAM-SHA-256"), Account("bob", "SCRAM-SHA-1")
     here = Hall(folder, book([anne, bob]))
@@ -86,7 +87,7 @@ def failed_saves(folder):
             here.audited(log + halted, clean(3, 2))
 
 
-def first_saves(folder):
+def first_saves(folder: str) -> None:
     """The book is saved before the first line. If that fails, nothing is printed, and no input is judged."""
     here = Hall(folder)
     here.next_text.mkdir()
@@ -95,7 +96,7 @@ def first_saves(folder):
             here.refuses(text, 3, f"cannot write {here.book}")
 
 
-def books_that_are_none(folder):
+def books_that_are_none(folder: str) -> None:
     """The book is read before any input is judged."""
     here = Hall(folder)
     for trial, text in each(["", "no event\n", let_in()[0]]):
@@ -109,7 +110,7 @@ def books_that_are_none(folder):
             holds(not here.book.exists(), "there is a book")
 
 
-def held_books(folder):
+def held_books(folder: str) -> None:
     """A hall holds its book until its input ends. Another run that needs the book waits, and finds the code spent."""
     here = Hall(folder)
     text, log = let_in()
@@ -123,7 +124,7 @@ def held_books(folder):
     waiting.ends(1, "FAIL 5\n")
 
 
-def outputs_that_fail(folder):
+def outputs_that_fail(folder: str) -> None:
     """If a line can't be printed, the hall ends: no code is judged that the log does not have."""
     here = Hall(folder)
     running = here.start()
@@ -134,7 +135,7 @@ def outputs_that_fail(folder):
     here.token_has(next=0)
 
 
-def inputs_that_fail(folder):
+def inputs_that_fail(folder: str) -> None:
     """If the input can't be read on, each event before that has been heard."""
     here = Hall(folder)
     text, log = let_in()
@@ -148,7 +149,7 @@ def inputs_that_fail(folder):
     here.token_has(next=1)
 
 
-def long_inputs(folder):
+def long_inputs(folder: str) -> None:
     """More than 16777216 bytes of input are a fault. The log up to there has been printed."""
     here = Hall(folder)
     text, log = let_in()

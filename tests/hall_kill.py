@@ -11,7 +11,7 @@ import random
 
 import clients
 import suite
-from clients import Account, book, logged_in
+from clients import Account, Turn, book, logged_in
 from hall_support import Hall
 from kills import kill_before_any_call
 from processes import whole
@@ -22,19 +22,19 @@ OPEN = 64
 SENT = 12
 
 
-def visits(account):
+def visits(account: Account) -> list[list[Turn]]:
     """The turns of 64 logins to one account."""
     return [logged_in(account, f"client-{number}", f"own-{number}") for number in range(OPEN)]
 
 
-def codes_from(account, at):
+def codes_from(account: Account, at: int) -> str:
     """Input lines by which sessions send codes around a counter, each code from two sessions."""
     senders = random.sample(range(1, OPEN + 1), 2 * SENT)
     sent = [account.code(max(at - 1, 0) + step // 2) for step in range(2 * SENT)]
     return "".join(f"line {sender} 5 CODE {text}\n" for sender, text in zip(senders, sent))
 
 
-def killed_before_any_call(folder):
+def killed_before_any_call(folder: str) -> None:
     """Halls are killed before any of their calls, and each next one goes on from the book that they leave."""
     account = Account("user", "SCRAM-SHA-1")
     here = Hall(folder, book([account]))

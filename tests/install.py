@@ -12,10 +12,11 @@ import os
 import pathlib
 import shutil
 import stat
+from typing import Any
 
 import suite
 from checks import equal, holds
-from processes import ran
+from processes import Answer, ran
 from suite import KEYS_OF_PENCIL, PROGRAM, TOP, each
 
 REFUSED = "The program is not built, or is older than its sources: run make build first."
@@ -29,18 +30,20 @@ NEEDED = ["cat", "date", "find", "mkdir", "nproc", "sed"]
 NOTHING_PROVED = "Nothing is proved yet: make build does that. This runs the program from its sources, in about a minute.\n"
 
 
-def made(target, program, top=TOP, path=None, **folders):
+def made(
+    target: str, program: str | pathlib.Path, top: pathlib.Path = TOP, path: str | pathlib.Path | None = None, **folders: Any
+) -> Answer:
     """Makes a target with this program and these variables, in a folder with the Makefile, and with another PATH if one is given."""
     words = [shutil.which("make"), target, *(f"{name}={value}" for name, value in {"PROGRAM": program, **folders}.items())]
     return ran(words, cwd=top, env={**ENVIRONMENT, **({"PATH": str(path)} if path else {})})
 
 
-def files_of(folder):
+def files_of(folder: pathlib.Path) -> list[pathlib.Path]:
     """The files below a folder."""
     return [path for path in folder.rglob("*") if not path.is_dir()]
 
 
-def installed(folder):
+def installed(folder: str) -> None:
     """The program and the tools are there, with the right bytes, and no other file is. All users may run them, and only their owner may
     write them."""
     program = shutil.copy(PROGRAM, folder)
@@ -62,7 +65,7 @@ def installed(folder):
             equal([path for path, text in due.items() if path.read_bytes() != text], [], name, "where another file is")
 
 
-def refused(folder):
+def refused(folder: str) -> None:
     """A program that is not there, or is older than its sources, is not installed."""
     to, old = pathlib.Path(folder, "to"), shutil.copy(PROGRAM, pathlib.Path(folder, "old"))
     os.utime(old, (0, 0))
@@ -74,13 +77,13 @@ def refused(folder):
             equal(files_of(to), [], program)
 
 
-def shown(folder):
+def shown(folder: str) -> None:
     """`make run` has the program print the keys of the example, if it is built and newer than its sources."""
     done = made("run", shutil.copy(PROGRAM, folder))
     equal(done, (0, KEYS_OF_PENCIL, ""), "what make run prints")
 
 
-def run_from_sources(folder):
+def run_from_sources(folder: str) -> None:
     """Without a program that is newer than its sources, `make run` says that nothing is proved, and runs them by `rt try` in the program's
     crate. It prints what that prints; if it fails, its fault. Without rt it says so. Here a stand-in for rt runs the built program."""
     top, path, old = (pathlib.Path(folder, name) for name in ["top", "path", "old"])

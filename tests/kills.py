@@ -6,17 +6,20 @@ import random
 import re
 import signal
 import tempfile
+from collections.abc import Callable, Iterator
 
 import shims
 from checks import equal, holds
-from wrong_calls import CHANGES, call_of
+from processes import Answer, Running
+from suite import BookFolder
+from wrong_calls import CHANGES, Call, call_of
 
 # Calls of a save before which the book has its old text, and one before which it has the new text, of which nothing is reported yet.
 BEFORE = {("write", "book.new"), ("fsync", "book.new"), ("rename", "book")}
 AFTER = {("fsync", ".")}
 
 
-def used(printed):
+def used(printed: str) -> Iterator[int]:
     """The counters that the replies in an output or a log use, both for a pair. A line that was cut counts for none."""
     lines = printed.split("\n")[:-1]
     for sent, reply in zip(["", *lines], lines):
@@ -27,7 +30,7 @@ def used(printed):
             yield counter
 
 
-def ended(here, started, number):
+def ended(here: BookFolder, started: Callable[..., Running], number: int) -> tuple[Answer, int, Call | None]:
     """Starts a run, and kills it before its call of CHANGES with this number, unless that is 0. Returns its answer, how many such calls it
     made, and the one before which it was killed, or None."""
     with tempfile.TemporaryDirectory() as folder:
@@ -44,11 +47,11 @@ class Kills:
     """Runs over the book in a folder, the counters that have passed in them, and the calls before which they were killed. `started` starts
     a run that is sent codes around a counter, and prints to `stdout`."""
 
-    def __init__(self, here, started, is_log):
+    def __init__(self, here: BookFolder, started: Callable[..., Running], is_log: bool) -> None:
         self.here, self.started, self.is_log = here, started, is_log
         self.passed, self.passed_in_killed, self.landed = set(), 0, set()
 
-    def run(self, number, status):
+    def run(self, number: int, status: int) -> int:
         """Makes a run, which ends with this status, and is killed before its call of CHANGES with this number, unless that is 0. Returns how
         many such calls it made."""
         what, here = f"a run that is to be killed before its call {number}", self.here
@@ -69,7 +72,7 @@ class Kills:
         return count
 
 
-def kill_before_any_call(here, started, count, status, is_log=True):
+def kill_before_any_call(here: BookFolder, started: Callable[..., Running], count: int, status: int, is_log: bool = True) -> None:
     """Makes `count` runs, or RUNS of the environment, one after another, over the book in a folder, after one that ends with this status and
     lets a code pass. They are killed before their calls of CHANGES, which are spread evenly over those of the first run, and come in a
     random order. No run reports a fault, and its output, if that is a log, is the beginning of a clean one. The book can be read after each

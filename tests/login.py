@@ -27,46 +27,46 @@ KEYS = (AUDITS / "keys.toml").read_text()
 class Login(suite.BookFolder):
     """A folder with a book and a path for the socket, and logins there."""
 
-    def __init__(self, folder, text=KEYS):
+    def __init__(self, folder: str, text: str = KEYS) -> None:
         super().__init__(folder, text)
 
-    def words(self, *more, name="user", path=None):
+    def words(self, *more: str | pathlib.Path, name: str = "user", path: str | pathlib.Path | None = None) -> list:
         return login_words(self.book, path or self.socket, *more, name=name)
 
-    def log_of(self, words, text, status):
+    def log_of(self, words: list, text: str, status: int) -> str:
         """Runs a login, compares its status, checks that it reports no fault, and returns its log."""
         answer = ran(words, text)
         equal((answer.status, answer.faults), (status, ""), "the status and the faults of a login", answer.output.splitlines())
         return answer.output
 
-    def starts(self, *more):
+    def starts(self, *more: str) -> Running:
         """Starts RFC 5802's login, which prints its log up to the acceptance, and then waits for codes."""
         running = Running(self.words(*SHA1, *more), "pencil\n")
         running.prints(ACCEPTED)
         return running
 
-    def has_no_socket(self):
+    def has_no_socket(self) -> None:
         """Checks that the socket's file is gone."""
         holds(not os.path.lexists(self.socket), "the socket is left")
 
-    def prints(self, words, text, status, log, fault=""):
+    def prints(self, words: list, text: str | bytes, status: int, log: str, fault: str = "") -> None:
         """Runs a login, compares its status, log and fault, and checks that the socket's file is gone."""
         super().prints(words, text, status, log, fault)
         self.has_no_socket()
 
-    def refuses(self, words, text, status, fault):
+    def refuses(self, words: list, text: str | bytes, status: int, fault: str) -> None:
         """As `prints`, for a login that prints nothing; it has to leave the book unwritten."""
         seen = self.seen()
         self.prints(words, text, status, "", fault)
         equal(self.seen(), seen, f"the book and its folder after {words}")
 
 
-def with_codes(look_ahead=3, limit=3, sync_ahead=None):
+def with_codes(look_ahead: int = 3, limit: int = 3, sync_ahead: int | None = None) -> str:
     """The book of RFC 5802's user, with RFC 4226's token."""
     return KEYS + hotp(look_ahead, limit, sync_ahead)
 
 
-def published_logins(folder):
+def published_logins(folder: str) -> None:
     """The logins of RFC 5802 and RFC 7677, each with exactly the recorded log."""
     here = Login(folder)
     here.prints(here.words(*SHA1), "pencil", 0, ACCEPTED + GONE)
@@ -78,7 +78,7 @@ def published_logins(folder):
             here.prints(here.words(*SHA256, *more), "pencil\n", 0, (AUDITS / "sha256.log").read_text())
 
 
-def refused_logins(folder):
+def refused_logins(folder: str) -> None:
     """Another password, and a user without keys for the mechanism: no code is sent, and no fault is reported."""
     here = Login(folder, with_codes())
     log = here.log_of(here.words(*SHA1), "pencils\n755224\n", 1)
@@ -92,7 +92,7 @@ def refused_logins(folder):
     here.token_has(next=0)
 
 
-def decoys(folder):
+def decoys(folder: str) -> None:
     """A name without an account always has the same salt of 16 bytes (HMAC-SHA-256 with the decoy key), and no proof is right."""
     here = Login(folder)
     salt = decoy_salt("nobody")
@@ -107,7 +107,7 @@ def decoys(folder):
             here.audited(log, clean(1, 0, 0))
 
 
-def names_to_act_as(folder):
+def names_to_act_as(folder: str) -> None:
     """Another name is refused after a right proof, unless the account may act as it."""
     here = Login(folder)
     words = here.words(*SHA1, "--as", "root")
@@ -128,7 +128,7 @@ def names_to_act_as(folder):
     holds("\nC AUTH SCRAM-SHA-1 :n,a=user,n=user,r=" in log, "the client does not send the name to act as", log)
 
 
-def client_faults(folder):
+def client_faults(folder: str) -> None:
     """The client ends a login whose count is outside its limits, or whose server has other keys; no code is sent."""
     here = Login(folder)
     for trial, count in each([4095, 1000001]):
@@ -147,7 +147,7 @@ def client_faults(folder):
     here.audited(log, clean(1, 1, 0))
 
 
-def codes(folder):
+def codes(folder: str) -> None:
     """Codes of RFC 4226, appendix D, with their replies; the status is 0 only if each passed."""
     here = Login(folder)
     far = "SYNC 399871 520489"
@@ -169,7 +169,7 @@ def codes(folder):
             here.audited(log, clean(1, 1, passed))
 
 
-def lines_that_are_no_code(folder):
+def lines_that_are_no_code(folder: str) -> None:
     """A line that can't be sent as a code ends the session, and the lines after it are not sent."""
     here = Login(folder, with_codes(sync_ahead=8))
     words = here.words(*SHA1, "--moment", "5")
@@ -190,7 +190,7 @@ def lines_that_are_no_code(folder):
             here.prints(words, f"pencil\n{text}\n", 1, log)
 
 
-def replies_at_once(folder):
+def replies_at_once(folder: str) -> None:
     """Each line is in the log while the input is still open, and the socket's file is there until the input ends."""
     here = Login(folder, with_codes())
     running = here.starts("--moment", "5")
@@ -202,7 +202,7 @@ def replies_at_once(folder):
     here.has_no_socket()
 
 
-def another_at_the_path(folder):
+def another_at_the_path(folder: str) -> None:
     """A file that takes the socket's path while the login runs stays there."""
     here = Login(folder, with_codes())
     running = here.starts()
@@ -213,7 +213,7 @@ def another_at_the_path(folder):
     equal(here.socket.read_text(), "another", "the file at the socket's path")
 
 
-def failed_saves(folder):
+def failed_saves(folder: str) -> None:
     """A save that fails halts the desk: the log says so and is clean, and the book is as before."""
     here = Login(folder, with_codes(sync_ahead=8))
     for trial, (line, sent) in each([
@@ -237,7 +237,7 @@ def failed_saves(folder):
     here.refuses(here.words(*SHA1), "pencil\n755224\n", 3, f"cannot write {here.book}")
 
 
-def random_nonces(folder):
+def random_nonces(folder: str) -> None:
     """The client's nonce and then the server's part are each the base64 text of the next 18 bytes of the random file."""
     here, file = Login(folder), pathlib.Path(folder, "random")
     for trial, (name, password) in each([("one", "pencil"), ("two users", "a,b=c"), ("~" * 255, " " * 1024)]):
@@ -266,13 +266,13 @@ def random_nonces(folder):
     equal(len(parts), 6, "how many parts of the nonces of three runs differ", logs)
 
 
-def parts_of_nonces(log):
+def parts_of_nonces(log: str) -> tuple[str, str]:
     """The client's part of the nonce in a log of one login by SCRAM-SHA-1, and the server's."""
     client = re.search(r"\nC AUTH SCRAM-SHA-1 :n,\S*,r=(\S+)\n", log)[1]
     return client, re.search(r"\nS CONT :r=([^,]+),", log)[1].removeprefix(client)
 
 
-def moments(folder):
+def moments(folder: str) -> None:
     """A code's moment is the time of the machine's clock, unless one is given."""
     here = Login(folder, with_codes())
     began = int(time.time())
@@ -286,7 +286,7 @@ def moments(folder):
             holds(f"\nS PASS {moment} 0\n" in log, "the code does not pass at", moment, log)
 
 
-def order_of_faults(folder):
+def order_of_faults(folder: str) -> None:
     """Faults are reported in this order: the options in theirs, the password, the book, the random file, and the socket."""
     here = Login(folder)
     taken = here.folder / "taken"
@@ -323,7 +323,7 @@ def order_of_faults(folder):
     here.prints(here.words(*SHA1, *more), "pencil", 0, ACCEPTED + GONE)
 
 
-def short_random_files(folder):
+def short_random_files(folder: str) -> None:
     """Each nonce that is not given takes 18 bytes. If the file ends before them, the run reports a fault, and prints nothing else."""
     here, file = Login(folder), pathlib.Path(folder, "random")
     for trial, (size, more) in each([(0, []), (17, []), (35, []), (17, ["--client-nonce", "a"]), (17, ["--server-nonce", "a"])]):
@@ -333,7 +333,7 @@ def short_random_files(folder):
     here.refuses(here.words("--random", here.folder), "pencil\n", 3, f"cannot read {here.folder}")
 
 
-def sockets_in_the_way(folder):
+def sockets_in_the_way(folder: str) -> None:
     """A socket fault leaves the book, and what is at the path, as they are. A path may have 107 bytes."""
     here = Login(folder)
     with socket.socket(socket.AF_UNIX) as other:
@@ -359,7 +359,7 @@ def sockets_in_the_way(folder):
             holds(not os.path.lexists(path), "the socket is left", path)
 
 
-def long_inputs(folder):
+def long_inputs(folder: str) -> None:
     """More than 16777216 bytes of input are a fault. The log up to there has been printed."""
     here = Login(folder, with_codes(limit=100))
     words = here.words(*SHA1, "--moment", "5")

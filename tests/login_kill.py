@@ -8,6 +8,7 @@ Two thousand logins. RUNS in the environment is another number of them. Needs `c
 """
 import pathlib
 import re
+from typing import Any
 
 import suite
 from checks import equal, holds
@@ -21,28 +22,28 @@ BOOK = KEYS + hotp(look_ahead=3, limit=100, sync_ahead=10)
 RUNS = 2000
 
 
-def words_of(here, socket=None):
+def words_of(here: BookFolder, socket: str | pathlib.Path | None = None) -> list:
     """The words of a login with RFC 5802's mechanism and random nonces."""
     return login_words(here.book, socket or here.socket, "--mechanism", "SCRAM-SHA-1")
 
 
-def start_login(here, lines, socket=None, **how):
+def start_login(here: BookFolder, lines: list[str], socket: str | pathlib.Path | None = None, **how: Any) -> Running:
     """Starts a login that sends these lines."""
     return whole(words_of(here, socket), "\n".join(["pencil", *lines, ""]), **how)
 
 
-def lines_from(at):
+def lines_from(at: int) -> list[str]:
     """Lines with codes around a counter, and with pairs of codes further on."""
     singles = [code(counter) for counter in range(max(at - 1, 0), at + 6)]
     pairs = [f"SYNC {code(counter)} {code(counter + 1)}" for counter in (at + 5, at + 10, at + 14)]
     return [*singles, *pairs, code(at + 16), code(at + 17)]
 
 
-def killed_before_any_call(folder):
+def killed_before_any_call(folder: str) -> None:
     """Logins are killed before any of their calls, and each next one goes on from the book that they leave."""
     here = BookFolder(folder, BOOK)
 
-    def started(at, **how):
+    def started(at: int, **how: Any) -> Running:
         here.socket.unlink(missing_ok=True)
         return start_login(here, lines_from(at), **how)
 
@@ -55,7 +56,7 @@ def killed_before_any_call(folder):
     here.has_only("book")
 
 
-def left_sockets(folder):
+def left_sockets(folder: str) -> None:
     """A run that is killed may leave its socket. The next run reports a fault until the file is removed."""
     here = BookFolder(folder, BOOK)
     run = Running(words_of(here), "pencil\n")
@@ -69,7 +70,7 @@ def left_sockets(folder):
     here.has_only("book")
 
 
-def twenty_at_once(folder):
+def twenty_at_once(folder: str) -> None:
     """A code passes once, whichever run comes first. It fails in the others, each in a log with its own login."""
     here = BookFolder(folder, BOOK)
     for turn in range(5):

@@ -23,19 +23,19 @@ import shutil
 import signal
 import time
 from collections.abc import Callable
-from typing import NamedTuple
+from typing import Any, NamedTuple
 
 import shims
 import suite
 from checks import equal, holds
 from command_table import (
-    BOOK, LIMIT_100, audited, book_of, command_of, commands, is_done, is_front, is_kept, left, login_log, new_book, prepare,
+    BOOK, LIMIT_100, Command, audited, book_of, command_of, commands, is_done, is_front, is_kept, left, login_log, new_book, prepare,
     printed_begins_clean, run, with_account,
 )
 from expected import GONE, numbered
 from processes import Answer, Running, whole
 from suite import NONCES, PROGRAM, ROOT, as_nobody, each, fault_text, nobody, totp
-from wrong_calls import CHANGES, Turns
+from wrong_calls import CHANGES, Call, Turns
 
 
 class Due(NamedTuple):
@@ -52,12 +52,12 @@ UNPRINTED, UNREAD = "cannot write output", "cannot read input"
 UNSAVED, NO_RANDOM = "cannot write {folder}/book", "cannot read {folder}/random"
 
 
-def printless(saves):
+def printless(saves: int) -> Due:
     """What is due after a run whose output is lost, and which made so many saves before."""
     return Due(3, "", UNPRINTED, saves)
 
 
-def unread(saves=0, printed=""):
+def unread(saves: int = 0, printed: str = "") -> Due:
     """What is due after a run whose input can't be read, and which made so many saves, and printed this, before."""
     return Due(3, printed, UNREAD, saves)
 
@@ -73,7 +73,7 @@ LOST_INPUT |= {"hall": unread(1, "SCRAMLOG 2\n")}
 LOST_SAVE = {name: UNKEPT for name in ["enrol", "new", "verify", "unlock", "login", "hall"]}
 
 
-def named():
+def named() -> dict[str, Command]:
     """All commands, by their names in the table."""
     return {**{command.name: command for command in commands()}, "new": new_book()}
 
@@ -81,7 +81,7 @@ def named():
 class Machine:
     """A folder that anyone may enter, in which commands are disturbed."""
 
-    def __init__(self, folder):
+    def __init__(self, folder: str) -> None:
         os.chmod(folder, 0o755)
         self.above = folder
         self.folder = os.path.join(folder, "files")
@@ -90,23 +90,23 @@ class Machine:
         self.clock = pathlib.Path(folder, "clock")
         self.with_clock = {**os.environ, "LD_PRELOAD": shims.built("turn_clock"), "CLOCK": str(self.clock)}
 
-    def full_output(self, command):
+    def full_output(self, command: Command) -> Answer:
         with open("/dev/full", "wb") as full:
             return run(command, self.folder, stdout=full)
 
-    def unread_pipe(self, command):
+    def unread_pipe(self, command: Command) -> Answer:
         reader, writer = os.pipe()
         os.close(reader)
         with open(writer, "wb") as pipe:
             return run(command, self.folder, stdout=pipe)
 
-    def folder_as_input(self, command):
+    def folder_as_input(self, command: Command) -> Answer:
         at = os.open(self.folder, os.O_RDONLY)
         answer = run(command, self.folder, stdin=at)
         os.close(at)
         return answer
 
-    def sealed(self, command):
+    def sealed(self, command: Command) -> Answer:
         """Runs a command in a folder that nobody may write, not even its owner, as whom the command runs."""
         for path in [self.folder, *(os.path.join(self.folder, name) for name in os.listdir(self.folder))]:
             if ROOT:
@@ -118,28 +118,28 @@ class Machine:
             os.chown(self.folder, 0, 0)
         return answer
 
-    def waitless_input(self, command):
+    def waitless_input(self, command: Command) -> Answer:
         """Runs a command whose input has nothing yet, and of which a read does not wait, but fails at once (EAGAIN)."""
         reader, writer = os.pipe2(os.O_NONBLOCK)
         with open(reader, "rb"), open(writer, "wb"):
             return run(command, self.folder, stdin=reader)
 
-    def no_room(self, command, room=0):
+    def no_room(self, command: Command, room: int = 0) -> Answer:
         """Runs a command that can write no more than so many bytes to a file. Pipes are not files."""
         limit = functools.partial(resource.setrlimit, resource.RLIMIT_FSIZE, (room, room))
         return run(command, self.folder, preexec_fn=limit, restore_signals=False)
 
-    def set_clock(self, second):
+    def set_clock(self, second: int) -> None:
         """Stops the clock at this second. A run that reads the clock meanwhile finds this second or the earlier one."""
         next_clock = self.clock.with_name("next_clock")
         next_clock.write_text(str(second))
         next_clock.replace(self.clock)
 
-    def turned(self, command, seconds):
+    def turned(self, command: Command, seconds: int) -> Answer:
         self.set_clock(seconds)
         return run(command, self.folder, env=self.with_clock)
 
-    def short_random(self, command):
+    def short_random(self, command: Command) -> Answer:
         """Runs a command with one random byte less than it needs: 18 for each nonce, 16 for each salt and 32 for the decoy key."""
         words = [word for word in command.words if word not in NONCES]
         if command.name == "login":
@@ -159,15 +159,15 @@ class Disturbance(NamedTuple):
     loses_faults: bool = False
 
 
-def closed(*numbers):
+def closed(*numbers: int) -> Disturbance:
     """The disturbance of a command for which these of the three streams are closed."""
-    def closed_run(machine, command):
+    def closed_run(machine: Machine, command: Command) -> Answer:
         return run(command, machine.folder, preexec_fn=lambda: [os.close(number) for number in numbers])
 
     return Disturbance(f"closed: {numbers}", closed_run, 1 in numbers, 2 in numbers)
 
 
-def clock_at(second):
+def clock_at(second: int) -> Disturbance:
     """The disturbance of a command at whose clock it is always this second."""
     return Disturbance(f"the clock at {second}", lambda machine, command: machine.turned(command, second))
 
@@ -196,7 +196,7 @@ TABLE = [
 ]
 
 
-def table(folder):
+def table(folder: str) -> None:
     """Each command ends in each disturbance as the table says."""
     here, cells = Machine(folder), 0
     for trial, ((disturbance, row), (name, command)) in each(itertools.product(TABLE, named().items())):
@@ -215,7 +215,7 @@ def table(folder):
     print(f"machine.py: {cells} cells of {len(TABLE)} disturbances of {len(named())} commands")
 
 
-def socket_elsewhere(folder):
+def socket_elsewhere(folder: str) -> None:
     """A login whose socket can be made but whose book can't be saved prints nothing, and leaves no socket."""
     here, open_folder = Machine(folder), os.path.join(folder, "open")
     os.mkdir(open_folder)
@@ -229,7 +229,7 @@ def socket_elsewhere(folder):
     equal(os.listdir(open_folder), [], "the files in the socket's folder")
 
 
-def few_descriptors(folder):
+def few_descriptors(folder: str) -> None:
     """With too few descriptors to open its files, a command says so, and the book is whole."""
     here, refused = Machine(folder), 0
     for trial, ((name, command), most) in each(itertools.product(named().items(), range(4, 16))):
@@ -254,7 +254,7 @@ SIGNALS = [signal.SIGTERM, signal.SIGINT, signal.SIGHUP, signal.SIGKILL]
 STOPPED = 5
 
 
-def made_by(calls):
+def made_by(calls: list[Call]) -> tuple[set[str], int]:
     """The files that a run has made by these calls and has not removed, and how many saves it has made."""
     files, saves = set(), 0
     for name, file in calls:
@@ -268,7 +268,7 @@ def made_by(calls):
     return files, saves
 
 
-def goes_on(here, book, files):
+def goes_on(here: Turns | Machine, book: dict[str, Any] | None, files: set[str]) -> None:
     """The next run, which adds an account to what the book states, or to no book, does all its work. It leaves only the socket."""
     enrol = command_of("enrol")
     other = enrol._replace(words=[word.replace("new", "other") for word in enrol.words])
@@ -277,7 +277,7 @@ def goes_on(here, book, files):
     equal(left(here.folder), files - {"book.new"}, "the files that are left after the next command")
 
 
-def signals(folder):
+def signals(folder: str) -> None:
     """Whichever signal ends a run, and before whichever of its calls, the status is that of the signal. The run has printed the beginning
     of what is due and no fault. The book has the saves that were made by then, and the run leaves no file but the next text and the socket,
     if it had made these. The next command does all its work."""
@@ -299,7 +299,7 @@ def signals(folder):
     print(f"machine.py: {count} runs ended by a signal")
 
 
-def signals_while_waiting(folder):
+def signals_while_waiting(folder: str) -> None:
     """A signal ends a run that waits for its next line. The code that it has replied to is spent, and the next command does all its
     work."""
     here, of_one_code = Machine(folder), {command.name: command for command in commands(1)}
@@ -318,7 +318,7 @@ def signals_while_waiting(folder):
             goes_on(here, command.books[-1], files)
 
 
-def stopped_while_waiting(folder):
+def stopped_while_waiting(folder: str) -> None:
     """A run that is stopped while it waits for input, and is sent its next line or the end of its input before it goes on, prints and saves
     what a run does that is not stopped."""
     here = Machine(folder)
@@ -338,7 +338,7 @@ def stopped_while_waiting(folder):
             holds(is_done(here.folder, command), name, "the book, and what else is left", book_of(here.folder), left(here.folder))
 
 
-def stopped_at_random(folder):
+def stopped_at_random(folder: str) -> None:
     """A run that is stopped again and again, at random moments, prints and saves what a run does that is not stopped."""
     here, stops = Machine(folder), 0
     for trial, ((name, command), _) in each(itertools.product(named().items(), range(STOPPED))):
@@ -354,9 +354,9 @@ def stopped_at_random(folder):
     print(f"machine.py: {len(named()) * STOPPED} runs stopped {stops} times")
 
 
-def together(here, started):
+def together(here: Machine, started: list[Command]) -> list[Answer]:
     """Starts these commands at the same time, each with its input and a socket of its own, and returns the answer of each."""
-    def answer(number, command):
+    def answer(number: int, command: Command) -> Answer:
         own = [word.replace("{socket}", f"{here.folder}/socket{number}") for word in command.words]
         return run(command._replace(words=own), here.folder)
 
@@ -364,7 +364,7 @@ def together(here, started):
         return [*pool.map(answer, range(len(started)), started)]
 
 
-def twenty_at_once(folder):
+def twenty_at_once(folder: str) -> None:
     """Twenty runs of each command over one book: an account is added once, a code passes once, whoever sends it, and all other runs
     are answered as if they came later. A command that only reads a book or a log is answered as if it ran by itself."""
     here = Machine(folder)
@@ -389,7 +389,7 @@ def twenty_at_once(folder):
     print(f"machine.py: 20 runs at once of each of {len(one_code)} commands")
 
 
-def all_at_once(folder):
+def all_at_once(folder: str) -> None:
     """Twenty runs of all commands over one book: each code passes once, whichever command it is sent to."""
     here, every = Machine(folder), commands()
     for _ in range(10):
@@ -421,17 +421,17 @@ TOTP = totp(limit=100)
 class Clocks(Machine):
     """Logins with the machine's clock, and a hall and `verify` with the moments that they are given, over a book with a TOTP token."""
 
-    def __init__(self, folder):
+    def __init__(self, folder: str) -> None:
         super().__init__(folder)
         self.named = named()
         prepare(self.folder, self.named["login"])
         self.book = pathlib.Path(self.folder, "book")
         self.fresh()
 
-    def fresh(self):
+    def fresh(self) -> None:
         self.book.write_text(BOOK[:BOOK.index("\n[accounts.user.token]")] + TOTP)
 
-    def login(self, *turns):
+    def login(self, *turns: tuple[int, str]) -> list[str]:
         """The replies to codes in a login; each turn is a second at which the clock is stopped, and a code. The log has to be clean."""
         before = self.book.read_text()
         self.set_clock(turns[0][0])
@@ -448,7 +448,7 @@ class Clocks(Machine):
         return replies
 
 
-def clocks_that_go_back(folder):
+def clocks_that_go_back(folder: str) -> None:
     """When the clock is set back, no code passes again, and none of an earlier step, neither in the same run nor in the next. If the
     clock gives no valid moment, the moment is 0."""
     here = Clocks(folder)
@@ -467,7 +467,7 @@ def clocks_that_go_back(folder):
     equal(here.login((59, old_code)), ["PASS 59 1"], "the code of an early step, at a new token")
 
 
-def moments_that_fall(folder):
+def moments_that_fall(folder: str) -> None:
     """When the moments that `verify` and a hall are given go back, no code passes again, and none of an earlier step. The hall's log is
     clean."""
     here = Clocks(folder)

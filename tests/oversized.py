@@ -15,6 +15,7 @@ import subprocess
 import tempfile
 import termios
 import time
+from collections.abc import Iterable, Iterator
 
 import clients
 import expected
@@ -36,12 +37,12 @@ MORE = 256
 NO_AND_END = ["S NO :", "E"]
 
 
-def decoy(name):
+def decoy(name: str) -> str:
     """The challenge's salt and count for a name without an account (this project's own form, given in docs/FORMATS.md)."""
     return f"s={base(expected.decoy_salt(name))},i={clients.COUNT}"
 
 
-def first_messages(account):
+def first_messages(account: Account) -> Iterator[tuple[str, tuple[str, str] | None]]:
     """Client-first messages at a limit and past it, each with its name and nonce, or None if it is bad."""
     user, long_name = f"n={account.name}", "v" * 255
     for letters in ["x", " ", "\u00e9"]:
@@ -58,7 +59,7 @@ def first_messages(account):
         yield f"n,a={spelled}=3D,{user},r=x", None
 
 
-def lengths_of_first_messages(folder):
+def lengths_of_first_messages(folder: str) -> None:
     """A client-first message has at most 2048 bytes, a nonce 256, and a name and a name to act as 255, without their escapes."""
     account = Account("user", "SCRAM-SHA-1")
     here, tried = Hall(folder, clients.book([account])), 0
@@ -75,11 +76,11 @@ def lengths_of_first_messages(folder):
     print_count("client-first messages", tried)
 
 
-def print_count(what, count):
+def print_count(what: str, count: int) -> None:
     print(f"oversized.py: {count} {what} at their limits and past them")
 
 
-def lengths_of_lines(folder):
+def lengths_of_lines(folder: str) -> None:
     """A line has at most 6200 bytes, a mechanism's name 20, and each text of a code 16."""
     here, user = Hall(folder), Account("user", "SCRAM-SHA-1")
     here.put(clients.book([user]))
@@ -102,7 +103,7 @@ def lengths_of_lines(folder):
     print_count("lines", len(rows))
 
 
-def lengths_of_last_messages(folder):
+def lengths_of_last_messages(folder: str) -> None:
     """A client-final message has at most 2048 bytes, and a proof 64; a proof is wrong unless it has the hash's length."""
     account = Account("user", "SCRAM-SHA-1")
     here = Hall(folder, clients.book([account]))
@@ -125,7 +126,7 @@ def lengths_of_last_messages(folder):
     print_count("client-final messages", len(rows))
 
 
-def lengths_of_words(folder):
+def lengths_of_words(folder: str) -> None:
     """Both nonces of a login have at most 256 bytes, and a token's secret 64 and at least 10."""
     user, tried = Account("user", "SCRAM-SHA-1"), 0
     here = BookFolder(folder)
@@ -148,7 +149,7 @@ def lengths_of_words(folder):
     print_count("nonces and secrets", tried)
 
 
-def lengths_of_files(folder):
+def lengths_of_files(folder: str) -> None:
     """A book of 16777216 bytes is read, and one of one more byte is not. So is a password's line: with 16777216 bytes it is read, and is
     a bad password."""
     for trial, (name, size) in each(itertools.product(["login", "hall"], [MOST_BYTES, MOST_BYTES + 1])):
@@ -171,11 +172,11 @@ def lengths_of_files(folder):
 class Fed:
     """A run that is fed as fast as it reads; its output so far, and its peak memory, can be seen."""
 
-    def __init__(self, words):
+    def __init__(self, words: list) -> None:
         self.output = tempfile.TemporaryFile()
         self.run = subprocess.Popen(words, stdin=subprocess.PIPE, stdout=self.output, stderr=subprocess.PIPE)
 
-    def feed(self, parts):
+    def feed(self, parts: Iterable[bytes]) -> bool:
         """Feeds all of these, or as many as the run reads. Returns whether it read them all."""
         try:
             for part in parts:
@@ -185,7 +186,7 @@ class Fed:
             return False
         return True
 
-    def most_memory(self):
+    def most_memory(self) -> int:
         """The run's peak memory in KiB, once it has read all that it was fed and waits for more."""
         left = array.array("i", [1])
         until = time.monotonic() + LIMIT_OF_LINES
@@ -196,7 +197,7 @@ class Fed:
         status = pathlib.Path(f"/proc/{self.run.pid}/status").read_text()
         return int(status.split("VmHWM:")[1].split()[0])
 
-    def end(self):
+    def end(self) -> tuple[int, str, str]:
         """Ends the input. Returns the status, the output and the faults."""
         try:
             self.run.stdin.close()
@@ -214,13 +215,13 @@ class Fed:
 SESSIONS = 333333
 
 
-def sessions(version):
+def sessions(version: int) -> Iterator[bytes]:
     """A log of a million lines without its first line, session by session."""
     for number in range(1, SESSIONS + 1):
         yield SESSION_LEFT if version == 1 else b"".join(b"%d %s" % (number, line) for line in SESSION_LEFT.splitlines(True))
 
 
-def long_logs(folder):
+def long_logs(folder: str) -> None:
     """A million lines are clean, and one more byte is too many; an audit needs no more memory for them than for ten lines."""
     words = [PROGRAM, "audit", "--book", AUDITS / "keys.toml", "--log", "/dev/stdin"]
     clean_log, long_log = (0, f"clean sessions={SESSIONS} accepted=0 codes=0\n", ""), (1, "too many lines\n", "")
@@ -237,7 +238,7 @@ def long_logs(folder):
     print(f"oversized.py: 4 logs of a million lines, and a byte; the last took {late - early} KiB more than its first ten lines")
 
 
-def endless_logs(folder):
+def endless_logs(folder: str) -> None:
     """A log that never ends is read up to the first fault, or to the byte after its millionth line."""
     endless = itertools.repeat(SESSION_LEFT)
     wrong = b"S MECHS SCRAM-SHA-1\n"
@@ -263,7 +264,7 @@ def endless_logs(folder):
     print(f"oversized.py: {2 * len(rows)} logs and a book that never end")
 
 
-def endless_passwords(folder):
+def endless_passwords(folder: str) -> None:
     """A password that never ends is an input fault, and nothing is written."""
     count = 0
     for trial, command in each(commands()):
@@ -280,7 +281,7 @@ def endless_passwords(folder):
     print(f"oversized.py: {count} passwords that never end")
 
 
-def endless_codes(folder):
+def endless_codes(folder: str) -> None:
     """Codes that never end are judged up to the last line within 16777216 bytes of input, and a run needs no more memory for them than
     for the first. The first three lock the token, and the replies to the others say so."""
     pair = f"SYNC {'0' * 16} {'1' * 16}"

@@ -14,12 +14,13 @@ Needs `cc`.
 import os
 import pathlib
 import re
-from typing import NamedTuple
+from collections.abc import Iterable
+from typing import Any, NamedTuple
 
 import shims
 import suite
 from checks import equal, holds
-from command_table import BOOK, LIMIT_100, after_codes, book_of, command_of, left, new_book, parsed_book, prepare, run, with_token
+from command_table import BOOK, LIMIT_100, Command, after_codes, book_of, command_of, left, new_book, parsed_book, prepare, run, with_token
 from power_model import Folder, Note, cuts, read_notes
 from suite import CODES, each, fault_text
 
@@ -34,7 +35,7 @@ class Loss(NamedTuple):
     saved: int
 
     @property
-    def name(self):
+    def name(self) -> str:
         """What a failure says of it."""
         sizes = [f"{name} of {len(text)} bytes" for name, text in sorted(self.files) if name.startswith("book")]
         return f"saves reported: {self.saved}, left: {' and '.join(sizes) or 'no book'}"
@@ -43,13 +44,13 @@ class Loss(NamedTuple):
 class Losses:
     """Runs of commands in a folder, and what a loss of power may leave of each."""
 
-    def __init__(self, folder):
+    def __init__(self, folder: str) -> None:
         self.noted = pathlib.Path(folder, "noted")
         self.folder = os.path.join(folder, "files")
         os.mkdir(self.folder)
         self.count = 0
 
-    def notes_of(self, command):
+    def notes_of(self, command: Command) -> list[Note]:
         """Runs a command that does all its work, and returns what it did to files and told."""
         self.noted.unlink(missing_ok=True)
         more = {"LD_PRELOAD": shims.built("note_files"), "NOTED": str(self.noted)}
@@ -57,14 +58,14 @@ class Losses:
         equal(run(command, self.folder, env={**os.environ, **more}), (status, command.printed, ""), command.name)
         return read_notes(self.noted)
 
-    def of(self, command, book=BOOK):
+    def of(self, command: Command, book: str = BOOK) -> list[Loss]:
         """All losses of a run with this book, unless the command makes one."""
         prepare(self.folder, command)
         if command.books[0] is not None:
             pathlib.Path(self.folder, "book").write_text(book)
         return self.of_next(command)
 
-    def of_next(self, command):
+    def of_next(self, command: Command) -> list[Loss]:
         """All losses of a run that finds the folder as it is: before the run's first call, and after each."""
         device = Folder(self.folder)
         notes = self.notes_of(command)
@@ -82,7 +83,7 @@ class Losses:
         self.count += len(losses)
         return [*losses]
 
-    def put(self, loss):
+    def put(self, loss: Loss) -> None:
         """Makes the folder as the loss leaves it."""
         for name in os.listdir(self.folder):
             os.unlink(os.path.join(self.folder, name))
@@ -92,37 +93,37 @@ class Losses:
             path.chmod(0o600)
 
 
-def now(folder):
+def now(folder: str) -> frozenset:
     """The files of a folder, as a loss has them."""
     return frozenset((path.name, path.read_bytes()) for path in pathlib.Path(folder).iterdir())
 
 
-def replies_in(sent):
+def replies_in(sent: bytes) -> int:
     """How many codes passed by what a run has sent."""
     return len(re.findall(rb"^PASS .*\n", sent, re.M))
 
 
-def saves_told(command, sent, printed):
+def saves_told(command: Command, sent: bytes, printed: bytes) -> int:
     """How many saves a run has reported by what it has sent and printed. A reply that `login` has sent counts like a printed one."""
     replies = replies_in(sent)
     return max(command.saves_told(printed.decode()), replies + 1 if replies else 0)
 
 
-def place_of(here, command, loss):
+def place_of(here: Losses, command: Command, loss: Loss) -> int:
     """Checks that the book has one of the texts that it may have after a loss, and returns the number of that text's save."""
     book = book_of(here.folder)
     holds(book in command.books[loss.saved:loss.saved + 2], "the book has none of the texts that it may have", book)
     return command.books.index(book, loss.saved)
 
 
-def goes_on(here, again, book, status, printed, fault=""):
+def goes_on(here: Losses, again: Command, book: dict[str, Any], status: int, printed: str, fault: str = "") -> None:
     """Runs a command on what a loss has left, and compares its answer and the book that it leaves. It leaves no other file."""
     equal(run(again, here.folder), (status, printed, fault_text(fault)), "the next run")
     equal(book_of(here.folder), book, "the book after the next run")
     equal(left(here.folder), set(), "the files that the next run leaves")
 
 
-def is_shown(command, losses):
+def is_shown(command: Command, losses: list[Loss]) -> None:
     """Checks that the losses are more than what a run that is killed leaves: the next file is left empty, with a part of a text that a book
     has, and with all of one, and that in more than one way."""
     books, nexts = ({text for loss in losses for name, text in loss.files if name == of} for of in ("book", "book.new"))
@@ -131,7 +132,7 @@ def is_shown(command, losses):
     holds(len(losses) > 20 * (len(command.books) - 1), command.name, "too few states", len(losses))
 
 
-def codes_are_sent_again(here, command):
+def codes_are_sent_again(here: Losses, command: Command) -> None:
     """Whatever a loss leaves of a run, its codes are sent to `verify` again: those that were reported as passed fail, and the others pass
     unless their save has been kept."""
     losses, again = here.of(command), command_of("verify")
@@ -163,12 +164,12 @@ WRITTEN_OVER = {b"old", b"ald", b"obd", b"abd", b"\0\0d", b"a\0d", b"\0bd"}
 RENAMED = {(b"old", None), (b"old", b"ab"), (b"ab", b"ab"), (b"ab", None)}
 
 
-def alone(books):
+def alone(books: Iterable[bytes]) -> set:
     """Each of these texts of the book, without a next file."""
     return {(book, None) for book in books}
 
 
-def steps_of(folder, book):
+def steps_of(folder: str, book: int) -> list[Steps]:
     """Ways to write `ab` to a book, of which this is the file and which has the text `old`: safe ones, and ones that are not."""
     path, following = (os.fsencode(os.path.join(folder, name)) for name in ("book", "book.new"))
     new = book + 1
@@ -194,7 +195,7 @@ def steps_of(folder, book):
     ]
 
 
-def rules(folder):
+def rules(folder: str) -> None:
     """The model leaves what its rules say, of saves that are written down here: all of it, and nothing else."""
     equal(cuts(130), [0, 1, 64, 128, 129, 130], "the parts of a write")
     path = pathlib.Path(folder, "book")
@@ -208,14 +209,14 @@ def rules(folder):
             equal({(state.get("book"), state.get("book.new")) for state in states}, steps.pairs, "the book and the next file")
 
 
-def verify(folder):
+def verify(folder: str) -> None:
     """A code for which `verify` has printed PASS is spent."""
     here = Losses(folder)
     codes_are_sent_again(here, command_of("verify"))
     print(f"power_loss.py: {here.count} states after verify")
 
 
-def failed_codes(folder):
+def failed_codes(folder: str) -> None:
     """A code for which `verify` has printed FAIL is counted, and so is one that is sent after the loss."""
     here, book = Losses(folder), parsed_book(LIMIT_100)
     books = [with_token(book, failures=2 + at) for at in range(3)]
@@ -231,7 +232,7 @@ def failed_codes(folder):
     print(f"power_loss.py: {here.count} states after verify with codes that fail")
 
 
-def two_losses(folder):
+def two_losses(folder: str) -> None:
     """The power goes once more, in a run that finds what the first loss has left, and is sent the code that is due then."""
     here, first, books = Losses(folder), command_of("verify"), after_codes(parsed_book(BOOK), 3)
     for trial, loss in each(here.of(first)):
@@ -246,7 +247,7 @@ def two_losses(folder):
     print(f"power_loss.py: {here.count} states after one loss or two")
 
 
-def servers(folder):
+def servers(folder: str) -> None:
     """A code for which `login` or `hall` has logged PASS, or has sent it, is spent."""
     here = Losses(folder)
     for trial, name in each(["login", "hall"]):
@@ -255,7 +256,7 @@ def servers(folder):
     print(f"power_loss.py: {here.count} states after login and hall")
 
 
-def enrol(folder):
+def enrol(folder: str) -> None:
     """A name that was reported as enrolled is taken, also in a book that was made for it. If it was not, it may be taken or free."""
     here = Losses(folder)
     for trial, command in each([command_of("enrol"), new_book()]):
@@ -270,7 +271,7 @@ def enrol(folder):
     print(f"power_loss.py: {here.count} states after enrol")
 
 
-def unlock(folder):
+def unlock(folder: str) -> None:
     """A token that was reported as unlocked takes codes."""
     here, book = Losses(folder), parsed_book(LOCKED)
     command = command_of("unlock")._replace(books=[book, with_token(book, failures=0)])

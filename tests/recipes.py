@@ -24,6 +24,7 @@ import socket
 import time
 from concurrent.futures import ThreadPoolExecutor
 from pathlib import Path
+from typing import Any
 
 import expected
 import suite
@@ -61,17 +62,17 @@ exit $status
 SERVED = "Serve logins with `serve-hall`"
 
 
-def all_blocks():
+def all_blocks() -> list[tuple[str, str, str]]:
     """Each block of the two documents except that of `serve-hall`: its section's title, its language and its text."""
     return [block for page in (DOCUMENT, UNITS) for block in suite.blocks_of(page) if block[0] != SERVED]
 
 
-def blocks(title, language="sh"):
+def blocks(title: str, language: str = "sh") -> list[str]:
     """The blocks in this language in the section with this title."""
     return [block[2] for block in all_blocks() if block[:2] == (title, language)]
 
 
-def enrolled(folder):
+def enrolled(folder: str) -> None:
     """Makes in a folder a link to the tools, and a book with two accounts that have passwords."""
     with_tools(folder, "").unlink()
     for name in [NAME, "other"]:
@@ -79,7 +80,7 @@ def enrolled(folder):
         does(folder, enrol, "pencil\n", f"enrolled {name}\n")
 
 
-def adding():
+def adding() -> str:
     """The block that adds an account: those lines of the start that ask for a password."""
     _, first = blocks("Start")
     link, block = first.split("\n", 1)
@@ -87,7 +88,7 @@ def adding():
     return block
 
 
-def with_fob(folder):
+def with_fob(folder: str) -> None:
     """Gives the account NAME the token of the fob that the document adds."""
     does(folder, blocks("Give a user one-time codes")[-1].replace(FOB, NAME).replace("no such account", "no token"))
 
@@ -99,7 +100,7 @@ BOOKS_OF_LOGS = {"sha1": "hotp.toml", "sha256": "sha256.toml", "twice": "hotp.to
 MECHANISMS = ["sha1", "sha256"]
 
 
-def has_keys_of(account, password, count=None):
+def has_keys_of(account: dict[str, Any], password: bytes, count: int | None = None) -> None:
     """Checks that an account has the keys of this password for both mechanisms, with this count if one is given."""
     for mechanism in MECHANISMS:
         keys = account[mechanism]
@@ -107,28 +108,28 @@ def has_keys_of(account, password, count=None):
         equal((keys["stored"], keys["server"]), due, f"the {mechanism} keys of", password)
 
 
-def states(folder, book, about):
+def states(folder: str, book: dict[str, Any], about: str) -> None:
     """Checks that the book in a folder states this."""
     equal(book_of(folder), book, about)
 
 
-def without_keys(book, name):
+def without_keys(book: dict[str, Any], name: str) -> dict[str, Any]:
     """What a book states, without the keys of this account."""
     left = {key: it for key, it in book["accounts"][name].items() if key not in MECHANISMS}
     return {**book, "accounts": {**book["accounts"], name: left}}
 
 
-def code_at(secret, moment):
+def code_at(secret: bytes, moment: int) -> str:
     """The TOTP code for a moment (RFC 6238): six digits, SHA-1, steps of 30 seconds from 0."""
     return expected.code(secret, moment // 30)
 
 
-def verify(name, *codes, moment=5):
+def verify(name: str, *codes: str, moment: int = 5) -> str:
     """A block in which `verify` is sent these codes."""
     return f"printf '%s\\n' {' '.join(codes)} | scramotp verify --book book.toml --name {name} --moment {moment}"
 
 
-def an_editor_and_a_command(folder):
+def an_editor_and_a_command(folder: str) -> None:
     """An edit by an editor with an option, and one by a command. The file keeps its owner, group and mode."""
     book = with_tools(folder, BOOK_OF_USER)
     os.chown(book, -1, 2345 if ROOT else [os.getegid(), *os.getgroups()][-1])
@@ -146,7 +147,7 @@ def an_editor_and_a_command(folder):
     equal(set(os.listdir(folder)), {"bin", "book.toml", "editor", "tools"}, "the files in the folder after the edits")
 
 
-def an_edit_that_fails(folder):
+def an_edit_that_fails(folder: str) -> None:
     """A text that is no book, and a command or an editor that fails, leave the book as it was."""
     book = with_tools(folder, BOOK_OF_USER)
     real = os.path.realpath(book)
@@ -164,7 +165,7 @@ def an_edit_that_fails(folder):
     equal(set(os.listdir(folder)), {"bin", "book.toml", "tools"}, "the files in the folder after edits that fail")
 
 
-def an_edit_that_cannot_be_saved(folder):
+def an_edit_that_cannot_be_saved(folder: str) -> None:
     """If the new text can't be put in the book's place, the book stays as it was. If only its folder can't be synced, the book is changed.
     Both are said. That the group can't be given to the new text is no fault. Here stand-ins for the system's commands fail."""
     book = with_tools(folder, BOOK_OF_USER)
@@ -191,7 +192,7 @@ def an_edit_that_cannot_be_saved(folder):
             equal(set(os.listdir(folder)), {"bin", "book.toml", "tools"}, what)
 
 
-def an_edit_of_anothers_book(folder):
+def an_edit_of_anothers_book(folder: str) -> None:
     """Another user's book is refused, and stays as it was. So does root's book in another user's folder, which only root can try."""
     book = with_tools(folder, BOOK_OF_USER)
     if ROOT:
@@ -217,7 +218,7 @@ def an_edit_of_anothers_book(folder):
     equal(set(os.listdir(folder)), {"bin", "book.toml", "tools"}, "the files in the folder")
 
 
-def an_edit_that_is_stopped(folder):
+def an_edit_that_is_stopped(folder: str) -> None:
     """An edit whose processes are terminated leaves the book as it was, and no file next to it."""
     book = with_tools(folder, BOOK_OF_USER)
     edit = start(folder, "exec setsid tools/edit-book book.toml sh -c 'sed s/4096/4097/; exec sleep 600'")
@@ -228,13 +229,13 @@ def an_edit_that_is_stopped(folder):
     equal(list(Path(folder).glob("book.toml.*")), [], "the files that are left")
 
 
-def has_both_changes(folder):
+def has_both_changes(folder: str) -> None:
     """Checks that the book has what an edit changed, and what a run did."""
     found = book_of(folder)
     equal((found["decoy_count"], found["accounts"]["user"]["token"]["next"]), (4097, 1), "the count of decoys and the next counter", found)
 
 
-def an_edit_waits(folder):
+def an_edit_waits(folder: str) -> None:
     """An edit that waits for a run then edits the file that the run has put in the book's place."""
     book = with_tools(folder, BOOK_OF_USER + hotp(look_ahead=3, limit=3))
     run = start(folder, "exec scramotp verify --book book.toml --name user --moment 5")
@@ -247,7 +248,7 @@ def an_edit_waits(folder):
     has_both_changes(folder)
 
 
-def a_run_waits(folder):
+def a_run_waits(folder: str) -> None:
     """A run that waits for an edit then uses the file that the edit has put in the book's place."""
     book = with_tools(folder, BOOK_OF_USER + hotp(look_ahead=3, limit=3))
     slow = start(folder, "tools/edit-book book.toml sh -c 'sed s/4096/4097/; until [ -e done ]; do sleep 0.1; done'")
@@ -262,7 +263,7 @@ def a_run_waits(folder):
     has_both_changes(folder)
 
 
-def many_at_once(folder):
+def many_at_once(folder: str) -> None:
     """Edits and runs at the same time lose no change that another has made."""
     with_tools(folder, BOOK_OF_USER + hotp(look_ahead=9, limit=99))
     edits = [f"tools/edit-book book.toml sh -c 'cat; echo \"[accounts.a{number}]\"'" for number in range(8)]
@@ -275,7 +276,7 @@ def many_at_once(folder):
     equal((failed, lost, accounts["user"]["token"]["next"]), ([], set(), 6), "what fails, which accounts are lost, and the next counter")
 
 
-def an_edit_gives_up(folder):
+def an_edit_gives_up(folder: str) -> None:
     """An edit waits for 30 seconds, and then leaves the book as it was."""
     book = with_tools(folder, BOOK_OF_USER)
     with open(book, "rb") as file:
@@ -288,7 +289,7 @@ def an_edit_gives_up(folder):
     equal(book.read_text(), BOOK_OF_USER, "the book after an edit that gave up")
 
 
-def sets_no_token(folder, block, why):
+def sets_no_token(folder: str, block: str, why: str) -> None:
     """A block of the section on codes sets no token, and says why. The book stays as it was, and the token's text is removed."""
     before = book_of(folder)
     _, output, faults = ran(folder, block)
@@ -297,7 +298,7 @@ def sets_no_token(folder, block, why):
     holds(not Path(folder, "token.toml").exists(), "the token's text is left", why)
 
 
-def a_token(folder):
+def a_token(folder: str) -> None:
     """The token that is set accepts the codes of the secret that is printed, and is removed again. An account that has a token gets no
     other, and a name without an account gets none."""
     enrolled(folder)
@@ -323,7 +324,7 @@ def a_token(folder):
     holds(base64.b32decode(output.strip()) != secret, "the secret of the second token is that of the first", output)
 
 
-def a_hotp_token(folder):
+def a_hotp_token(folder: str) -> None:
     """The fob that the document adds has RFC 4226's secret: that RFC's codes pass, with up to `look_ahead` skipped. A name that has an
     account gets the token only with the change that the document names."""
     enrolled(folder)
@@ -342,7 +343,7 @@ def a_hotp_token(folder):
     equal(book_of(folder)["accounts"][NAME].pop("token"), added["accounts"][FOB]["token"], "the token of an account that had none")
 
 
-def a_fob_that_ran_ahead(folder):
+def a_fob_that_ran_ahead(folder: str) -> None:
     """Two codes in a row pass although the first by itself is too far ahead, and the token goes on after them."""
     enrolled(folder)
     does(folder, blocks("Give a user one-time codes")[-1])
@@ -355,7 +356,7 @@ def a_fob_that_ran_ahead(folder):
     does(folder, verify(FOB, code(10)), printed="PASS 5 10\n")
 
 
-def a_locked_token(folder):
+def a_locked_token(folder: str) -> None:
     """A token that is locked takes the next code again once the recipe has run, and no code that was spent before."""
     enrolled(folder)
     does(folder, blocks("Give a user one-time codes")[-1])
@@ -368,7 +369,7 @@ def a_locked_token(folder):
     equal(ran(folder, verify(FOB, CODES[0], CODES[1]))[:2], (1, "FAIL 5\nPASS 5 1\n"), "the answers to codes after the token is freed")
 
 
-def an_account(folder):
+def an_account(folder: str) -> None:
     """A name gets its account, even in a new book, and may act as another. A name that has an account keeps it unchanged."""
     add = adding()
     with_tools(folder, "").unlink()
@@ -392,7 +393,7 @@ def an_account(folder):
     does(folder, audited, printed="clean sessions=0 accepted=0 codes=0\n")
 
 
-def a_password(folder):
+def a_password(folder: str) -> None:
     """New keys, from the new password, replace the old ones; everything else stays."""
     enrolled(folder)
     with_fob(folder)
@@ -414,7 +415,7 @@ def a_password(folder):
     has_keys_of(book_of(folder)["accounts"][NAME], b"a fourth", 5000)
 
 
-def a_password_of_one_mechanism(folder):
+def a_password_of_one_mechanism(folder: str) -> None:
     """An account that has keys for only one mechanism gets new ones for both."""
     for trial, (kept, lost) in each([("sha1", "sha256"), ("sha256", "sha1")]):
         with trial:
@@ -428,7 +429,7 @@ def a_password_of_one_mechanism(folder):
             equal(without_keys(after, NAME), without_keys(before, NAME), f"what else the book states, after only {kept} keys")
 
 
-def a_first_password(folder):
+def a_first_password(folder: str) -> None:
     """An account with only a token gets keys for both mechanisms, and keeps its token. A name without an account gets none."""
     enrolled(folder)
     does(folder, blocks("Give a user one-time codes")[-1])
@@ -449,7 +450,7 @@ def a_first_password(folder):
     does(folder, verify(FOB, CODES[1]), printed="PASS 5 1\n")
 
 
-def a_password_that_is_refused(folder):
+def a_password_that_is_refused(folder: str) -> None:
     """If `enrol` refuses the password, or a later step fails, the book is as it was. So it is if the headers of the old keys are spelled in
     another way than a command does: a command that saves the book puts that right."""
     enrolled(folder)
@@ -483,7 +484,7 @@ def a_password_that_is_refused(folder):
     has_keys_of(book_of(folder)["accounts"][NAME], b"another one", 4096)
 
 
-def one_mechanism(folder):
+def one_mechanism(folder: str) -> None:
     """The account keeps only its keys for SCRAM-SHA-256. By that mechanism a login is accepted; by SCRAM-SHA-1 it is refused, after a
     challenge like a decoy's. Run again, the block fails, and the book stays as it is."""
     enrolled(folder)
@@ -504,7 +505,7 @@ def one_mechanism(folder):
     states(folder, before, "what the book states after nothing was dropped")
 
 
-def a_removed_account(folder):
+def a_removed_account(folder: str) -> None:
     """The account is removed with all its tables, with or without a token, and no other account is."""
     enrolled(folder)
     [remove] = blocks("Remove an account")
@@ -526,7 +527,7 @@ def a_removed_account(folder):
     states(folder, before, "what the book states after nothing was removed")
 
 
-def a_renamed_account(folder):
+def a_renamed_account(folder: str) -> None:
     """An account gets another name, and keeps its keys and its token. No other account changes, not even one whose name begins with the
     old name. If the new name is taken, or no account has the old one, the book stays as it is."""
     enrolled(folder)
@@ -556,7 +557,7 @@ def a_renamed_account(folder):
     states(folder, before, "what the book states when the new name is taken")
 
 
-def what_accounts_have(folder):
+def what_accounts_have(folder: str) -> None:
     """The recipe prints which keys each account has, and the state of its token, also of one that has passed codes and one that is
     locked. It waits for no lock."""
     enrolled(folder)
@@ -579,7 +580,7 @@ def what_accounts_have(folder):
     equal((status, set(output.splitlines()), faults), (0, started | told, ""), "what accounts have after the codes")
 
 
-def decoys(folder):
+def decoys(folder: str) -> None:
     """The recipe names the accounts that differ from decoys, and no others."""
     enrolled(folder)
     [tell] = blocks("Hide which names have accounts")
@@ -594,13 +595,13 @@ def decoys(folder):
     equal((status, set(output.splitlines()), faults), (0, want, ""), output)
 
 
-def texts(mechanism, count, salt, stored, server):
+def texts(mechanism: str, count: int, salt: str, stored: str, server: str) -> tuple[str, str]:
     """The verifiers of PostgreSQL and of Dovecot."""
     salt, stored, server = (base64.b64encode(bytes.fromhex(text)).decode() for text in (salt, stored, server))
     return f"{mechanism}${count}:{salt}${stored}:{server}", f"{{{mechanism}}}{count},{salt},{stored},{server}"
 
 
-def a_book_that_a_tool_cannot_read(folder):
+def a_book_that_a_tool_cannot_read(folder: str) -> None:
     """A tool that only reads a book says why it can't: there is no file, it is not TOML or not a book, or lacks the account or the keys."""
     with_tools(folder, BOOK_OF_USER)
     texts_of_faults = [
@@ -623,7 +624,7 @@ def a_book_that_a_tool_cannot_read(folder):
         equal(ran(folder, f"tools/to-verifier book.toml {name}"), (1, "", f"to-verifier: {fault}\n"), name)
 
 
-def keys_of_dovecot(folder):
+def keys_of_dovecot(folder: str) -> None:
     """Keys that Dovecot made are put into a book unchanged."""
     rows = [row for row in rows_of(VECTORS / "keys.csv") if "doveadm" in row["source"]][::6]
     into, _ = blocks("Keys from PostgreSQL and Dovecot")
@@ -641,7 +642,7 @@ def keys_of_dovecot(folder):
             holds(not Path(of_row, "keys.toml").exists(), "the keys' text is left")
 
 
-def a_verifier_there_and_back(folder):
+def a_verifier_there_and_back(folder: str) -> None:
     """The verifier of RFC 7677's user is read in PostgreSQL's form, and written in both forms. The recorded login of that user is clean by
     the book."""
     with_tools(folder, BOOK_OF_USER.replace("user", "other"))
@@ -664,12 +665,12 @@ def a_verifier_there_and_back(folder):
             states(folder, before, f"what the book states after {text!r} was given as a verifier")
 
 
-def a_code_in_a_script(folder):
+def a_code_in_a_script(folder: str) -> None:
     """Only a code that passes lets a user in. A blank line is not judged, and does not count as a failure."""
     tokens = [hotp(look_ahead=0, limit=2, name=name) for name in ["user", "-x"]]
     with_tools(folder, BOOK_OF_USER + "".join(tokens) + "\n[accounts.bare]\n")
 
-    def lets_in(text, name="user", book="book.toml"):
+    def lets_in(text: str, name: str = "user", book: str = "book.toml") -> int:
         return ran(folder, f"tools/check-code {book} {name}", text)[0]
 
     for trial, text in each(["", "\n", "\r\n", " \n"]):
@@ -698,7 +699,7 @@ def a_code_in_a_script(folder):
     equal(status, 1, "the status if the program prints nothing")
 
 
-def a_code_of_a_service(folder):
+def a_code_of_a_service(folder: str) -> None:
     """The words by which another user's service runs `check-code` are those that the line for sudo allows. Here a stand-in for sudo runs
     them as the same user."""
     book = with_tools(folder, BOOK_OF_USER + hotp(look_ahead=0, limit=9))
@@ -715,7 +716,7 @@ def a_code_of_a_service(folder):
             holds(fnmatch.fnmatchcase(asked, allowed), "sudo is asked for what its line does not allow", asked, allowed)
 
 
-def keys_at_fault(folder):
+def keys_at_fault(folder: str) -> None:
     """Something is printed for each book that is refused with 62, and nothing for a book that is read."""
     [script] = blocks("`bad book: 62`")
     with_tools(folder, BOOK_OF_USER.replace("4096", '"4096"').replace("format = 1", "format = 1\nx = 1"))
@@ -744,7 +745,7 @@ def keys_at_fault(folder):
     holds({case.answer for case in faulty} > {"62"}, "the table has too few answers")
 
 
-def a_backup(folder):
+def a_backup(folder: str) -> None:
     """A copy has the book's text, and nobody else can read it. The newest copy is put back."""
     book = with_tools(folder, BOOK_OF_USER)
     copy, put_back = blocks("Backups")
@@ -766,7 +767,7 @@ def a_backup(folder):
     equal(book.read_text(), newer, "the book that is put back after the clock went back")
 
 
-def a_shell(folder):
+def a_shell(folder: str) -> None:
     """Only as root, and with nobody instead of the user that is made: the folder belongs to the user and is closed to others, and the
     shell runs as the user in the folder."""
     shell, _ = blocks("Start")
@@ -783,7 +784,7 @@ def a_shell(folder):
     does(folder, block, "id -un; pwd; stat -c '%a %U' .\n", f"{nobody().pw_name}\n{place}\n700 {nobody().pw_name}\n")
 
 
-def every_tool(folder):
+def every_tool(folder: str) -> None:
     """The table of tools lists each of them, with its usage. Without words, a tool prints its usage."""
     Path(folder, "tools").symlink_to(TOOLS)
     told = re.findall(r"^\| `(\S+) (.*?)` \|", DOCUMENT.read_text(encoding="utf-8").partition("## The tools")[2], re.M)
@@ -797,7 +798,7 @@ def every_tool(folder):
             holds(faults.startswith(usage) and faults.count("\n") == 1, "the tool without words does not print its usage", name, faults)
 
 
-def all_in_order(folder):
+def all_in_order(folder: str) -> None:
     """The shell blocks, except the first, one after another in one folder: each succeeds, prints what it should, and leaves the shell
     as it was."""
     salt = bytes(range(16))
@@ -821,7 +822,7 @@ def all_in_order(folder):
     equal(set(accounts[NAME]), {"sha256"}, accounts)
 
 
-def units(folder):
+def units(folder: str) -> None:
     """The commands of the two units do what they should, with the folders that systemd would give them."""
     state, credentials = Path(folder, "state"), Path(folder, "credentials")
     state.mkdir(0o700)
@@ -846,7 +847,7 @@ def units(folder):
         equal((keys["stored"], keys["server"]), due, f"the keys of the account that the unit made: {name}")
 
 
-def put_logs(folder, logs):
+def put_logs(folder: str, logs: list[str]) -> list[str]:
     """Puts these logs into the folder instead of those there, by the names that the unit gives, each with its book. Returns their names."""
     for path in Path(folder).glob("hall-*"):
         path.unlink()
@@ -857,7 +858,7 @@ def put_logs(folder, logs):
     return names
 
 
-def ended_logs(folder):
+def ended_logs(folder: str) -> None:
     """Each log but the newest is audited by the book beside it. The status is 1 if one is not clean, and 0 if there is only one log or
     none."""
     environment = program_on_path(folder)
@@ -874,7 +875,7 @@ def ended_logs(folder):
             equal(suite.ran(["bash", "-c", audits], cwd=folder, env=environment), (status, due, ""), logs)
 
 
-def removed_logs(folder):
+def removed_logs(folder: str) -> None:
     """Each clean log but the newest is removed with the book beside it. One at fault stays, and so does its book."""
     environment = program_on_path(folder)
     _, removes = blocks("Audit a log")
@@ -887,7 +888,7 @@ def removed_logs(folder):
     equal(left, [name + end for name in (names[1], names[3]) for end in ("", ".toml")], "what is left")
 
 
-def a_new_log_each_night(folder):
+def a_new_log_each_night(folder: str) -> None:
     """The command of the timer's service restarts the unit that the page names, and systemd knows the timer's time."""
     service, timer = blocks("A new log each night", "ini")
     [command] = re.findall(r"^ExecStart=(.*)$", service, re.M)
@@ -901,12 +902,12 @@ def a_new_log_each_night(folder):
     equal((status, "Next elapse" in output), (0, True), at, output)
 
 
-def misspelled(unit):
+def misspelled(unit: str) -> str:
     """A unit whose first key has its first two letters in the other order."""
     return re.sub(r"^(\w)(\w)(?=\w*=)", r"\2\1", unit, count=1, flags=re.M)
 
 
-def units_are_known(folder):
+def units_are_known(folder: str) -> None:
     """systemd knows each key and value of the units. It is not run: its command `systemd-analyze verify` reads them. What that says of
     other units of the machine is left out. A timer is read beside the service before it in the page, which it starts."""
     if not shutil.which("systemd-analyze"):
@@ -926,7 +927,7 @@ def units_are_known(folder):
         before = unit
 
 
-def a_unit_of_a_hall(folder):
+def a_unit_of_a_hall(folder: str) -> None:
     """The unit's command, with other folders, serves: the log has the name that the unit gives, and after TERM it is clean by the book
     beside it."""
     [unit] = blocks("A unit for `serve-hall`", "ini")
@@ -948,7 +949,7 @@ def a_unit_of_a_hall(folder):
     does(folder, audit, printed="clean sessions=1 accepted=0 codes=0\n")
 
 
-def what_is_watched(folder):
+def what_is_watched(folder: str) -> None:
     """The commands of the section on watching count what their rows say, in a log of a hall."""
     page = DOCUMENT.read_text(encoding="utf-8")
     section = page.partition("## Watch a server\n")[2].partition("\n## ")[0]
@@ -963,7 +964,7 @@ def what_is_watched(folder):
     equal(len(counts), len(due), "the commands of the section", counts)
 
 
-def every_block(folder):
+def every_block(folder: str) -> None:
     """No block of the document is left out, except the shell block of `serve-hall`."""
     left_out = [block[:2] for block in suite.blocks_of(DOCUMENT) if block not in all_blocks()]
     equal(left_out, [(SERVED, "sh")], "the blocks that are left out")

@@ -10,11 +10,12 @@ Usage: refused_calls.py PROGRAM [TEST ..]
 import os
 import pathlib
 import re
+from collections.abc import Callable
 
 import shims
 import suite
 from checks import equal, holds
-from command_table import command_of, parsed_book, prepare, run, with_account
+from command_table import Command, command_of, parsed_book, prepare, run, with_account
 from expected import AUDITS, MECHS
 from processes import ran
 from suite import BOOK_OF_USER, PROGRAM, each, hotp, token
@@ -49,7 +50,7 @@ TEXTS = [
 ]
 
 
-def made(kind, folder, shim, refused):
+def made(kind: str, folder: str, shim: str, refused: int) -> tuple[str | None, int]:
     """What bench printed for these calls when the request with this number was refused, or None if it ended before making them; and how
     many requests it made."""
     environment = {"LD_PRELOAD": shim, "REFUSED": str(refused)}
@@ -60,7 +61,7 @@ def made(kind, folder, shim, refused):
     return None if status else output, int(found[1])
 
 
-def each_refused(kind, folder, given):
+def each_refused(kind: str, folder: str, given: str) -> tuple[str | None, list[str | None]]:
     """What is printed for these calls when no request is refused; and for each request, what is printed when it is refused."""
     holds(BENCH.exists(), f"{BENCH} is not built: rt ci builds it, and so does make bench")
     shim = shims.built("refuse_memory")
@@ -70,7 +71,7 @@ def each_refused(kind, folder, given):
     return whole, answers
 
 
-def count_told(folder, kind, logged, check):
+def count_told(folder: str, kind: str, logged: str, check: Callable[[str], bool]) -> int:
     """How many refused requests are reported by a service that, without refusals, logs `logged`. Each is reported at most once, and
     `check` is then true for the log. More than half of all requests are those of the calls."""
     whole, answers = each_refused(kind, folder, BOOK)
@@ -88,7 +89,7 @@ def count_told(folder, kind, logged, check):
     return told
 
 
-def sent_in_a_login(command, folder, number):
+def sent_in_a_login(command: Command, folder: str, number: int) -> tuple[list[int], int, int]:
     """The counters that the client of a login is told have passed if the request with this number is refused, the next counter in the book
     after it, and how many requests the run makes."""
     files, sent = pathlib.Path(folder, "files"), pathlib.Path(folder, "sent")
@@ -103,7 +104,7 @@ def sent_in_a_login(command, folder, number):
     return told, token(files / "book")["next"], int(found[1])
 
 
-def clients_are_told_what_is_saved(folder):
+def clients_are_told_what_is_saved(folder: str) -> None:
     """Whichever request of a login is refused, its client is sent PASS for no counter that the book does not have as spent."""
     login, cut = command_of("login"), 0
     told, after, requests = sent_in_a_login(login, folder, 0)
@@ -117,7 +118,7 @@ def clients_are_told_what_is_saved(folder):
     print(f"refused_calls.py: {requests} requests of a login are refused, and {cut} of them keep its client from a reply")
 
 
-def is_clean(folder, log):
+def is_clean(folder: str, log: str) -> bool:
     """Whether the log is clean, and the whole log begins with it, apart from its end."""
     (pathlib.Path(folder) / "log").write_text(log)
     status, output, _ = ran([PROGRAM, "audit", "--book", "given", "--log", "log"], cwd=folder)
@@ -125,31 +126,31 @@ def is_clean(folder, log):
     return is_front and status == 0 and output.startswith("clean sessions=")
 
 
-def calls_are_made_again(folder):
+def calls_are_made_again(folder: str) -> None:
     """If a call of a desk is refused memory, the same call again leads to the log that was due."""
     told = count_told(folder, "calls", LOGGED, LOGGED.__eq__)
     print(f"refused_calls.py: {told} requests of the calls of a desk are refused")
 
 
-def turns_are_taken_again(folder):
+def turns_are_taken_again(folder: str) -> None:
     """If a turn of a desk is refused memory, the same line again leads to the log that was due."""
     told = count_told(folder, "turns", LOGGED, LOGGED.__eq__)
     print(f"refused_calls.py: {told} requests of turns of a desk are refused")
 
 
-def a_service_can_be_ended(folder):
+def a_service_can_be_ended(folder: str) -> None:
     """If a service is refused memory, it ends with a clean log: some first lines of the one that was due, and then its end."""
     told = count_told(folder, "service", LOGGED, lambda log: is_clean(folder, log))
     print(f"refused_calls.py: {told} requests of a whole service are refused")
 
 
-def calls_of_a_hall_are_made_again(folder):
+def calls_of_a_hall_are_made_again(folder: str) -> None:
     """If a call of a hall is refused memory, the same call again leads to the log that was due."""
     told = count_told(folder, "hall", IN_HALL, IN_HALL.__eq__)
     print(f"refused_calls.py: {told} requests of the calls of a hall are refused")
 
 
-def texts_are_written_again(folder):
+def texts_are_written_again(folder: str) -> None:
     """Each text is written, whichever request is refused, and for each text a request is refused."""
     whole, answers = each_refused("texts", folder, "".join(f"{kind} {text}\n" for kind, text, *_ in TEXTS))
     want = [f"{row[0]} {row[-1]}" for row in TEXTS]
@@ -166,7 +167,7 @@ def texts_are_written_again(folder):
     print(f"refused_calls.py: each of {len(TEXTS)} texts is refused memory")
 
 
-def changed_again(folder, book):
+def changed_again(folder: str, book: str) -> list[int]:
     """How many requests are refused in reading this book, in writing it and in adding an account to it. Whichever is refused, the book
     is read, and written before and after."""
     whole, answers = each_refused("changes", folder, book)
@@ -189,7 +190,7 @@ def changed_again(folder, book):
     return counts
 
 
-def books_are_changed_again(folder):
+def books_are_changed_again(folder: str) -> None:
     """A book with a token, and one without accounts: the first account of a book needs memory, and the second has room already."""
     reading, writing, adding = map(sum, zip(*[changed_again(folder, book) for book in (BOOK, NO_ACCOUNTS)]))
     for trial, (what, count) in each([("reading a book", reading), ("writing it", writing), ("enrol", adding)]):

@@ -11,13 +11,15 @@ made again, or is reported like one that fails. What the program takes from the 
 is listed as harmless. Needs `cc` and `nm`.
 """
 import os
+from collections.abc import Iterator
 
 import shims
 import suite
 from checks import equal, holds
-from command_table import book_of, commands, is_done, is_front, is_kept, left, new_book, printed_begins_clean
+from command_table import Command, book_of, commands, is_done, is_front, is_kept, left, new_book, printed_begins_clean
+from processes import Answer
 from suite import PROGRAM, each, fault_text
-from wrong_calls import MOVES, OTHERS, SOCKETS, Turns
+from wrong_calls import MOVES, OTHERS, SOCKETS, Call, Turns
 
 # What else the program may take from the C library. None of it can fail in a way that a command would have to report.
 HARMLESS = {
@@ -57,7 +59,7 @@ FAULTS = {
 OF_THE_BOOK = {"book", "book.new", ".", "clock"}
 
 
-def saves(before, call):
+def saves(before: list[Call], call: Call) -> bool:
     """Whether a call of a run, after these, is of a save, and not of holding and reading the book. A run that has looked for the book's
     real path begins to hold it. It goes to the start of the text to read it, and saves after that; or there is no book, and it makes the
     file of the first text, looks for the book again, and writes that file."""
@@ -68,7 +70,7 @@ def saves(before, call):
     return ("lseek", "book") in since and call != ("read", "book") or ("fsync", "book.new") in since
 
 
-def due(folder, before, call):
+def due(folder: str, before: list[Call], call: Call) -> str:
     """The fault of a command whose call, after these, is refused, without its prefix."""
     if call == ("read", "log"):
         return "read fault"
@@ -77,7 +79,7 @@ def due(folder, before, call):
     return FAULTS[call.file].format(folder)
 
 
-def harmless(here, command, how):
+def harmless(here: Turns, command: Command, how: str) -> list[int]:
     """A command does its work, whichever of its reads and writes goes wrong in this way. Returns how many each of the runs made."""
     made = []
     for trial, (what, _, answer) in each(here.turns(command, MOVES, how)):
@@ -88,7 +90,7 @@ def harmless(here, command, how):
     return made
 
 
-def all_harmless(folder, how):
+def all_harmless(folder: str, how: str) -> None:
     """Each command does its work, whichever of its reads and writes goes wrong in this way. After most of them it makes one more."""
     here, count, again = Turns(folder), 0, 0
     for trial, command in each([*commands(), new_book()]):
@@ -100,7 +102,7 @@ def all_harmless(folder, how):
     print(f"refused_io.py: {count} reads and writes {how}, of which {again} are made again")
 
 
-def every_call_is_known(folder):
+def every_call_is_known(folder: str) -> None:
     """The program takes nothing from the C library that neither this script nor refused_memory.py lets fail, except what is harmless; and
     nothing by which it could change a file or tell something that note_files.c does not note for power_loss.py."""
     shims_of_tests = [shims.built(name) for name in ("refuse_io", "refuse_memory")]
@@ -116,17 +118,17 @@ def every_call_is_known(folder):
     equal(noted - (refused - NOT_NOTED), set(), "what note_files.c notes, and no test lets fail")
 
 
-def reads_and_writes_that_are_interrupted(folder):
+def reads_and_writes_that_are_interrupted(folder: str) -> None:
     """A read or a write that is interrupted is made again."""
     all_harmless(folder, "interrupted")
 
 
-def reads_and_writes_that_move_one_byte(folder):
+def reads_and_writes_that_move_one_byte(folder: str) -> None:
     """What a short read or write leaves is read or written next."""
     all_harmless(folder, "short")
 
 
-def is_told(command, answer, fault):
+def is_told(command: Command, answer: Answer, fault: str) -> bool:
     """Whether a run that did not do all its work reports this fault, after what it could print. `audit` prints that of a read of the log,
     and `upgrade` reports it without the prefix."""
     if fault == "read fault":
@@ -134,14 +136,14 @@ def is_told(command, answer, fault):
     return answer.status == 3 and answer.faults == fault_text(fault) and is_front(command, answer.output)
 
 
-def may_be_left(how, name):
+def may_be_left(how: str, name: str) -> set[str]:
     """What a run may leave if this call failed: what it could not remove, or what was made by a call that was then reported as failed."""
     if how != "late":
         return {"book.new", "socket"} if name == "unlink" else set()
     return {"open": {"book.new"}, "openat": {"book.new"}}.get(name, set())
 
 
-def failures(here, command, how, calls):
+def failures(here: Turns, command: Command, how: str, calls: str) -> Iterator[tuple[str, str] | None]:
     """Lets each of these calls of a command fail, and yields None for each failure that is told, and for others their name in NOT_TOLD."""
     for trial, (what, call, answer) in each(here.turns(command, calls, how)):
         with trial:
@@ -161,7 +163,7 @@ def failures(here, command, how, calls):
             yield untold
 
 
-def all_told(folder, how, calls):
+def all_told(folder: str, how: str, calls: str) -> None:
     """Whichever of these calls fails, that is told, unless NOT_TOLD has the call. The book is whole and has what was reported before. Each
     of these calls that NOT_TOLD has is made, and its failure is not told."""
     here, names = Turns(folder), []
@@ -175,17 +177,17 @@ def all_told(folder, how, calls):
     print(f"refused_io.py: {len(names)} calls {how}, of which {told} are told")
 
 
-def calls_that_are_refused(folder):
+def calls_that_are_refused(folder: str) -> None:
     """Each call fails without being made."""
     all_told(folder, "refused", f"{MOVES},{OTHERS}")
 
 
-def calls_that_are_late(folder):
+def calls_that_are_late(folder: str) -> None:
     """Each call is made, and then reported as failed, except reads and writes, which do nothing if they fail."""
     all_told(folder, "late", OTHERS)
 
 
-def other_calls_that_are_interrupted(folder):
+def other_calls_that_are_interrupted(folder: str) -> None:
     """Any other call that is interrupted is made again, or is told as one that failed, unless NOT_TOLD has it. The book is whole."""
     here, told, again = Turns(folder), 0, 0
     for trial, command in each([*commands(), new_book()]):

@@ -8,11 +8,12 @@ Usage: refused_memory.py PROGRAM [TEST ..]
 import itertools
 import os
 import pathlib
+from typing import Any
 
 import shims
 import suite
 from checks import equal, holds
-from command_table import book_of, commands, is_done, is_front, is_kept, left, new_book, prepare, printed_begins_clean, run
+from command_table import Command, book_of, commands, is_done, is_front, is_kept, left, new_book, prepare, printed_begins_clean, run
 from expected import AUDITS
 from processes import ran
 from suite import PROGRAM, each, fault_text
@@ -22,14 +23,14 @@ from suite import PROGRAM, each, fault_text
 FAULT = fault_text("no memory")
 
 
-def split(said, *run):
+def split(said: str, *run: Any) -> tuple[str, int]:
     """The faults of this run, and the number of its requests, which the shim prints when it ends."""
     faults, is_counted, requests = said.rpartition("requests ")
     holds(is_counted, *run, "the run ended before it could say how many requests it made", said)
     return faults, int(requests)
 
 
-def run_refused(folder, words, shim, refused):
+def run_refused(folder: str, words: list, shim: str, refused: int) -> tuple[int, str, str, int]:
     """The status, output and faults of a command for which this request was refused, and how many requests it made."""
     environment = {"LD_PRELOAD": shim, "REFUSED": str(refused)}
     status, output, said = ran([PROGRAM, *words], cwd=folder, env=environment)
@@ -37,7 +38,7 @@ def run_refused(folder, words, shim, refused):
     return status, output, faults, requests
 
 
-def each_is_told(folder, words, printed):
+def each_is_told(folder: str, words: list, printed: str) -> int:
     """A command prints this, and only its fault if a request that it needs is refused. It needs more than half of its requests. Returns how
     many it needs."""
     shim = shims.built("refuse_memory")
@@ -54,7 +55,7 @@ def each_is_told(folder, words, printed):
     return needed
 
 
-def audits_are_refused(folder):
+def audits_are_refused(folder: str) -> None:
     """Audits of a log of each version without sessions, and of one with two sessions, end well or with the fault. An audit of version 2
     needs one request more than one of version 1, however many sessions its log has."""
     words, needed = ["audit", "--book", AUDITS / "hotp.toml", "--log"], []
@@ -66,13 +67,13 @@ def audits_are_refused(folder):
     equal(each_is_told(folder, [*words, AUDITS / "interleaved.log"], "clean sessions=2 accepted=1 codes=1\n"), needed[1], needed)
 
 
-def upgrades_are_refused(folder):
+def upgrades_are_refused(folder: str) -> None:
     """An upgrade prints the whole new log, or only the fault."""
     pathlib.Path(folder, "log").write_text("SCRAMLOG 1\nS BUSY\nE\nE\n")
     each_is_told(folder, ["upgrade", "--log", "log"], "SCRAMLOG 2\n1 S BUSY\n1 E\n2 E\n")
 
 
-def refused(command, folder, shim, number, lasting):
+def refused(command: Command, folder: str, shim: str, number: int, lasting: dict[str, str]) -> tuple[tuple[int, str, str], int]:
     """The answer of a command for which the request with this number is refused, with all after it if `lasting` says so by a variable of
     the shim. Also how many requests it made."""
     prepare(folder, command)
@@ -81,7 +82,7 @@ def refused(command, folder, shim, number, lasting):
     return (status, printed, faults), requests
 
 
-def requests_told(command, here, shim, lasting):
+def requests_told(command: Command, here: str, shim: str, lasting: dict[str, str]) -> tuple[int, int]:
     """Refuses each request of a command in turn, by itself or with all after it. Returns how many requests there are, and how many of
     them are told."""
     whole, requests = refused(command, here, shim, 0, lasting)
@@ -102,7 +103,7 @@ def requests_told(command, here, shim, lasting):
     return requests, told
 
 
-def commands_are_refused(folder):
+def commands_are_refused(folder: str) -> None:
     """Whichever request of a command is refused, by itself or with all after it, it ends well, or with a fault after what it could print;
     what it reported is saved."""
     here, shim, told, count = os.path.join(folder, "files"), shims.built("refuse_memory"), 0, 0

@@ -58,7 +58,7 @@ TESTS = [
 ]
 
 
-async def ended(run):
+async def ended(run: asyncio.subprocess.Process) -> int | None:
     """Waits for a test, whose process leads a group of its own, and ends all of that group. Returns the test's status, or None if it
     was stopped."""
     try:
@@ -72,7 +72,7 @@ async def ended(run):
         await run.wait()
 
 
-async def ran(test, program, slots):
+async def ran(test: str, program: str, slots: asyncio.Semaphore) -> tuple[bool, list[str]]:
     """Runs one test when a slot is free, and shows its output. Returns whether it passed, and each part that it says is not tested."""
     async with slots:
         began = time.monotonic()
@@ -89,7 +89,7 @@ async def ran(test, program, slots):
         return status == 0, [": ".join(it) for it in NOT_TESTED.findall(printed)]
 
 
-async def all_ran(program, tests):
+async def all_ran(program: str, tests: list[str]) -> list[tuple[bool, list[str]]]:
     """Runs these tests, as many at once as JOBS in the environment says or as there are processors. Returns for each what `ran` does."""
     slots = asyncio.Semaphore(int(os.environ.get("JOBS") or len(os.sched_getaffinity(0))))
     async with asyncio.TaskGroup() as group:
@@ -97,7 +97,7 @@ async def all_ran(program, tests):
     return [task.result() for task in tasks]
 
 
-def main():
+def main() -> int:
     if len(sys.argv) < 2:
         sys.exit(f"usage: {os.path.basename(sys.argv[0])} PROGRAM [SCRIPT ..]")
     program, tests = sys.argv[1], sys.argv[2:] or TESTS

@@ -21,8 +21,9 @@ from pathlib import Path
 import clients
 import suite
 from checks import equal, holds
+from clients import Account
 from expected import MECHS
-from processes import LIMIT, LIMIT_OF_LINES, until
+from processes import LIMIT, LIMIT_OF_LINES, Running, until
 from suite import BOOK_OF_USER, blocks_of, each, seen
 from tool_runs import TOOLS, book_of, does, ran, start, with_tools
 
@@ -34,7 +35,7 @@ OPERATING = TOOLS.parent / "docs" / "OPERATING.md"
 START = SERVE.removeprefix("(\n").removesuffix(")\n").replace("tools/", "exec tools/")
 
 
-def line_of(client):
+def line_of(client: socket.socket) -> str:
     """The next line that a client receives, without its LF; an empty text at the end of what it is sent; or, if neither comes, NOTHING."""
     text = b""
     try:
@@ -48,12 +49,12 @@ def line_of(client):
     return text[:-1].decode()
 
 
-def connected(folder):
+def connected(folder: str | Path) -> socket.socket:
     """A client connected to the program that serves in this folder; waits until that listens."""
     client = socket.socket(socket.AF_UNIX)
     client.settimeout(LIMIT_OF_LINES)
 
-    def is_connected():
+    def is_connected() -> bool:
         try:
             client.connect(str(Path(folder, "hall.sock")))
         except (FileNotFoundError, ConnectionRefusedError):
@@ -64,19 +65,19 @@ def connected(folder):
     return client
 
 
-def greeted(folder):
+def greeted(folder: str | Path) -> socket.socket:
     """A client that is connected and was greeted."""
     client = connected(folder)
     equal(line_of(client), MECHS[2:], "the greeting")
     return client
 
 
-def begins_login(client, account):
+def begins_login(client: socket.socket, account: Account) -> None:
     """The client sends the first message of a login to this account."""
     client.sendall(f"AUTH {account.mechanism} :{account.exchange('fyko', '').first}\n".encode())
 
 
-def logs_in(client, account):
+def logs_in(client: socket.socket, account: Account) -> None:
     """The client receives the challenge of that login, answers it, and is let in."""
     challenge = line_of(client).removeprefix("CONT :")
     found = re.match(r"r=fyko([^,]{24}),", challenge)
@@ -88,33 +89,33 @@ def logs_in(client, account):
     equal(line_of(client), f"OK :v={it.signature}", "the login")
 
 
-def answers(client, line, answer):
+def answers(client: socket.socket, line: str, answer: str) -> None:
     """The client sends a line, and receives an answer of this form."""
     client.sendall(f"{line}\n".encode())
     told = line_of(client)
     holds(re.fullmatch(answer, told), "another answer is due", answer, line, told)
 
 
-def serving_hall(folder, book, tool="tools/serve-hall"):
+def serving_hall(folder: str | Path, book: str, tool: str = "tools/serve-hall") -> Running:
     """Starts the tool over a book with this text."""
     with_tools(folder, book)
     return start(folder, START.replace("tools/serve-hall", tool))
 
 
-def stops(serving):
+def stops(serving: Running) -> None:
     """Suspends the program until SIGCONT."""
     serving.process.send_signal(signal.SIGSTOP)
     os.waitid(os.P_PID, serving.process.pid, os.WSTOPPED)
 
 
-def serves_until(serving, number, folder, answer):
+def serves_until(serving: Running, number: int, folder: str, answer: str) -> None:
     """The program ends well at this signal. The audit of its log, by the book that it began with, has this answer."""
     serving.process.send_signal(number)
     serving.ends(0)
     does(folder, "scramotp audit --book hall.log.toml --log hall.log", printed=f"{answer}\n")
 
 
-def a_hall_of_your_own(folder):
+def a_hall_of_your_own(folder: str) -> None:
     """Five clients: one logs in and sends a code, one sends a line that is too long, one asks for another mechanism, one goes away, and
     one has gone before it is greeted."""
     account = clients.Account("user", "SCRAM-SHA-256")
@@ -137,7 +138,7 @@ def a_hall_of_your_own(folder):
     equal(book_of(folder)["accounts"]["user"]["token"]["next"], 1, "the counter is used")
 
 
-def a_full_hall(folder):
+def a_full_hall(folder: str) -> None:
     """When 64 clients are there, the next is turned away, until one leaves. A client without a token can still send codes."""
     account = clients.Account("bare", "SCRAM-SHA-256")
     book, token, _ = clients.book([account]).partition('\n[accounts."bare".token]\n')
@@ -156,7 +157,7 @@ def a_full_hall(folder):
     serves_until(serving, signal.SIGTERM, folder, "clean sessions=65 accepted=1 codes=0")
 
 
-def a_hall_that_halts(folder):
+def a_hall_that_halts(folder: str) -> None:
     """If a code can't be saved, its client is sent HALT, unless it has gone, and the program ends. Its log is still clean."""
     account = clients.Account("user", "SCRAM-SHA-256")
     for trial, is_gone in each([False, True]):
@@ -183,7 +184,7 @@ def a_hall_that_halts(folder):
             does(place, "scramotp audit --book hall.log.toml --log hall.log", printed="clean sessions=2 accepted=1 codes=0\n")
 
 
-def a_log_that_cannot_be_written(folder):
+def a_log_that_cannot_be_written(folder: str) -> None:
     """No client is sent a line that the log does not have whole. The program ends, and says why."""
     serving = serving_hall(folder, BOOK_OF_USER)
     greeted(folder).close()
@@ -196,7 +197,7 @@ def a_log_that_cannot_be_written(folder):
     equal(log.stat().st_size, most, "the size of the log")
 
 
-def a_hall_that_is_killed(folder):
+def a_hall_that_is_killed(folder: str) -> None:
     """If the hall ends while nothing happens, the program ends at the next event, and says why."""
     serving = serving_hall(folder, BOOK_OF_USER)
     client = greeted(folder)
@@ -209,7 +210,7 @@ def a_hall_that_is_killed(folder):
     holds(not Path(folder, "hall.sock").exists(), "the socket is left")
 
 
-def a_slow_client(folder):
+def a_slow_client(folder: str) -> None:
     """A client that sends byte after byte but no whole line is cut off; here after three seconds, by a copy of the tool."""
     text = (TOOLS / "serve-hall").read_text(encoding="utf-8")
     equal(text.count("\nPATIENCE = 60 "), 1, "the seconds that it waits")
@@ -222,7 +223,7 @@ def a_slow_client(folder):
     slow = greeted(folder)
     slow.settimeout(0.02)
 
-    def is_cut_off():
+    def is_cut_off() -> bool:
         try:
             slow.sendall(b"x")
             return slow.recv(1) == b""
@@ -237,7 +238,7 @@ def a_slow_client(folder):
     serves_until(serving, signal.SIGINT, folder, "clean sessions=2 accepted=0 codes=0")
 
 
-def a_client_that_does_not_read(folder):
+def a_client_that_does_not_read(folder: str) -> None:
     """The session of a client that goes on sending codes, and reads no answer, ends once the machine keeps no more answers for it. The
     tool waits for it at no time: before that and after it, another client is served."""
     account = clients.Account("bare", "SCRAM-SHA-256")
@@ -249,7 +250,7 @@ def a_client_that_does_not_read(folder):
         logs_in(client, account)
     sent = 0
 
-    def is_cut_off():
+    def is_cut_off() -> bool:
         nonlocal sent
         try:
             deaf.sendall(b"CODE 755224\n" * 20)
@@ -268,7 +269,7 @@ def a_client_that_does_not_read(folder):
     serves_until(serving, signal.SIGINT, folder, "clean sessions=2 accepted=2 codes=0")
 
 
-def a_client_that_ends_no_line(folder):
+def a_client_that_ends_no_line(folder: str) -> None:
     """While a client sends 16 MB without the end of a line, another logs in. The tool keeps only the beginning of that line. At its end the
     session is over, as after any line that is too long."""
     account = clients.Account("user", "SCRAM-SHA-256")
@@ -290,7 +291,7 @@ def a_client_that_ends_no_line(folder):
     serves_until(serving, signal.SIGINT, folder, "clean sessions=2 accepted=1 codes=1")
 
 
-def begins_no_hall(folder, name):
+def begins_no_hall(folder: str, name: str) -> None:
     """The tool says that this file is there already, and leaves everything as it was."""
     book = Path(folder, "book.toml")
     before = seen(book), {*os.listdir(folder), "bin"}
@@ -298,7 +299,7 @@ def begins_no_hall(folder, name):
     equal((seen(book), set(os.listdir(folder))), before, name)
 
 
-def a_log_that_is_there(folder):
+def a_log_that_is_there(folder: str) -> None:
     """A log that is there already stays as it is."""
     with_tools(folder, BOOK_OF_USER)
     log = Path(folder, "hall.log")
@@ -307,7 +308,7 @@ def a_log_that_is_there(folder):
     equal(log.read_text(), "another\n", "the log")
 
 
-def a_socket_that_is_left(folder):
+def a_socket_that_is_left(folder: str) -> None:
     """A run that is killed leaves its socket. Another run can serve there once the socket is removed."""
     serving = serving_hall(folder, BOOK_OF_USER)
     greeted(folder)
@@ -321,7 +322,7 @@ def a_socket_that_is_left(folder):
     serves_until(serving, signal.SIGINT, folder, "clean sessions=1 accepted=0 codes=0")
 
 
-def a_hall_that_does_not_begin(folder):
+def a_hall_that_does_not_begin(folder: str) -> None:
     """If the hall does not begin, no log and no socket are left to prevent the next start."""
     with_tools(folder, "no book\n")
     equal(ran(folder, SERVE), (1, "", "scramotp: bad book: 60\nserve-hall: the hall did not start\n"), "a bad book")

@@ -9,6 +9,7 @@ open sessions and a 65th that is turned away; numbers that are bad, or not due; 
 """
 import pathlib
 import random
+from collections.abc import Iterable
 
 import suite
 from expected import AUDITS, AUTH, CONT, GONE, MECHS, OK, RESP, orders_of_turns
@@ -33,19 +34,19 @@ OUTCOMES = [
 ]
 
 
-def answers(what, folder, lines, answer, book=BOOK):
+def answers(what: str | tuple, folder: str, lines: list[str], answer: str, book: pathlib.Path = BOOK) -> None:
     """Compares the audit's answer to a log with these lines."""
     log = pathlib.Path(folder, "log")
     log.write_text("".join(f"{line}\n" for line in lines))
     audit_says(book, log, answer, what)
 
 
-def numbers_of(order):
+def numbers_of(order: Iterable[int]) -> dict[int, int]:
     """The number of each session, in the order in which they begin."""
     return {which: number for number, which in enumerate(dict.fromkeys(order), 1)}
 
 
-def log_of(order, sessions):
+def log_of(order: Iterable[int], sessions: list[list[list[str]]]) -> tuple[list[str], list[int | None]]:
     """The log of these sessions with their turns in this order, and for each line the session to which it belongs."""
     turns, numbers = [iter(session) for session in sessions], numbers_of(order)
     lines, owners = [FIRST_LINE], [None]
@@ -56,7 +57,7 @@ def log_of(order, sessions):
     return lines, owners
 
 
-def all_orders(folder):
+def all_orders(folder: str) -> None:
     """Every order of three turns of three sessions. Each of the three outcomes is turned around in a third of the orders."""
     orders = orders_of_turns()
     for trial, (index, order) in each(enumerate(orders)):
@@ -71,7 +72,7 @@ def all_orders(folder):
             answers(f"{order}, {which} turned", folder, lines, f"line {at + 1}: {answer}")
 
 
-def shuffled():
+def shuffled() -> tuple[list[str], int]:
     """64 logins in a random order, each of which sends the code of a counter near the next one. The reply is the one due after
     the replies before it in the whole log: a code passes if its counter is after all that have passed."""
     turns = [[MECHS], [AUTH, CONT], [RESP, OK], ["code"], ["reply"], [AWAY, END]]
@@ -93,7 +94,7 @@ def shuffled():
     return lines, passed
 
 
-def shuffles(folder):
+def shuffles(folder: str) -> None:
     """The token's history is that of the whole log, whichever sessions send the codes."""
     book = pathlib.Path(folder, "book")
     book.write_text(BOOK.read_text().replace("limit = 3\n", "limit = 100\n"))
@@ -107,7 +108,7 @@ def shuffles(folder):
             answers(f"shuffle {number}, turned", folder, lines, f"line {at + 1}: reply, due FAIL {moment}", book)
 
 
-def sixty_four(folder):
+def sixty_four(folder: str) -> None:
     """64 sessions are open, and one more is turned away. If it is offered mechanisms instead, that line is at fault."""
     opened = [FIRST_LINE] + [f"{number} {MECHS}" for number in range(1, 65)]
     ended = [f"{number} {line}" for number in range(1, 65) for line in (AWAY, END)]
@@ -125,7 +126,7 @@ def sixty_four(folder):
     answers("nothing after BUSY's E", folder, opened + away, "line 68: cut")
 
 
-def other_numbers(folder):
+def other_numbers(folder: str) -> None:
     """A number is a decimal from 1 to 9223372036854775806 without a leading zero, and each session has the next one."""
     first, ended = [FIRST_LINE, f"1 {MECHS}"], [f"1 {AWAY}", f"1 {END}"]
     for trial, number in each(["0", "01", "-1", "+1", " 1", "", "9223372036854775807", "9223372036854775808", "18446744073709551617"]):
@@ -143,7 +144,7 @@ def other_numbers(folder):
     answers("no space", folder, [FIRST_LINE, f"1{MECHS}"], "line 2: not a line")
 
 
-def long_lines(folder):
+def long_lines(folder: str) -> None:
     """A line may have 6202 bytes; after the first line of version 2 it may have 6222, of which 6202 follow its number."""
     cases = [
         ("6202 bytes of a first line", "S" * 6202, "line 1: cut"),

@@ -59,26 +59,26 @@ int main(int count, char **words, char **environment)
 
 
 @functools.cache
-def built(name):
+def built(name: str) -> str:
     """Compiles the file with this name, once for a script, and returns the path of the library to load."""
     return compiled(name, HERE / f"{name}.c")
 
 
-def keeps_sent():
+def keeps_sent() -> str:
     """Compiles KEEP_SENT, and returns the path of the library to load."""
     source = pathlib.Path(MADE.name, "keep_sent.c")
     source.write_text(KEEP_SENT)
     return compiled("keep_sent", source)
 
 
-def compiled(name, source, folder=MADE.name, *options):
+def compiled(name: str, source: pathlib.Path, folder: str | pathlib.Path = MADE.name, *options: str) -> str:
     """Compiles a C file with these options, and returns the path of the library with this name."""
     shim = os.path.join(folder, f"{name}.so")
     subprocess.run(["cc", "-shared", "-fPIC", "-O1", "-o", shim, source, "-ldl", *options], check=True)
     return shim
 
 
-def stand_in(program, library, to):
+def stand_in(program: str | pathlib.Path, library: str, to: pathlib.Path) -> pathlib.Path:
     """Compiles BECOMES for a program and a library to load, and returns the path of what is made."""
     with tempfile.NamedTemporaryFile("w", suffix=".c") as source:
         source.write(BECOMES)
@@ -87,16 +87,16 @@ def stand_in(program, library, to):
     return to
 
 
-def imported(program):
+def imported(program: str) -> set[str]:
     """The names that a program takes from the C library."""
     return names(program, "--undefined-only")
 
 
-def wrapped(shim):
+def wrapped(shim: str) -> set[str]:
     """The names of the C library for which a compiled C file stands in."""
     return names(shim, "--defined-only")
 
 
-def names(path, which):
+def names(path: str, which: str) -> set[str]:
     listed = subprocess.run(["nm", "-D", which, path], capture_output=True, text=True, check=True).stdout
     return {line.split()[-1].partition("@")[0] for line in listed.splitlines()}

@@ -23,13 +23,13 @@ PASSWORD = "pencil\n"
 NEEDED = ["mkdir -m 0700 ", "read -rsp ", "enrol ", "<<'END'", "base32", "verify ", "unlock ", "login ", "audit "]
 
 
-def blocks(text, title):
+def blocks(text: str, title: str) -> list[str]:
     """The shell blocks in the section with this title."""
     section = re.search(rf"^## {re.escape(title)}\n(.*?)(?=^## |\Z)", text, re.M | re.S)
     return re.findall(r"^```sh\n(.*?)^```$", section.group(1), re.M | re.S) if section else []
 
 
-def steps(block):
+def steps(block: str) -> list[tuple[str, list[str], int]]:
     """Each command of a block, with the lines that it has to print and its status. A command ends before the first
     output line that is shown, or at the line at which bash finds it complete."""
     found, command, printed, status = [], "", [], 0
@@ -48,12 +48,12 @@ def steps(block):
     return [*found, (command, printed, status)]
 
 
-def is_whole(command):
+def is_whole(command: str) -> bool:
     """Whether bash can run this as it is, with no quote or here-document left open."""
     return processes.ran(["bash", "-n"], command) == (0, "", "")
 
 
-def ran(folder, story):
+def ran(folder: str, story: list[tuple[str, list[str], int]]) -> list[tuple[str, int]]:
     """Runs all commands of a story in one bash. Returns the output and the status of each; none may print a fault."""
     mark = f"{os.urandom(16).hex()} "
     script = "".join(f"{command}printf '{mark}%d\\n' $?\n" for command, _, _ in story)
@@ -63,7 +63,7 @@ def ran(folder, story):
     return list(zip(parts[0::2], map(int, parts[1::2])))
 
 
-def quick_start(folder):
+def quick_start(folder: str) -> None:
     """Each command of the story prints what the document shows, and ends with that status."""
     text = document("README.md").read_text(encoding="utf-8")
     story = [step for block in blocks(text, TITLE) for step in steps(block)]

@@ -13,6 +13,8 @@ import sys
 import tempfile
 import tomllib
 import traceback
+from collections.abc import Callable, Iterable, Iterator
+from typing import Any, NoReturn
 
 import checks
 import expected
@@ -41,23 +43,23 @@ ROOT = os.geteuid() == 0
 
 
 @functools.cache
-def nobody():
+def nobody() -> pwd.struct_passwd:
     """The user nobody, as which root runs the program in tests of permissions."""
     return pwd.getpwnam("nobody")
 
 
-def as_nobody():
+def as_nobody() -> dict[str, Any]:
     """How root runs the program as the user nobody. Any other user runs it as that user."""
     return {"user": nobody().pw_uid, "group": nobody().pw_gid, "extra_groups": []} if ROOT else {}
 
 
 @functools.cache
-def not_tested(what):
+def not_tested(what: str) -> None:
     """Says, once, what this machine can't test, and why. run.py and planted.py look for such lines."""
     print(f"{os.path.basename(sys.argv[0])}: not tested: {what}", file=sys.stderr)
 
 
-def is_root():
+def is_root() -> bool:
     """Whether root runs the script. If not, what only root can test is left out, and the script says so."""
     if not ROOT:
         not_tested("other users and groups, since root does not run this")
@@ -90,7 +92,7 @@ decoy_count = 4096
 """
 
 
-def hotp(look_ahead, limit, sync_ahead=None, name="user", failures=0):
+def hotp(look_ahead: int, limit: int, sync_ahead: int | None = None, name: str = "user", failures: int = 0) -> str:
     """A HOTP token with that secret, for a name as TOML writes it; without the key `sync_ahead` if that is None."""
     sync = "" if sync_ahead is None else f"sync_ahead = {sync_ahead}\n"
     return f"""
@@ -105,7 +107,7 @@ failures = {failures}
 """
 
 
-def totp(limit, function="sha1"):
+def totp(limit: int, function: str = "sha1") -> str:
     """A TOTP token for `user`, with RFC 6238's seed for this hash function."""
     return f"""
 [accounts.user.token]
@@ -124,30 +126,30 @@ failures = 0
 """
 
 
-def code(counter):
+def code(counter: int) -> str:
     """The code of that secret for a counter."""
     return expected.code(bytes.fromhex(SECRET), counter)
 
 
-def read_book(path):
+def read_book(path: str | pathlib.Path) -> dict[str, Any]:
     """What a book states, as tomllib reads it."""
     with open(path, "rb") as file:
         return tomllib.load(file)
 
 
-def token(path, name="user"):
+def token(path: str | pathlib.Path, name: str = "user") -> dict[str, Any]:
     """The token of an account."""
     return read_book(path)["accounts"][name]["token"]
 
 
-def seen(path):
+def seen(path: str | pathlib.Path) -> tuple:
     """A value that changes when a name gets another file, or its file is written or gets another owner, group or mode."""
     found = os.lstat(path)
     with open(path, "rb") as file:
         return found.st_ino, found.st_mode, found.st_uid, found.st_gid, found.st_mtime_ns, found.st_ctime_ns, file.read()
 
 
-def program_on_path(folder, **more):
+def program_on_path(folder: str | pathlib.Path, **more: Any) -> dict[str, str]:
     """The environment, with these variables, of a run that finds the program on the PATH, through a link in this folder's folder `bin`."""
     commands = pathlib.Path(folder, "bin")
     commands.mkdir(exist_ok=True)
@@ -157,17 +159,17 @@ def program_on_path(folder, **more):
     return {**os.environ, "PATH": f"{commands}:{os.environ['PATH']}", **more}
 
 
-def fault_text(fault):
+def fault_text(fault: str) -> str:
     """The text on standard error for a fault, which is given without its prefix, or for no fault."""
     return f"scramotp: {fault}\n" if fault else ""
 
 
-def document(usual):
+def document(usual: str) -> pathlib.Path:
     """The page that a script tests: the one that DOCUMENT=PATH in the environment names, or its usual one."""
     return pathlib.Path(os.environ.get("DOCUMENT") or TOP / usual)
 
 
-def blocks_of(page):
+def blocks_of(page: pathlib.Path) -> Iterator[tuple[str, str, str]]:
     """Each block in a section of a document: the section's title, the block's language and its text."""
     sections = re.split(r"^## (.*)\n", page.read_text(encoding="utf-8"), flags=re.M)
     for title, text in zip(sections[1::2], sections[2::2]):
@@ -175,7 +177,7 @@ def blocks_of(page):
             yield title, language, block
 
 
-def is_locked(path):
+def is_locked(path: str | pathlib.Path) -> bool:
     """Whether another process holds the lock of a file."""
     with open(path, "rb") as file:
         try:
@@ -185,35 +187,35 @@ def is_locked(path):
     return False
 
 
-def is_awaited(path):
+def is_awaited(path: str | pathlib.Path) -> bool:
     """Whether a process waits for the lock of a file, which another one holds."""
     locks = pathlib.Path("/proc/locks").read_text().splitlines()
     return any(" -> " in it and it.split()[-3].endswith(f":{os.stat(path).st_ino}") for it in locks)
 
 
-def prints(words, data, status, output="", fault="", *about):
+def prints(words: list, data: str | bytes, status: int, output: str = "", fault: str = "", *about: Any) -> None:
     """Runs a command with this input, and compares its status, its output and its fault, which is given without its prefix."""
     equal(ran(words, data), (status, output, fault_text(fault)), *about)
 
 
-def verify_words(book, moment="5", name="user"):
+def verify_words(book: str | pathlib.Path, moment: str = "5", name: str = "user") -> list:
     """The words of `verify` for a book."""
     return [PROGRAM, "verify", "--book", book, "--name", name, "--moment", moment]
 
 
-def login_words(book, socket, *more, name="user"):
+def login_words(book: str | pathlib.Path, socket: str | pathlib.Path, *more: str | pathlib.Path, name: str = "user") -> list:
     """The words of `login` for a book and a socket's path."""
     return [PROGRAM, "login", "--book", book, "--name", name, "--socket", socket, *more]
 
 
-def begins_clean(book, log):
+def begins_clean(book: str | pathlib.Path, log: str) -> bool:
     """Whether no line of a log, which may be cut, is at fault by the book that it began with."""
     _, output, faults = ran([PROGRAM, "audit", "--book", book, "--log", "/dev/stdin"], log)
     cut = f"line {log.count(chr(10)) + 1}: cut\n"
     return faults == "" and (output.startswith("clean ") or output == cut)
 
 
-def audit_says(book, log, answer, *about, text=""):
+def audit_says(book: str | pathlib.Path, log: str | pathlib.Path, answer: str, *about: Any, text: str | bytes = "") -> None:
     """Runs an audit of a file, or of a text on standard input. Compares its answer and the status for it; no fault may be reported."""
     status = 0 if answer.startswith("clean ") else 3 if answer == "read fault" else 1
     equal(ran([PROGRAM, "audit", "--book", book, "--log", log], text), (status, f"{answer}\n", ""), *about)
@@ -222,55 +224,55 @@ def audit_says(book, log, answer, *about, text=""):
 class BookFolder:
     """A folder with a book that runs of the program use, and the text of the book as it was before them."""
 
-    def __init__(self, folder, *texts):
+    def __init__(self, folder: str | pathlib.Path, *texts: str) -> None:
         self.folder = pathlib.Path(folder)
         self.book, self.next_text, self.socket = (self.folder / name for name in ["book", "book.new", "socket"])
         self.put(*texts)
 
-    def put(self, *texts):
+    def put(self, *texts: str) -> None:
         """Makes the book of these texts, one after another."""
         self.before = "".join(texts)
         self.book.write_text(self.before)
 
-    def prints(self, words, text, status, log, fault=""):
+    def prints(self, words: list, text: str | bytes, status: int, log: str, fault: str = "") -> None:
         """Runs the program on this input, and compares its status, log and fault."""
         prints(words, text, status, log, fault)
 
-    def verifies(self, text, status, printed, fault="", moment="5"):
+    def verifies(self, text: str, status: int, printed: str, fault: str = "", moment: str = "5") -> None:
         """Gives `verify` these lines at a moment, and compares its status, output and fault."""
         prints(verify_words(self.book, moment), text, status, printed, fault)
 
-    def token(self, name="user"):
+    def token(self, name: str = "user") -> dict[str, Any]:
         """The token of an account."""
         return token(self.book, name)
 
-    def token_has(self, *about, **fields):
+    def token_has(self, *about: Any, **fields: Any) -> None:
         """Compares these fields of the token of `user`."""
         found = self.token()
         equal({key: found.get(key) for key in fields}, fields, "the token of user", *about)
 
-    def has_only(self, *names):
+    def has_only(self, *names: str) -> None:
         """Checks that the folder has files of these names, and no other."""
         equal(sorted(os.listdir(self.folder)), sorted(names), "the files in the book's folder")
 
-    def seen(self):
+    def seen(self) -> tuple | None:
         """A value that changes when the book is written or replaced, or another file is left in its folder."""
         return (seen(self.book), sorted(os.listdir(self.folder))) if self.book.exists() else None
 
     @contextlib.contextmanager
-    def book_before(self):
+    def book_before(self) -> Iterator[str]:
         """The path of a file with the text of the book as it was before the runs."""
         with tempfile.NamedTemporaryFile("w", suffix=".toml") as file:
             file.write(self.before)
             file.flush()
             yield file.name
 
-    def audited(self, log, answer):
+    def audited(self, log: str, answer: str) -> None:
         """Compares the audit's answer to a log by the book that it began with."""
         with self.book_before() as book:
             audit_says(book, "/dev/stdin", answer, text=log)
 
-    def begins_clean(self, log):
+    def begins_clean(self, log: str) -> None:
         """Checks that no line of a log, which may be cut, is at fault by the book that it began with."""
         with self.book_before() as book:
             holds(begins_clean(book, log), "a line of the log is at fault", log)
@@ -280,7 +282,7 @@ class TakesTooLong(Exception):
     """A test has taken longer than a test may."""
 
 
-def called(row):
+def called(row: Any) -> str:
     """How a row of a table is called where it fails: by the name that it has, or by those of its parts, or by the start of its text."""
     if name := getattr(row, "name", None) or getattr(row, "__name__", None):
         return str(name)
@@ -290,13 +292,13 @@ def called(row):
 class Trial:
     """The check of one row of a table. A fault in it does not end the test, but is kept in `bad`. What the row has started is stopped."""
 
-    def __init__(self, number, row, bad):
+    def __init__(self, number: int, row: Any, bad: list[str]) -> None:
         self.number, self.row, self.bad = number, row, bad
 
-    def __enter__(self):
+    def __enter__(self) -> "Trial":
         return self
 
-    def __exit__(self, _, fault, calls):
+    def __exit__(self, _: Any, fault: BaseException | None, calls: Any) -> bool:
         if not isinstance(fault, Exception):
             return False
         why = f"row {self.number}, {called(self.row)}: line {calls.tb_lineno}: {type(fault).__name__}: {fault}\n"
@@ -308,7 +310,7 @@ class Trial:
         return True
 
 
-def each(rows):
+def each(rows: Iterable) -> Iterator[tuple[Trial, Any]]:
     """Each row of a table after the context in which it is checked, as in `for trial, row in each(rows):` and then `with trial:`. All rows
     are checked, and then the test fails if one of them did, and names each that did. The loop may end only at its last row."""
     number, bad = 0, []
@@ -322,12 +324,12 @@ def each(rows):
         fail_rows(bad)
 
 
-def fail_rows(bad):
+def fail_rows(bad: list[str]) -> NoReturn:
     """Fails the test, and says which rows of a table have failed, and why."""
     fail([], [f"{len(bad)} of its rows fail\n" + "".join(bad).rstrip("\n")])
 
 
-def chosen(tests):
+def chosen(tests: list[Callable]) -> list[Callable]:
     """The tests that the words after the program's path name, or all if there is no such word. Exits if one of them names no test."""
     names = sys.argv[2:]
     for name in names:
@@ -337,12 +339,12 @@ def chosen(tests):
     return [test for test in tests if not names or test.__name__ in names]
 
 
-def end_test(_signal, _frame):
+def end_test(_signal: int, _frame: Any) -> NoReturn:
     """Lets the test that runs fail where it is."""
     raise TakesTooLong(f"the test takes over {LIMIT_OF_TEST} seconds")
 
 
-def run_all(tests):
+def run_all(tests: list[Callable]) -> NoReturn:
     """Runs each test, or those that the command line names, in an empty folder of its own and from a seed of its own. Prints which fail,
     each with its last run, and how many pass, and exits, with status 1 if one fails. What a test has started does not outlive it."""
     tests, failed = chosen(tests), 0

@@ -10,6 +10,7 @@ import os
 import select
 import time
 from pathlib import Path
+from typing import Any
 
 import suite
 from checks import equal
@@ -30,15 +31,15 @@ OPENED_AND_GONE = f"SCRAMLOG 2\n1 {MECHS}\n1 C GONE\n1 E\n"
 END = "\x04"
 
 
-def on(folder, command, *more):
+def on(folder: str, command: str, *more: str) -> list[str]:
     return [command, "--book", os.path.join(folder, "book"), "--name", "user", *more]
 
 
-def login(folder):
+def login(folder: str) -> list[str]:
     return on(folder, "login", "--socket", os.path.join(folder, "socket"), *PUBLISHED, "--moment", "5")
 
 
-def commands(folder):
+def commands(folder: str) -> list[tuple[list[str], str, str, str]]:
     """For each command that waits for input: its words, what is typed, what it prints, and its prompt."""
     return [
         (KEYS, "pencil\n", KEYS_OF_PENCIL, PASSWORD),
@@ -49,7 +50,7 @@ def commands(folder):
     ]
 
 
-def prepare(folder, words):
+def prepare(folder: str, words: list[str]) -> None:
     """Leaves no book in a folder for `enrol`, and for other commands makes one whose token has no spent code."""
     book = Path(folder, "book")
     if words[0] == "enrol":
@@ -62,38 +63,38 @@ def prepare(folder, words):
 class Terminal:
     """A terminal: `end` is the program's side, and `shown` what has been shown so far."""
 
-    def __enter__(self):
+    def __enter__(self) -> "Terminal":
         self.side, self.end = os.openpty()
         self.shown = ""
         return self
 
-    def __exit__(self, *_):
+    def __exit__(self, *_: Any) -> None:
         os.close(self.side)
         os.close(self.end)
 
-    def type(self, text):
+    def type(self, text: str) -> None:
         os.write(self.side, text.encode())
 
-    def see(self, seconds):
+    def see(self, seconds: float) -> None:
         """Reads what is shown in this time, up to an exclamation mark."""
         until = time.monotonic() + seconds
         while not self.shown.endswith("!") and (left := until - time.monotonic()) > 0:
             if select.select([self.side], [], [], left)[0]:
                 self.shown += os.read(self.side, 4096).decode()
 
-    def all_shown(self):
+    def all_shown(self) -> str:
         """All that has been shown, once the program can show nothing more."""
         os.write(self.end, b"!")
         self.see(LIMIT_OF_LINES)
         return self.shown.removesuffix("!")
 
 
-def start(words, **terminals):
+def start(words: list[str], **terminals: int) -> Running:
     """Starts the program at a terminal."""
     return Running([PROGRAM, *words], **terminals)
 
 
-def both_are_terminals(folder):
+def both_are_terminals(folder: str) -> None:
     """The prompt is shown before anything is typed, and then what is typed is shown."""
     for trial, (words, typed, printed, said) in each(commands(folder)):
         with trial:
@@ -109,7 +110,7 @@ def both_are_terminals(folder):
                 equal(terminal.all_shown(), said + typed.replace("\n", "\r\n"), words, "what is shown")
 
 
-def input_is_a_terminal(folder):
+def input_is_a_terminal(folder: str) -> None:
     """No prompt is shown if standard error is no terminal; what is typed is still shown."""
     for trial, (words, typed, printed, _) in each(commands(folder)):
         with trial:
@@ -121,7 +122,7 @@ def input_is_a_terminal(folder):
                 equal(terminal.all_shown(), typed.replace("\n", "\r\n"), words, "what is shown")
 
 
-def faults_are_a_terminal(folder):
+def faults_are_a_terminal(folder: str) -> None:
     """No prompt is shown if standard input is no terminal."""
     for trial, (words, typed, printed, _) in each(commands(folder)):
         with trial:
@@ -132,7 +133,7 @@ def faults_are_a_terminal(folder):
                 equal(terminal.all_shown(), "", words, "what is shown")
 
 
-def nothing_to_wait_for(folder):
+def nothing_to_wait_for(folder: str) -> None:
     """Faults of words and books are reported without a prompt, and a command that reads no input shows none."""
     book = Path(folder, "book")
     log = Path(folder, "log")

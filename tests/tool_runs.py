@@ -1,30 +1,32 @@
 """What the scripts that run the tools share: the folder tools/, and runs of shell blocks, with the program on the PATH, in a folder that
 has a link to it and an account book."""
 from pathlib import Path
+from typing import Any
 
 import processes
 from checks import equal
+from processes import Answer, Running
 from suite import program_on_path, read_book
 
 TOOLS = Path(__file__).resolve().parent.parent / "tools"
 
 
-def start(folder, block, **more):
+def start(folder: str | Path, block: str, **more: Any) -> Running:
     """Starts a block with bash."""
     return processes.Running(["bash", "-c", block], cwd=folder, env=program_on_path(folder, **more))
 
 
-def ran(folder, block, text="", **more):
+def ran(folder: str | Path, block: str, text: str = "", **more: Any) -> Answer:
     """Runs a block with bash, and returns its answer."""
     return processes.ran(["bash", "-c", block], text, cwd=folder, env=program_on_path(folder, **more))
 
 
-def does(folder, block, text="", printed="", **more):
+def does(folder: str | Path, block: str, text: str = "", printed: str = "", **more: Any) -> None:
     """Runs a block that has to succeed and to print this."""
     equal(ran(folder, block, text, **more), (0, printed, ""), block)
 
 
-def with_tools(folder, text):
+def with_tools(folder: str | Path, text: str) -> Path:
     """Makes in a folder a link to the tools, and a book with this text. Returns the book's path."""
     link, book = Path(folder, "tools"), Path(folder, "book.toml")
     if not link.is_symlink():
@@ -34,5 +36,5 @@ def with_tools(folder, text):
     return book
 
 
-def book_of(folder):
+def book_of(folder: str) -> dict[str, Any]:
     return read_book(Path(folder, "book.toml"))

@@ -16,7 +16,7 @@ import suite
 from audit_cases import cases
 from checks import equal, holds, shown
 from expected import AUDITS, SESSION_LEFT, numbered
-from processes import processor_time, ran
+from processes import Answer, processor_time, ran
 from suite import PROGRAM, audit_says, each
 
 LOGIN = (AUDITS / "sha1.log").read_bytes()
@@ -24,18 +24,18 @@ LOGIN = (AUDITS / "sha1.log").read_bytes()
 KEYS = ["keys", "--mechanism", "SCRAM-SHA-1", "--salt", "00", "--count", "2000000"]
 
 
-def run(words, log):
+def run(words: list, log: bytes) -> Answer:
     """The answer of a command that is given this log."""
     return ran([PROGRAM, *words, "--log", "/dev/stdin"], log)
 
 
-def can_be_upgraded(log, answer):
+def can_be_upgraded(log: bytes, answer: str) -> bool:
     """Whether a log of the table is of version 1, ends with a whole line, and has only lines with a line's form. After its first line at
     fault, no log of the table has a line without a line's form, so the audit's answer in the table decides."""
     return log.startswith(b"SCRAMLOG 1\n") and log.endswith(b"\n") and not answer.endswith(": not a line")
 
 
-def same_answers(folder):
+def same_answers(folder: str) -> None:
     """The audit's answer to each log of the table is the same after an upgrade. Logs with a first line in the middle are not compared:
     an upgrade numbers that line."""
     upgraded = 0
@@ -59,7 +59,7 @@ def same_answers(folder):
     holds(upgraded > 0, "no log of the table could be upgraded")
 
 
-def faults(folder):
+def faults(folder: str) -> None:
     """For a log that can't be upgraded, only the line at fault is printed."""
     for trial, (what, log, status, fault) in each([
         ("without the last LF", LOGIN[:-1], 1, "line 8: cut"),
@@ -78,14 +78,14 @@ def faults(folder):
     equal(ran([*upgrade, missing]), (3, "", f"scramotp: cannot read {missing}\n"), "no log")
 
 
-def time_of(words, data=b""):
+def time_of(words: list, data: bytes = b"") -> float:
     """The processor time of a run on this input, which ends well."""
     before = processor_time()
     equal(ran([PROGRAM, *words], data, stdout=subprocess.DEVNULL), (0, "", ""), words)
     return processor_time() - before
 
 
-def long_logs(folder):
+def long_logs(folder: str) -> None:
     """1000000 lines are upgraded. For 990000 lines, the processor time is less than that of `keys` with a count of 2000000."""
     log = b"SCRAMLOG 1\n" + SESSION_LEFT * 333333
     equal(run(["upgrade"], log), (0, numbered(log.decode()), ""), "1000000 lines")

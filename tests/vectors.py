@@ -6,18 +6,20 @@ Usage: vectors.py PROGRAM [TEST ..]
 In data/vectors, keys.csv has the keys of passwords, made by GNU SASL and Dovecot, and codes.csv has
 one-time codes, made by oathtool. The last column of a row names the program.
 """
+from collections.abc import Callable
+
 import suite
 from expected import VECTORS, rows_of
 from suite import PROGRAM, each, prints
 
 
-def keys(row):
+def keys(row: dict[str, str]) -> tuple[list[str], str, str]:
     """The words and the input for a row of keys.csv, and what has to be printed."""
     words = ["keys", "--mechanism", row["mechanism"], "--salt", row["salt_hex"], "--count", row["count"]]
     return words, row["password"] + "\n", f"stored={row['stored_hex']}\nserver={row['server_hex']}\n"
 
 
-def codes(row):
+def codes(row: dict[str, str]) -> tuple[list[str], str, str]:
     """The words for a row of codes.csv, HOTP if it has a counter, else TOTP; no input; and what has to be printed."""
     words = ["code", "--secret", row["secret_hex"], "--digits", row["digits"]]
     if row["counter"]:
@@ -27,7 +29,7 @@ def codes(row):
     return words, "", row["code"] + "\n"
 
 
-def each_row(name, case):
+def each_row(name: str, case: Callable) -> None:
     """Compares what is printed for each row of a table."""
     rows = rows_of(VECTORS / name)
     for trial, (number, row) in each(enumerate(rows, 2)):
@@ -37,12 +39,12 @@ def each_row(name, case):
     print(f"vectors.py: {name}: {len(rows)} rows as made elsewhere")
 
 
-def table_of_keys(folder):
+def table_of_keys(folder: str) -> None:
     """The keys of a password, salt and count are those that GNU SASL and Dovecot made."""
     each_row("keys.csv", keys)
 
 
-def table_of_codes(folder):
+def table_of_codes(folder: str) -> None:
     """The codes of a secret are those that oathtool made."""
     each_row("codes.csv", codes)
 

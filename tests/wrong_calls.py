@@ -2,11 +2,13 @@
 its calls goes wrong in turn."""
 import os
 import pathlib
+from collections.abc import Iterator
 from typing import NamedTuple
 
 import shims
 from checks import equal, holds
-from command_table import book_of, is_done, prepare, run
+from command_table import Command, book_of, is_done, prepare, run
+from processes import Answer
 
 # The calls that move bytes, and the other calls that refuse_io.c makes go wrong.
 MOVES = "read,write,recv,send"
@@ -25,7 +27,7 @@ class Call(NamedTuple):
     file: str
 
 
-def call_of(name, file, folder):
+def call_of(name: str, file: str, folder: str | pathlib.Path) -> Call:
     """The call with this name, of the file as refuse_io.c gives it, by a run in this folder."""
     if file.startswith("socket:"):
         return Call(name, "socket")
@@ -38,7 +40,7 @@ class Turns:
     """A folder for runs in which calls go wrong, how many calls the last run made, and which calls were made before the one that went wrong
     there."""
 
-    def __init__(self, folder):
+    def __init__(self, folder: str) -> None:
         self.folder = os.path.join(folder, "files")
         os.mkdir(self.folder)
         self.shim = shims.built("refuse_io")
@@ -46,7 +48,7 @@ class Turns:
         self.calls = 0
         self.before = []
 
-    def turn(self, command, number, calls, how):
+    def turn(self, command: Command, number: int, calls: str, how: str) -> tuple[Answer, Call | None]:
         """Makes a run whose call with this number goes wrong. Returns its answer, and that call, or None if there were not so many
         calls."""
         prepare(self.folder, command)
@@ -59,7 +61,7 @@ class Turns:
         holds((name == "none") == (self.calls < number), command.name, "call", number, "of", count, "went wrong:", name)
         return answer, None if name == "none" else call_of(name, file, self.folder)
 
-    def turns(self, command, calls, how):
+    def turns(self, command: Command, calls: str, how: str) -> Iterator[tuple[tuple, Call, Answer]]:
         """Makes each call go wrong in turn, and yields it and the run's answer. Ends with a run in which none goes wrong, which has to do
         all its work."""
         self.before = []
