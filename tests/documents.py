@@ -12,14 +12,15 @@ library. The sources have each signature in docs/EMBEDDING.md. Each name that a 
 Each name without a space in a page for maintainers, in docs/FAULTS.md, docs/SECURITY.md or docs/TESTING.md is in the sources or in a
 script. A name that a page gives together with a file, as in `name` of `file.rt` or `file.rt` (`name`, `other`), is in that file. So is each
 law of docs/LOG_PROMISES.md in one of the files that are named before its table. run.py runs each script in this folder that takes a
-program, and docs/TESTING.md names each script. A script that runs a list of tests uses all of its functions. The sizes in docs/PROMISES.md
-and README.md are about those of the sources, and docs/TESTING.md says how many rows the tables of vectors and of faulty books have.
-docs/PROMISES.md says how many lines of definitions there are to be read for a promise. docs/ARCHITECTURE.md says about how large each
-library is. The kit that the Makefile names is that in docs/PROMISES.md and README.md. No source has a word by which something is taken
-unproved. No contract of a public function cites a definition of specs/inner. docs/MUTATIONS.md says how many edits each crate has, how many
-tests of scripts there are, and for how many of these a bug is planted. tests/data/planted.csv has a row for each edit that a test has to
-refuse, with what the test says then. Each wrong body in must-fail/ and edits/ applies. docs/TIMES.md names each library. No line of a page
-has over 140 columns, outside tables and code blocks. Each fault has a line, and the status is then 1.
+program, and docs/TESTING.md names each script. A script that runs a list of tests uses all of its functions. The functions of Python files
+here and in tools/ have the types of their arguments and results. The sizes in docs/PROMISES.md and README.md are about those of the
+sources, and docs/TESTING.md says how many rows the tables of vectors and of faulty books have. docs/PROMISES.md says how many lines of
+definitions there are to be read for a promise. docs/ARCHITECTURE.md says about how large each library is. The kit that the Makefile names
+is that in docs/PROMISES.md and README.md. No source has a word by which something is taken unproved. No contract of a public function cites
+a definition of specs/inner. docs/MUTATIONS.md says how many edits each crate has, how many tests of scripts there are, and for how many of
+these a bug is planted. tests/data/planted.csv has a row for each edit that a test has to refuse, with what the test says then. Each wrong
+body in must-fail/ and edits/ applies. docs/TIMES.md names each library. No line of a page has over 140 columns, outside tables and code
+blocks. Each fault has a line, and the status is then 1.
 """
 import ast
 import csv
@@ -223,6 +224,17 @@ def unused_functions() -> Iterator[str]:
             script = ast.parse(text)
             used = {it.id for it in ast.walk(script) if isinstance(it, ast.Name)}
             yield from (f"{path.name}: {it.name}" for it in script.body if isinstance(it, ast.FunctionDef) and it.name not in used)
+
+
+def untyped_functions() -> Iterator[str]:
+    """The functions of the scripts, and of the tools in Python, that do not give the types of all their arguments and of their result."""
+    tools = [path for path in TOP.glob("tools/*") if path.read_text(encoding="utf-8").startswith("#!/usr/bin/env python3\n")]
+    for path in sorted([*TOP.glob("tests/*.py"), *tools]):
+        for it in ast.walk(ast.parse(path.read_text(encoding="utf-8"))):
+            if isinstance(it, ast.FunctionDef | ast.AsyncFunctionDef):
+                arguments = [argument for argument in ast.walk(it.args) if isinstance(argument, ast.arg) and argument.arg != "self"]
+                if it.returns is None or any(argument.annotation is None for argument in arguments):
+                    yield f"{path.name}: {it.name}"
 
 
 def lines_of(*patterns: str) -> int:
@@ -481,6 +493,7 @@ def checks() -> Iterator[tuple[str, str, list[str]]]:
         ("docs/TIMES.md gives no time of this library", untimed_crates),
         ("run.py does not run this script, or docs/TESTING.md does not name it", untold_tests),
         ("its script never uses this function", unused_functions),
+        ("this function has an argument without its type, or does not give that of its result", untyped_functions),
         ("a public contract cites specs/inner", cited_inner),
         ("a wrong body does not apply", stale_edits),
         ("planted.csv and the folders planted/ do not fit", stale_bugs),
