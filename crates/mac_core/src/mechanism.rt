@@ -133,10 +133,10 @@ impl Mechanism {
 /// A running HMAC with a mechanism's hash function. It stands for a mechanism, a key and the text added so far.
 #[derive(Drop)]
 pub enum ScramMac {
-    /// A MAC of SCRAM-SHA-1.
+    /// HMAC-SHA-1, which SCRAM-SHA-1 uses (RFC 5802).
     BySha1(Mac<HSha1>),
 
-    /// A MAC of SCRAM-SHA-256.
+    /// HMAC-SHA-256, which SCRAM-SHA-256 uses (RFC 7677).
     BySha256(Mac<HSha256>),
 }
 
