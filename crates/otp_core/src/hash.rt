@@ -38,11 +38,14 @@ impl OtpHash {
         ensures some { IfSome result (λ hash. name.now ≡ hash_name hash) }
         ensures none { IfNone result ((hash : OtpHash) → name.now ≢ hash_name hash) }
     {
-        match name {
-            "sha1" => Some(OtpHash::Sha1),
-            "sha256" => Some(OtpHash::Sha256),
-            "sha512" => Some(OtpHash::Sha512),
-            _ => None,
+        if name == OtpHash::Sha1.name() {
+            Some(OtpHash::Sha1)
+        } else if name == OtpHash::Sha256.name() {
+            Some(OtpHash::Sha256)
+        } else if name == OtpHash::Sha512.name() {
+            Some(OtpHash::Sha512)
+        } else {
+            None
         }
     }
 

@@ -29,13 +29,13 @@ abbrev pub is_client_turn : Place → Bool
 is_client_turn place = is_auth_due place || is_resp_due place || is_code_due place
 
 -- a line of the client is due at a place. The client may give up whenever it is its turn.
-abbrev pub is_due : Place → ClientLine → Bool
-is_due place (auth mechanism) = is_auth_due place
-is_due place (auth_with mechanism message) = is_auth_due place
-is_due place (resp message) = is_resp_due place
-is_due place abort = is_client_turn place
-is_due place (code text) = is_code_due place
-is_due place (sync first second) = is_code_due place
+abbrev pub is_line_due : Place → ClientLine → Bool
+is_line_due place (auth mechanism) = is_auth_due place
+is_line_due place (auth_with mechanism message) = is_auth_due place
+is_line_due place (resp message) = is_resp_due place
+is_line_due place abort = is_client_turn place
+is_line_due place (code text) = is_code_due place
+is_line_due place (sync first second) = is_code_due place
 
 -- the place after a RESP, which has the client-first message or the client-final message; where no RESP is due, the same place
 abbrev pub place_after_resp : Place → List ℕ → Place
@@ -69,7 +69,7 @@ place_after_record place line = place
 abbrev pub DueLinesStand : Type 0
 DueLinesStand = (accounts : Accounts) (place : Place) (line : ClientLine) (next : Place)
     → IsTransition (demands accounts) place (heard line) next
-    ↔ ((is_due place line ≡ true) × (next ≡ place_after_record place (heard line)))
+    ↔ ((is_line_due place line ≡ true) × (next ≡ place_after_record place (heard line)))
 
 -- `C BAD` may stand if and only if it is the client's turn
 abbrev pub BadLinesStand : Type 0

@@ -96,19 +96,19 @@ IsPhaseOf place phase.WaitCode = (account : List ℕ) × (place ≡ waits_code a
 IsPhaseOf place phase.Halted = Unit {0}
 
 -- the phase of a session: after a halt it is Halted
-abbrev pub open_session_phase : (is_halted : Bool) → Option OpenSession → Option Phase
-open_session_phase is_halted None = None
-open_session_phase true (Some open_session) = Some phase.Halted
-open_session_phase false (Some open_session) = Some (session_phase open_session.session)
+abbrev pub phase_after_halt : (is_halted : Bool) → Option OpenSession → Option Phase
+phase_after_halt is_halted None = None
+phase_after_halt true (Some open_session) = Some phase.Halted
+phase_after_halt false (Some open_session) = Some (session_phase open_session.session)
 
 -- the phase of the session of a number, or none if it is not open
-abbrev pub phase_in : {S : Type 0} → HallFields S → ℕ → Option Phase
-phase_in hall number = open_session_phase hall.is_halted (find (is_of number) hall.open_sessions)
+abbrev pub phase_of_number : {S : Type 0} → HallFields S → ℕ → Option Phase
+phase_of_number hall number = phase_after_halt hall.is_halted (find (is_of number) hall.open_sessions)
 
 -- what `Hall::phase` returns of a session in this phase: none if the session is over
-abbrev pub open_phase : Phase → Option Phase
-open_phase phase.Closed = None
-open_phase phase = Some phase
+abbrev pub phase_unless_over : Phase → Option Phase
+phase_unless_over phase.Closed = None
+phase_unless_over phase = Some phase
 
 -- two halls have the same book, store and open sessions, in any order, have given the same numbers, and have both halted or neither
 pub record IsSameHall {S : Type 0} (old new : HallFields S) : Type 0 where
@@ -119,9 +119,9 @@ pub record IsSameHall {S : Type 0} (old new : HallFields S) : Type 0 where
   pub halted : new.is_halted ≡ old.is_halted
 
 -- the phase of the session of a number is that of its place, and there is none if and only if no session is open
-abbrev pub IsPhaseIn : Place → Option Phase → Type 0
-IsPhaseIn place None = place ≡ between
-IsPhaseIn place (Some phase) = (place ≢ between) × IsPhaseOf place phase
+abbrev pub IsPhaseOrNoneOf : Place → Option Phase → Type 0
+IsPhaseOrNoneOf place None = place ≡ between
+IsPhaseOrNoneOf place (Some phase) = (place ≢ between) × IsPhaseOf place phase
 
 -- what a hall stands for, and what its calls do: `facts` are those of its store, and `IsStored` is true of each text that is stored
 module _ {S : Type 0} (facts : S → StoreFacts) (IsStored : List ℕ → Type 0) where
@@ -159,7 +159,7 @@ module _ {S : Type 0} (facts : S → StoreFacts) (IsStored : List ℕ → Type 0
         → (after : IsHallAfter start (numbered number (call_of request lines) ∷ calls) new) × IsPhaseOf (after.places number) phase_after
     -- unless the hall has halted, `Hall::phase` then returns the same phase, or none if the session is over
     pub kept : (start : BookFields) (calls : List (Numbered Call)) → IsHallAfter start calls old
-        → new.is_halted ≡ false → phase_in new number ≡ open_phase phase_after
+        → new.is_halted ≡ false → phase_of_number new number ≡ phase_unless_over phase_after
     -- the phase that is returned is Halted if and only if the hall has halted
     pub shows_halt : (phase_after ≡ phase.Halted) ↔ (new.is_halted ≡ true)
     -- the call saved what its lines record

@@ -1,5 +1,5 @@
 -- The base64 fields of a message (RFC 4648, section 4).
-use Rattle.std.specs.Prelude.{ℕ, ◌≤◌, List, length}
+use Rattle.std.specs.Prelude.{ℕ, ◌+◌, ◌*◌, ◌/◌, ◌≤◌, List, length}
 use Rattle.std.specs.declared.result.Result.{Result}
 use Rattle.base64.specs.declared.decode.DecodeError.{DecodeError}
 use Rattle.base64.specs.Engines.{standard}
@@ -8,6 +8,10 @@ use Rattle.base64.specs.GeneralPurpose.{encode_of, decode_of, IsBytes}
 -- the base64 of these bytes, padded and with no unused bits set: for "n,," it is "biws"
 unfoldable pub base64 : List ℕ → List ℕ
 base64 bytes = encode_of standard bytes
+
+-- the length of the base64 of so many bytes: four characters for each three of them, or part of three
+abbrev pub base64_len : (bytes : ℕ) → ℕ
+base64_len bytes = 4 * ((bytes + 2) / 3)
 
 -- the bytes that a base64 text decodes to, or the error
 unfoldable pub base64_decoded : List ℕ → Result (List ℕ) DecodeError

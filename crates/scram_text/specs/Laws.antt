@@ -1,6 +1,6 @@
 -- The laws of the grammar: base64 has its usual form, parts are UTF-8, a text is a message in at most one way, and it is decidable
 -- whether it is one.
-use Rattle.std.specs.Prelude.{ℕ, ◌≡◌, ◌≤◌, ◌⊎◌, ◌+◌, ◌*◌, ◌/◌, List, length}
+use Rattle.std.specs.Prelude.{ℕ, ◌≡◌, ◌≤◌, ◌⊎◌, List, length}
 use Rattle.std.specs.List.{AllByRecursion}
 use Rattle.std.specs.Str.{IsUtf8}
 use Rattle.std.specs.declared.result.Result.TheVariants.{Ok}
@@ -8,7 +8,7 @@ use Rattle.base64.specs.GeneralPurpose.{IsBytes}
 use Rattle.scram_text.specs.Limits.{max_channel_len}
 use Rattle.scram_text.specs.Class.{IsPlainName}
 use Rattle.scram_text.specs.Name.{LacksComma, SpellsName}
-use Rattle.scram_text.specs.Base64Field.{base64, base64_decoded}
+use Rattle.scram_text.specs.Base64Field.{base64, base64_len, base64_decoded}
 use Rattle.scram_text.specs.Parts.{parts}
 use Rattle.scram_text.specs.Messages.{ClientFirstParts, IsClientFirst, ServerFirstParts, IsServerFirst, ClientFinalParts, IsClientFinal}
 use Rattle.scram_text.specs.Messages.{ServerFinalParts, IsServerFinal}
@@ -17,7 +17,7 @@ use Rattle.scram_text.specs.Messages.{ServerFinalParts, IsServerFinal}
 pub record IsUsualBase64 (bytes : List ℕ) : Type 0 where
   pub decoded : base64_decoded (base64 bytes) ≡ Ok bytes
   pub no_comma : LacksComma (base64 bytes)
-  pub len : length (base64 bytes) ≡ 4 * ((length bytes + 2) / 3)
+  pub len : length (base64 bytes) ≡ base64_len (length bytes)
 
 -- base64 has its usual form, for 1 to 1536 bytes
 abbrev pub HasUsualBase64 : Type 0

@@ -1,6 +1,6 @@
 //! Reads the parts whose values are decoded or have a class of their own. Each is known by its letter. A function that reads a part
 //! returns None for any other part.
-ghost use Rattle.std.specs.Prelude.{◌≡◌, ◌≤◌, ◌+◌, ◌*◌, ◌/◌, ℕ, List, ◌∷◌, ◌++◌, length, take, decimal, codes, IfNone, IfSome, IsTrue, ◌↔◌};
+ghost use Rattle.std.specs.Prelude.{◌≡◌, ◌≤◌, ◌+◌, ◌*◌, ◌/◌, ◌∷◌, ◌++◌, length, take, decimal, codes, IfNone, IfSome, IsTrue, ◌↔◌};
 ghost use Rattle.std.specs.Str.{byte};
 ghost use Rattle.base64.specs.Decode.{decoded_estimate};
 ghost use Rattle.scram_text.specs.Limits.{max_channel_len, max_salt_len, max_tag_len};
@@ -101,6 +101,9 @@ pub(crate) fn channel_of(part: &[u8]) -> Option<ArrayVec<u8, MAX_CHANNEL_LEN>>
     bytes_of::<MAX_CHANNEL_LEN, MAX_CHANNEL_LEN>(text)
 }
 
+// As many bytes as the base64 of a `Tag` decodes to if those of its padding count too.
+const SHORT_FIELD_ROOM: usize = (MAX_TAG_LEN + 2) / 3 * 3;
+
 /// The bytes of a part that is a letter, `=` and the base64 of 1 to 64 bytes.
 pub(crate) fn short_bytes_of(part: &[u8], letter: u8) -> Option<Tag>
     ensures none { IfNone result (IsAttrVal letter (SpellsField max_tag_len) part.now → ⊥) }
@@ -108,7 +111,7 @@ pub(crate) fn short_bytes_of(part: &[u8], letter: u8) -> Option<Tag>
     ensures class { IfSome result (λ tag. IsField max_tag_len tag.items) }
 {
     let text = cut::headed(part, letter)?;
-    bytes_of::<MAX_TAG_LEN, 66>(text)
+    bytes_of::<MAX_TAG_LEN, SHORT_FIELD_ROOM>(text)
 }
 
 /// The salt of a part that is `s=` and the base64 of 1 to 64 bytes.

@@ -12,10 +12,6 @@ use Rattle.book_format.specs.inner.Steps.{◌>>=◌, pass_or}
 use Rattle.book_format.specs.declared.fault.BookWhy.{BookWhy}
 use Rattle.book_format.specs.declared.fault.BookWhy.TheVariants.{Key, Name, Token}
 
--- the most bytes that can be read from hexadecimal: as many as a `Tag` can have
-abbrev pub max_tag_len : ℕ
-max_tag_len = 64
-
 -- the value if it passes a test, else the fault
 abbrev pub value_or : {V : Type 0} → (fits : Bool) → V → BookWhy → Result V BookWhy
 value_or fits v why = if fits then Ok v else Err why

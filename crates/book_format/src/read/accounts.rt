@@ -1,7 +1,8 @@
 //! Reads the accounts of a book.
 ghost use Rattle.std.specs.Prelude.{◌≡◌, ◌≤◌, codes, [], Some};
 ghost use Rattle.toml.specs.View.{view, items_view, table_view};
-ghost use Rattle.book_format.specs.inner.Values.{max_tag_len, plain_name_of, names_in, names_of, name_list_in};
+ghost use Rattle.scram_text.specs.Limits.{max_tag_len};
+ghost use Rattle.book_format.specs.inner.Values.{plain_name_of, names_in, names_of, name_list_in};
 ghost use Rattle.book_format.specs.Names.{are_texts};
 ghost use Rattle.book_format.specs.inner.Steps.{IsReadAs, IsReadOrFault};
 ghost use Rattle.book_format.specs.inner.Books.{named_account_of, accounts_from, in_account};

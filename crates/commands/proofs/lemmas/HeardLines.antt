@@ -9,7 +9,7 @@ use Rattle.log_grammar.specs.Books.{accounts_in}
 use Rattle.log_grammar.specs.Numbered.{Numbered, of_number}
 use Rattle.log_grammar.specs.Places.{Place, between}
 use Rattle.sasl_log.specs.Sink.{SinkFacts}
-use Rattle.sasl_desk.specs.Halls.{HallFields, hall_shown, hall_bytes, phase_in, IsPhaseIn, IsSessionRun, IsHallAfter}
+use Rattle.sasl_desk.specs.Halls.{HallFields, hall_shown, hall_bytes, phase_of_number, IsPhaseOrNoneOf, IsSessionRun, IsHallAfter}
 use Rattle.sasl_desk.specs.Runs.{Call}
 use Rattle.sasl_desk.specs.declared.session.phase.Phase.{Phase}
 use Rattle.sasl_desk.specs.declared.hall.Hall.{Hall}
@@ -111,9 +111,9 @@ module _ {S : Type 0} {facts : S → StoreFacts} {IsStored : List ℕ → Type 0
 module _ {S : Type 0} {facts : S → StoreFacts} {IsStored : List ℕ → Type 0} {start : BookFields} {calls : List (Numbered Call)}
     {hall : HallFields S} (s : IsHallAfter facts IsStored start calls hall) where
   -- if a hall has no session of a number, its calls have left none open
-  closed_session_is_between : (n : ℕ) → phase_in hall n ≡ None → IsSessionRun (accounts_in start) (of_number n calls) between
+  closed_session_is_between : (n : ℕ) → phase_of_number hall n ≡ None → IsSessionRun (accounts_in start) (of_number n calls) between
   closed_session_is_between n none =
-      let at : s.places n ≡ between = subst (λ (p : Option Phase). IsPhaseIn (s.places n) p) none (phases_are_those_of_places s n) in
+      let at : s.places n ≡ between = subst (λ (p : Option Phase). IsPhaseOrNoneOf (s.places n) p) none (phases_are_those_of_places s n) in
       subst (λ (p : Place). IsSessionRun (accounts_in start) (of_number n calls) p) at (s.session_runs n)
 
   -- a line that is bad for a hall is bad after the calls of the hall

@@ -9,7 +9,7 @@ use Rattle.command_line.specs.declared.fault.Fault.{Fault}
 use Rattle.log_grammar.specs.Numbered.{Numbered}
 use Rattle.sasl_log.specs.Sink.{SinkFacts}
 use Rattle.log_grammar.specs.Books.{accounts_in}
-use Rattle.sasl_desk.specs.Halls.{HallFields, hall_shown, hall_bytes, phase_in, IsHallAfter}
+use Rattle.sasl_desk.specs.Halls.{HallFields, hall_shown, hall_bytes, phase_of_number, IsHallAfter}
 use Rattle.sasl_desk.specs.Runs.{Call}
 use Rattle.sasl_desk.specs.declared.hall.Hall.{Hall}
 use Rattle.commands.specs.inner.TurnFaults.{IsLogFault}
@@ -18,7 +18,7 @@ use Rattle.commands.specs.Hall.{InputEvent, opens, does_at, SaysEvent, SaysNoEve
 -- the event is that of a session that is not open
 abbrev pub IsOfClosedSession : {S : Type 0} → HallFields S → InputEvent → Type 0
 IsOfClosedSession hall (opens server_nonce) = ⊥
-IsOfClosedSession hall (does_at session event moment) = phase_in hall session ≡ None
+IsOfClosedSession hall (does_at session event moment) = phase_of_number hall session ≡ None
 
 -- an input line says no event, or one of a session that is not open
 abbrev pub IsBadEvent : {S : Type 0} → List ℕ → HallFields S → Type 0

@@ -11,7 +11,7 @@ use Rattle.log_grammar.specs.Demands.{Accounts, demands, IsUnoffered, IsNotTaken
 use Rattle.sasl_log.specs.Shown.{client_shown}
 use Rattle.sasl_desk.specs.Events.{ClientEvent}
 use Rattle.otp_core.specs.Attempt.{CodeTexts, texts_of}
-use Rattle.sasl_desk.specs.DueLines.{is_due, place_after_record}
+use Rattle.sasl_desk.specs.DueLines.{is_line_due, place_after_record}
 use Rattle.sasl_desk.specs.Sessions.{IsSessionAt, IsLineOf, IsRecord, IsPath, IsChallengeWith, LacksExtensions}
 use Rattle.sasl_desk.specs.declared.session.Session.{Session}
 use Rattle.sasl_desk.specs.declared.session.Session.TheVariants.{WaitCode}
@@ -37,8 +37,8 @@ recorded_shown recorded.Gone = gone
 
 -- what is recorded of this line of the client
 abbrev pub IsRecordOfLine : ClientLine → Place → LogLine → Type 0
-IsRecordOfLine line place (heard logged) = (logged ≡ line) × (is_due place line ≡ true)
-IsRecordOfLine line place bad = is_due place line ≡ false
+IsRecordOfLine line place (heard logged) = (logged ≡ line) × (is_line_due place line ≡ true)
+IsRecordOfLine line place bad = is_line_due place line ≡ false
 IsRecordOfLine line place other = ⊥
 
 -- an answer of these parts
@@ -103,14 +103,14 @@ abbrev pub IsTurnOnEvent : Accounts → (server_nonce : List ℕ) → ClientEven
 IsTurnOnEvent accounts server_nonce event place turn message = IsTurn accounts server_nonce (IsRecord event place) place turn message
 
 -- a code, or two in a row, that the account's client sent when one was due
-pub record IsCodeDue (event : ClientEvent) (at : Place) (name : List ℕ) (sent : CodeTexts) : Type 0 where
+pub record IsDueCode (event : ClientEvent) (at : Place) (name : List ℕ) (sent : CodeTexts) : Type 0 where
   pub place : at ≡ waits_code name
   pub is_record : IsRecord event at (heard (code_line sent))
 
 -- what came of an event: a turn, or a code that is to be judged
 abbrev pub ComesOfEvent : Accounts → (server_nonce : List ℕ) → ClientEvent → Place → HearResult → (message : List ℕ) → Type 0
 ComesOfEvent accounts server_nonce event place (Answered turn) message = IsTurnOnEvent accounts server_nonce event place turn message
-ComesOfEvent accounts server_nonce event place (ToJudge name sent) message = IsCodeDue event place name (texts_of sent)
+ComesOfEvent accounts server_nonce event place (ToJudge name sent) message = IsDueCode event place name (texts_of sent)
 
 -- a turn in which the client sent this line
 abbrev pub IsTurnOnLine : Accounts → (server_nonce : List ℕ) → ClientLine → Place → Turn → (message : List ℕ) → Type 0

@@ -13,7 +13,7 @@ use Rattle.book_keeper.specs.Keeper.{IsCodeJudged}
 use Rattle.sasl_desk.specs.inner.Prefix.{prefixed_bytes}
 use Rattle.sasl_desk.specs.Runs.{wire_bytes}
 use Rattle.sasl_desk.specs.Sessions.{IsSessionAt, CanBeWritten}
-use Rattle.sasl_desk.specs.inner.SessionTurns.{IsTurnOnEvent, IsCodeDue, turn_lines}
+use Rattle.sasl_desk.specs.inner.SessionTurns.{IsTurnOnEvent, IsDueCode, turn_lines}
 use Rattle.sasl_desk.specs.declared.session.Session.{Session}
 use Rattle.sasl_desk.specs.declared.session.Session.TheVariants.{WaitCode}
 use Rattle.sasl_desk.specs.declared.session.event.Turn.{Turn}
@@ -55,7 +55,7 @@ pub record AsksJudgement {S : Type 0} (old : Keeper S) (session : Session) (even
     (name : List ℕ) (sent : CodeTexts) : Type 0 where
   pub waits : session ≡ WaitCode name
   pub asks : (accounts : Accounts) (place : Place) → KeepsEntries accounts old.book → IsSessionAt accounts place session
-      → IsCodeDue event place name sent
+      → IsDueCode event place name sent
   pub writable : IsLogLineWritable (heard (code_line sent))
 
 -- lines were written to the log, each after its prefix, and what the server says in them was sent

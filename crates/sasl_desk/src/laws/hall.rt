@@ -10,7 +10,7 @@ ghost use Rattle.log_grammar.specs.Versions.{IsLogFront, IsClean};
 ghost use Rattle.sasl_desk.specs.AcceptedLogins.{LinesAcceptExactlyValid};
 ghost use Rattle.sasl_desk.specs.Alone.{HaveSameRequests, HaveSameEntries, up_to_acceptance};
 ghost use Rattle.sasl_desk.specs.Desks.{MayHold};
-ghost use Rattle.sasl_desk.specs.Halls.{HallFields, IsTurnedAway, hall_lines, hall_bytes, numbered_bytes, phase_in, IsPhaseIn, IsHallAfter};
+ghost use Rattle.sasl_desk.specs.Halls.{HallFields, IsTurnedAway, hall_lines, hall_bytes, numbered_bytes, phase_of_number, IsPhaseOrNoneOf, IsHallAfter};
 ghost use Rattle.sasl_desk.specs.Records.{HasSessionRecords};
 ghost use Rattle.sasl_desk.specs.Changes.{IsHallRunLeaving};
 ghost use Rattle.sasl_desk.specs.Runs.{Call, wire_bytes, call_lines};
@@ -28,7 +28,7 @@ pub fn log_is_a_front<S: BookStore>()
 pub fn log_is_clean<S: BookStore>()
     ensures closed { (start : BookFields) (calls : List (Numbered Call)) (hall : HallFields S)
         → IsHallAfter S.facts S.IsStored start calls hall
-        → ((number : ℕ) → phase_in hall number ≡ None) → IsClean (accounts_in start) (hall_bytes calls) }
+        → ((number : ℕ) → phase_of_number hall number ≡ None) → IsClean (accounts_in start) (hall_bytes calls) }
     ensures failed { (start : BookFields) (calls : List (Numbered Call)) (hall : HallFields S)
         → IsHallAfter S.facts S.IsStored start calls hall
         → (S.facts hall.keeper.store).failed ≡ true → IsClean (accounts_in start) (hall_bytes calls) }
@@ -50,7 +50,7 @@ pub fn log_accepts_exactly_valid<S: BookStore>()
 pub fn phases_are_those_of_places<S: BookStore>()
     ensures { (start : BookFields) (calls : List (Numbered Call)) (hall : HallFields S)
         (stands : IsHallAfter S.facts S.IsStored start calls hall) (number : ℕ)
-        → IsPhaseIn (stands.places number) (phase_in hall number) }
+        → IsPhaseOrNoneOf (stands.places number) (phase_of_number hall number) }
 {}
 
 /// Unless a session was turned away, its log offers mechanisms for its greeting and records all that its client did, in order, each

@@ -8,7 +8,7 @@ ghost use Rattle.log_grammar.specs.Demands.{Accounts};
 ghost use Rattle.sasl_log.specs.Logins.{KeepsEntries};
 ghost use Rattle.sasl_log.specs.Shown.{client_shown};
 ghost use Rattle.sasl_desk.specs.Events.{ClientEvent};
-ghost use Rattle.sasl_desk.specs.DueLines.{is_client_turn, is_due, place_after_line};
+ghost use Rattle.sasl_desk.specs.DueLines.{is_client_turn, is_line_due, place_after_line};
 ghost use Rattle.sasl_desk.specs.Sessions.{IsWaitingAt, IsRecord, BearsMessage, CanBeWritten};
 ghost use Rattle.sasl_desk.specs.inner.SessionTurns.{lines_of_answer, turn_lines, heard_lines, IsAnswer};
 ghost use Rattle.sasl_desk.specs.inner.SessionTurns.{IsTurnOnEvent, IsTurnOnLine, ComesOfLine, JudgesOnlyWhereCodeIsDue, JudgesOnlyLine};
@@ -41,7 +41,7 @@ pub(crate) fn gone_turn<'a>() -> Turn<'a>
 pub(crate) fn bad_turn<'a>() -> Turn<'a>
     ensures turn { (accounts : Accounts) (server_nonce : List ℕ) (place : Place) (event : ClientEvent) → IsRecord event place bad
         → IsTurnOnEvent accounts server_nonce event place result [] }
-    ensures line { (accounts : Accounts) (server_nonce : List ℕ) (place : Place) (line : grammar.ClientLine) → is_due place line ≡ false
+    ensures line { (accounts : Accounts) (server_nonce : List ℕ) (place : Place) (line : grammar.ClientLine) → is_line_due place line ≡ false
         → IsTurnOnLine accounts server_nonce line place result [] }
     ensures lines { CanBeWritten (turn_lines result []) }
 {
@@ -55,7 +55,7 @@ pub(crate) fn bad_turn<'a>() -> Turn<'a>
 fn answered_line<'a>(line: ClientLine<'a>, answer: Answer) -> Turn<'a>
     requires { IsLineWritable (from_client (client_shown line)) }
     ensures turn { (accounts : Accounts) (server_nonce : List ℕ) (place : Place) (message : List ℕ)
-        → is_due place (client_shown line.entry) ≡ true
+        → is_line_due place (client_shown line.entry) ≡ true
         → IsAnswer accounts server_nonce (place_after_line place (client_shown line.entry)) answer message
         → IsTurnOnLine accounts server_nonce (client_shown line.entry) place result message }
     ensures lines { (message : List ℕ) → CanBeWritten (lines_of_answer answer message) → CanBeWritten (turn_lines result message) }

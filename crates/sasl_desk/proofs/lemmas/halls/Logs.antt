@@ -20,7 +20,7 @@ use Rattle.log_grammar.proofs.lemmas.lines.ReadAndWritten.{writable_lines_are_re
 use Rattle.log_grammar.proofs.lemmas.many_sessions.HaltAndBusy.{visit_halt_leads_to_halted}
 use Rattle.scram_text.proofs.lemmas.SplitLines.{ended_by_lf-append}
 use Rattle.sasl_desk.specs.OpenSessions.{is_of}
-use Rattle.sasl_desk.specs.Halls.{HallFields, hall_lines, hall_bytes, IsStoredAfter, IsHallAfter, open_session_phase, phase_in}
+use Rattle.sasl_desk.specs.Halls.{HallFields, hall_lines, hall_bytes, IsStoredAfter, IsHallAfter, phase_after_halt, phase_of_number}
 use Rattle.sasl_desk.specs.Runs.{Call}
 use Rattle.sasl_desk.specs.declared.hall.open_session.OpenSession.{OpenSession}
 use Rattle.sasl_desk.proofs.lemmas.runs.HeldBooks.{failed_store_means_halted}
@@ -38,7 +38,7 @@ hall_log_is_split calls written = record {
 
 -- a number without a phase has no open session
 number_without_phase_has_no_open_session : (is_halted : Bool) (open_session : Option OpenSession)
-    → open_session_phase is_halted open_session ≡ None → open_session ≡ None
+    → phase_after_halt is_halted open_session ≡ None → open_session ≡ None
 number_without_phase_has_no_open_session is_halted None is = refl
 number_without_phase_has_no_open_session true (Some open_session) is = absurd (cc is)
 number_without_phase_has_no_open_session false (Some open_session) is = absurd (cc is)
@@ -89,7 +89,7 @@ module _ {S : Type 0} {facts : S → StoreFacts} {IsStored : List ℕ → Type 0
   )
 
   -- the law: the log of a hall is clean when no session is open
-  pub log_is_clean_closed : ((n : ℕ) → phase_in hall n ≡ None) → IsClean (accounts_in start) (hall_bytes calls)
+  pub log_is_clean_closed : ((n : ℕ) → phase_of_number hall n ≡ None) → IsClean (accounts_in start) (hall_bytes calls)
   log_is_clean_closed none =
       ended_hall_log_is_clean
       (inl (λ n. number_without_open_session_is_between s n

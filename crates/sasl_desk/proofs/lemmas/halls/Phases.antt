@@ -14,7 +14,7 @@ use Rattle.log_grammar.specs.Demands.{Accounts}
 use Rattle.log_grammar.specs.Numbered.{Numbered, of_number}
 use Rattle.sasl_desk.specs.Desks.{session_phase}
 use Rattle.sasl_desk.specs.OpenSessions.{is_of}
-use Rattle.sasl_desk.specs.Halls.{HallFields, IsSessionRun, IsOpenSessionAt, IsHallAfter, open_session_phase, phase_in, open_phase, IsPhaseOf, IsPhaseIn}
+use Rattle.sasl_desk.specs.Halls.{HallFields, IsSessionRun, IsOpenSessionAt, IsHallAfter, phase_after_halt, phase_of_number, phase_unless_over, IsPhaseOf, IsPhaseOrNoneOf}
 use Rattle.sasl_desk.specs.Runs.{Call, IsAtRest}
 use Rattle.sasl_desk.specs.Sessions.{IsSessionAt}
 use Rattle.sasl_desk.specs.declared.hall.open_session.OpenSession.{OpenSession}
@@ -66,8 +66,8 @@ fitting_phase_is_one at phase.WaitCode (account, is) apart = rw is refl
 fitting_phase_is_one at phase.Halted is apart = absurd (apart refl)
 
 -- a session that is kept, and not in the phase Halted, is in the phase that fits its place; none is kept between sessions
-kept_phase_fits_place : (at : Place) (kept : Option Phase) → IsPhaseIn at kept → (kept ≡ Some phase.Halted → ⊥)
-    → kept ≡ open_phase (phase_at at)
+kept_phase_fits_place : (at : Place) (kept : Option Phase) → IsPhaseOrNoneOf at kept → (kept ≡ Some phase.Halted → ⊥)
+    → kept ≡ phase_unless_over (phase_at at)
 unfolding phase_at
 kept_phase_fits_place at None is apart = rw is refl
 kept_phase_fits_place at (Some phase.Closed) (within, is) apart = absurd (within is)
@@ -78,7 +78,7 @@ kept_phase_fits_place at (Some phase.WaitCode) (within, (account, is)) apart = r
 kept_phase_fits_place at (Some phase.Halted) (within, is) apart = absurd (apart refl)
 
 -- while a hall works, none of its sessions is in the phase Halted
-working_session_is_not_halted : (open_session : Option OpenSession) → open_session_phase false open_session ≡ Some phase.Halted → ⊥
+working_session_is_not_halted : (open_session : Option OpenSession) → phase_after_halt false open_session ≡ Some phase.Halted → ⊥
 working_session_is_not_halted None is = absurd (cc is)
 working_session_is_not_halted (Some open_session) is =
     open_session_is_not_halted open_session.session (same_Some (session_phase open_session.session) phase.Halted is)
@@ -109,7 +109,7 @@ module _ {S : Type 0} {facts : S → StoreFacts} {IsStored : List ℕ → Type 0
   -- the phase of the number's open session, or none if it has none, is that of its place
   open_session_phase_fits_place : (is_halted : Bool) → is_halted ≡ hall.is_halted → (open_session : Option OpenSession)
       → find (is_of n) hall.open_sessions ≡ open_session
-      → IsPhaseIn (s.places n) (open_session_phase is_halted open_session)
+      → IsPhaseOrNoneOf (s.places n) (phase_after_halt is_halted open_session)
   open_session_phase_fits_place is_halted same None none = number_without_open_session_is_between none
   open_session_phase_fits_place true same (Some open_session) some = (number_with_open_session_is_not_between open_session some, tt)
   open_session_phase_fits_place false same (Some open_session) some =
@@ -122,24 +122,24 @@ module _ {S : Type 0} {facts : S → StoreFacts} {IsStored : List ℕ → Type 0
       )
 
   -- the law: the phase of the number's session is that of its place, and there is none if and only if no session of it is open
-  pub phases_are_those_of_places : IsPhaseIn (s.places n) (phase_in hall n)
+  pub phases_are_those_of_places : IsPhaseOrNoneOf (s.places n) (phase_of_number hall n)
   phases_are_those_of_places = open_session_phase_fits_place hall.is_halted refl (find (is_of n) hall.open_sessions) refl
 
   -- while the hall works, a phase that fits the session's place is the one in which the session is kept
   fitting_phase_is_kept : hall.is_halted ≡ false → (p : Phase) → IsPhaseOf (s.places n) p → (p ≡ phase.Halted → ⊥)
-      → phase_in hall n ≡ open_phase p
+      → phase_of_number hall n ≡ phase_unless_over p
   fitting_phase_is_kept working p is apart =
       let open_session = find (is_of n) hall.open_sessions in
-      kept_phase_fits_place (s.places n) (phase_in hall n) phases_are_those_of_places
+      kept_phase_fits_place (s.places n) (phase_of_number hall n) phases_are_those_of_places
       (λ halted. working_session_is_not_halted open_session
-      (subst (λ (b : Bool). open_session_phase b open_session ≡ Some phase.Halted) working halted))
-      ∙ ap open_phase (fitting_phase_is_one (s.places n) p is apart)
+      (subst (λ (b : Bool). phase_after_halt b open_session ≡ Some phase.Halted) working halted))
+      ∙ ap phase_unless_over (fitting_phase_is_one (s.places n) p is apart)
 
 -- the phase that a call returns is the one in which its session is kept, while the hall works
 pub returned_phase_is_kept : {S : Type 0} {facts : S → StoreFacts} {IsStored : List ℕ → Type 0} {start : BookFields}
     {calls : List (Numbered Call)} {new : HallFields S} (n : ℕ) (answered : Phase)
     → ((answered ≡ phase.Halted) ↔ (new.is_halted ≡ true))
     → ((after : IsHallAfter facts IsStored start calls new) × IsPhaseOf (after.places n) answered)
-    → new.is_halted ≡ false → phase_in new n ≡ open_phase answered
+    → new.is_halted ≡ false → phase_of_number new n ≡ phase_unless_over answered
 returned_phase_is_kept n answered shows_halt (after, is) working =
     fitting_phase_is_kept after n working answered is (λ halted. absurd (cc (shows_halt.0 halted, working)))

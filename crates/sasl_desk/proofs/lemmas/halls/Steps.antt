@@ -21,7 +21,7 @@ use Rattle.sasl_desk.proofs.lemmas.halls.OpenSessions.{open_session_of}
 use Rattle.sasl_desk.specs.Halls.{hall_of, hall_lines, IsHallAfter}
 use Rattle.book_keeper.specs.Keeper.{IsCodeJudged}
 use Rattle.sasl_desk.specs.Runs.{hears, Call, call_of, server_nonce_of}
-use Rattle.sasl_desk.specs.inner.SessionTurns.{IsLeftAt, IsCodeDue, turn_lines}
+use Rattle.sasl_desk.specs.inner.SessionTurns.{IsLeftAt, IsDueCode, turn_lines}
 use Rattle.sasl_desk.specs.inner.TurnResults.{after_turn_of, judged_lines, after_judged, SessionAnswers, IsTurnOf}
 use Rattle.sasl_desk.specs.declared.hall.open_session.OpenSession.{OpenSession}
 use Rattle.book_keeper.specs.declared.keeper.Keeper.{Keeper}
@@ -85,7 +85,7 @@ module _ {S : Type 0} {facts : S → StoreFacts} {IsStored : List ℕ → Type 0
       })
 
   -- a turn in which the keeper judged a code, or two in a row, or lost the save for it, is a step of the hall
-  code_is_hall_step : (name : List ℕ) (sent : CodeTexts) (new : Keeper S) → IsCodeDue event (s.places n) name sent
+  code_is_hall_step : (name : List ℕ) (sent : CodeTexts) (new : Keeper S) → IsDueCode event (s.places n) name sent
       → IsLogLineWritable (heard (code_line sent)) → (judged : CodeJudged)
       → IsCodeJudged IsStored old.book (facts old.store) name moment sent judged new.book (facts new.store)
       → IsHallStep s event moment (judged_lines moment sent judged) (after_judged name judged) new

@@ -19,7 +19,7 @@ use Rattle.log_grammar.proofs.lemmas.state_machine.LogSteps.{log_goes_on}
 use Rattle.log_grammar.proofs.lemmas.lines.Written.{offer_is_writable, header_is_writable, halt_is_writable}
 use Rattle.sasl_desk.specs.Events.{ClientEvent}
 use Rattle.book_keeper.specs.Keeper.{IsCodeJudged}
-use Rattle.sasl_desk.specs.inner.SessionTurns.{IsLeftAt, IsCodeDue, turn_lines}
+use Rattle.sasl_desk.specs.inner.SessionTurns.{IsLeftAt, IsDueCode, turn_lines}
 use Rattle.sasl_desk.specs.Runs.{greets, hears, Call, call_of, run_lines, server_nonce_of}
 use Rattle.sasl_desk.specs.inner.TurnResults.{after_turn_of, judged_lines, after_judged, SessionAnswers, IsTurnOf}
 use Rattle.sasl_desk.specs.Desks.{IsStateAt, HoldsBook, IsStoredAt, IsBookAfterReplies, IsDeskAfter, desk_of, state_after}
@@ -123,7 +123,7 @@ module _ {S : Type 0} {facts : S → StoreFacts} {IsStored : List ℕ → Type 0
         })
 
     -- when the keeper has judged a code, or two in a row, or has lost the save for it, the desk stands for one call more
-    code_adds_desk_call : (name : List ℕ) (sent : CodeTexts) (new : Keeper S) → IsCodeDue event s.place name sent
+    code_adds_desk_call : (name : List ℕ) (sent : CodeTexts) (new : Keeper S) → IsDueCode event s.place name sent
         → IsLogLineWritable (heard (code_line sent)) → (judged : CodeJudged)
         → IsCodeJudged IsStored old.book (facts old.store) name moment sent judged new.book (facts new.store)
         → IsDeskAfter facts IsStored start (call_of (hears event moment) (judged_lines moment sent judged) ∷ calls)

@@ -7,7 +7,7 @@ use Rattle.log_grammar.specs.state_machine.Steps.{IsTransition}
 use Rattle.log_grammar.proofs.lemmas.lines.ReadBack.{one_line}
 use Rattle.sasl_desk.specs.Events.{ClientEvent, sends, goes_away}
 use Rattle.sasl_desk.specs.Sessions.{IsRecord}
-use Rattle.sasl_desk.specs.DueLines.{is_due, place_after_line, place_after_record}
+use Rattle.sasl_desk.specs.DueLines.{is_line_due, place_after_line, place_after_record}
 use Rattle.sasl_desk.proofs.lemmas.turns.HeardLines.{from_client_is_injective}
 use Rattle.sasl_desk.proofs.lemmas.turns.DueRecords.{standing_client_line_is_due, bad_and_gone_stand_in_turn}
 use Rattle.sasl_desk.proofs.lemmas.runs.AnswerShapes.{IsAnswerDue}
@@ -28,7 +28,7 @@ one_record goes_away at gone other a b = absurd b
 one_record goes_away at one other a b = absurd a
 
 -- after a line of the client that was due, but for a code, an answer is due
-heard_line_awaits_answer : (at : Place) (line : ClientLine) → is_due at line ≡ true → ((account : List ℕ) → at ≡ waits_code account → ⊥)
+heard_line_awaits_answer : (at : Place) (line : ClientLine) → is_line_due at line ≡ true → ((account : List ℕ) → at ≡ waits_code account → ⊥)
     → IsAnswerDue (place_after_line at line)
 heard_line_awaits_answer at (auth mechanism) due apart = tt
 heard_line_awaits_answer at (auth_with mechanism message) due apart = tt

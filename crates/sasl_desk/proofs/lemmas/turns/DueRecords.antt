@@ -5,10 +5,10 @@ use Rattle.log_grammar.specs.Places.{Place, offered, waits_first, waits_final, w
 use Rattle.log_grammar.specs.Demands.{Demands, demands, no_demands}
 use Rattle.log_grammar.specs.state_machine.Steps.{IsTransition}
 use Rattle.sasl_desk.specs.Sessions.{MayBeHeard}
-use Rattle.sasl_desk.specs.DueLines.{is_client_turn, is_due, place_after_line, DueLinesStand, BadLinesStand, GoneClientsStand}
+use Rattle.sasl_desk.specs.DueLines.{is_client_turn, is_line_due, place_after_line, DueLinesStand, BadLinesStand, GoneClientsStand}
 
 -- a line that is due may stand, and leads to the place after it
-pub due_line_may_stand : (d : Demands) (line : ClientLine) (at : Place) → is_due at line ≡ true
+pub due_line_may_stand : (d : Demands) (line : ClientLine) (at : Place) → is_line_due at line ≡ true
     → IsTransition d at (heard line) (place_after_line at line)
 due_line_may_stand d (auth mechanism) offered due = refl
 due_line_may_stand d (auth mechanism) at due = absurd (cc due)
@@ -29,7 +29,7 @@ due_line_may_stand d (sync one two) at due = absurd (cc due)
 
 -- a line that may stand is due, and leads nowhere else
 pub standing_client_line_is_due : (d : Demands) (line : ClientLine) (at next : Place) → IsTransition d at (heard line) next
-    → (is_due at line ≡ true)
+    → (is_line_due at line ≡ true)
     × (next ≡ place_after_line at line)
 standing_client_line_is_due d (auth mechanism) offered next goes = (refl, goes)
 standing_client_line_is_due d (auth mechanism) at next goes = absurd goes
@@ -49,11 +49,11 @@ standing_client_line_is_due d (sync one two) (waits_code account) next goes = (r
 standing_client_line_is_due d (sync one two) at next goes = absurd goes
 
 -- a line that is due may be heard
-pub due_line_may_be_heard : (at : Place) (line : ClientLine) → is_due at line ≡ true → MayBeHeard at line
+pub due_line_may_be_heard : (at : Place) (line : ClientLine) → is_line_due at line ≡ true → MayBeHeard at line
 due_line_may_be_heard at line due = (place_after_line at line, due_line_may_stand no_demands line at due)
 
 -- a line that may be heard is due
-pub heard_line_is_due : (at : Place) (line : ClientLine) → MayBeHeard at line → is_due at line ≡ true
+pub heard_line_is_due : (at : Place) (line : ClientLine) → MayBeHeard at line → is_line_due at line ≡ true
 heard_line_is_due at line (next, goes) = (standing_client_line_is_due no_demands line at next goes).0
 
 -- `C BAD` and `C GONE` may stand when it is the client's turn

@@ -7,7 +7,7 @@ use Rattle.log_grammar.specs.Places.{Place}
 use Rattle.log_grammar.specs.Demands.{Accounts}
 use Rattle.log_grammar.proofs.lemmas.lines.ReadBack.{one_line}
 use Rattle.sasl_desk.specs.Events.{ClientEvent, sends, goes_away}
-use Rattle.sasl_desk.specs.DueLines.{is_due}
+use Rattle.sasl_desk.specs.DueLines.{is_line_due}
 use Rattle.sasl_desk.specs.Sessions.{IsLineOf, IsRecord, TakesMemory, SentWhatTakesMemory, LongTextsAreBad}
 use Rattle.sasl_desk.specs.inner.SessionTurns.{IsRecordOfLine, ComesOfEvent, ComesOfLine, JudgesOnlyLine, JudgesOnlyWhatWasSent}
 use Rattle.sasl_desk.specs.declared.session.event.HearResult.{HearResult}
@@ -25,11 +25,11 @@ pub line_record_is_event_record : (event : ClientEvent) (line : ClientLine) (at 
 line_record_is_event_record goes_away line at recorded is kept = absurd is
 line_record_is_event_record (sends text) line at (heard recorded) is kept = (
   subst (λ (l : ClientLine). IsLine text (from_client l)) (sym kept.0) is,
-  due_line_may_be_heard at recorded (subst (λ (l : ClientLine). is_due at l ≡ true) (sym kept.0) kept.1),
+  due_line_may_be_heard at recorded (subst (λ (l : ClientLine). is_line_due at l ≡ true) (sym kept.0) kept.1),
 )
 line_record_is_event_record (sends text) line at bad is kept = λ other also may_be_heard.
     let same = from_client_is_injective line other (one_line text (from_client line) (from_client other) is also) in
-    false≢true (sym (subst (λ (l : ClientLine). is_due at l ≡ false) same kept) ∙ heard_line_is_due at other may_be_heard)
+    false≢true (sym (subst (λ (l : ClientLine). is_line_due at l ≡ false) same kept) ∙ heard_line_is_due at other may_be_heard)
 line_record_is_event_record (sends text) line at recorded is kept = absurd kept
 
 -- what came of a line of the client came of the event that was this line

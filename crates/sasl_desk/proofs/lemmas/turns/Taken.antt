@@ -10,7 +10,7 @@ use Rattle.log_grammar.proofs.lemmas.state_machine.Shortening.{code_may_stand}
 use Rattle.sasl_desk.specs.Events.{ClientEvent}
 use Rattle.sasl_desk.specs.Runs.{BearsMoment, IsAnswerLine, IsTurnTaken}
 use Rattle.sasl_desk.specs.Sessions.{IsSessionAt, IsPath, IsChallengeWith}
-use Rattle.sasl_desk.specs.inner.SessionTurns.{IsCodeDue, IsTurnOnEvent, recorded_shown, lines_of_answer, turn_lines}
+use Rattle.sasl_desk.specs.inner.SessionTurns.{IsDueCode, IsTurnOnEvent, recorded_shown, lines_of_answer, turn_lines}
 use Rattle.sasl_desk.specs.inner.TurnResults.{judged_lines}
 use Rattle.book_keeper.specs.declared.keeper.CodeJudged.TheVariants.{Replied, NotSaved}
 use Rattle.sasl_desk.specs.declared.session.Session.{Session}
@@ -38,7 +38,7 @@ module _ (accounts : Accounts) (server_nonce : List ℕ) (event : ClientEvent) (
   }
 
   -- a turn with a code, or two in a row, and its reply is taken as a run says it
-  pub reply_turn_is_taken : (name : List ℕ) (sent : CodeTexts) (reply : Option Reply) → IsCodeDue event at name sent
+  pub reply_turn_is_taken : (name : List ℕ) (sent : CodeTexts) (reply : Option Reply) → IsDueCode event at name sent
       → IsTurnTaken accounts server_nonce event moment at (judged_lines moment sent (Replied reply)) (waits_code name)
   reply_turn_is_taken name sent reply due = record {
     recorded = heard (code_line sent);
@@ -55,7 +55,7 @@ module _ (accounts : Accounts) (server_nonce : List ℕ) (event : ClientEvent) (
   }
 
   -- a turn with a code, or two in a row, whose save failed is taken as a run says it
-  pub halt_turn_is_taken : (name : List ℕ) (sent : CodeTexts) → IsCodeDue event at name sent
+  pub halt_turn_is_taken : (name : List ℕ) (sent : CodeTexts) → IsDueCode event at name sent
       → IsTurnTaken accounts server_nonce event moment at (judged_lines moment sent NotSaved) halted
   halt_turn_is_taken name sent due = record {
     recorded = heard (code_line sent);
