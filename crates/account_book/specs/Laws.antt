@@ -3,11 +3,11 @@
 use Rattle.std.specs.Prelude.{ℕ, ◌≡◌, List, cond}
 use Rattle.std.specs.Str.{bytes_eq}
 use Rattle.std.specs.declared.option.Option.TheVariants.{Some}
+use Rattle.std.specs.FinMap as map
 use Rattle.mac_core.specs.declared.mechanism.Mechanism.{Mechanism}
 use Rattle.otp_core.specs.declared.token.kinds.TokenFields.{TokenFields}
 use Rattle.book_format.specs.Account.{AccountFields}
 use Rattle.book_format.specs.Book.{BookFields}
-use Rattle.std.specs.FinMap as map
 use Rattle.account_book.specs.Accounts.{account_at, account_map, map_changed, with_account, with_changed}
 use Rattle.account_book.specs.View.{entry_in}
 use Rattle.account_book.specs.Tokens.{token_at, with_token}

@@ -3,6 +3,7 @@ use Rattle.std.specs.Prelude.{ℕ, ◌≡◌, ◌⊎◌, List, [], ◌∷◌, �
 use Rattle.std.specs.Fmt.{decimal}
 use Rattle.std.specs.Io.KnownBytes.{Appends, Consumes}
 use Rattle.std.specs.Str.{byte}
+use Rattle.clap.specs.declared.parser.matches.ArgMatches.{ArgMatches}
 use Rattle.mac_core.specs.Mechanism.{digest_len_by}
 use Rattle.mac_core.specs.declared.mechanism.Mechanism.TheVariants.{ScramSha256}
 use Rattle.scram_text.specs.Class.{IsPassword, IsPlainName}
@@ -12,16 +13,15 @@ use Rattle.account_book.specs.Accounts.{account_at}
 use Rattle.account_book.specs.SavedBooks.{HasStoredText}
 use Rattle.account_book.specs.View.{decoy_salt_len}
 use Rattle.book_file.specs.Saved.{IsSavedText}
-use Rattle.clap.specs.declared.parser.matches.ArgMatches.{ArgMatches}
 use Rattle.command_line.specs.Fault.{IsFileUnwrittenOrNoMemory}
 use Rattle.command_line.specs.declared.fault.Fault.{Fault}
 use Rattle.command_line.specs.declared.fault.Fault.TheVariants.{NameTaken, CannotWriteOutput}
 use Rattle.command_line.specs.declared.option_name.OptionName.TheVariants as option
+use Rattle.command_words.specs.Values.{given_value}
 use Rattle.command_io.specs.BadValues.{HasBadPassword, HasBadValue}
 use Rattle.command_io.specs.File.{IsFileUnreadOrNoMemory}
 use Rattle.command_io.specs.HeldBook.{IsEnrolled, IsReadBook, CannotOpenBook}
 use Rattle.command_io.specs.Input.{IsFirstLine, IsInputUnreadOrNoMemory}
-use Rattle.command_words.specs.Values.{given_value}
 use Rattle.command_io.specs.declared.new_account.NewAccount.{NewAccount}
 use Rattle.command_io.specs.declared.new_account.Salts.{Salts}
 

@@ -1,8 +1,8 @@
 //! The command `code`: prints the one-time code for a counter or a moment.
 ghost use Rattle.std.specs.Prelude.{◌≡◌, IfErr, IfOk, OnOk};
+ghost use Rattle.command_io.specs.Printed.{PrintsNothingUnlessOutputFailed};
 ghost use Rattle.account_commands.specs.Code.{IsCodeFor, IsTooEarly, IsFactorAsked, IsFactorInRange, PrintsCodeAsked};
 ghost use Rattle.account_commands.specs.Code.{CannotPrintCode, LacksFactor};
-ghost use Rattle.command_io.specs.Printed.{PrintsNothingUnlessOutputFailed};
 
 use crate::moving_factor::{MovingFactor, TotpInput};
 use clap::ArgMatches;

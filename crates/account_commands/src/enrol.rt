@@ -3,13 +3,13 @@ ghost use Rattle.std.specs.Prelude.{◌≡◌, ◌⊎◌, IfOk, IfErr, IfSome, O
 ghost use Rattle.std.specs.Fmt.{decimal};
 ghost use Rattle.scram_text.specs.Class.{IsPassword, IsPlainName};
 ghost use Rattle.scram_text.specs.Parts.{IsCount};
-ghost use Rattle.account_commands.specs.Enrol.{CannotBeChanged, CannotEnrol, DescribesNoAccount, EnrolsAsked, IsNameTaken};
-ghost use Rattle.account_commands.specs.Enrol.{IsReadOrMade, IsThisOrReadBook, SavesAccount, TakesSalts};
+ghost use Rattle.command_words.specs.Values.{given_value};
 ghost use Rattle.command_io.specs.File.{IsFileUnreadOrNoMemory};
 ghost use Rattle.command_io.specs.HeldBook.{IsReadBook};
 ghost use Rattle.command_io.specs.Input.{IsFirstLine};
-ghost use Rattle.command_words.specs.Values.{given_value};
 ghost use Rattle.command_io.specs.Printed.{PrintsNothingUnlessOutputFailed};
+ghost use Rattle.account_commands.specs.Enrol.{CannotBeChanged, CannotEnrol, DescribesNoAccount, EnrolsAsked, IsNameTaken};
+ghost use Rattle.account_commands.specs.Enrol.{IsReadOrMade, IsThisOrReadBook, SavesAccount, TakesSalts};
 
 use account_book::{Book, SALT_LEN};
 use book_file::{BookFile, BookFileExt, FileStore};

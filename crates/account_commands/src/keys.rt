@@ -4,8 +4,8 @@ ghost use Rattle.std.specs.Io.KnownBytes.{Appends};
 ghost use Rattle.scram_text.specs.Class.{IsPassword};
 ghost use Rattle.command_io.specs.BadValues.{HasBadPassword};
 ghost use Rattle.command_io.specs.Input.{IsFirstLine};
-ghost use Rattle.account_commands.specs.Keys.{printed_keys, CannotPrintKeys, PrintsKeysAsked};
 ghost use Rattle.command_io.specs.Printed.{PrintsNothingUnlessOutputFailed};
+ghost use Rattle.account_commands.specs.Keys.{printed_keys, CannotPrintKeys, PrintsKeysAsked};
 
 use clap::ArgMatches;
 use command_io::input;

@@ -1,7 +1,7 @@
 //! The command `unlock`: sets a token's failures to 0, so that it accepts codes again.
 ghost use Rattle.std.specs.Prelude.{OnOk, IfErr};
-ghost use Rattle.account_commands.specs.Unlock.{CannotUnlock, UnlocksAsked};
 ghost use Rattle.command_io.specs.Printed.{PrintsNothingUnlessOutputFailed};
+ghost use Rattle.account_commands.specs.Unlock.{CannotUnlock, UnlocksAsked};
 
 use book_file::BookFileExt;
 use clap::ArgMatches;

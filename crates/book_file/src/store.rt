@@ -1,7 +1,7 @@
 //! The store that saves a book to its file.
 ghost use Rattle.std.specs.Prelude.{◌≡◌, ◌<◌, ◌+◌, ◌^◌, string_bytes, Some, None, false};
-ghost use Rattle.book_file.specs.Saved.{IsSavedText};
 ghost use Rattle.std.specs.Option.{is_some, option_map, unwrap_or};
+ghost use Rattle.book_file.specs.Saved.{IsSavedText};
 
 use crate::file::BookFile;
 use crate::lock::BookFileExt;

@@ -3,11 +3,11 @@ use Rattle.std.specs.Prelude.{ℕ, ◌≤◌, ◌≡◌, List, length, Option}
 use Rattle.std.specs.Option.{ForSome}
 use Rattle.mac_core.specs.Mechanism.{digest_len_by}
 use Rattle.mac_core.specs.declared.mechanism.Mechanism.TheVariants.{ScramSha1, ScramSha256}
+use Rattle.otp_core.specs.declared.token.kinds.TokenFields.{TokenFields}
 use Rattle.scram_text.specs.Base64Field.{IsField}
 use Rattle.scram_text.specs.Limits.{max_salt_len}
 use Rattle.scram_text.specs.Parts.{IsCount}
 use Rattle.book_format.specs.declared.account.MechKeys.{MechKeys}
-use Rattle.otp_core.specs.declared.token.kinds.TokenFields.{TokenFields}
 
 -- the most other names that an account may act as
 abbrev pub max_names : ℕ

@@ -4,8 +4,8 @@ use Rattle.std.specs.Prelude.{ℕ, pos, List, [], ◌∷◌, codes, Option}
 use Rattle.toml.specs.Data.{integer, Members}
 use Rattle.mac_core.specs.Mechanism.{digest_len_by}
 use Rattle.mac_core.specs.declared.mechanism.Mechanism.TheVariants.{ScramSha1, ScramSha256}
-use Rattle.scram_text.specs.Limits.{max_salt_len, max_iteration_count}
 use Rattle.otp_core.specs.declared.token.kinds.TokenFields.{TokenFields}
+use Rattle.scram_text.specs.Limits.{max_salt_len, max_iteration_count}
 use Rattle.book_format.specs.Account.{AccountFields}
 use Rattle.book_format.specs.ValueTypes.{number_type, bytes_type, name_list_type, any_table_type}
 use Rattle.book_format.specs.Rows.{ValueType, Table}

@@ -1,10 +1,10 @@
 //! The keeper of a book: it saves each change before it reports it.
 ghost use Rattle.std.specs.Prelude.{◌≡◌, ◌≤◌, true, not, is_some, Some, IfErr, IfOk, OnErr, OnOk};
+ghost use Rattle.otp_core.specs.Attempt.{texts_of};
 ghost use Rattle.account_book.specs.Accounts.{account_at, IsAdded, IsChanged};
 ghost use Rattle.account_book.specs.Enrolled.{enrolled};
 ghost use Rattle.account_book.specs.SavedBooks.{SavesBook};
 ghost use Rattle.account_book.specs.Tokens.{token_at, with_token, IsUnlocked};
-ghost use Rattle.otp_core.specs.Attempt.{texts_of};
 ghost use Rattle.book_keeper.specs.Keeper.{IsChangeUnsaved, IsCodeJudged, IsSavedIfChanged, IsToBeSaved, IsUnsaved};
 
 use account_book::{Book, BookStore, EnrolFault};

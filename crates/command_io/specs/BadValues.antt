@@ -3,12 +3,12 @@ use Rattle.std.specs.Prelude.{ℕ, ◌≡◌, ◌≢◌, ◌⊎◌, List, [], �
 use Rattle.std.specs.Fmt.{decimal}
 use Rattle.hex.specs.Hex.{decode_of}
 use Rattle.clap.specs.declared.parser.matches.ArgMatches.{ArgMatches}
-use Rattle.account_book.specs.{name_of, Mechanism}
-use Rattle.scram_text.specs.Class.{IsNoncePart, IsPassword, IsPlainName, IsSalt}
-use Rattle.scram_text.specs.Parts.{IsCount}
 use Rattle.otp_core.specs.Hash.{hash_name}
 use Rattle.otp_core.specs.Ranges.{IsCounter, IsStepLength, IsDigitCount, IsMoment, IsSecretLength}
 use Rattle.otp_core.specs.declared.hash.OtpHash.{OtpHash}
+use Rattle.scram_text.specs.Class.{IsNoncePart, IsPassword, IsPlainName, IsSalt}
+use Rattle.scram_text.specs.Parts.{IsCount}
+use Rattle.account_book.specs.{name_of, Mechanism}
 use Rattle.command_line.specs.declared.fault.Fault.{Fault}
 use Rattle.command_line.specs.declared.fault.Fault.TheVariants.{BadValue, BadPassword}
 use Rattle.command_line.specs.declared.option_name.OptionName.{OptionName}

@@ -13,9 +13,9 @@ use Rattle.account_book.specs.Enrolled.{enrolled}
 use Rattle.account_book.specs.SavedBooks.{needs_save, SavesBook}
 use Rattle.account_book.specs.Store.{StoreFacts}
 use Rattle.account_book.specs.Tokens.{IsUnlocked, IsBookAttempt, token_at}
-use Rattle.book_file.specs.Text.{IsRead}
 use Rattle.book_keeper.specs.Keeper.{IsChangeUnsaved, IsSavedIfChanged, IsSavingReplyDue}
 use Rattle.book_keeper.specs.declared.keeper.SaveFault.TheVariants.{NotSaved}
+use Rattle.book_file.specs.Text.{IsRead}
 use Rattle.command_line.specs.Fault.{fault_of_book}
 use Rattle.command_line.specs.declared.fault.Fault.{Fault}
 use Rattle.command_line.specs.declared.fault.Fault.TheVariants.{NoSuchAccount, NoToken, CannotRead, CannotWrite, NoMemory}

@@ -3,9 +3,9 @@ use Rattle.std.specs.Prelude.{ℕ, ◌≡◌, ◌⊎◌, Bool, ◌&&◌, true, f
 use Rattle.std.specs.Str.{byte}
 use Rattle.std.specs.Io.KnownBytes.{Consumes, IsAtEnd}
 use Rattle.std.specs.declared.option.Option.{Option}
+use Rattle.scram_text.specs.SplitLines.{LacksLf, IsSplit}
 use Rattle.command_line.specs.declared.fault.Fault.{Fault}
 use Rattle.command_line.specs.declared.fault.Fault.TheVariants.{CannotReadInput, NoMemory}
-use Rattle.scram_text.specs.SplitLines.{LacksLf, IsSplit}
 
 -- the most bytes of its input that a command reads (16 MiB)
 abbrev pub max_input_len : ℕ

@@ -1,10 +1,10 @@
 //! A book that this run holds, and its store. Each change is saved before it is reported, and undone if it can't be saved.
 ghost use Rattle.std.specs.Prelude.{◌≡◌, ◌≢◌, true, is_some, None, IfErr, IfOk, MatchOption, OnOk, string_bytes};
+ghost use Rattle.otp_core.specs.Attempt.{texts_of};
 ghost use Rattle.account_book.specs.Accounts.{account_at};
 ghost use Rattle.account_book.specs.SavedBooks.{SavesBook};
 ghost use Rattle.account_book.specs.Tokens.{token_at};
 ghost use Rattle.book_keeper.specs.Keeper.{FailsToSave};
-ghost use Rattle.otp_core.specs.Attempt.{texts_of};
 ghost use Rattle.command_line.specs.Fault.{IsTokenFault, IsFileUnwrittenOrNoMemory};
 ghost use Rattle.command_io.specs.HeldBook.{held_shown, FailsToChange, IsUnlockSaved};
 ghost use Rattle.command_io.specs.HeldBook.{IsEnrolled, IsReplySaved, IsReplyUnsaved, IsTokenUnlocked, LacksToken};

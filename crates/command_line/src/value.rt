@@ -3,10 +3,10 @@ ghost use Rattle.std.specs.Prelude.{◌≡◌, ◌≢◌, ◌≤◌, ◌<◌, �
 ghost use Rattle.std.specs.Fmt.{decimal};
 ghost use Rattle.hex.specs.Hex.{decode_of};
 ghost use Rattle.mac_core.specs.Mechanism.{name_of};
-ghost use Rattle.scram_text.specs.Class.{IsNoncePart, IsPlainName, IsSalt};
-ghost use Rattle.scram_text.specs.Parts.{IsCount};
 ghost use Rattle.otp_core.specs.Ranges.{IsSecretLength, IsDigitCount, IsMoment};
 ghost use Rattle.otp_core.specs.Hash.{hash_name};
+ghost use Rattle.scram_text.specs.Class.{IsNoncePart, IsPlainName, IsSalt};
+ghost use Rattle.scram_text.specs.Parts.{IsCount};
 
 use crate::fault::Fault;
 use crate::option_name::OptionName;

@@ -5,15 +5,15 @@ use Rattle.std.specs.Str.{byte}
 use Rattle.std.specs.Io.KnownBytes.{Appends}
 use Rattle.std.specs.declared.option.Option.{Option}
 use Rattle.std.specs.declared.option.Option.TheVariants.{Some}
-use Rattle.sasl_desk.specs.{CodeTexts, Reply}
 use Rattle.account_book.specs.{BookFields, IsBookText}
 use Rattle.account_book.specs.AccountAttempt.{AccountAttempt, account_attempt_of}
 use Rattle.account_book.specs.Tokens.{IsBookAttempt}
-use Rattle.log_grammar.specs.Lines.{reply_text}
-use Rattle.sasl_desk.specs.Changes.{Change, judged}
-use Rattle.sasl_desk.specs.Desks.{HoldsBook, IsBookAfterReplies}
 use Rattle.command_line.specs.declared.fault.Fault.{Fault}
 use Rattle.command_line.specs.declared.fault.Fault.TheVariants.{CannotWriteOutput}
+use Rattle.log_grammar.specs.Lines.{reply_text}
+use Rattle.sasl_desk.specs.{CodeTexts, Reply}
+use Rattle.sasl_desk.specs.Changes.{Change, judged}
+use Rattle.sasl_desk.specs.Desks.{HoldsBook, IsBookAfterReplies}
 use Rattle.command_io.specs.HeldBook.{HeldFacts}
 use Rattle.command_io.specs.Input.{AreFirstLines, LinesInTurn}
 use Rattle.commands.specs.SentCodes.{SaysCodes}

@@ -3,8 +3,8 @@ use Rattle.std.specs.Prelude.{ℕ, ◌≡◌, ◌⊎◌, List, [], ◌∷◌, �
 use Rattle.std.specs.Str.{byte}
 use Rattle.std.specs.declared.option.Option.{Option}
 use Rattle.std.specs.declared.option.Option.TheVariants.{None, Some}
-use Rattle.scram_ends.specs.{name_of, IsOffered, Mechanism, ScramSha256}
 use Rattle.scram_text.specs.Messages.{ClientFirstParts, ServerFirstParts}
+use Rattle.scram_ends.specs.{name_of, IsOffered, Mechanism, ScramSha256}
 use Rattle.scram_ends.specs.Stages.{Started, Answered, answered_login}
 use Rattle.scram_ends.specs.Client.{AreUsual, IsAnswerable}
 use Rattle.scram_ends.specs.Honest.{IsHonestFirst, IsHonest, honest_signature}

@@ -4,11 +4,10 @@ use Rattle.std.specs.List.{AllZip}
 use Rattle.std.specs.Str.{byte}
 use Rattle.std.specs.Io.KnownBytes.{Appends}
 use Rattle.std.specs.declared.option.Option.{Option}
-use Rattle.sasl_desk.specs.{IsMoment}
+use Rattle.clap.specs.declared.parser.matches.ArgMatches.{ArgMatches}
 use Rattle.scram_text.specs.Class.{IsNoncePart}
 use Rattle.account_book.specs.{BookFields}
 use Rattle.book_file.specs.Saved.{IsSavedText}
-use Rattle.clap.specs.declared.parser.matches.ArgMatches.{ArgMatches}
 use Rattle.command_line.specs.declared.fault.Fault.{Fault}
 use Rattle.command_line.specs.declared.fault.Fault.TheVariants.{BadEvent}
 use Rattle.command_line.specs.declared.option_name.OptionName.TheVariants as option
@@ -16,10 +15,11 @@ use Rattle.command_words.specs.Values.{given_value}
 use Rattle.log_grammar.specs.Demands.{Accounts}
 use Rattle.log_grammar.specs.Numbered.{Numbered, of_number}
 use Rattle.log_grammar.specs.NumberedLines.{IsSessionNumber}
-use Rattle.sasl_desk.specs.Events.{ClientEvent, sends, goes_away}
 use Rattle.log_grammar.specs.Books.{accounts_in}
 use Rattle.log_grammar.specs.Places.{Place, between}
 use Rattle.log_grammar.specs.Versions.{IsLogFront}
+use Rattle.sasl_desk.specs.{IsMoment}
+use Rattle.sasl_desk.specs.Events.{ClientEvent, sends, goes_away}
 use Rattle.sasl_desk.specs.Halls.{hall_lines, hall_bytes, IsSessionRun}
 use Rattle.sasl_desk.specs.Runs.{greets, hears, Call}
 use Rattle.sasl_desk.specs.Saved.{AreLinesSaved}

@@ -3,20 +3,20 @@ use Rattle.std.specs.Prelude.{ℕ, ◌≡◌, ◌⊎◌, Bool, false, List, [], 
 use Rattle.std.specs.Fmt.{decimal}
 use Rattle.std.specs.Io.KnownBytes.{Appends}
 use Rattle.std.specs.declared.option.Option.{Option}
-use Rattle.scram_ends.specs.{name_of}
-use Rattle.sasl_desk.specs.{IsMoment}
+use Rattle.clap.specs.declared.parser.matches.ArgMatches.{ArgMatches}
 use Rattle.scram_text.specs.Class.{IsPassword, IsPlainName}
+use Rattle.scram_ends.specs.{name_of}
 use Rattle.account_book.specs.{BookFields}
 use Rattle.book_file.specs.Saved.{IsSavedText}
-use Rattle.clap.specs.declared.parser.matches.ArgMatches.{ArgMatches}
 use Rattle.command_line.specs.declared.option_name.OptionName.TheVariants as option
+use Rattle.command_words.specs.Values.{value_of, given_value}
 use Rattle.log_grammar.specs.Demands.{Accounts}
 use Rattle.log_grammar.specs.Lines.{log_bytes, header_one}
 use Rattle.log_grammar.specs.Versions.{IsClean, IsLogFront}
-use Rattle.commands.specs.ClientEnd.{IsLoggedIn, IsNotLoggedIn}
+use Rattle.sasl_desk.specs.{IsMoment}
 use Rattle.command_io.specs.HeldBook.{IsReadBook}
 use Rattle.command_io.specs.Input.{TakesLine}
-use Rattle.command_words.specs.Values.{value_of, given_value}
+use Rattle.commands.specs.ClientEnd.{IsLoggedIn, IsNotLoggedIn}
 use Rattle.commands.specs.Nonces.{AreNonces}
 use Rattle.commands.specs.Talked.{Talked, LogSays}
 use Rattle.commands.specs.declared.login.client_end.User.{User}

@@ -14,11 +14,11 @@ use Rattle.command_line.specs.declared.fault.Fault.{Fault}
 use Rattle.command_line.specs.declared.fault.Fault.TheVariants.{CannotWriteOutput}
 use Rattle.command_words.specs.Commands.CommandName.{Keys, Enrol, Code, Verify, Unlock, Login, Hall, Audit, Upgrade}
 use Rattle.command_words.specs.Commands.{CommandName, program, word_of}
+use Rattle.command_io.specs.Printed.{PrintsNothingUnlessOutputFailed}
 use Rattle.account_commands.specs.Code.{CannotPrintCode, PrintsCodeAsked}
 use Rattle.account_commands.specs.Enrol.{CannotEnrol, EnrolsAsked}
 use Rattle.account_commands.specs.Keys.{CannotPrintKeys, PrintsKeysAsked}
 use Rattle.account_commands.specs.Unlock.{CannotUnlock, UnlocksAsked}
-use Rattle.command_io.specs.Printed.{PrintsNothingUnlessOutputFailed}
 use Rattle.commands.specs.Audit.{CannotAudit, PrintsAudit}
 use Rattle.commands.specs.Upgrade.{CannotUpgrade, PrintsUpgrade}
 use Rattle.commands.specs.Hall.{RunsHall, StopsHall}

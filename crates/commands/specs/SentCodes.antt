@@ -4,9 +4,9 @@ use Rattle.std.specs.Str.{byte}
 use Rattle.std.specs.Io.KnownBytes.{Appends}
 use Rattle.std.specs.declared.option.Option.{Option}
 use Rattle.std.specs.declared.option.Option.TheVariants.{Some}
-use Rattle.sasl_desk.specs.{CodeTexts, one_text, two_texts, Pass}
 use Rattle.scram_text.specs.SplitLines.{LacksLf}
 use Rattle.log_grammar.specs.Lines.{IsLine, max_line_len, from_server, from_client, replies, sync}
+use Rattle.sasl_desk.specs.{CodeTexts, one_text, two_texts, Pass}
 use Rattle.command_io.specs.Input.{LinesInTurn}
 use Rattle.commands.specs.Talked.{Talked, Receives}
 

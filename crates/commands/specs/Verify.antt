@@ -5,24 +5,24 @@ use Rattle.std.specs.Fmt.{decimal}
 use Rattle.std.specs.Io.KnownBytes.{Appends}
 use Rattle.std.specs.declared.option.Option.{Option}
 use Rattle.std.specs.declared.option.Option.TheVariants.{Some}
+use Rattle.clap.specs.declared.parser.matches.ArgMatches.{ArgMatches}
 use Rattle.scram_text.specs.Class.{IsPlainName}
-use Rattle.sasl_desk.specs.{CodeTexts, IsMoment, Reply, Pass, Fail, Locked}
 use Rattle.account_book.specs.{BookFields}
 use Rattle.account_book.specs.Accounts.{account_at}
 use Rattle.account_book.specs.Store.{StoreFacts}
 use Rattle.book_file.specs.Saved.{IsSavedText}
-use Rattle.log_grammar.specs.Lines.{reply_text}
-use Rattle.clap.specs.declared.parser.matches.ArgMatches.{ArgMatches}
 use Rattle.command_line.specs.Fault.{IsTokenFault}
 use Rattle.command_line.specs.declared.fault.Fault.{Fault}
 use Rattle.command_line.specs.declared.fault.Fault.TheVariants.{CannotWriteOutput, NoMemory}
 use Rattle.command_line.specs.declared.option_name.OptionName.TheVariants as option
+use Rattle.command_words.specs.Values.{given_value}
+use Rattle.log_grammar.specs.Lines.{reply_text}
+use Rattle.sasl_desk.specs.{CodeTexts, IsMoment, Reply, Pass, Fail, Locked}
 use Rattle.command_io.specs.BadValues.{HasBadValue}
 use Rattle.command_io.specs.HeldBook.{HeldFacts, held_shown, IsReadBook, IsReplySaved, IsReplyUnsaved, CannotOpenBook, LacksToken}
 use Rattle.command_io.specs.Input.{LinesInTurn, IsInputUnreadOrNoMemory}
-use Rattle.commands.specs.SentCodes.{SaysCodes}
-use Rattle.command_words.specs.Values.{given_value}
 use Rattle.command_io.specs.declared.held_book.HeldBook.{HeldBook}
+use Rattle.commands.specs.SentCodes.{SaysCodes}
 
 -- the reply says that the code, or both codes in a row, passed
 abbrev pub is_passed : Reply → Bool

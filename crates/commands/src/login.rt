@@ -1,16 +1,16 @@
 //! The command `login`: runs one login and its codes, as server and as client, and prints the server's log.
 ghost use Rattle.std.specs.Prelude.{◌≡◌, ◌⊎◌, true, ℕ, Bool, List, [], Option, Ok, decimal, option_map, IfOk, IfErr, IfSome, OnOk};
-ghost use Rattle.sasl_desk.specs.{IsMoment};
 ghost use Rattle.scram_text.specs.Class.{IsPassword};
 ghost use Rattle.account_book.specs.{BookFields};
+ghost use Rattle.command_words.specs.Values.{given_value, value_of};
 ghost use Rattle.log_grammar.specs.Versions.{IsClean, IsLogFront};
+ghost use Rattle.sasl_desk.specs.{IsMoment};
 ghost use Rattle.sasl_desk.specs.Desks.{desk_phase};
 ghost use Rattle.sasl_desk.specs.declared.session.phase.Phase.TheVariants as Phase;
-ghost use Rattle.commands.specs.declared.login.client_end.Stage.{Stage};
 ghost use Rattle.command_io.specs.HeldBook.{IsReadBook};
 ghost use Rattle.command_io.specs.BadValues.{HasBadPassword};
 ghost use Rattle.command_io.specs.Input.{IsInputUnreadOrNoMemory, TakesLine};
-ghost use Rattle.command_words.specs.Values.{given_value, value_of};
+ghost use Rattle.commands.specs.declared.login.client_end.Stage.{Stage};
 ghost use Rattle.commands.specs.DeskLog.{HasSavedLog, IsGiven};
 ghost use Rattle.commands.specs.inner.DeskLogSteps.{IsDeskLog, StaysItsLog, StaysItsLogWith, IsLogAfterFault, IsLogAfterFaultWith};
 ghost use Rattle.commands.specs.Login.{EndsTalk, PrintsTalk, IsUserAsked, RunsLogin};

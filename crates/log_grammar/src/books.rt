@@ -1,8 +1,8 @@
 //! The laws of logs, for account books: for the fields of any book that are in their ranges, as those of every `Book` are
 //! (`account_book::laws::books_are_in_range`).
 ghost use Rattle.std.specs.Prelude.{ℕ, ◌↔◌, List, []};
-ghost use Rattle.account_book.specs.{BookFields, IsBook};
 ghost use Rattle.scram_text.specs.SplitLines.{IsSplit};
+ghost use Rattle.account_book.specs.{BookFields, IsBook};
 ghost use Rattle.log_grammar.specs.laws.FitAccounts.{AllCanBeChallenged};
 ghost use Rattle.log_grammar.specs.Books.{accounts_in};
 ghost use Rattle.log_grammar.specs.Versions.{IsLogFront, IsFaultLine};

@@ -1,9 +1,9 @@
 //! Consequences of several laws together, in the form that users of the crate need.
 ghost use Rattle.std.specs.Prelude.{ℕ, ◌≡◌, ◌⊎◌, ◌↔◌, List, [], ◌∷◌, ◌++◌, reverse, take};
+ghost use Rattle.scram_text.specs.SplitLines.{ended_by_lf, IsSplit};
 ghost use Rattle.account_book.specs.AccountAttempt.{AccountAttempt};
 ghost use Rattle.log_grammar.specs.Payload.{IsMessage};
 ghost use Rattle.log_grammar.specs.Lines.{Line, LogLine, client_text, resp, IsLine, IsLogLine, IsNoLogLine};
-ghost use Rattle.scram_text.specs.SplitLines.{ended_by_lf, IsSplit};
 ghost use Rattle.log_grammar.specs.Places.{Place};
 ghost use Rattle.log_grammar.specs.Demands.{Accounts, demands, HaveDueReplies};
 ghost use Rattle.log_grammar.specs.laws.Histories.{IsHistory};

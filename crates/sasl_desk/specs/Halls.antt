@@ -4,11 +4,12 @@ use Rattle.std.specs.List.{AllByRecursion, find}
 use Rattle.std.specs.List.Sorted.{IsPermutation}
 use Rattle.std.specs.declared.option.Option.{Option}
 use Rattle.std.specs.declared.option.Option.TheVariants.{None, Some}
+use Rattle.scram_text.specs.SplitLines.{ended_by_lf}
 use Rattle.account_book.specs.{BookFields}
 use Rattle.account_book.specs.Store.{StoreFacts}
 use Rattle.account_book.specs.AccountAttempt.{AccountAttempt}
+use Rattle.book_keeper.specs.declared.keeper.Keeper.{Keeper}
 use Rattle.log_grammar.specs.Books.{accounts_in}
-use Rattle.scram_text.specs.SplitLines.{ended_by_lf}
 use Rattle.log_grammar.specs.Lines.{LogLine, header_two, said, ended, busy, log_bytes}
 use Rattle.log_grammar.specs.Places.{Place, between, offered, waits_first, waits_final, waits_code, open_at}
 use Rattle.log_grammar.specs.Demands.{Accounts, demands}
@@ -20,7 +21,6 @@ use Rattle.sasl_desk.specs.OpenSessions.{is_of}
 use Rattle.sasl_desk.specs.Runs.{Request, greets, Call, call_of, server_nonce_of, wire_bytes, IsRun}
 use Rattle.sasl_desk.specs.SavedCalls.{CountsSaves, AsksToSaveAttempt, IsQuiet, LeavesFailedStore}
 use Rattle.sasl_desk.specs.Sessions.{IsSessionAt}
-use Rattle.book_keeper.specs.declared.keeper.Keeper.{Keeper}
 use Rattle.sasl_desk.specs.declared.hall.Hall.{Hall}
 use Rattle.sasl_desk.specs.declared.hall.open_session.OpenSession.{OpenSession}
 use Rattle.sasl_desk.specs.declared.session.phase.Phase.{Phase}

@@ -1,10 +1,10 @@
 -- What is read from a client in a turn.
 use Rattle.std.specs.Prelude.{ℕ, ◌≡◌, List, [], ◌∷◌}
+use Rattle.log_grammar.specs.Lines.{max_line_len}
 use Rattle.sasl_log.specs.Source.{SourceFacts}
 use Rattle.sasl_log.specs.ReadsLineBytes.{ReadsLineBytes}
 use Rattle.sasl_log.specs.declared.line_bytes.LineEnd.{LineEnd}
 use Rattle.sasl_log.specs.declared.line_bytes.LineEnd.TheVariants.{Lf, EndOfInput, TooLong, ReadFailed}
-use Rattle.log_grammar.specs.Lines.{max_line_len}
 use Rattle.sasl_desk.specs.Events.{ClientEvent, sends, goes_away}
 
 -- the bytes of a line without its LF, and how they end: with an LF, at the end of the input, at a read that failed, or, if the line

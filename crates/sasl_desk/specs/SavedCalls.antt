@@ -5,11 +5,11 @@ use Rattle.account_book.specs.SavedBooks.{needs_save}
 use Rattle.account_book.specs.Store.{StoreFacts}
 use Rattle.account_book.specs.AccountAttempt.{AccountAttempt}
 use Rattle.account_book.specs.Tokens.{IsBookAttempt}
+use Rattle.book_keeper.specs.declared.keeper.Keeper.{Keeper}
 use Rattle.log_grammar.specs.Lines.{LogLine, said, heard, replies, halt, code_line}
 use Rattle.log_grammar.specs.Places.{Place, waits_code}
 use Rattle.sasl_desk.specs.Events.{ClientEvent}
 use Rattle.sasl_desk.specs.Runs.{Request, hears}
-use Rattle.book_keeper.specs.declared.keeper.Keeper.{Keeper}
 
 -- a line for which the store was asked to save: a reply that needs it, or HALT
 abbrev pub is_saving : LogLine → Bool

@@ -9,8 +9,8 @@ use Rattle.command_line.specs.declared.fault.Fault.{Fault}
 use Rattle.command_line.specs.declared.fault.Fault.TheVariants.{NameTaken, NoMemory}
 use Rattle.command_line.specs.declared.option_name.OptionName.TheVariants as option
 use Rattle.command_words.specs.Values.{given_value}
-use Rattle.account_commands.specs.Enrol.{CannotBeChanged, CannotEnrol, IsOfFile, IsNameTaken, IsReadOrMade, IsThisOrReadBook}
 use Rattle.command_io.specs.HeldBook.{IsReadBook}
+use Rattle.account_commands.specs.Enrol.{CannotBeChanged, CannotEnrol, IsOfFile, IsNameTaken, IsReadOrMade, IsThisOrReadBook}
 
 -- if an account was not added and saved, the fault is that its name is taken, or that the book can't be changed
 unadded_account_has_reason : {File Other : Type 0} (bytes_of : File → Option (List ℕ)) (path name : List ℕ) (this book : BookFields)

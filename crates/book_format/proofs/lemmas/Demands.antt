@@ -4,9 +4,9 @@ use Rattle.std.specs.Prelude.{IsTrue, is_some}
 use Rattle.std.specs.List.{AllByRecursion}
 use Rattle.std.proofs.lemmas.Bool.{cases_Bool, both_ways}
 use Rattle.scram_text.proofs.lemmas.FirstUnmet.{IsFound, found_is_first, met_rows_have_no_first_unmet, one_first_unmet}
-use Rattle.book_format.proofs.lemmas.Steps.{same_err_has_same_fault}
 use Rattle.book_format.specs.Demands.{Demand, must, required, HasFirstFault}
 use Rattle.book_format.specs.inner.Steps.{◌>>=◌, pass_or}
+use Rattle.book_format.proofs.lemmas.Steps.{same_err_has_same_fault}
 
 -- Ok if all demands are met, else the fault of the first that is not
 abbrev pub judged : {F : Type 0} → List (Demand F) → Result (Unit {0}) F

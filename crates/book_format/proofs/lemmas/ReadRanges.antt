@@ -1,7 +1,7 @@
 -- What has a table of the format is in its ranges: a mechanism's keys, an account, and a whole book.
 use Rattle.std.proofs.Common.{◌≡◌, ◌≤◌, ◌⊎◌, ℕ, List, [], ◌∷◌, length, codes, Option, Some, None, subst, arith, inl, inr}
-use Rattle.hex.proofs.HexLemmas.{decode_of-ok}
 use Rattle.toml.specs.Data.{Data, Members, no_members, member, get_member}
+use Rattle.hex.proofs.HexLemmas.{decode_of-ok}
 use Rattle.mac_core.specs.Mechanism.{digest_len_by}
 use Rattle.mac_core.specs.declared.mechanism.Mechanism.TheVariants.{ScramSha1, ScramSha256}
 use Rattle.book_format.specs.Account.{AccountFields, AreKeys, IsAccount, max_names}

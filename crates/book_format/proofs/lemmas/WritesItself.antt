@@ -5,14 +5,14 @@ use Rattle.std.specs.Option.{ForSome}
 use Rattle.toml.specs.Data.{integer, Members, no_members, get_member}
 use Rattle.mac_core.specs.Mechanism.{digest_len_by}
 use Rattle.mac_core.specs.declared.mechanism.Mechanism.TheVariants.{ScramSha256}
-use Rattle.scram_text.specs.Class.{IsPlainName}
-use Rattle.scram_text.specs.Limits.{max_iteration_count, max_salt_len}
 use Rattle.otp_core.specs.Ranges.{IsSecretLength, IsDigitCount, IsMoment, min_secret_len, max_secret_len, min_digits, max_digits, max_moment}
 use Rattle.otp_core.specs.Ranges.{IsInBounds}
 use Rattle.otp_core.specs.declared.fault.Setting.TheVariants.{Last}
 use Rattle.otp_core.specs.TokenRanges.{IsHotpInRange, IsTotpInRange}
 use Rattle.otp_core.specs.declared.token.kinds.HotpFields.{HotpFields}
 use Rattle.otp_core.specs.declared.token.kinds.TotpFields.{TotpFields}
+use Rattle.scram_text.specs.Class.{IsPlainName}
+use Rattle.scram_text.specs.Limits.{max_iteration_count, max_salt_len}
 use Rattle.book_format.specs.Account.{AccountFields, AreKeys, IsAccount}
 use Rattle.book_format.specs.Book.{BookFields, AreAccounts, IsBook}
 use Rattle.book_format.specs.Keys.{is_among, has_only}

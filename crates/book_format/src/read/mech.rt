@@ -1,8 +1,8 @@
 //! Reads what is kept for one mechanism: `salt`, `count`, `stored`, `server`.
 ghost use Rattle.std.specs.Prelude.{◌≡◌, ◌≤◌, length};
 ghost use Rattle.toml.specs.View.{view};
-ghost use Rattle.book_format.specs.inner.Rows.{table_in};
 ghost use Rattle.scram_text.specs.Limits.{max_tag_len};
+ghost use Rattle.book_format.specs.inner.Rows.{table_in};
 ghost use Rattle.book_format.specs.inner.Tables.{keys_reading};
 ghost use Rattle.book_format.specs.Tables.{keys_table};
 

@@ -6,13 +6,13 @@ use Rattle.std.specs.Prelude.{string_bytes, false, None, Err, IsOk, IsTrue, Resu
 use Rattle.std.specs.Str.{IsUtf8, is_utf8}
 use Rattle.std.specs.declared.io.ErrorKind.{ErrorKind}
 use Rattle.std.specs.declared.io.ErrorKind.TheVariants.{OutOfMemory}
-use Rattle.book_file.specs.Text.{IsRead}
-use Rattle.book_format.specs.Faults.{book_why_number}
 use Rattle.scram_text.proofs.lemmas.FirstUnmet.{found_is_first}
+use Rattle.book_format.specs.Faults.{book_why_number}
 use Rattle.book_format.specs.Demands.{must}
 use Rattle.book_format.specs.FirstFault.{book_demands, IsBookFault}
 use Rattle.book_format.specs.declared.fault.BookFault.{BookFault}
 use Rattle.book_format.specs.declared.fault.BookWhy.TheVariants as why
+use Rattle.book_file.specs.Text.{IsRead}
 use Rattle.command_line.specs.Fault.{fault_of_book_why, fault_of_book}
 use Rattle.command_line.specs.declared.fault.Fault.{Fault}
 use Rattle.command_line.specs.declared.fault.Fault.TheVariants.{BadBook, CannotRead, CannotWrite, NoMemory}

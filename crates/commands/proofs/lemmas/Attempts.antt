@@ -7,22 +7,22 @@ use Rattle.std.proofs.KnownBytes.{Appends-nil, Appends-trans}
 use Rattle.std.proofs.lemmas.Bool.{false≢true}
 use Rattle.std.proofs.lemmas.Grind.{reverse_onto}
 use Rattle.std.proofs.lemmas.List.{reverse-append}
-use Rattle.sasl_desk.specs.{CodeTexts, Reply, Locked}
+use Rattle.clap.specs.declared.parser.matches.ArgMatches.{ArgMatches}
 use Rattle.account_book.specs.{BookFields, IsBookText}
 use Rattle.account_book.specs.SavedBooks.{SavesBook}
 use Rattle.account_book.specs.Store.{StoreFacts, IsFailedSave}
 use Rattle.account_book.specs.AccountAttempt.{AccountAttempt, account_attempt_of}
 use Rattle.account_book.specs.Tokens.{IsBookAttempt}
-use Rattle.command_io.specs.{IsChangeUnsaved, IsSavingReplyDue, NotSaved}
+use Rattle.command_line.specs.declared.fault.Fault.{Fault}
+use Rattle.command_line.specs.declared.fault.Fault.TheVariants.{CannotWrite, CannotWriteOutput}
+use Rattle.log_grammar.proofs.lemmas.ListEnds.{related_lists-append}
+use Rattle.sasl_desk.specs.{CodeTexts, Reply, Locked}
 use Rattle.sasl_desk.specs.Desks.{spent_by_all, IsBookAfterReplies, MayHold, MayHoldWithinSave}
 use Rattle.sasl_desk.specs.Changes.{Change, judged, AreChanges}
 use Rattle.sasl_desk.specs.Spent.{AreSpent, spent_by}
 use Rattle.sasl_desk.proofs.lemmas.runs.BooksAfterReplies.{reply_adds_to_book}
 use Rattle.sasl_desk.proofs.lemmas.runs.Changes.{rest_is_spent}
-use Rattle.clap.specs.declared.parser.matches.ArgMatches.{ArgMatches}
-use Rattle.command_line.specs.declared.fault.Fault.{Fault}
-use Rattle.command_line.specs.declared.fault.Fault.TheVariants.{CannotWrite, CannotWriteOutput}
-use Rattle.log_grammar.proofs.lemmas.ListEnds.{related_lists-append}
+use Rattle.command_io.specs.{IsChangeUnsaved, IsSavingReplyDue, NotSaved}
 use Rattle.command_io.specs.HeldBook.{HeldFacts, IsReplySaved, IsStoreAfterFault}
 use Rattle.command_io.specs.Input.{AreLinesOf, EachInTurn, LinesInTurn}
 use Rattle.commands.specs.Attempts.{MakesAttempt, printed_replies, PrintsUntil, HoldsItsBook, MakesAttempts, SavesNextLine}

@@ -4,16 +4,16 @@ use Rattle.std.specs.Prelude.{IfOk, IfNone}
 use Rattle.std.specs.Option.{option_or}
 use Rattle.std.specs.declared.result.Result.{Result}
 use Rattle.std.proofs.lemmas.Result.{IfOk-weaker}
-use Rattle.scram_ends.specs.{IsOffered, Mechanism, ScramSha256}
-use Rattle.command_line.specs.declared.fault.Fault.{Fault}
-use Rattle.log_grammar.specs.Lines.{IsLine, ServerLine, from_server, mechs, cont, accepts}
-use Rattle.log_grammar.proofs.lemmas.lines.ReadBack.{one_line}
 use Rattle.scram_text.specs.Messages.{ServerFirstParts}
+use Rattle.scram_ends.specs.{IsOffered, Mechanism, ScramSha256}
 use Rattle.scram_ends.specs.Stages.{Started, Answered}
 use Rattle.scram_ends.specs.Login.{IsAuthentic}
 use Rattle.scram_ends.specs.Client.{StandsForStarted, IsAnswerable, StandsForAnswered}
 use Rattle.scram_ends.specs.declared.client.ClientOne.{ClientOne}
 use Rattle.scram_ends.specs.declared.client.ClientTwo.{ClientTwo}
+use Rattle.command_line.specs.declared.fault.Fault.{Fault}
+use Rattle.log_grammar.specs.Lines.{IsLine, ServerLine, from_server, mechs, cont, accepts}
+use Rattle.log_grammar.proofs.lemmas.lines.ReadBack.{one_line}
 use Rattle.commands.specs.ClientEnd.{IsChosen}
 use Rattle.commands.specs.inner.ClientSteps.{IfSays, BeginsLogin, AnswersChallenge, MaySay, HasToLeave}
 use Rattle.commands.specs.declared.login.client_end.ClientEnd.{ClientEnd}

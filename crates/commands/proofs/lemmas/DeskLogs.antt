@@ -4,6 +4,7 @@ use Rattle.std.specs.Io.KnownBytes.{Appends}
 use Rattle.std.proofs.KnownBytes.{Appends-trans}
 use Rattle.account_book.specs.{BookFields}
 use Rattle.account_book.specs.Store.{StoreFacts}
+use Rattle.command_line.specs.declared.fault.Fault.{Fault}
 use Rattle.log_grammar.specs.Lines.{LogLine, log_bytes}
 use Rattle.sasl_log.specs.Source.{SourceFacts}
 use Rattle.sasl_log.specs.Sink.{SinkFacts}
@@ -17,7 +18,6 @@ use Rattle.sasl_desk.specs.declared.desk.state.State.{State}
 use Rattle.sasl_desk.specs.declared.fault.ServeFault.{ServeFault}
 use Rattle.sasl_desk.specs.declared.fault.ServeFault.TheVariants.{Halted, Unwritable, NoMemory, WriteFault, LogFault}
 use Rattle.sasl_desk.proofs.lemmas.turns.TurnBytes.{log_bytes-append}
-use Rattle.command_line.specs.declared.fault.Fault.{Fault}
 use Rattle.commands.specs.DeskLog.{IsRequestWith}
 use Rattle.commands.specs.inner.DeskLogSteps.{IsDeskLog, StaysItsLog, StaysItsLogWith, IsLogAfterFault}
 use Rattle.commands.specs.inner.TurnFaults.{IsFaultOfServing}

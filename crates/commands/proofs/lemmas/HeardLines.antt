@@ -13,15 +13,15 @@ use Rattle.sasl_desk.specs.Halls.{HallFields, hall_shown, hall_bytes, phase_of_n
 use Rattle.sasl_desk.specs.Runs.{Call}
 use Rattle.sasl_desk.specs.declared.session.phase.Phase.{Phase}
 use Rattle.sasl_desk.specs.declared.hall.Hall.{Hall}
-use Rattle.commands.specs.Hall.{InputEvent, opens, does_at, IsBadEventAfter, AreCallsFor, PrintsHallLog}
-use Rattle.commands.specs.inner.HallSteps.{IsBadEvent, IsHallLogOf, Hears, HearsLine, HearsUpTo, HearsFirstLines, MayHaveHeard, MeetsBadEvent, PrintsToBadEvent}
-use Rattle.command_io.specs.Input.{line_bytes, TakesLine}
-use Rattle.commands.specs.PrintedLog.{StopsAfter}
 use Rattle.sasl_desk.proofs.lemmas.halls.Logs.{log_is_a_front}
 use Rattle.sasl_desk.proofs.lemmas.halls.Phases.{phases_are_those_of_places}
 use Rattle.sasl_desk.proofs.lemmas.halls.Stores.{log_is_saved}
-use Rattle.commands.proofs.lemmas.HallLogs.{hearings_join}
+use Rattle.command_io.specs.Input.{line_bytes, TakesLine}
 use Rattle.command_io.proofs.lemmas.InputLines.{end_has_no_lines, taken_line_begins_lines, some_lines}
+use Rattle.commands.specs.Hall.{InputEvent, opens, does_at, IsBadEventAfter, AreCallsFor, PrintsHallLog}
+use Rattle.commands.specs.inner.HallSteps.{IsBadEvent, IsHallLogOf, Hears, HearsLine, HearsUpTo, HearsFirstLines, MayHaveHeard, MeetsBadEvent, PrintsToBadEvent}
+use Rattle.commands.specs.PrintedLog.{StopsAfter}
+use Rattle.commands.proofs.lemmas.HallLogs.{hearings_join}
 
 -- a hall has come to a place in its input: hearing events from there on extends what it has heard since the start
 abbrev pub HallHasCome : {S : Type 0} → (S → StoreFacts) → (IsStored : List ℕ → Type 0) → (first : Option (List ℕ)) → (start : Hall S)

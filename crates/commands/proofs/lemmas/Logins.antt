@@ -3,6 +3,9 @@ use Rattle.std.proofs.Common.{◌≡◌, ◌≢◌, inl, inr, ℕ, Bool, Option,
 use Rattle.std.specs.Io.KnownBytes.{Appends}
 use Rattle.account_book.specs.{BookFields}
 use Rattle.account_book.specs.Store.{StoreFacts}
+use Rattle.command_line.specs.Fault.{IsFileUnwrittenOrNoMemory}
+use Rattle.command_line.specs.declared.fault.Fault.{Fault}
+use Rattle.command_line.specs.declared.fault.Fault.TheVariants.{NoMemory as OutOfMemory}
 use Rattle.log_grammar.specs.Lines.{log_bytes, header_one}
 use Rattle.log_grammar.specs.Versions.{IsClean, IsLogFront}
 use Rattle.sasl_log.specs.Sink.{SinkFacts}
@@ -13,9 +16,6 @@ use Rattle.sasl_desk.specs.declared.fault.ServeFault.{ServeFault}
 use Rattle.sasl_desk.specs.declared.fault.ServeFault.TheVariants.{Halted, Unwritable, NoMemory, WriteFault, LogFault}
 use Rattle.sasl_desk.proofs.lemmas.runs.Logs.{log_is_a_front}
 use Rattle.sasl_desk.proofs.lemmas.runs.Stores.{log_is_saved}
-use Rattle.command_line.specs.Fault.{IsFileUnwrittenOrNoMemory}
-use Rattle.command_line.specs.declared.fault.Fault.{Fault}
-use Rattle.command_line.specs.declared.fault.Fault.TheVariants.{NoMemory as OutOfMemory}
 use Rattle.commands.specs.DeskLog.{HasSavedLog}
 use Rattle.commands.specs.inner.DeskLogSteps.{IsDeskLog, IsLogAfterFaultWith}
 use Rattle.commands.specs.LoginFaults.{StopsTalking}

@@ -4,13 +4,13 @@ use Rattle.std.specs.Prelude.{Some, None, Ok, Err, Box, true, codes, option_map,
 use Rattle.std.specs.Box.{box_value}
 use Rattle.std.specs.declared.result.Result.{Result}
 use Rattle.std.proofs.KnownBytes.{Keeps-refl}
-use Rattle.clap.proofs.OnLiterals.{clap_on_literals}
 use Rattle.clap.specs.Words.{App, HasKind, HasMatchesOf, Row, Text, fault_of, found_of, is_simple, is_simple_and_free, kind_of, rows_of}
 use Rattle.clap.specs.Words.{subcommand_name_of, subcommand_of, subcommand_rows, subcommand_rows_of}
 use Rattle.clap.specs.declared.error.Error.{Error}
 use Rattle.clap.specs.declared.parser.matches.ArgMatches.{ArgMatches}
 use Rattle.clap.specs.declared.parser.matches.ArgMatches.TheViews.{out-ArgMatches, out-SubCommand}
 use Rattle.clap.specs.declared.parser.matches.SubCommand.{SubCommand}
+use Rattle.clap.proofs.OnLiterals.{clap_on_literals}
 use Rattle.command_line.specs.declared.fault.Fault.{Fault}
 use Rattle.command_words.specs.Commands.CommandName.{Keys, Enrol, Code, Verify, Unlock, Login, Hall, Audit, Upgrade}
 use Rattle.command_words.specs.Commands.{CommandName, NamesCommand, program, word_of}

@@ -1,7 +1,7 @@
 -- What the client of `login` may say at each step, and how its login ends.
 use Rattle.std.specs.Prelude.{ℕ, ◌≡◌, Bool, true, false, List}
-use Rattle.scram_ends.specs.{name_of}
 use Rattle.scram_text.specs.Messages.{ServerFirstParts}
+use Rattle.scram_ends.specs.{name_of}
 use Rattle.scram_ends.specs.Stages.{Started, Answered, answered_login}
 use Rattle.scram_ends.specs.Client.{StandsForStarted, IsAnswerable, StandsForAnswered}
 use Rattle.scram_ends.specs.Login.{IsAuthentic}

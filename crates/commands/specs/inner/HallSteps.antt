@@ -7,8 +7,8 @@ use Rattle.account_book.specs.{BookFields}
 use Rattle.account_book.specs.Store.{StoreFacts}
 use Rattle.command_line.specs.declared.fault.Fault.{Fault}
 use Rattle.log_grammar.specs.Numbered.{Numbered}
-use Rattle.sasl_log.specs.Sink.{SinkFacts}
 use Rattle.log_grammar.specs.Books.{accounts_in}
+use Rattle.sasl_log.specs.Sink.{SinkFacts}
 use Rattle.sasl_desk.specs.Halls.{HallFields, hall_shown, hall_bytes, phase_of_number, IsHallAfter}
 use Rattle.sasl_desk.specs.Runs.{Call}
 use Rattle.sasl_desk.specs.declared.hall.Hall.{Hall}

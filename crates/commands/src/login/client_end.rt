@@ -1,12 +1,12 @@
 //! The client's end of a login: what it sends next, depending on what it has received.
 ghost use Rattle.std.specs.Prelude.{◌≡◌, ◌≢◌, [], ◌∷◌, ◌++◌, codes, IfOk, IfErr};
 ghost use Rattle.std.specs.Str.{byte};
-ghost use Rattle.log_grammar.specs.Payload.{escaped};
+ghost use Rattle.scram_text.specs.Messages.{ServerFirstParts};
 ghost use Rattle.scram_ends.specs.Client.{StandsForStarted, IsAnswerable, StandsForAnswered};
 ghost use Rattle.scram_ends.specs.Login.{IsAuthentic};
 ghost use Rattle.scram_ends.specs.Stages.{Started, Answered};
-ghost use Rattle.scram_text.specs.Messages.{ServerFirstParts};
 ghost use Rattle.scram_ends.specs.{name_of, Mechanism};
+ghost use Rattle.log_grammar.specs.Payload.{escaped};
 ghost use Rattle.commands.specs.ClientEnd.{IsChosen};
 ghost use Rattle.commands.specs.inner.ClientSteps.{IfSays, BeginsLogin, AnswersChallenge, MaySay, ShowsKeys, HasToLeave};
 

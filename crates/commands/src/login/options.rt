@@ -1,8 +1,8 @@
 //! Checks the options of a login.
 ghost use Rattle.std.specs.Prelude.{◌≡◌, ℕ, List, Some, decimal, option_map, IfOk, IfErr, IfSome};
-ghost use Rattle.sasl_desk.specs.{IsMoment};
 ghost use Rattle.scram_text.specs.Class.{IsNoncePart};
 ghost use Rattle.command_words.specs.Values.{value_of};
+ghost use Rattle.sasl_desk.specs.{IsMoment};
 ghost use Rattle.commands.specs.Login.{IsUserAsked};
 ghost use Rattle.commands.specs.LoginFaults.{HasBadLoginValue};
 

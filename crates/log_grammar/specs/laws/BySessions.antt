@@ -3,10 +3,10 @@
 use Rattle.std.specs.Prelude.{ℕ, ◌≡◌, ◌⊎◌, ◌↔◌, List, [], ◌∷◌, ◌++◌, flat_map}
 use Rattle.std.specs.List.{AllByRecursion}
 use Rattle.otp_core.specs.Attempt.{CodeTexts}
+use Rattle.scram_text.specs.SplitLines.{IsSplit}
 use Rattle.account_book.specs.AccountAttempt.{AccountAttempt}
 use Rattle.log_grammar.specs.Lines.{LogLine, header_one, said, ended, halt, mechs, log_bytes, IsLogLineWritable}
 use Rattle.log_grammar.specs.laws.LastLines.{EndsWith}
-use Rattle.scram_text.specs.SplitLines.{IsSplit}
 use Rattle.log_grammar.specs.Places.{got_code}
 use Rattle.log_grammar.specs.Demands.{Accounts, IsTakenUpFor, demands}
 use Rattle.log_grammar.specs.laws.FitAccounts.{AllCanBeChallenged}

@@ -1,8 +1,8 @@
 -- What the reason for a fault says about a log of version 2: the line that it names as due may stand instead of the one at fault,
 -- under the same number.
 use Rattle.std.specs.Prelude.{ℕ, ◌≡◌, ◌+◌, List, [], ◌∷◌, ◌++◌, length}
-use Rattle.log_grammar.specs.Lines.{LogLine}
 use Rattle.scram_text.specs.SplitLines.{ended_by_lf, IsSplit}
+use Rattle.log_grammar.specs.Lines.{LogLine}
 use Rattle.log_grammar.specs.Demands.{Accounts}
 use Rattle.log_grammar.specs.laws.FitAccounts.{AllCanBeChallenged}
 use Rattle.log_grammar.specs.Why.{Why, other_challenge}

@@ -3,15 +3,15 @@
 use Rattle.std.specs.Prelude.{ℕ, ◌≡◌, ◌≤◌, ◌+◌, List, [], ◌∷◌, ◌++◌, length}
 use Rattle.std.specs.declared.option.Option.{Option}
 use Rattle.std.specs.declared.option.Option.TheVariants.{Some}
-use Rattle.scram_ends.specs.Login.{IsAuthentic}
 use Rattle.otp_core.specs.Attempt.{Attempt, CodeTexts}
 use Rattle.otp_core.specs.Ranges.{IsMoment}
 use Rattle.otp_core.specs.TokenRanges.{IsInRange}
 use Rattle.otp_core.specs.declared.token.reply.Reply.{Reply}
 use Rattle.otp_core.specs.declared.token.kinds.TokenFields.{TokenFields}
+use Rattle.scram_text.specs.SplitLines.{ended_by_lf, IsSplit}
+use Rattle.scram_ends.specs.Login.{IsAuthentic}
 use Rattle.log_grammar.specs.Words.{offered_names}
 use Rattle.log_grammar.specs.Lines.{LogLine, said, mechs, cont, accepts, refuses, replies, log_line_text, IsReplyInRange, IsLogLineWritable}
-use Rattle.scram_text.specs.SplitLines.{ended_by_lf, IsSplit}
 use Rattle.log_grammar.specs.Demands.{Accounts, IsReplyDueBy}
 use Rattle.log_grammar.specs.laws.FitAccounts.{AllCanBeChallenged}
 use Rattle.log_grammar.specs.Why.{Why, is_cut, no_line, out_of_order, other_mechs, other_challenge, other_outcome, other_reply, accepted}

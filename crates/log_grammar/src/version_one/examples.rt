@@ -6,11 +6,11 @@ ghost use Rattle.otp_core.specs.declared.token.reply.Reply.TheVariants.{Pass, Fa
 ghost use Rattle.otp_core.specs.declared.token.kinds.TokenFields.TheVariants.{Hotp, Totp};
 ghost use Rattle.otp_core.specs.declared.token.kinds.HotpFields.{HotpFields};
 ghost use Rattle.otp_core.specs.declared.token.kinds.TotpFields.{TotpFields};
+ghost use Rattle.scram_text.specs.SplitLines.{LacksLf, ended_by_lf};
 ghost use Rattle.account_book.specs.AccountAttempt.{AccountAttempt};
 ghost use Rattle.log_grammar.specs.Words.{IsCodeWord};
 ghost use Rattle.log_grammar.specs.Lines.{LogLine, header_one, said, heard, gone, ended, mechs, cont, accepts, replies, auth_with, resp, code};
 ghost use Rattle.log_grammar.specs.Lines.{sync, max_log_line_len};
-ghost use Rattle.scram_text.specs.SplitLines.{LacksLf, ended_by_lf};
 ghost use Rattle.log_grammar.specs.Counts.{counts_of};
 ghost use Rattle.log_grammar.specs.Places.{Place, halted};
 ghost use Rattle.log_grammar.specs.Demands.{Accounts, demands};

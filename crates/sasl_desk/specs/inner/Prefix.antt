@@ -3,8 +3,8 @@ use Rattle.std.specs.Prelude.{ℕ, ◌+◌, ◌*◌, List, [], ◌∷◌, ◌++�
 use Rattle.std.specs.Str.{byte}
 use Rattle.std.specs.declared.option.Option.{Option}
 use Rattle.std.specs.declared.option.Option.TheVariants.{None, Some}
-use Rattle.log_grammar.specs.Lines.{LogLine, log_line_text}
 use Rattle.scram_text.specs.SplitLines.{ended_by_lf}
+use Rattle.log_grammar.specs.Lines.{LogLine, log_line_text}
 use Rattle.sasl_desk.specs.Bounds.{max_call_lines, max_log_line_and_lf_len}
 
 -- the number and a space, in a log of version 2; nothing in one of version 1

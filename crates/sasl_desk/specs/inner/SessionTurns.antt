@@ -3,6 +3,7 @@ use Rattle.std.specs.Prelude.{ℕ, ◌≡◌, true, false, List, [], ◌∷◌, 
 use Rattle.std.specs.List.{AllByRecursion}
 use Rattle.std.specs.declared.option.Option.{Option}
 use Rattle.std.specs.declared.option.Option.TheVariants.{None, Some}
+use Rattle.otp_core.specs.Attempt.{CodeTexts, texts_of}
 use Rattle.scram_ends.specs.declared.verdict.Verdict.{Verdict}
 use Rattle.scram_ends.specs.declared.verdict.Verdict.TheVariants as verdict
 use Rattle.log_grammar.specs.Lines.{LogLine, said, heard, bad, gone, ended, cont, accepts, refuses, ClientLine, code_line}
@@ -10,7 +11,6 @@ use Rattle.log_grammar.specs.Places.{Place, between, asks_bare, got_first, waits
 use Rattle.log_grammar.specs.Demands.{Accounts, demands, IsUnoffered, IsNotTakenUp}
 use Rattle.sasl_log.specs.Shown.{client_shown}
 use Rattle.sasl_desk.specs.Events.{ClientEvent}
-use Rattle.otp_core.specs.Attempt.{CodeTexts, texts_of}
 use Rattle.sasl_desk.specs.DueLines.{is_line_due, place_after_record}
 use Rattle.sasl_desk.specs.Sessions.{IsSessionAt, IsLineOf, IsRecord, IsPath, IsChallengeWith, LacksExtensions}
 use Rattle.sasl_desk.specs.declared.session.Session.{Session}

@@ -4,12 +4,15 @@ use Rattle.std.specs.declared.option.Option.{Option}
 use Rattle.std.specs.declared.option.Option.TheVariants.{None, Some}
 use Rattle.otp_core.specs.Attempt.{CodeTexts}
 use Rattle.account_book.specs.Store.{StoreFacts}
+use Rattle.book_keeper.specs.Keeper.{IsCodeJudged}
+use Rattle.book_keeper.specs.declared.keeper.Keeper.{Keeper}
+use Rattle.book_keeper.specs.declared.keeper.CodeJudged.{CodeJudged}
+use Rattle.book_keeper.specs.declared.keeper.CodeJudged.TheVariants.{Replied, NotSaved}
 use Rattle.log_grammar.specs.Lines.{LogLine, said, heard, replies, halt, code_line, IsLogLineWritable}
 use Rattle.log_grammar.specs.Places.{Place}
 use Rattle.log_grammar.specs.Demands.{Accounts}
 use Rattle.sasl_log.specs.Logins.{KeepsEntries}
 use Rattle.sasl_desk.specs.Events.{ClientEvent}
-use Rattle.book_keeper.specs.Keeper.{IsCodeJudged}
 use Rattle.sasl_desk.specs.inner.Prefix.{prefixed_bytes}
 use Rattle.sasl_desk.specs.Runs.{wire_bytes}
 use Rattle.sasl_desk.specs.Sessions.{IsSessionAt, CanBeWritten}
@@ -17,9 +20,6 @@ use Rattle.sasl_desk.specs.inner.SessionTurns.{IsTurnOnEvent, IsDueCode, turn_li
 use Rattle.sasl_desk.specs.declared.session.Session.{Session}
 use Rattle.sasl_desk.specs.declared.session.Session.TheVariants.{WaitCode}
 use Rattle.sasl_desk.specs.declared.session.event.Turn.{Turn}
-use Rattle.book_keeper.specs.declared.keeper.Keeper.{Keeper}
-use Rattle.book_keeper.specs.declared.keeper.CodeJudged.{CodeJudged}
-use Rattle.book_keeper.specs.declared.keeper.CodeJudged.TheVariants.{Replied, NotSaved}
 use Rattle.sasl_desk.specs.declared.turn.AfterTurn.{AfterTurn}
 use Rattle.sasl_desk.specs.declared.turn.AfterTurn.TheVariants.{Going, Closed, Halted}
 

@@ -10,9 +10,10 @@ use Rattle.mac_core.specs.Mechanism.{digest_len_by, stored_key_by}
 use Rattle.mac_core.specs.Keys.{xor_bytes}
 use Rattle.mac_core.specs.declared.mechanism.Mechanism.{Mechanism}
 use Rattle.mac_core.proofs.lemmas.Among.{found_iff_among}
-use Rattle.scram_text.specs.Messages.{gs2_header, ClientFinalParts, client_final_mandatory}
 use Rattle.mac_core.proofs.lemmas.Decided.{Decided, decided_equivalent, decided_both, decided_test, decided_same_number, decided_same_text}
+use Rattle.scram_text.specs.Messages.{gs2_header, ClientFinalParts, client_final_mandatory}
 use Rattle.scram_text.proofs.lemmas.messages_decided.ClientFinal.{client_final_is_decided}
+use Rattle.scram_text.proofs.lemmas.FirstUnmet.{first_unmet_or_all_met}
 use Rattle.scram_ends.specs.Entry.{Keys, Entry}
 use Rattle.scram_ends.specs.Stages.{Challenged}
 use Rattle.scram_ends.specs.Auth.{auth_message, client_signature, server_signature, IsProof}
@@ -22,7 +23,6 @@ use Rattle.scram_ends.specs.Laws.{SomeVerdictIsDue}
 use Rattle.scram_ends.specs.declared.verdict.Refusal.{Refusal}
 use Rattle.scram_ends.specs.declared.verdict.Refusal.TheVariants.{InvalidEncoding, ExtensionsNotSupported, OtherNonce, Channel, InvalidProof}
 use Rattle.scram_ends.specs.declared.verdict.Refusal.TheVariants.{NotAuthorised}
-use Rattle.scram_text.proofs.lemmas.FirstUnmet.{first_unmet_or_all_met}
 
 -- it is decidable whether a name is among others
 decided_among : (names : List (List ℕ)) (name : List ℕ) → Decided (Contains names name)

@@ -2,12 +2,12 @@
 use Rattle.std.proofs.Common.{◌≡◌, ◌↔◌, ℕ, List, length, sym, ◌∙◌, ap, subst, refl, arith}
 use Rattle.mac_core.specs.Mechanism.{digest_len_by}
 use Rattle.mac_core.proofs.lemmas.Lengths.{length-hmac_by}
+use Rattle.mac_core.proofs.lemmas.Digests.{AreBytes, mac_is_bytes}
 use Rattle.scram_ends.specs.Stages.{Challenged}
 use Rattle.scram_ends.specs.Verdict.{Due, accept, refuse, IsDue, due_text, verdict_of}
 use Rattle.scram_ends.specs.Login.{IsAuthentic, IsValidLogin}
 use Rattle.scram_ends.specs.declared.verdict.Refusal.{Refusal}
 use Rattle.scram_ends.specs.declared.verdict.Verdict.TheVariants as verdict
-use Rattle.mac_core.proofs.lemmas.Digests.{AreBytes, mac_is_bytes}
 use Rattle.scram_ends.proofs.lemmas.HonestLogins.{digest_length_is_in_range, due_text_is_authentic}
 use Rattle.scram_ends.proofs.lemmas.Verdicts.{refusal_is_not_acceptance, at_most_one_verdict_is_due, due_signature_is_servers, accepts_exactly_valid}
 

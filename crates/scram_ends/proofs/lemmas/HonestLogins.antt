@@ -5,6 +5,8 @@ use Rattle.mac_core.specs.Mechanism.{digest_len_by, hi_by, client_key_by, stored
 use Rattle.mac_core.specs.Keys.{xor_bytes}
 use Rattle.mac_core.specs.declared.mechanism.Mechanism.{Mechanism}
 use Rattle.mac_core.specs.declared.mechanism.Mechanism.TheVariants.{ScramSha1, ScramSha256}
+use Rattle.mac_core.proofs.lemmas.Lengths.{length-hmac_by}
+use Rattle.mac_core.proofs.lemmas.Digests.{AreBytes, mac_is_bytes, length-xor, xor_bytes_cancels}
 use Rattle.scram_text.specs.Limits.{max_tag_len}
 use Rattle.scram_text.specs.Parts.{have_mandatory}
 use Rattle.scram_text.specs.Messages.{ClientFirstParts, ServerFirstParts, server_first_mandatory, client_final_text, verifier}
@@ -28,8 +30,6 @@ use Rattle.scram_ends.proofs.lemmas.client_messages.Headers.{honest_header_is_sh
 use Rattle.scram_ends.proofs.lemmas.client_messages.Expectations.{proofs_are_same, signatures_are_same}
 use Rattle.scram_ends.proofs.lemmas.Verdicts.{acceptance_is_due}
 use Rattle.scram_ends.proofs.lemmas.Written.{signature_can_be_written, signature_is_short}
-use Rattle.mac_core.proofs.lemmas.Lengths.{length-hmac_by}
-use Rattle.mac_core.proofs.lemmas.Digests.{AreBytes, mac_is_bytes, length-xor, xor_bytes_cancels}
 
 -- a mechanism's digests have from 1 to 32 bytes
 pub digest_length_is_in_range : (m : Mechanism) → (1 ≤ digest_len_by m) × (digest_len_by m ≤ 32)

@@ -3,6 +3,7 @@ use Rattle.std.proofs.Common.{◌≡◌, ℕ, inl, inr, List, sym, ◌∙◌, ap
 use Rattle.std.proofs.lemmas.Option.{same_Some}
 use Rattle.scram_text.specs.Messages.{ClientFinalParts, IsClientFinal}
 use Rattle.scram_text.proofs.lemmas.ClientFinal.{has_one_client_final}
+use Rattle.scram_text.proofs.lemmas.FirstUnmet.{met_rows_have_no_first_unmet, one_first_unmet}
 use Rattle.scram_ends.specs.Entry.{Keys}
 use Rattle.scram_ends.specs.Stages.{Challenged}
 use Rattle.scram_ends.specs.Auth.{auth_message, server_signature}
@@ -13,7 +14,6 @@ use Rattle.scram_ends.specs.Laws.{AtMostOneVerdictIsDue, AcceptsExactlyValid}
 use Rattle.scram_ends.specs.declared.verdict.Refusal.{Refusal}
 use Rattle.scram_ends.specs.declared.verdict.Refusal.TheVariants.{InvalidEncoding}
 use Rattle.scram_ends.proofs.lemmas.Opening.{one_opening}
-use Rattle.scram_text.proofs.lemmas.FirstUnmet.{met_rows_have_no_first_unmet, one_first_unmet}
 
 -- of what may be due to a client-final message, a refusal is not an acceptance
 pub refusal_is_not_acceptance : (r : Refusal) (signature : List ℕ) → refuse r ≡ accept signature → ⊥

@@ -9,10 +9,10 @@ use Rattle.std.specs.declared.result.Result.{Result}
 use Rattle.std.specs.declared.result.Result.TheVariants.{Ok, Err}
 use Rattle.std.proofs.lemmas.Fmt.{decimal_is_IsNumeral}
 use Rattle.std.proofs.lemmas.Str.{IsUtf8-from_is_utf8, is_utf8-from_IsUtf8}
-use Rattle.mac_core.proofs.lemmas.Decided.{Decided, decided_equivalent, decided_both, decided_test, decided_le, decided_same_number}
-use Rattle.mac_core.proofs.lemmas.Decided.{decided_same_text}
 use Rattle.base64.specs.GeneralPurpose.{IsBytes}
 use Rattle.base64.specs.declared.decode.DecodeError.{DecodeError}
+use Rattle.mac_core.proofs.lemmas.Decided.{Decided, decided_equivalent, decided_both, decided_test, decided_le, decided_same_number}
+use Rattle.mac_core.proofs.lemmas.Decided.{decided_same_text}
 use Rattle.scram_text.specs.Limits.{max_channel_len, max_salt_len, max_tag_len, max_iteration_count}
 use Rattle.scram_text.specs.Class.{is_printable, IsCharsOf, IsNonce, IsUtf8Text}
 use Rattle.scram_text.specs.Name.{LacksComma, is_escaped, IsSaslName}

@@ -2,10 +2,10 @@
 use Rattle.std.specs.Prelude.{◌≡◌, ◌≤◌, ◌+◌, [], ◌∷◌, ◌++◌, List, ℕ, length, replicate, IfSome, is_some, Bool, false, ◌&&◌, ◌==◌}
 use Rattle.std.specs.Str.{byte}
 use Rattle.std.specs.Option.{option_copied}
+use Rattle.std.specs.declared.option.Option.{Option}
 use Rattle.scram_text.specs.Class.{IsUtf8Text, IsNonce, is_letter}
 use Rattle.scram_text.specs.Name.{IsSaslName}
 use Rattle.scram_text.specs.Messages.{ClientFirstParts, bare_parts, client_first_mandatory}
-use Rattle.std.specs.declared.option.Option.{Option}
 use Rattle.scram_text.specs.Limits.{max_message_len, max_nonce_part_len}
 use Rattle.scram_text.specs.Parts.{parts, parts_of_some, mext_parts, joined, IsValue, is_named, AreExtensions}
 use Rattle.scram_text.specs.Faults.{IsFirstMisfit, places, first_of, places_with_mext}

@@ -1,7 +1,7 @@
 use Rattle.std.proofs.Common.{inl, inr, refl, sym}
 use Rattle.std.proofs.lemmas.Result.{err_from_is_err_and, IfErr-weaker}
-use Rattle.account_commands.proofs.lemmas.EnrolFaults.{failed_adding_has_reason, failed_saving_has_reason}
 use Rattle.command_io.proofs.lemmas.Results.{on_ok_from_both}
+use Rattle.account_commands.proofs.lemmas.EnrolFaults.{failed_adding_has_reason, failed_saving_has_reason}
 use Rattle.account_commands.proofs.enrol.add_and_save.Goals as goal
 
 -- the book's file has changed, and the account is added to the book that it holds now

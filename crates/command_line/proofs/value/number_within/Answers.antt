@@ -1,8 +1,8 @@
 use Rattle.std.proofs.Common.{◌≡◌, arith, refl, rules, sym, ◌∙◌}
 use Rattle.std.proofs.lemmas.Fmt.{decimal_injective}
-use Rattle.command_line.proofs.value.number_within.Goals as goal
 use Rattle.command_line.proofs.value.number_within.Goals.{in_default-via-in-Some+then-least-n+else-n-most, in_default-via-in-Some+else-least-n}
 use Rattle.command_line.proofs.value.number_within.Goals.{in_default-via-in_default}
+use Rattle.command_line.proofs.value.number_within.Goals as goal
 
 pub returns-in_default-clause-err : goal.returns-in_default-clause-err
 returns-in_default-clause-err c =

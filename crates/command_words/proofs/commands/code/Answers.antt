@@ -1,10 +1,10 @@
 use Rattle.std.proofs.Common.{rules, [], ap, codes}
 use Rattle.std.proofs.lemmas.Result.{IfOk-weaker}
-use Rattle.command_words.specs.Commands.{one_value, with_default, required_value, HasOptions}
-use Rattle.command_line.specs.declared.option_name.OptionName.TheVariants.{Secret, Digits, Counter, Moment, Hash, T0, Step}
 use Rattle.clap.specs.Simple.{app_of_fields}
 use Rattle.clap.specs.declared.builder.command.Command.{Command}
 use Rattle.clap.specs.declared.builder.command.Command.TheOpen.{Command-F}
+use Rattle.command_line.specs.declared.option_name.OptionName.TheVariants.{Secret, Digits, Counter, Moment, Hash, T0, Step}
+use Rattle.command_words.specs.Commands.{one_value, with_default, required_value, HasOptions}
 use Rattle.command_words.proofs.lemmas.Adding.{new_command_has_no_options, command_has_added_option}
 use Rattle.command_words.proofs.commands.code.Goals as goal
 

@@ -1,10 +1,10 @@
 use Rattle.std.proofs.Common.{rules, [], ap, codes}
 use Rattle.std.proofs.lemmas.Result.{IfOk-weaker}
-use Rattle.command_words.specs.Commands.{with_default, required_value, HasOptions}
-use Rattle.command_line.specs.declared.option_name.OptionName.TheVariants.{Book, Name, Random, Count}
 use Rattle.clap.specs.Simple.{app_of_fields}
 use Rattle.clap.specs.declared.builder.command.Command.{Command}
 use Rattle.clap.specs.declared.builder.command.Command.TheOpen.{Command-F}
+use Rattle.command_line.specs.declared.option_name.OptionName.TheVariants.{Book, Name, Random, Count}
+use Rattle.command_words.specs.Commands.{with_default, required_value, HasOptions}
 use Rattle.command_words.proofs.lemmas.Adding.{new_command_has_no_options, command_has_added_option}
 use Rattle.command_words.proofs.commands.enrol.Goals as goal
 

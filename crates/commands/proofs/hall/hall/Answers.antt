@@ -1,7 +1,7 @@
 use Rattle.std.proofs.Common.{inl, inr, ℕ, List, ◌∙◌, refl, subst}
 use Rattle.std.proofs.lemmas.Result.{IfErr-weaker}
-use Rattle.command_io.proofs.lemmas.Results.{if_err_all_three}
 use Rattle.command_io.specs.HeldBook.{CannotOpenBook}
+use Rattle.command_io.proofs.lemmas.Results.{if_err_all_three}
 use Rattle.commands.specs.Hall.{StopsHearing}
 use Rattle.commands.proofs.lemmas.Cases.{second_case_weakens}
 use Rattle.commands.proofs.hall.hall.Goals as goal

@@ -1,9 +1,9 @@
 use Rattle.std.proofs.Common.{inl, refl}
 use Rattle.sasl_desk.proofs.lemmas.runs.Logs.{log_is_clean_closed}
 use Rattle.sasl_desk.proofs.lemmas.runs.Stores.{log_is_saved}
+use Rattle.command_io.proofs.lemmas.Results.{handed_fault_keeps_fact}
 use Rattle.commands.specs.inner.DeskLogSteps.{IsLogAfterFaultWith}
 use Rattle.commands.specs.Talked.{talked_in}
-use Rattle.command_io.proofs.lemmas.Results.{handed_fault_keeps_fact}
 use Rattle.commands.proofs.lemmas.Cases.{second_case_weakens}
 use Rattle.commands.proofs.lemmas.DeskLogs.{two_steps_keep_log}
 use Rattle.commands.proofs.login.converse.Goals as goal

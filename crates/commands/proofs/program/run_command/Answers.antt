@@ -1,10 +1,10 @@
 use Rattle.std.proofs.Common.{rules, refl}
 use Rattle.command_words.specs.Commands.CommandName.{Keys, Enrol, Code, Verify, Unlock, Login, Hall, Audit, Upgrade}
-use Rattle.commands.specs.Program.{answer_status}
 use Rattle.command_io.proofs.lemmas.Results.{if_err_both}
+use Rattle.commands.specs.Program.{answer_status}
 use Rattle.commands.proofs.lemmas.Runs.{command_with_answer_ends, command_with_status_ends, found_command_is_known, found_command_has_name}
-use Rattle.commands.proofs.program.run_command.Goals as goal
 use Rattle.commands.proofs.program.run_command.Goals.{in_default-via-in-Some+in_default, in_default-via-in_default}
+use Rattle.commands.proofs.program.run_command.Goals as goal
 
 pub returns-in-Some-keys-default-clause-ends : goal.returns-in-Some-keys-default-clause-ends
 returns-in-Some-keys-default-clause-ends g c =

@@ -1,7 +1,7 @@
 use Rattle.std.proofs.Common.{inl, inr, refl, ◌∙◌}
-use Rattle.commands.specs.Verify.{verify_run_of, AnswersLine}
 use Rattle.command_io.proofs.lemmas.Results.{handed_fault_keeps_fact}
 use Rattle.command_io.proofs.lemmas.LinesInTurn.{run_comes_past_line, run_at_end_worked_all, run_before_line_worked_first, run_at_line_worked_first}
+use Rattle.commands.specs.Verify.{verify_run_of, AnswersLine}
 use Rattle.commands.proofs.verify.answer_lines.Goals as goal
 
 pub returns-in_err-line-clause-err : goal.returns-in_err-line-clause-err

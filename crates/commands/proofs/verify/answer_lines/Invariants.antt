@@ -1,6 +1,6 @@
 use Rattle.std.proofs.Common.{◌≡◌}
-use Rattle.commands.specs.Verify.{verify_run_of, AnswersLine}
 use Rattle.command_io.proofs.lemmas.LinesInTurn.{HasCome}
+use Rattle.commands.specs.Verify.{verify_run_of, AnswersLine}
 use Rattle.commands.proofs.verify.answer_lines.Given as goal
 
 abbrev pub invariant-loop-line : goal.invariant-loop-line

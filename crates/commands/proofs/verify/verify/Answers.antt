@@ -1,11 +1,11 @@
 use Rattle.std.proofs.Common.{◌≡◌, inr, false, ℕ, List, Option, refl, sym, ◌∙◌, subst}
 use Rattle.std.specs.Fmt.{decimal}
 use Rattle.std.proofs.lemmas.Result.{IfOk-weaker, IfErr-weaker}
-use Rattle.scram_text.specs.Class.{IsPlainName}
-use Rattle.sasl_desk.specs.{IsMoment}
 use Rattle.clap.specs.declared.parser.matches.ArgMatches.{ArgMatches}
+use Rattle.scram_text.specs.Class.{IsPlainName}
 use Rattle.command_line.specs.declared.option_name.OptionName.TheVariants as option
 use Rattle.command_words.specs.Values.{given_value}
+use Rattle.sasl_desk.specs.{IsMoment}
 use Rattle.command_io.specs.HeldBook.{IsReadBook}
 use Rattle.commands.specs.Verify.{VerifyRun, BeginsToVerify}
 use Rattle.commands.proofs.verify.verify.Goals as goal

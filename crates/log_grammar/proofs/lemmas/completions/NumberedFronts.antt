@@ -2,9 +2,11 @@
 use Rattle.std.proofs.Common.{◌≡◌, inl, inr, ℕ, ◌+◌, false, List, [], ◌∷◌, ◌++◌, reverse, refl, sym, ◌∙◌, ap, subst, arith}
 use Rattle.std.specs.Prelude.{codes}
 use Rattle.std.specs.List.{AllZip}
+use Rattle.scram_text.specs.SplitLines.{ended_by_lf, IsSplit}
+use Rattle.scram_text.proofs.lemmas.SplitLines.{joined_lines_are_split}
+use Rattle.scram_text.proofs.lemmas.ListEnds.{nonempty_has_last}
 use Rattle.account_book.specs.AccountAttempt.{AccountAttempt}
 use Rattle.log_grammar.specs.Lines.{LogLine, said, ended, busy}
-use Rattle.scram_text.specs.SplitLines.{ended_by_lf, IsSplit}
 use Rattle.log_grammar.specs.Places.{Place, between, over, is_closed}
 use Rattle.log_grammar.specs.Demands.{Accounts, demands, HaveDueReplies}
 use Rattle.log_grammar.specs.laws.FitAccounts.{AllCanBeChallenged}
@@ -13,9 +15,8 @@ use Rattle.log_grammar.specs.Numbered.{Numbered, numbered, visit_place, visit_li
 use Rattle.log_grammar.specs.NumberedLines.{IsSessionNumber, IsNumberedLine}
 use Rattle.log_grammar.specs.state_machine.NumberedSteps.{put}
 use Rattle.log_grammar.specs.VersionTwo.{version_two}
-use Rattle.log_grammar.proofs.lemmas.lines.Written.{end_is_writable}
-use Rattle.scram_text.proofs.lemmas.SplitLines.{joined_lines_are_split}
 use Rattle.log_grammar.specs.laws.KindLaws.{FrontsBeginCleanOf, BeginsCleanOf}
+use Rattle.log_grammar.proofs.lemmas.lines.Written.{end_is_writable}
 use Rattle.log_grammar.proofs.lemmas.completions.OpenSessions.{IsNumberedCompletable, ended_numbered_log_is_completable}
 use Rattle.log_grammar.proofs.lemmas.completions.OpenSessions.{shorter_numbered_log_is_completable, Free, log_is_free_after, OpenInRange}
 use Rattle.log_grammar.proofs.lemmas.completions.OpenSessions.{closing_all_completes_log}
@@ -28,7 +29,6 @@ use Rattle.log_grammar.proofs.lemmas.many_sessions.Standings.{line_follows_last}
 use Rattle.log_grammar.proofs.lemmas.many_sessions.OpenCounts.{number_is_given_or_not}
 use Rattle.log_grammar.proofs.lemmas.many_sessions.LinesOfNumber.{one_and_others_cover_each, put_sets_own, put_keeps_others}
 use Rattle.log_grammar.proofs.lemmas.many_sessions.LinesOfNumber.{first_line_of_number_stands}
-use Rattle.scram_text.proofs.lemmas.ListEnds.{nonempty_has_last}
 use Rattle.log_grammar.proofs.lemmas.ListEnds.{empty_has_no_element, related_lists-append}
 
 -- each of the lines that were read has its text

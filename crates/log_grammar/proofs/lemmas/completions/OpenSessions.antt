@@ -6,9 +6,9 @@ use Rattle.std.specs.List.{AllByRecursion, AllZip}
 use Rattle.std.proofs.lemmas.Bool.{cases_Bool}
 use Rattle.std.proofs.lemmas.Bool.Decides.{eqb_tells}
 use Rattle.std.proofs.lemmas.List.{same_from_push}
+use Rattle.scram_text.specs.SplitLines.{LacksLf}
 use Rattle.account_book.specs.AccountAttempt.{AccountAttempt}
 use Rattle.log_grammar.specs.Lines.{LogLine, said, halt, IsLogLineWritable}
-use Rattle.scram_text.specs.SplitLines.{LacksLf}
 use Rattle.log_grammar.specs.Places.{Place, before_all, between, halted, is_closed}
 use Rattle.log_grammar.specs.Demands.{Accounts, Demands, demands, HaveDueReplies}
 use Rattle.log_grammar.specs.laws.FitAccounts.{AllCanBeChallenged}

@@ -3,6 +3,8 @@ use Rattle.std.proofs.Common.{◌≡◌, inl, inr, ℕ, ◌≤◌, List, [], len
 use Rattle.std.proofs.lemmas.Bool.{cases_lt}
 use Rattle.mac_core.specs.Mechanism.{digest_len_by}
 use Rattle.mac_core.specs.declared.mechanism.Mechanism.{Mechanism}
+use Rattle.mac_core.proofs.lemmas.Lengths.{length-hmac_by}
+use Rattle.mac_core.proofs.lemmas.Digests.{AreBytes, mac_is_bytes}
 use Rattle.scram_text.specs.Limits.{max_message_len, max_tag_len}
 use Rattle.scram_text.specs.Messages.{verifier, server_error, IsServerFinal}
 use Rattle.scram_text.proofs.lemmas.Base64.{bytes_are_field}
@@ -11,16 +13,14 @@ use Rattle.scram_ends.specs.Stages.{challenged_login}
 use Rattle.scram_ends.specs.Verdict.{Due, accept, refuse, due_text, final_due, error_value}
 use Rattle.scram_ends.specs.Login.{IsAuthentic}
 use Rattle.scram_ends.specs.declared.verdict.Refusal.{Refusal}
-use Rattle.mac_core.proofs.lemmas.Lengths.{length-hmac_by}
-use Rattle.mac_core.proofs.lemmas.Digests.{AreBytes, mac_is_bytes}
 use Rattle.scram_ends.proofs.lemmas.HonestLogins.{digest_length_is_in_range}
 use Rattle.scram_ends.proofs.lemmas.Verdicts.{due_signature_is_servers}
 use Rattle.scram_ends.proofs.lemmas.Written.{signature_can_be_written, signature_fits, refusal_can_be_written, refusal_fits}
+use Rattle.scram_ends.proofs.lemmas.Decided.{some_verdict_is_due}
 use Rattle.log_grammar.specs.Lines.{said, accepts, refuses, IsLogLineWritable}
 use Rattle.log_grammar.specs.Demands.{Accounts, IsChallenged, IsVerdictDue}
 use Rattle.log_grammar.proofs.lemmas.lines.Written.{refusal_is_writable, ok_is_writable}
 use Rattle.log_grammar.proofs.lemmas.lines.TextBytes.{utf8_is_message}
-use Rattle.scram_ends.proofs.lemmas.Decided.{some_verdict_is_due}
 
 -- some verdict is due to any client-final message, if the texts before it open a login
 pub some_verdict : (accounts : Accounts) (mechanism account first challenge last : List ℕ)

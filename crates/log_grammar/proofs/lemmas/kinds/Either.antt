@@ -3,9 +3,9 @@ use Rattle.std.proofs.Common.{◌≡◌, ◌⊎◌, inl, inr, ℕ, List, [], ◌
 use Rattle.mac_core.proofs.lemmas.Decided.{Decided, decided_same_text}
 use Rattle.log_grammar.specs.Why.{Why, no_line}
 use Rattle.log_grammar.specs.LogKinds.{LogKind, either}
+use Rattle.log_grammar.specs.laws.KindLaws.{FrontsBeginCleanOf}
 use Rattle.log_grammar.proofs.lemmas.kinds.Sound.{CanBeShortened, CleanLinesStand, HasOneReason, NextIsJudged, IsSound}
 use Rattle.log_grammar.proofs.lemmas.kinds.Fronts.{first_lines_stand}
-use Rattle.log_grammar.specs.laws.KindLaws.{FrontsBeginCleanOf}
 use Rattle.log_grammar.proofs.lemmas.kinds.FaultLines.{FaultText}
 
 -- each log of the kind begins with this line, and it may be alone

@@ -6,11 +6,11 @@ use Rattle.std.proofs.Math.Seq.{take-length, drop-length, take-append_seam, drop
 use Rattle.std.proofs.lemmas.Bool.{cases_lt}
 use Rattle.std.proofs.lemmas.List.{take-append-drop}
 use Rattle.scram_text.specs.SplitLines.{LacksLf, ended_by_lf, IsSplit}
+use Rattle.scram_text.proofs.lemmas.SplitLines.{one_split, longer_bytes_are_split, lines_up_to_lack_lf, whole_lines_are_split}
 use Rattle.log_grammar.specs.Why.{Why}
 use Rattle.log_grammar.specs.LogKinds.{LogKind, IsLogFrontOf, IsCleanOf, IsFaultLineOf, IsReasonForNextOf, IsWhyOf}
 use Rattle.log_grammar.specs.LogKinds.{IsFaultAmong}
 use Rattle.log_grammar.specs.laws.KindLaws.{FrontsBeginCleanOf, FrontsAreWhatBeginsCleanOf, BeginsCleanOf, IsFirstOutsideCleanLogsOf}
-use Rattle.scram_text.proofs.lemmas.SplitLines.{one_split, longer_bytes_are_split, lines_up_to_lack_lf, whole_lines_are_split}
 use Rattle.log_grammar.proofs.lemmas.ListEnds.{take-append_next, index_has_element, front_keeps_all}
 use Rattle.log_grammar.proofs.lemmas.kinds.Sound.{CanBeShortened, CleanLinesStand}
 use Rattle.log_grammar.proofs.lemmas.kinds.Fronts.{first_lines_stand, front_lines_stand, standing_lines_are_front}

@@ -4,11 +4,11 @@ use Rattle.std.specs.List.{slice_split}
 use Rattle.std.specs.declared.option.Option.{Option}
 use Rattle.std.specs.declared.option.Option.TheVariants.{None, Some}
 use Rattle.mac_core.proofs.lemmas.Decided.{Decided, decided_equivalent, decided_both, decided_le, decided_same_text}
-use Rattle.scram_text.proofs.lemmas.Decided.{decided_run}
 use Rattle.otp_core.specs.Ranges.{max_moment, max_counter}
 use Rattle.otp_core.specs.declared.token.reply.Reply.{Reply}
 use Rattle.otp_core.specs.declared.token.reply.Reply.TheVariants.{Pass, Fail, Locked}
 use Rattle.scram_text.specs.Class.{is_vchar}
+use Rattle.scram_text.proofs.lemmas.Decided.{decided_run}
 use Rattle.log_grammar.specs.Payload.{IsMessage}
 use Rattle.log_grammar.specs.Words.{is_mech_char, is_space, max_mech_name_len, max_code_len, IsMechName}
 use Rattle.log_grammar.specs.Lines.{ServerLine, mechs, cont, accepts, refuses, replies, halt, busy, ClientLine, auth, auth_with, resp, abort, code}

@@ -3,6 +3,7 @@ use Rattle.std.proofs.Common.{◌≡◌, ◌⊎◌, inl, inr, ℕ, true, false, 
 use Rattle.std.specs.Prelude.{map}
 use Rattle.std.proofs.lemmas.Bool.{eq-eqb}
 use Rattle.std.proofs.lemmas.List.{same_from_push, map-append}
+use Rattle.scram_text.proofs.lemmas.ListEnds.{empty_has_no_last, nonempty_has_last}
 use Rattle.account_book.specs.AccountAttempt.{AccountAttempt, account_attempt_of}
 use Rattle.log_grammar.specs.Lines.{LogLine, said, replies}
 use Rattle.log_grammar.specs.Places.{Place, got_code}
@@ -11,7 +12,6 @@ use Rattle.log_grammar.specs.state_machine.Steps.{IsTransition, told_at}
 use Rattle.log_grammar.specs.Numbered.{Numbered, numbered, of_number, is_reply, reply_numbers}
 use Rattle.log_grammar.specs.state_machine.NumberedSteps.{IsVisitTransition}
 use Rattle.log_grammar.proofs.lemmas.many_sessions.LinesOfNumber.{of_number-append, equal_parts_are_same_numbered}
-use Rattle.scram_text.proofs.lemmas.ListEnds.{empty_has_no_last, nonempty_has_last}
 
 -- a line records one reply if it is a reply to a code, else none
 abbrev pub TellsOfReply : Place → LogLine → Type 0

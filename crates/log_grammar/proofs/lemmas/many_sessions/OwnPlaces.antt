@@ -2,6 +2,7 @@
 use Rattle.std.proofs.Common.{◌≡◌, inl, inr, ℕ, List, sym, ◌∙◌, ap, subst, ◌++◌, ◌∷◌, []}
 use Rattle.std.specs.declared.option.Option.{Option}
 use Rattle.std.proofs.lemmas.List.{same_from_push}
+use Rattle.scram_text.proofs.lemmas.ListEnds.{empty_has_no_last}
 use Rattle.account_book.specs.AccountAttempt.{AccountAttempt}
 use Rattle.log_grammar.specs.Lines.{LogLine}
 use Rattle.log_grammar.specs.Places.{Place}
@@ -10,7 +11,6 @@ use Rattle.log_grammar.specs.Numbered.{Numbered, Visit, of_number, visit_lines, 
 use Rattle.log_grammar.specs.state_machine.NumberedSteps.{IsVisitTransition}
 use Rattle.log_grammar.proofs.lemmas.many_sessions.OneReading.{one_next_visit_place}
 use Rattle.log_grammar.proofs.lemmas.state_machine.OneReading.{OneAccount}
-use Rattle.scram_text.proofs.lemmas.ListEnds.{empty_has_no_last}
 use Rattle.log_grammar.proofs.lemmas.ListEnds.{holds_by_last}
 use Rattle.log_grammar.proofs.lemmas.many_sessions.Visits.{ShorterVisit, visit_shortens, empty_visit_is_between}
 

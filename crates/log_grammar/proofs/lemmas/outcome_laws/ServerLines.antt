@@ -2,11 +2,12 @@
 use Rattle.std.proofs.Common.{◌≡◌, inl, inr, ℕ, List, [], ◌∷◌, ◌++◌, reverse, refl, sym, ◌∙◌, ap, subst, append_assoc, append-nil}
 use Rattle.std.specs.declared.option.Option.{Option}
 use Rattle.mac_core.specs.declared.mechanism.Mechanism.{Mechanism}
+use Rattle.otp_core.specs.Attempt.{CodeTexts}
+use Rattle.otp_core.specs.declared.token.reply.Reply.{Reply}
 use Rattle.scram_ends.specs.Stages.{challenged_login}
 use Rattle.scram_ends.specs.Verdict.{accept, refuse, IsDue}
 use Rattle.scram_ends.specs.declared.verdict.Refusal.{Refusal}
-use Rattle.otp_core.specs.Attempt.{CodeTexts}
-use Rattle.otp_core.specs.declared.token.reply.Reply.{Reply}
+use Rattle.scram_ends.proofs.lemmas.Verdicts.{at_most_one_verdict_is_due, accepts_exactly_valid}
 use Rattle.account_book.specs.AccountAttempt.{AccountAttempt}
 use Rattle.log_grammar.specs.Lines.{LogLine, said, mechs, cont, refuses, replies, halt}
 use Rattle.log_grammar.specs.Places.{Place, between, offered, asks_bare, got_first, got_final, got_code, leaving, over, halted}
@@ -24,7 +25,6 @@ use Rattle.log_grammar.proofs.lemmas.login_laws.ValidLogins.{login_is_to_challen
 use Rattle.log_grammar.proofs.lemmas.outcome_laws.LeadingLines.{LeadByLast, logs_lead}
 use Rattle.log_grammar.proofs.lemmas.outcome_laws.QuietLines.{quiet_line_keeps_told, log_goes_on_quietly}
 use Rattle.log_grammar.proofs.lemmas.outcome_laws.PlaceMessages.{lines_have_their_messages, three_messages_lead}
-use Rattle.scram_ends.proofs.lemmas.Verdicts.{at_most_one_verdict_is_due, accepts_exactly_valid}
 
 -- replies that come first still do when more are added at the end
 told_first_stays_first : (told before rest told_are : List AccountAttempt) → before ≡ told ++ rest

@@ -2,9 +2,10 @@
 use Rattle.std.proofs.Common.{◌≡◌, inl, inr, ℕ, ◌+◌, List, [], ◌∷◌, ◌++◌, length, refl, sym, ◌∙◌, ap, subst}
 use Rattle.std.specs.List.{AllByRecursion, AllZip}
 use Rattle.std.proofs.lemmas.Slice.Zip.{all_zipped_more}
+use Rattle.scram_text.specs.SplitLines.{LacksLf, ended_by_lf, IsSplit}
+use Rattle.scram_text.proofs.lemmas.ListEnds.{appended_lists_keep_all}
 use Rattle.account_book.specs.AccountAttempt.{AccountAttempt}
 use Rattle.log_grammar.specs.Lines.{LogLine, header_two, said, mechs, cont, accepts, refuses, replies, log_line_text}
-use Rattle.scram_text.specs.SplitLines.{LacksLf, ended_by_lf, IsSplit}
 use Rattle.log_grammar.specs.Places.{Place, asks_bare, got_first, got_final, got_code, leaving}
 use Rattle.log_grammar.specs.Demands.{Accounts, demands}
 use Rattle.log_grammar.specs.laws.FitAccounts.{AllCanBeChallenged}
@@ -31,7 +32,6 @@ use Rattle.log_grammar.proofs.lemmas.lines.NumberedReadBack.{one_numbered_line, 
 use Rattle.log_grammar.proofs.lemmas.many_sessions.LogSteps.{numbered_log_goes_on}
 use Rattle.log_grammar.proofs.lemmas.many_sessions.Standings.{only_busy_has_busy_class}
 use Rattle.log_grammar.proofs.lemmas.state_machine.Standings.{Follows}
-use Rattle.scram_text.proofs.lemmas.ListEnds.{appended_lists_keep_all}
 use Rattle.log_grammar.proofs.lemmas.ListEnds.{front_keeps_all}
 use Rattle.log_grammar.proofs.lemmas.completions.NumberedFronts.{version_two_fronts_begin_clean}
 

@@ -11,18 +11,19 @@ use Rattle.std.proofs.lemmas.List.Elements.{All-get_or}
 use Rattle.std.proofs.lemmas.List.Sums.{list_all-from_AllPass}
 use Rattle.otp_core.specs.Ranges.{IsDigitCount, IsCounter}
 use Rattle.otp_core.specs.Code.{IsCodeText}
-use Rattle.otp_core.proofs.lemmas.Digits.{IsCodeText-last_digits}
 use Rattle.otp_core.specs.declared.token.kinds.TokenFields.TheVariants.{Hotp}
 use Rattle.otp_core.specs.declared.token.kinds.HotpFields.{HotpFields}
-use Rattle.scram_text.specs.Class.{is_vchar}
-use Rattle.account_book.specs.AccountAttempt.{AccountAttempt, account_attempt_of}
-use Rattle.log_grammar.specs.Words.{IsCodeWord}
 use Rattle.otp_core.specs.Attempt.{Attempt, CodeTexts, one_text, two_texts, counters_of, used_in}
 use Rattle.otp_core.specs.Window.{IsAbove, IsInHotpWindow}
 use Rattle.otp_core.specs.Reply.{IsDueReply, IsFitting, code_text}
 use Rattle.otp_core.specs.declared.token.reply.Reply.{Reply}
 use Rattle.otp_core.specs.declared.token.reply.Reply.TheVariants.{Pass, Fail, Locked}
 use Rattle.otp_core.specs.declared.token.kinds.TokenFields.{TokenFields}
+use Rattle.otp_core.proofs.lemmas.Digits.{IsCodeText-last_digits}
+use Rattle.otp_core.proofs.lemmas.Used.{candidates_are_new}
+use Rattle.scram_text.specs.Class.{is_vchar}
+use Rattle.account_book.specs.AccountAttempt.{AccountAttempt, account_attempt_of}
+use Rattle.log_grammar.specs.Words.{IsCodeWord}
 use Rattle.log_grammar.specs.Lines.{LogLine}
 use Rattle.log_grammar.specs.Places.{Place, waits_code, got_code}
 use Rattle.log_grammar.specs.Demands.{Accounts, attempts_by, attempts_of, IsReplyDueBy, demands}
@@ -33,7 +34,6 @@ use Rattle.log_grammar.proofs.lemmas.demands.RepliesDue.{first_reply_stands_last
 use Rattle.log_grammar.proofs.lemmas.outcome_laws.ServerLines.{first_lines_begin_logs, each_reply_is_due}
 use Rattle.log_grammar.proofs.lemmas.state_machine.PlaceBefore.{logs_have_one_reading}
 use Rattle.log_grammar.proofs.lemmas.demands.EachAccount.{account_is_same_or_other}
-use Rattle.otp_core.proofs.lemmas.Used.{candidates_are_new}
 use Rattle.log_grammar.proofs.lemmas.login_laws.CleanLogins.{logins_are_answered}
 
 -- if a PASS is due, there is a token, which a code of its counter fits

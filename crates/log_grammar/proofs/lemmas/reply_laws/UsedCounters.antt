@@ -8,13 +8,13 @@ use Rattle.otp_core.specs.Reply.{IsDueReply, IsFitting}
 use Rattle.otp_core.specs.declared.token.reply.Reply.{Reply}
 use Rattle.otp_core.specs.declared.token.reply.Reply.TheVariants.{Pass, Fail, Locked}
 use Rattle.otp_core.specs.declared.token.kinds.TokenFields.{TokenFields}
+use Rattle.otp_core.proofs.lemmas.Used.{candidates_are_new}
 use Rattle.account_book.specs.AccountAttempt.{AccountAttempt}
 use Rattle.log_grammar.specs.Demands.{Accounts, attempts_by, attempts_of, IsReplyDueBy, demands, HaveDueReplies}
 use Rattle.log_grammar.specs.laws.Replies.{AreRising, NoCounterIsUsedTwice}
 use Rattle.log_grammar.proofs.lemmas.demands.RepliesDue.{first_reply_stands_last}
 use Rattle.log_grammar.proofs.lemmas.demands.EachAccount.{account_is_same_or_other}
 use Rattle.log_grammar.proofs.lemmas.reply_laws.Passed.{fitting_counter_is_above}
-use Rattle.otp_core.proofs.lemmas.Used.{candidates_are_new}
 
 -- after a pass of a counter that can pass, the counters that an account's codes use still rise
 pass_keeps_counters_rising : (token : TokenFields) (attempts : List Attempt) (t : AccountAttempt) (c : ℕ)

@@ -3,6 +3,7 @@ use Rattle.std.proofs.Common.{inl, inr, ℕ, Bool, true, false, List, [], ◌∷
 use Rattle.std.specs.Prelude.{flat_map}
 use Rattle.std.specs.List.{AllByRecursion, AllZip}
 use Rattle.otp_core.specs.Ranges.{IsMoment}
+use Rattle.scram_text.proofs.lemmas.ListEnds.{appended_lists_keep_all}
 use Rattle.account_book.specs.AccountAttempt.{AccountAttempt}
 use Rattle.log_grammar.specs.Lines.{LogLine, IsLogLineInRange, IsLogLine}
 use Rattle.log_grammar.specs.Places.{Place}
@@ -10,7 +11,6 @@ use Rattle.log_grammar.specs.Demands.{Accounts, demands}
 use Rattle.log_grammar.specs.Sessions.{Part, closing, RecordedSession, session_part, session_lines, session_told, session}
 use Rattle.log_grammar.specs.Begins.{Begins, AreLines}
 use Rattle.log_grammar.proofs.lemmas.session_laws.LaterLines.{HoldsFromTheLast, later_lines_hold}
-use Rattle.scram_text.proofs.lemmas.ListEnds.{appended_lists_keep_all}
 use Rattle.log_grammar.proofs.lemmas.ListEnds.{front_keeps_all, back_keeps_all}
 
 -- all lines are in their ranges

@@ -6,10 +6,10 @@ use Rattle.std.specs.declared.option.Option.TheVariants.{None, Some}
 use Rattle.std.proofs.lemmas.Bool.Decides.{eqb_tells}
 use Rattle.std.proofs.lemmas.List.{same_from_push}
 use Rattle.otp_core.specs.Ranges.{IsMoment}
+use Rattle.scram_text.specs.SplitLines.{ended_by_lf, IsSplit}
 use Rattle.account_book.specs.AccountAttempt.{AccountAttempt}
 use Rattle.log_grammar.specs.Lines.{LogLine, header_two, said, ended, busy, halt, log_line_text}
 use Rattle.log_grammar.specs.laws.LastLines.{EndsWith}
-use Rattle.scram_text.specs.SplitLines.{ended_by_lf, IsSplit}
 use Rattle.log_grammar.specs.Places.{between, halted}
 use Rattle.log_grammar.specs.Demands.{Accounts, demands}
 use Rattle.log_grammar.specs.Sessions.{closing}

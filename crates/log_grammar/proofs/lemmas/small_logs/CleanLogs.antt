@@ -1,8 +1,8 @@
 -- The small logs of version 1 that are clean.
 use Rattle.std.proofs.Common.{◌≡◌, ℕ, List, [], ◌∷◌, ◌++◌, refl}
 use Rattle.std.specs.Prelude.{codes}
-use Rattle.log_grammar.specs.Lines.{LogLine, said, heard, ended, refuses, abort}
 use Rattle.scram_text.specs.SplitLines.{ended_by_lf}
+use Rattle.log_grammar.specs.Lines.{LogLine, said, heard, ended, refuses, abort}
 use Rattle.log_grammar.specs.Places.{Place, between, offered, asks_bare, got_first, leaving, over}
 use Rattle.log_grammar.specs.Demands.{Accounts, demands}
 use Rattle.log_grammar.specs.state_machine.Steps.{IsTransition, told_at}

@@ -1,9 +1,10 @@
 -- The small logs of version 1 that are cut: the line at fault is the one after their last.
 use Rattle.std.proofs.Common.{ℕ, ◌+◌, List, [], ◌∷◌, length, refl}
 use Rattle.std.specs.Prelude.{codes}
+use Rattle.scram_text.specs.SplitLines.{ended_by_lf}
+use Rattle.scram_text.proofs.lemmas.SplitLines.{whole_lines_are_split}
 use Rattle.account_book.specs.AccountAttempt.{AccountAttempt}
 use Rattle.log_grammar.specs.Lines.{LogLine}
-use Rattle.scram_text.specs.SplitLines.{ended_by_lf}
 use Rattle.log_grammar.specs.Places.{Place, MayEnd, before_all, offered, asks_bare, waits_first, got_first, leaving, over}
 use Rattle.log_grammar.specs.Demands.{Accounts}
 use Rattle.log_grammar.specs.Versions.{IsWhy}
@@ -13,7 +14,6 @@ use Rattle.log_grammar.proofs.lemmas.small_logs.SmallLines.{abort_was_read, auth
 use Rattle.log_grammar.proofs.lemmas.small_logs.SmallLines.{empty_first_was_read, empty_is_no_client_first, gone_was_read, invited_gone_was_read}
 use Rattle.log_grammar.proofs.lemmas.small_logs.SmallLines.{offer_was_read, plain_auth_was_read, plain_is_not_offered, refusal_was_read}
 use Rattle.log_grammar.proofs.lemmas.kinds.ShownByLines.{LinesWereRead, no_lines_were_read, unended_is_cut}
-use Rattle.scram_text.proofs.lemmas.SplitLines.{whole_lines_are_split}
 
 module _ (accounts : Accounts) where
   -- whole lines that lead to a place where no log may end are cut after the last line

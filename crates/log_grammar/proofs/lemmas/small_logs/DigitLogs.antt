@@ -4,21 +4,21 @@ use Rattle.std.specs.Prelude.{decimal, if◌then◌else◌}
 use Rattle.std.proofs.lemmas.Fmt.{decimal_digit}
 use Rattle.std.specs.List.{AllByRecursion}
 use Rattle.std.specs.Str.{byte}
-use Rattle.log_grammar.specs.Lines.{LogLine, header_one, header_two, log_line_text, said, mechs, IsLogLineWritable, log_bytes}
 use Rattle.scram_text.specs.SplitLines.{ended_by_lf}
+use Rattle.scram_text.proofs.lemmas.ListEnds.{same_cons}
+use Rattle.log_grammar.specs.Lines.{LogLine, header_one, header_two, log_line_text, said, mechs, IsLogLineWritable, log_bytes}
 use Rattle.log_grammar.specs.Demands.{Accounts}
 use Rattle.log_grammar.specs.Why.{Why}
 use Rattle.log_grammar.specs.Versions.{IsClean, IsWhy}
 use Rattle.log_grammar.specs.NumberedLines.{IsNoFirstLine, numbered_text}
 use Rattle.log_grammar.specs.Upgrades.{with_numbers, upgraded_bytes}
 use Rattle.log_grammar.specs.laws.UpgradedLogs.{CanBeUpgraded}
+use Rattle.log_grammar.specs.Numbered.{is_end as closes}
+use Rattle.log_grammar.specs.Words.{offered_names}
 use Rattle.log_grammar.proofs.lemmas.lines.Written.{offer_is_writable}
-use Rattle.scram_text.proofs.lemmas.ListEnds.{same_cons}
 use Rattle.log_grammar.proofs.lemmas.upgraded_logs.SameClean.{upgraded_logs_are_clean}
 use Rattle.log_grammar.proofs.lemmas.upgraded_logs.SameFault.{upgraded_log_has_same_fault, numbered_lines_keep_reason}
 use Rattle.log_grammar.proofs.lemmas.upgraded_logs.Texts.{next_number_stays_or_rises}
-use Rattle.log_grammar.specs.Numbered.{is_end as closes}
-use Rattle.log_grammar.specs.Words.{offered_names}
 
 -- the texts of lines under numbers of one digit, from this one on
 abbrev pub digit_texts : ℕ → List LogLine → List (List ℕ)

@@ -2,20 +2,20 @@
 use Rattle.std.proofs.Common.{◌≤◌, ◌<◌, ◌+◌, inl, inr, ℕ, List, [], ◌∷◌, ◌++◌, length, refl, sym, subst}
 use Rattle.std.specs.List.{AllByRecursion, AllZip}
 use Rattle.std.proofs.lemmas.List.{same_from_push}
+use Rattle.scram_text.specs.SplitLines.{LacksLf, ended_by_lf, IsSplit}
+use Rattle.scram_text.proofs.lemmas.SplitLines.{one_split, whole_lines_are_split}
+use Rattle.scram_text.proofs.lemmas.ListEnds.{appended_lists_keep_all}
 use Rattle.account_book.specs.AccountAttempt.{AccountAttempt}
 use Rattle.log_grammar.specs.Lines.{LogLine, IsLogLine, max_log_line_len, header_one}
-use Rattle.scram_text.specs.SplitLines.{LacksLf, ended_by_lf, IsSplit}
 use Rattle.log_grammar.specs.Places.{Place, halted, between}
 use Rattle.log_grammar.specs.Demands.{Accounts, demands}
 use Rattle.log_grammar.specs.Begins.{Begins}
 use Rattle.log_grammar.specs.Why.{is_cut, no_line, out_of_order, class_of, LineClass, IsClassDue}
 use Rattle.log_grammar.specs.laws.Examples.{AreWhole, first_alone, header_one_text}
-use Rattle.scram_text.proofs.lemmas.SplitLines.{one_split, whole_lines_are_split}
+use Rattle.log_grammar.specs.Versions.{any_version, IsClean, IsWhy}
 use Rattle.log_grammar.proofs.lemmas.lines.Written.{header_is_writable}
 use Rattle.log_grammar.proofs.lemmas.kinds.ShownByLines.{LinesWereRead, no_lines_were_read, read_texts_are_clean, end_is_cut, rest_is_cut}
 use Rattle.log_grammar.proofs.lemmas.kinds.ShownByLines.{long_rest_is_no_line, long_text_is_at_fault, last_line_is_at_fault}
-use Rattle.log_grammar.specs.Versions.{any_version, IsClean, IsWhy}
-use Rattle.scram_text.proofs.lemmas.ListEnds.{appended_lists_keep_all}
 use Rattle.log_grammar.proofs.lemmas.ListEnds.{related_list_has_last, front_keeps_all, all_includes_element}
 use Rattle.log_grammar.proofs.lemmas.kinds.AllVersions.{any_version_empty_is_unclean}
 use Rattle.log_grammar.proofs.lemmas.small_logs.SmallLines.{header_was_read}

@@ -3,8 +3,9 @@ use Rattle.std.proofs.Common.{◌≡◌, inl, inr, ℕ, List, [], ◌∷◌, get
 use Rattle.std.specs.Prelude.{codes}
 use Rattle.std.specs.Str.{byte}
 use Rattle.mac_core.specs.declared.mechanism.Mechanism.TheVariants.{ScramSha1}
-use Rattle.log_grammar.specs.Lines.{LogLine, header_one, said, heard, mechs, cont, accepts, refuses, halt, abort}
 use Rattle.scram_text.specs.SplitLines.{ended_by_lf}
+use Rattle.scram_text.proofs.lemmas.SplitLines.{whole_lines_are_split}
+use Rattle.log_grammar.specs.Lines.{LogLine, header_one, said, heard, mechs, cont, accepts, refuses, halt, abort}
 use Rattle.log_grammar.specs.Places.{Place, between, offered, asks_bare, got_first, leaving, over}
 use Rattle.log_grammar.specs.Words.{offered_names}
 use Rattle.log_grammar.specs.Demands.{Accounts, demands}
@@ -18,7 +19,6 @@ use Rattle.log_grammar.proofs.lemmas.small_logs.SmallLines.{abort_was_read, auth
 use Rattle.log_grammar.proofs.lemmas.small_logs.SmallLines.{empty_is_no_client_first, error_is_line, gone_was_read, header_was_read, offer_was_read}
 use Rattle.log_grammar.proofs.lemmas.small_logs.SmallLines.{ok_is_line, other_offer_is_line, plain_auth_was_read, plain_is_not_offered}
 use Rattle.log_grammar.proofs.lemmas.kinds.ShownByLines.{first_text_is_at_fault, last_line_is_at_fault}
-use Rattle.scram_text.proofs.lemmas.SplitLines.{whole_lines_are_split}
 use Rattle.log_grammar.proofs.lemmas.lines.Written.{abort_is_writable, bare_cont_is_writable, bare_refusal_is_writable, halt_is_writable}
 use Rattle.log_grammar.proofs.lemmas.lines.Written.{header_is_writable, offer_is_writable}
 

@@ -3,8 +3,9 @@ use Rattle.std.proofs.Common.{◌≡◌, inl, inr, ℕ, List, [], ◌∷◌, ◌
 use Rattle.std.specs.Prelude.{codes, decimal}
 use Rattle.std.proofs.lemmas.Fmt.{decimal_digit}
 use Rattle.std.specs.Str.{byte}
-use Rattle.log_grammar.specs.Lines.{header_one, header_two, log_line_text, heard, abort, IsLogLine}
 use Rattle.scram_text.specs.SplitLines.{LacksLf, ended_by_lf}
+use Rattle.scram_text.proofs.lemmas.SplitLines.{whole_lines_are_split}
+use Rattle.log_grammar.specs.Lines.{header_one, header_two, log_line_text, heard, abort, IsLogLine}
 use Rattle.log_grammar.specs.Demands.{Accounts}
 use Rattle.log_grammar.specs.Why.{Why, no_line, out_of_order}
 use Rattle.log_grammar.specs.VersionTwo.{IsFirstText, IsReasonAfterFirst}
@@ -12,7 +13,6 @@ use Rattle.log_grammar.specs.Versions.{max_open_sessions, any_version, IsWhy}
 use Rattle.log_grammar.specs.NumberedLines.{IsNoFirstLine, numbered_text, IsNoNumberedLine}
 use Rattle.log_grammar.specs.laws.Examples.{header_one_text}
 use Rattle.log_grammar.specs.laws.UpgradedExamples.{header_two_text}
-use Rattle.scram_text.proofs.lemmas.SplitLines.{whole_lines_are_split}
 use Rattle.log_grammar.proofs.lemmas.lines.Written.{header_is_writable}
 use Rattle.log_grammar.proofs.lemmas.kinds.AtFault.{text_is_at_fault}
 use Rattle.log_grammar.proofs.lemmas.kinds.VersionTwo.{version_two_is_headed, last_is_numbered}

@@ -1,8 +1,8 @@
 -- How a line stands at a place: it may stand there; or no line of its class may; or one may, but this one is wrong.
 use Rattle.std.proofs.Common.{◌≡◌, ◌⊎◌, inl, inr, ℕ, List, [], reverse, refl}
 use Rattle.mac_core.proofs.lemmas.Decided.{Decided, decided_both, decided_same_text}
-use Rattle.scram_ends.specs.Verdict.{Due}
 use Rattle.otp_core.specs.Attempt.{CodeTexts, one_text, two_texts}
+use Rattle.scram_ends.specs.Verdict.{Due}
 use Rattle.account_book.specs.AccountAttempt.{AccountAttempt, account_attempt_of}
 use Rattle.log_grammar.specs.Lines.{LogLine, header_one, said, heard, bad, gone, ended, mechs, cont, accepts, refuses, replies, halt, auth, auth_with}
 use Rattle.log_grammar.specs.Lines.{resp, abort, code, sync}

@@ -4,9 +4,10 @@ use Rattle.std.specs.Prelude.{if◌then◌else◌, decimal, flat_map}
 use Rattle.std.specs.List.{AllByRecursion, AllZip}
 use Rattle.std.proofs.lemmas.Bool.{cases_Bool}
 use Rattle.std.specs.Str.{byte}
+use Rattle.scram_text.specs.SplitLines.{LacksLf}
+use Rattle.scram_text.proofs.lemmas.ListEnds.{same_head_and_tail, same_cons, appended_lists_keep_all}
 use Rattle.account_book.specs.AccountAttempt.{AccountAttempt}
 use Rattle.log_grammar.specs.Lines.{LogLine, header_one, header_two, log_line_text, IsLogLine, IsLogLineWritable}
-use Rattle.scram_text.specs.SplitLines.{LacksLf}
 use Rattle.log_grammar.specs.Places.{Place}
 use Rattle.log_grammar.specs.Demands.{Demands}
 use Rattle.log_grammar.specs.Sessions.{RecordedSession, session_lines, session}
@@ -21,7 +22,6 @@ use Rattle.log_grammar.proofs.lemmas.lines.LackLf.{number_lacks_lf, log_line_lac
 use Rattle.log_grammar.proofs.lemmas.lines.ReadBack.{each_text_is_at_most_one_log_line}
 use Rattle.log_grammar.proofs.lemmas.lines.NumberedReadBack.{numbered_line_is_writable, numbered_text_shows_number}
 use Rattle.log_grammar.proofs.lemmas.many_sessions.LinesOfNumber.{equal_parts_are_same_numbered}
-use Rattle.scram_text.proofs.lemmas.ListEnds.{same_head_and_tail, same_cons, appended_lists_keep_all}
 use Rattle.log_grammar.proofs.lemmas.ListEnds.{front_keeps_all}
 use Rattle.log_grammar.proofs.lemmas.lines.TextBytes.{lacks_lf-append}
 use Rattle.log_grammar.proofs.lemmas.lines.Words.{after_space, after_space-word, number_lacks_space}

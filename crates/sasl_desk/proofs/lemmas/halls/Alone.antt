@@ -1,14 +1,14 @@
 -- What a session of a hall is told up to its outcome follows from what it was asked up to there, whatever other sessions there are.
 use Rattle.std.proofs.Common.{◌≡◌, inl, inr, ℕ, List, [], ◌∷◌, ◌++◌, subst}
+use Rattle.account_book.specs.{BookFields}
+use Rattle.account_book.specs.Store.{StoreFacts}
 use Rattle.log_grammar.specs.Places.{Place}
 use Rattle.log_grammar.specs.Demands.{Accounts}
+use Rattle.log_grammar.specs.Books.{accounts_in}
+use Rattle.log_grammar.specs.Numbered.{Numbered, of_number}
 use Rattle.sasl_desk.specs.Alone.{HaveSameRequests, up_to_acceptance, HaveSameEntries}
 use Rattle.sasl_desk.specs.Halls.{HallFields, IsTurnedAway, IsSessionRun, IsHallAfter}
 use Rattle.sasl_desk.specs.Runs.{Call, IsRun, call_lines}
-use Rattle.account_book.specs.{BookFields}
-use Rattle.account_book.specs.Store.{StoreFacts}
-use Rattle.log_grammar.specs.Books.{accounts_in}
-use Rattle.log_grammar.specs.Numbered.{Numbered, of_number}
 use Rattle.sasl_desk.proofs.lemmas.runs.SameRequests.{same_requests_bring_same_lines}
 
 -- the first calls of a run are a run

@@ -3,11 +3,11 @@ use Rattle.std.proofs.Common.{◌≡◌, inl, inr, ℕ, List, [], ◌∷◌, ◌
 use Rattle.std.proofs.lemmas.Bool.Decides.{eqb_tells}
 use Rattle.std.proofs.lemmas.List.{map-append}
 use Rattle.scram_text.specs.SplitLines.{ended_by_lf}
+use Rattle.scram_text.proofs.lemmas.SplitLines.{ended_by_lf-append}
 use Rattle.log_grammar.specs.Lines.{LogLine, header_two, log_line_text}
 use Rattle.log_grammar.specs.Numbered.{Numbered, numbered, of_number}
 use Rattle.log_grammar.specs.NumberedLines.{numbered_text}
 use Rattle.log_grammar.proofs.lemmas.many_sessions.LinesOfNumber.{of_number-append, of_number-own_items, of_number-other_items}
-use Rattle.scram_text.proofs.lemmas.SplitLines.{ended_by_lf-append}
 use Rattle.sasl_desk.specs.Halls.{hall_lines, hall_bytes, numbered_bytes}
 use Rattle.sasl_desk.specs.Runs.{Call, wire_bytes, call_lines}
 use Rattle.sasl_desk.proofs.lemmas.turns.TurnBytes.{wire_bytes-append}

@@ -5,30 +5,30 @@ use Rattle.std.specs.Str.{byte}
 use Rattle.std.specs.List.Sorted.{IsPermutation}
 use Rattle.std.proofs.lemmas.List.Sorted.{IsPermutation-trans}
 use Rattle.std.specs.declared.option.Option.TheVariants.{Some}
+use Rattle.scram_text.specs.SplitLines.{ended_by_lf}
+use Rattle.scram_text.proofs.lemmas.ListEnds.{same_cons}
 use Rattle.account_book.specs.{BookFields}
 use Rattle.account_book.specs.Store.{StoreFacts}
+use Rattle.book_keeper.specs.declared.keeper.Keeper.{Keeper}
 use Rattle.log_grammar.specs.Books.{accounts_in}
-use Rattle.scram_text.specs.SplitLines.{ended_by_lf}
 use Rattle.log_grammar.specs.Lines.{LogLine, log_line_text}
 use Rattle.log_grammar.specs.Places.{Place}
 use Rattle.log_grammar.specs.Demands.{Accounts}
 use Rattle.log_grammar.specs.Numbered.{Numbered, numbered}
 use Rattle.log_grammar.specs.NumberedLines.{numbered_text}
-use Rattle.scram_text.proofs.lemmas.ListEnds.{same_cons}
 use Rattle.sasl_desk.specs.Desks.{session_phase}
 use Rattle.sasl_desk.specs.Events.{ClientEvent}
-use Rattle.sasl_desk.proofs.lemmas.halls.OpenSessions.{open_session_of}
 use Rattle.sasl_desk.specs.Halls.{HallFields, hall_of, numbered_bytes, IsHallAfter, IsPhaseOf, AnswersIn, IsSameHall}
 use Rattle.sasl_desk.specs.inner.TurnResults.{IsTurnOf, IsTurnWritten}
 use Rattle.sasl_desk.specs.inner.Prefix.{prefix, prefixed_bytes}
 use Rattle.sasl_desk.specs.Runs.{Request, hears, Call, call_of}
 use Rattle.sasl_desk.specs.declared.hall.open_session.OpenSession.{OpenSession}
-use Rattle.book_keeper.specs.declared.keeper.Keeper.{Keeper}
 use Rattle.sasl_desk.specs.declared.session.Session.{Session}
 use Rattle.sasl_desk.specs.declared.session.phase.Phase.{Phase}
 use Rattle.sasl_desk.specs.declared.session.phase.Phase.TheVariants as phase
 use Rattle.sasl_desk.specs.declared.turn.AfterTurn.{AfterTurn}
 use Rattle.sasl_desk.specs.declared.turn.AfterTurn.TheVariants.{Going, Closed, Halted}
+use Rattle.sasl_desk.proofs.lemmas.halls.OpenSessions.{open_session_of}
 use Rattle.sasl_desk.proofs.lemmas.turns.Saves.{halted_after, turn_counts_saves, turn_asks_for_save, turn_is_quiet, halting_turn_failed_saving}
 use Rattle.sasl_desk.proofs.lemmas.runs.Calls.{open_session_is_not_halted}
 use Rattle.sasl_desk.proofs.lemmas.halls.OpenAfterTurns.{LeavesSession, open_sessions_after}

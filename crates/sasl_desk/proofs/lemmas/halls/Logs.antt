@@ -4,10 +4,11 @@ use Rattle.std.proofs.Common.{◌≡◌, inl, inr, Bool, true, false, ℕ, List,
 use Rattle.std.specs.List.{AllByRecursion, find}
 use Rattle.std.specs.declared.option.Option.{Option}
 use Rattle.std.specs.declared.option.Option.TheVariants.{None, Some}
+use Rattle.scram_text.specs.SplitLines.{ended_by_lf, IsSplit}
+use Rattle.scram_text.proofs.lemmas.SplitLines.{ended_by_lf-append}
 use Rattle.account_book.specs.{BookFields}
 use Rattle.account_book.specs.Store.{StoreFacts}
 use Rattle.log_grammar.specs.Books.{accounts_in}
-use Rattle.scram_text.specs.SplitLines.{ended_by_lf, IsSplit}
 use Rattle.log_grammar.specs.Versions.{max_open_sessions, IsLogFront, IsClean}
 use Rattle.log_grammar.specs.Lines.{LogLine, header_two, said, halt, log_line_text}
 use Rattle.log_grammar.specs.Places.{Place}
@@ -18,7 +19,6 @@ use Rattle.log_grammar.proofs.lemmas.many_sessions.WithoutLast.{numbered_log_has
 use Rattle.log_grammar.proofs.lemmas.lines.NumberedReadBack.{numbered_line_lacks_lf}
 use Rattle.log_grammar.proofs.lemmas.lines.ReadAndWritten.{writable_lines_are_read, writable_lines_lack_lf}
 use Rattle.log_grammar.proofs.lemmas.many_sessions.HaltAndBusy.{visit_halt_leads_to_halted}
-use Rattle.scram_text.proofs.lemmas.SplitLines.{ended_by_lf-append}
 use Rattle.sasl_desk.specs.OpenSessions.{is_of}
 use Rattle.sasl_desk.specs.Halls.{HallFields, hall_lines, hall_bytes, IsStoredAfter, IsHallAfter, phase_after_halt, phase_of_number}
 use Rattle.sasl_desk.specs.Runs.{Call}

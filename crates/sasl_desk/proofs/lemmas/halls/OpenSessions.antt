@@ -4,11 +4,11 @@ use Rattle.std.specs.Prelude.{count_by}
 use Rattle.std.specs.List.{AllByRecursion}
 use Rattle.std.proofs.lemmas.Bool.{eq-eqb}
 use Rattle.std.proofs.lemmas.Bool.Decides.{eqb_tells}
+use Rattle.sasl_log.proofs.lemmas.ListCounts.{passing_counts_one, failing_counts_none, first_adds_its_count}
 use Rattle.sasl_desk.specs.OpenSessions.{is_of}
 use Rattle.sasl_desk.specs.declared.hall.open_session.OpenSession.{OpenSession}
 use Rattle.sasl_desk.specs.declared.session.Session.{Session}
 use Rattle.sasl_desk.proofs.lemmas.Lists.{last_counts_as_first}
-use Rattle.sasl_log.proofs.lemmas.ListCounts.{passing_counts_one, failing_counts_none, first_adds_its_count}
 
 -- an open session of these parts
 abbrev pub open_session_of : (number : ℕ) → Session → (server_nonce : List ℕ) → OpenSession

@@ -7,6 +7,10 @@ use Rattle.account_book.specs.{BookFields}
 use Rattle.account_book.specs.SavedBooks.{needs_save}
 use Rattle.account_book.specs.Store.{StoreFacts}
 use Rattle.account_book.specs.AccountAttempt.{account_attempt_of}
+use Rattle.book_keeper.specs.Keeper.{IsCodeJudged}
+use Rattle.book_keeper.specs.declared.keeper.Keeper.{Keeper}
+use Rattle.book_keeper.specs.declared.keeper.CodeJudged.{CodeJudged}
+use Rattle.book_keeper.specs.declared.keeper.CodeJudged.TheVariants.{Replied, NotSaved}
 use Rattle.log_grammar.specs.Books.{accounts_in}
 use Rattle.log_grammar.specs.Lines.{LogLine, heard, code_line, IsLogLineWritable}
 use Rattle.log_grammar.specs.Places.{Place, waits_code, halted}
@@ -15,21 +19,17 @@ use Rattle.log_grammar.specs.Numbered.{Numbered, of_number}
 use Rattle.log_grammar.specs.Versions.{max_open_sessions}
 use Rattle.log_grammar.proofs.lemmas.lines.LackLf.{reply_is_writable}
 use Rattle.log_grammar.proofs.lemmas.lines.Written.{halt_is_writable}
+use Rattle.sasl_log.proofs.lemmas.steps.Tokens.{book_reply_is_due}
 use Rattle.sasl_desk.specs.Desks.{IsBookAfterReplies}
 use Rattle.sasl_desk.specs.Events.{ClientEvent}
-use Rattle.sasl_desk.proofs.lemmas.halls.OpenSessions.{open_session_of}
 use Rattle.sasl_desk.specs.Halls.{hall_of, hall_lines, IsHallAfter}
-use Rattle.book_keeper.specs.Keeper.{IsCodeJudged}
 use Rattle.sasl_desk.specs.Runs.{hears, Call, call_of, server_nonce_of}
 use Rattle.sasl_desk.specs.inner.SessionTurns.{IsLeftAt, IsDueCode, turn_lines}
 use Rattle.sasl_desk.specs.inner.TurnResults.{after_turn_of, judged_lines, after_judged, SessionAnswers, IsTurnOf}
 use Rattle.sasl_desk.specs.declared.hall.open_session.OpenSession.{OpenSession}
-use Rattle.book_keeper.specs.declared.keeper.Keeper.{Keeper}
-use Rattle.book_keeper.specs.declared.keeper.CodeJudged.{CodeJudged}
-use Rattle.book_keeper.specs.declared.keeper.CodeJudged.TheVariants.{Replied, NotSaved}
 use Rattle.sasl_desk.specs.declared.session.Session.{Session}
 use Rattle.sasl_desk.specs.declared.turn.AfterTurn.{AfterTurn}
-use Rattle.sasl_log.proofs.lemmas.steps.Tokens.{book_reply_is_due}
+use Rattle.sasl_desk.proofs.lemmas.halls.OpenSessions.{open_session_of}
 use Rattle.sasl_desk.proofs.lemmas.turns.Keepers.{judged_reply_is_in_range}
 use Rattle.sasl_desk.proofs.lemmas.turns.Paths.{session_has_client_turn, left_place_is_not_halted, turn_has_no_reply}
 use Rattle.sasl_desk.proofs.lemmas.turns.Taken.{session_turn_is_taken, reply_turn_is_taken, halt_turn_is_taken}

@@ -5,6 +5,7 @@ use Rattle.std.proofs.lemmas.List.Sorted.{length_permutation}
 use Rattle.std.proofs.lemmas.Bool.{cases_Bool, false≢true, true≢false}
 use Rattle.account_book.specs.{BookFields}
 use Rattle.account_book.specs.Store.{StoreFacts}
+use Rattle.book_keeper.specs.declared.keeper.Keeper.{Keeper}
 use Rattle.log_grammar.specs.Books.{accounts_in}
 use Rattle.log_grammar.specs.Lines.{LogLine, said, busy, halt}
 use Rattle.log_grammar.specs.Places.{Place, before_all, between, over, halted, is_closed, open_at}
@@ -21,7 +22,6 @@ use Rattle.sasl_desk.specs.OpenSessions.{is_of}
 use Rattle.sasl_desk.specs.Halls.{HallFields, hall_of, hall_lines, IsSessionRun, IsOpenSessionAt, IsStoredAfter, IsHallAfter}
 use Rattle.sasl_desk.specs.Runs.{Call, IsRun}
 use Rattle.sasl_desk.specs.declared.hall.open_session.OpenSession.{OpenSession}
-use Rattle.book_keeper.specs.declared.keeper.Keeper.{Keeper}
 use Rattle.sasl_desk.proofs.lemmas.halls.OpenSessions.{some_open_session_has_number}
 use Rattle.sasl_desk.proofs.lemmas.turns.Paths.{session_has_client_turn}
 use Rattle.sasl_desk.proofs.lemmas.runs.HeldBooks.{unhalted_store_holds_book}

@@ -8,9 +8,9 @@ use Rattle.account_book.specs.Tokens.{IsBookAttempt}
 use Rattle.log_grammar.specs.Books.{accounts_in}
 use Rattle.sasl_log.specs.inner.Tokens.{IsBookAfter}
 use Rattle.sasl_log.proofs.lemmas.audits.AuditedLineByLine.{book_follows_no_replies}
+use Rattle.sasl_log.proofs.lemmas.steps.Tokens.{book_follows_attempt}
 use Rattle.sasl_desk.specs.Desks.{IsBookAfterReplies, spent_by_all}
 use Rattle.sasl_desk.specs.Spent.{AreSpent, spent_by}
-use Rattle.sasl_log.proofs.lemmas.steps.Tokens.{book_follows_attempt}
 use Rattle.sasl_desk.proofs.lemmas.runs.Spent.{spent_stays_spent}
 
 module _ (start : BookFields) where

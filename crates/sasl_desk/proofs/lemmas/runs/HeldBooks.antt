@@ -6,16 +6,16 @@ use Rattle.account_book.specs.{BookFields, IsBookText}
 use Rattle.account_book.specs.SavedBooks.{SavesBook}
 use Rattle.account_book.specs.Store.{StoreFacts}
 use Rattle.account_book.specs.AccountAttempt.{account_attempt_of}
+use Rattle.book_keeper.specs.Keeper.{IsSavedIfChanged, IsCodeJudged}
+use Rattle.book_keeper.specs.declared.keeper.CodeJudged.TheVariants.{NotSaved}
 use Rattle.log_grammar.specs.Lines.{said, halt}
 use Rattle.log_grammar.specs.Places.{Place, waits_code, halted}
 use Rattle.log_grammar.specs.Demands.{Accounts}
 use Rattle.sasl_desk.specs.Desks.{HoldsBook, IsLostAfter, IsStoredAt}
 use Rattle.sasl_desk.specs.DueLines.{is_client_turn}
 use Rattle.sasl_desk.specs.Events.{ClientEvent}
-use Rattle.book_keeper.specs.Keeper.{IsSavedIfChanged, IsCodeJudged}
 use Rattle.sasl_desk.specs.Runs.{hears, Call, call_of, IsRun}
 use Rattle.sasl_desk.specs.inner.TurnResults.{judged_lines}
-use Rattle.book_keeper.specs.declared.keeper.CodeJudged.TheVariants.{NotSaved}
 use Rattle.sasl_desk.proofs.lemmas.turns.Keepers.{store_failed_in_this_save}
 
 module _ (IsStored : List ℕ → Type 0) where

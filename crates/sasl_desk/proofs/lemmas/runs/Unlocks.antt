@@ -10,20 +10,20 @@ use Rattle.otp_core.specs.Attempt.{Attempt, CodeTexts, one_text, two_texts, atte
 use Rattle.otp_core.specs.Ranges.{IsMoment}
 use Rattle.otp_core.specs.Reply.{IsDueReply}
 use Rattle.otp_core.specs.History.{IsLegal}
-use Rattle.otp_core.proofs.lemmas.AfterReply.{IsNoPass}
-use Rattle.otp_core.proofs.lemmas.Used.{candidates_are_new}
 use Rattle.otp_core.specs.State.{unlocked}
 use Rattle.otp_core.specs.declared.token.reply.Reply.{Reply}
 use Rattle.otp_core.specs.declared.token.reply.Reply.TheVariants.{Pass}
 use Rattle.otp_core.specs.declared.token.kinds.TokenFields.{TokenFields}
 use Rattle.otp_core.specs.declared.token.kinds.TokenFields.TheVariants.{Hotp, Totp}
+use Rattle.otp_core.specs.Window.{CanPass}
+use Rattle.otp_core.proofs.lemmas.AfterReply.{IsNoPass}
+use Rattle.otp_core.proofs.lemmas.Used.{candidates_are_new}
 use Rattle.account_book.specs.{AccountFields, BookFields}
 use Rattle.account_book.specs.Accounts.{account_at, with_account, with_changed, IsAdded}
+use Rattle.account_book.specs.Tokens.{token_at, with_token, IsUnlocked}
 use Rattle.account_book.proofs.lemmas.Maps.{added_is_apart}
 use Rattle.account_book.proofs.lemmas.Tokens.{tokens_are_apart}
-use Rattle.account_book.specs.Tokens.{token_at, with_token, IsUnlocked}
 use Rattle.sasl_desk.specs.Spent.{IsBelow, IsCounterSpent, AreSpent}
-use Rattle.otp_core.specs.Window.{CanPass}
 use Rattle.sasl_desk.proofs.lemmas.Lists.{each_follows}
 
 -- a counter is below each that can pass after a history

@@ -11,10 +11,10 @@ use Rattle.scram_ends.specs.Opening.{IsTakenUp}
 use Rattle.scram_ends.specs.First.{IsRefusedWith, IsChallengeTo}
 use Rattle.scram_ends.specs.Standing.{StandsForChallenged}
 use Rattle.scram_ends.specs.Verdict.{Due, accept, refuse, IsDue, due_text, final_due, verdict_of}
-use Rattle.scram_ends.proofs.lemmas.Opening.{refused_is_not_taken_up}
 use Rattle.scram_ends.specs.declared.server.ServerWait.{ServerWait}
 use Rattle.scram_ends.specs.declared.first.FirstFault.{FirstFault}
 use Rattle.scram_ends.specs.declared.verdict.Verdict.{Verdict}
+use Rattle.scram_ends.proofs.lemmas.Opening.{refused_is_not_taken_up}
 use Rattle.log_grammar.specs.Places.{Place, between, asks_bare, waits_first, got_first, waits_final, got_final, waits_code, leaving, over}
 use Rattle.log_grammar.specs.Demands.{Accounts, NamesMechanism, IsTakenUpFor}
 use Rattle.sasl_log.proofs.lemmas.steps.Logins.{stands_for_equal_login, login_is_challenged}

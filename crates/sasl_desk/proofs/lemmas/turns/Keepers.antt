@@ -7,11 +7,11 @@ use Rattle.std.proofs.lemmas.Bool.{false≢true}
 use Rattle.otp_core.specs.Ranges.{max_counter}
 use Rattle.otp_core.specs.declared.token.reply.Reply.{Reply}
 use Rattle.otp_core.specs.declared.token.reply.Reply.TheVariants.{Pass, Fail, Locked}
+use Rattle.otp_core.specs.Attempt.{CodeTexts}
+use Rattle.otp_core.specs.declared.token.kinds.TokenFields.{TokenFields}
 use Rattle.account_book.specs.{BookFields}
 use Rattle.account_book.specs.Store.{StoreFacts, IsFailedSave, IsNotSaved}
 use Rattle.account_book.specs.Tokens.{token_at, ChangesToken, IsBookAttempt}
-use Rattle.otp_core.specs.Attempt.{CodeTexts}
-use Rattle.otp_core.specs.declared.token.kinds.TokenFields.{TokenFields}
 use Rattle.account_book.specs.AccountAttempt.{AccountAttempt}
 use Rattle.log_grammar.specs.Lines.{IsReplyInRange}
 

@@ -2,6 +2,8 @@
 use Rattle.std.proofs.Common.{◌≡◌, true, ℕ, List, [], ◌∷◌, ◌++◌, reverse, refl, sym, subst, append_assoc, append-nil}
 use Rattle.std.specs.List.{AllByRecursion}
 use Rattle.std.proofs.lemmas.Bool.{false≢true}
+use Rattle.std.specs.declared.option.Option.{Option}
+use Rattle.std.specs.declared.option.Option.TheVariants.{None, Some}
 use Rattle.otp_core.specs.Attempt.{CodeTexts}
 use Rattle.otp_core.specs.declared.token.reply.Reply.{Reply}
 use Rattle.account_book.specs.AccountAttempt.{AccountAttempt, account_attempt_of}
@@ -19,11 +21,9 @@ use Rattle.sasl_desk.specs.inner.SessionTurns.{IsTurnOnEvent, recorded_shown, tu
 use Rattle.sasl_desk.specs.declared.session.Session.{Session}
 use Rattle.sasl_desk.specs.declared.session.Session.TheVariants.{WaitAuth, WaitFirst, WaitFinal, WaitCode}
 use Rattle.sasl_desk.specs.declared.session.event.Turn.{Turn}
+use Rattle.sasl_desk.specs.Runs.{IsAtRest}
 use Rattle.sasl_desk.proofs.lemmas.turns.AnswerLines.{answer_lines_have}
 use Rattle.sasl_desk.proofs.lemmas.turns.DueRecords.{due_line_may_stand, heard_line_is_due, bad_and_gone_may_stand}
-use Rattle.std.specs.declared.option.Option.{Option}
-use Rattle.std.specs.declared.option.Option.TheVariants.{None, Some}
-use Rattle.sasl_desk.specs.Runs.{IsAtRest}
 
 -- the place where a session stands is its client's turn
 pub session_has_client_turn : (accounts : Accounts) (at : Place) (session : Session) → IsSessionAt accounts at session

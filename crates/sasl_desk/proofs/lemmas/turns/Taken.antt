@@ -3,6 +3,7 @@ use Rattle.std.proofs.Common.{◌≡◌, ℕ, List, [], ◌∷◌, refl, sym, su
 use Rattle.std.specs.declared.option.Option.{Option}
 use Rattle.otp_core.specs.Attempt.{CodeTexts}
 use Rattle.otp_core.specs.declared.token.reply.Reply.{Reply}
+use Rattle.book_keeper.specs.declared.keeper.CodeJudged.TheVariants.{Replied, NotSaved}
 use Rattle.log_grammar.specs.Lines.{said, heard, replies, halt, code_line}
 use Rattle.log_grammar.specs.Places.{Place, waits_code, got_code, over, halted}
 use Rattle.log_grammar.specs.Demands.{Accounts, demands}
@@ -12,7 +13,6 @@ use Rattle.sasl_desk.specs.Runs.{BearsMoment, IsAnswerLine, IsTurnTaken}
 use Rattle.sasl_desk.specs.Sessions.{IsSessionAt, IsPath, IsChallengeWith}
 use Rattle.sasl_desk.specs.inner.SessionTurns.{IsDueCode, IsTurnOnEvent, recorded_shown, lines_of_answer, turn_lines}
 use Rattle.sasl_desk.specs.inner.TurnResults.{judged_lines}
-use Rattle.book_keeper.specs.declared.keeper.CodeJudged.TheVariants.{Replied, NotSaved}
 use Rattle.sasl_desk.specs.declared.session.Session.{Session}
 use Rattle.sasl_desk.specs.declared.session.event.Turn.{Turn}
 use Rattle.sasl_desk.proofs.lemmas.turns.AnswerLines.{answer_lines_have}

@@ -4,6 +4,7 @@ use Rattle.std.specs.Prelude.{codes}
 use Rattle.std.specs.declared.result.Result.{Result}
 use Rattle.std.specs.declared.result.Result.TheVariants.{Err}
 use Rattle.std.specs.Str.{byte}
+use Rattle.mac_core.proofs.lemmas.Digests.{AreBytes}
 use Rattle.scram_text.specs.Limits.{max_channel_len, max_message_len, max_nonce_len, max_tag_len}
 use Rattle.scram_text.specs.Class.{IsNonce}
 use Rattle.scram_text.specs.Base64Field.{base64, IsField}
@@ -16,7 +17,6 @@ use Rattle.scram_text.proofs.lemmas.Base64.{length-base64, bytes_are_field}
 use Rattle.scram_text.proofs.lemmas.Texts.{empty_is_text}
 use Rattle.scram_ends.specs.Honest.{max_honest_final_len}
 use Rattle.scram_ends.specs.declared.lengths.TheConstants.{MAX_HEADER_LEN}
-use Rattle.mac_core.proofs.lemmas.Digests.{AreBytes}
 use Rattle.scram_ends.proofs.lemmas.client_messages.WriteFaults.{write_fault_is_memory}
 
 -- a header and a nonce within their bounds can be written before the proof

@@ -1,8 +1,8 @@
 use Rattle.std.proofs.Common.{◌<◌, length, map, sym, ap, ◌∙◌, subst, rules}
 use Rattle.std.proofs.lemmas.List.{take_more, map_push, map_more}
-use Rattle.scram_text.specs.Class.{IsPlainName}
 use Rattle.toml.specs.Data.{string}
 use Rattle.toml.specs.View.{view}
+use Rattle.scram_text.specs.Class.{IsPlainName}
 use Rattle.book_format.specs.Names.{AreNames}
 use Rattle.book_format.proofs.lemmas.WritesItself.{more_names_are_plain}
 use Rattle.book_format.proofs.write.account.names_value.Goals as goal

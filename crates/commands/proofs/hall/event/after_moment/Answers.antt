@@ -1,11 +1,11 @@
 use Rattle.std.proofs.Common.{◌≢◌, ◌∷◌, ◌++◌, ℕ, List}
 use Rattle.std.specs.Prelude.{decimal}
 use Rattle.std.specs.Str.{byte}
-use Rattle.sasl_desk.specs.{IsMoment}
-use Rattle.log_grammar.proofs.lemmas.lines.Words.{moment_fits_64_bits}
 use Rattle.scram_text.proofs.lemmas.CutAtByte.{lacking_text_is_not_cut}
+use Rattle.log_grammar.proofs.lemmas.lines.Words.{moment_fits_64_bits}
 use Rattle.sasl_log.proofs.lemmas.texts.Spaces.{front_is_decimal}
 use Rattle.sasl_log.proofs.lemmas.texts.WithSpaces.{if_none_holds}
+use Rattle.sasl_desk.specs.{IsMoment}
 use Rattle.commands.proofs.hall.event.after_moment.Goals as goal
 
 pub returns-in_err-seconds-clause-none : goal.returns-in_err-seconds-clause-none

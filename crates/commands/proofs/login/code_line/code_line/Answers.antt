@@ -1,8 +1,8 @@
 use Rattle.std.proofs.Common.{◌≡◌, ◌++◌, ◌∷◌, [], List, ℕ, arith, subst}
 use Rattle.std.specs.Str.{byte}
-use Rattle.sasl_desk.specs.{two_texts}
 use Rattle.std.proofs.lemmas.List.{take_all}
 use Rattle.std.proofs.lemmas.Result.{IfOk-weaker}
+use Rattle.sasl_desk.specs.{two_texts}
 use Rattle.commands.proofs.login.code_line.code_line.Goals as goal
 
 -- a line of the protocol is not cut

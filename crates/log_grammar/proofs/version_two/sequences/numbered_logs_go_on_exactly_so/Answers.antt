@@ -11,8 +11,8 @@ use Rattle.log_grammar.proofs.lemmas.many_sessions.OneReading.{own_place_decides
 use Rattle.log_grammar.proofs.lemmas.many_sessions.WithoutLast.{numbered_log_has_last_transition}
 use Rattle.log_grammar.proofs.lemmas.state_machine.PlaceBefore.{challenge_has_one_account}
 use Rattle.log_grammar.proofs.lemmas.many_sessions.LinesOfNumber.{one_and_others_cover_each, put_sets_own, put_keeps_others}
-use Rattle.log_grammar.proofs.version_two.sequences.numbered_logs_go_on_exactly_so.Goals as goal
 use Rattle.log_grammar.proofs.lemmas.many_sessions.LogSteps.{equal_places_spell_log, numbered_log_goes_on}
+use Rattle.log_grammar.proofs.version_two.sequences.numbered_logs_go_on_exactly_so.Goals as goal
 
 -- the line may stand at its number after the log and moves no other number, and `all` is `told` with the reply that the line records
 abbrev StandsAndTells : ℕ → Demands → List (Numbered LogLine) → (ℕ → Place) → List AccountAttempt → ℕ → LogLine → (ℕ → Place)

@@ -1,6 +1,6 @@
+use Rattle.std.specs.Str.{IsUtf8}
 use Rattle.otp_core.proofs.lemmas.Digits.{IsUtf8-from_digits}
 use Rattle.otp_core.proofs.code.Code.text.Goals as goal
-use Rattle.std.specs.Str.{IsUtf8}
 
 pub unreachable-requires : goal.unreachable-requires
 unreachable-requires c =

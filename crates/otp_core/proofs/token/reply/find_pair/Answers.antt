@@ -1,8 +1,8 @@
+use Rattle.std.proofs.Common.{[], sym, subst}
 use Rattle.otp_core.specs.Attempt.CodeTexts.{two_texts}
 use Rattle.otp_core.specs.Reply.{IsFitting}
 use Rattle.otp_core.specs.inner.Passes.{IsLeast}
 use Rattle.otp_core.specs.declared.token.kinds.TokenFields.{TokenFields}
-use Rattle.std.proofs.Common.{[], sym, subst}
 use Rattle.otp_core.proofs.lemmas.LeastFound.{least_pair_fits}
 use Rattle.otp_core.proofs.token.reply.find_pair.Goals as goal
 

@@ -1,7 +1,7 @@
 use Rattle.std.proofs.Common.{refl}
 use Rattle.log_grammar.specs.Places.{waits_code}
-use Rattle.sasl_desk.proofs.lemmas.turns.NotDue.{only_codes_are_due}
 use Rattle.log_grammar.proofs.lemmas.lines.Written.{heard_line_is_writable}
+use Rattle.sasl_desk.proofs.lemmas.turns.NotDue.{only_codes_are_due}
 use Rattle.sasl_desk.proofs.session.hear.hear_code.Goals as goal
 
 pub returns-in-Abort-clause-heard : goal.returns-in-Abort-clause-heard

@@ -3,12 +3,12 @@ use Rattle.std.specs.declared.option.Option.TheVariants.{None, Some}
 use Rattle.std.proofs.lemmas.Slice.Eq.{strip_prefix_is}
 use Rattle.std.proofs.lemmas.Bool.Decides.{Decides-eqb}
 use Rattle.scram_text.proofs.lemmas.FirstUnmet.{found_is_first}
-use Rattle.scram_ends.proofs.lemmas.Challenges.{nonce_begins_otherwise, nonce_begins_with_clients, nonce_is_not_longer, nonce_is_longer}
 use Rattle.scram_ends.specs.Client.{challenge_faults_in_order, AsksOfChallenge}
 use Rattle.scram_ends.specs.declared.client.ClientFault.TheVariants.{NonceNotMine, NonceNotLonger, CountOutside}
-use Rattle.scram_ends.proofs.client.ClientOne.read_challenge.Goals as goal
+use Rattle.scram_ends.proofs.lemmas.Challenges.{nonce_begins_otherwise, nonce_begins_with_clients, nonce_is_not_longer, nonce_is_longer}
 use Rattle.scram_ends.proofs.client.ClientOne.read_challenge.Goals.{then-challenge-self-via-then-challenge-self}
 use Rattle.scram_ends.proofs.client.ClientOne.read_challenge.Goals.{then-challenge-self-via-else-challenge-self+then-self-challenge}
+use Rattle.scram_ends.proofs.client.ClientOne.read_challenge.Goals as goal
 
 pub returns-in_default-clause-err : goal.returns-in_default-clause-err
 returns-in_default-clause-err c =

@@ -6,8 +6,8 @@ use Rattle.commands.specs.declared.login.client_end.Stage.{Stage}
 use Rattle.commands.specs.declared.login.client_end.Stage.TheVariants.{Silent, Begun, Proved}
 use Rattle.commands.proofs.lemmas.ClientLines.{beginning_may_be_said, answer_may_be_said, silence_may_be_kept, no_line_makes_client_leave}
 use Rattle.commands.proofs.lemmas.ClientLines.{offer_leaver_has_to_leave, challenge_leaver_has_to_leave, acceptance_leaver_has_to_leave}
-use Rattle.commands.proofs.login.client_end.ClientEnd.hear.Goals as goal
 use Rattle.commands.proofs.login.client_end.ClientEnd.hear.Goals.{in_default-via-in-Ok+in_default, in_default-via-in_default}
+use Rattle.commands.proofs.login.client_end.ClientEnd.hear.Goals as goal
 
 pub returns-in_default-clause-leaves : goal.returns-in_default-clause-leaves
 returns-in_default-clause-leaves c = λ left.
