@@ -37,8 +37,8 @@ new_book decoy_key = record { decoy_key = decoy_key; decoy_count = default_count
 abbrev pub IsOfFile : {File : Type 0} → (bytes_of : File → Option (List ℕ)) → BookFields → Type 0
 IsOfFile bytes_of book = (text : List ℕ) × IsReadBook bytes_of text book
 
--- the book was read from a file, and no bytes are taken from the source of random bytes; or it is a new one, whose key is the next bytes of the
--- source, as many as a digest of SHA-256 has
+-- the book was read from a file, and no bytes are taken from the source of random bytes; or it is a new one, whose key is the next bytes
+-- of the source, as many as a digest of SHA-256 has
 abbrev pub IsReadOrMade : {File : Type 0} → (bytes_of : File → Option (List ℕ)) → (old new : Option (List ℕ)) → BookFields → Type 0
 IsReadOrMade bytes_of old new book =
     (IsOfFile bytes_of book × (new ≡ old))

@@ -1,5 +1,5 @@
--- What a desk and a hall do, in the order in which to read it: what a client does, which of its lines are due, a session, attempts that were
--- judged, the runs of a desk and of a hall, what is true of all runs, and how a client is served.
+-- What a desk and a hall do, in the order in which to read it: what a client does, which of its lines are due, a session, attempts that
+-- were judged, the runs of a desk and of a hall, what is true of all runs, and how a client is served.
 pub mod Events
 pub mod ChallengedLogin
 pub mod Sessions

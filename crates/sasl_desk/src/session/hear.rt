@@ -41,7 +41,8 @@ pub(crate) fn gone_turn<'a>() -> Turn<'a>
 pub(crate) fn bad_turn<'a>() -> Turn<'a>
     ensures turn { (accounts : Accounts) (server_nonce : List ℕ) (place : Place) (event : ClientEvent) → IsRecord event place bad
         → IsTurnOnEvent accounts server_nonce event place result [] }
-    ensures line { (accounts : Accounts) (server_nonce : List ℕ) (place : Place) (line : grammar.ClientLine) → is_line_due place line ≡ false
+    ensures line { (accounts : Accounts) (server_nonce : List ℕ) (place : Place) (line : grammar.ClientLine)
+        → is_line_due place line ≡ false
         → IsTurnOnLine accounts server_nonce line place result [] }
     ensures lines { CanBeWritten (turn_lines result []) }
 {

@@ -98,7 +98,8 @@ module _ (limit : ℕ) (accounts : Accounts) (fit : AllCanBeChallenged accounts)
       (log_is_free_after log n ended (λ m next. tt)) ranged_on)
 
   -- a log with a last line can be completed, whatever that line is
-  nonempty_log_is_completable : (front : List (Numbered LogLine)) (last : Numbered LogLine) (places : ℕ → Place) (told : List AccountAttempt)
+  nonempty_log_is_completable : (front : List (Numbered LogLine)) (last : Numbered LogLine) (places : ℕ → Place)
+      (told : List AccountAttempt)
       → IsNumberedLogUpTo limit (demands accounts) (front ++ last ∷ []) places told → OpenInRange places
       → IsNumberedCompletable limit accounts (front ++ last ∷ [])
   nonempty_log_is_completable front last places told s ranged =

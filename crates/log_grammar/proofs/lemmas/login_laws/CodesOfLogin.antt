@@ -61,7 +61,8 @@ after_first_codes_are_of_login accounts s mechanism first (challenged account te
     (mechanism, first, has, challenged_first_is_of_name accounts mechanism first account text meets.0) p
 
 -- the codes of a session that meets its demands are of its login
-session_codes_are_of_login : (accounts : Accounts) (s : RecordedSession) → SessionMeets (demands accounts) s → AreCodesOfLogin s (session_part s)
+session_codes_are_of_login : (accounts : Accounts) (s : RecordedSession) → SessionMeets (demands accounts) s
+    → AreCodesOfLogin s (session_part s)
 session_codes_are_of_login accounts (session names no_login) meets =
     place_codes_are_of_login (session names no_login) offered (λ none. none) tt
 session_codes_are_of_login accounts (session names (quits_login q)) meets = quit_codes_are_of_login (session names (quits_login q)) q

@@ -29,7 +29,8 @@ use Rattle.log_grammar.proofs.lemmas.outcome_laws.PlaceMessages.{lines_have_thei
 -- replies that come first still do when more are added at the end
 told_first_stays_first : (told before rest told_are : List AccountAttempt) → before ≡ told ++ rest
     → before ++ told_are ≡ told ++ (rest ++ told_are)
-told_first_stays_first told before rest told_are same = ap (λ (l : List AccountAttempt). l ++ told_are) same ∙ append_assoc told rest told_are
+told_first_stays_first told before rest told_are same = ap (λ (l : List AccountAttempt). l ++ told_are) same
+    ∙ append_assoc told rest told_are
 
 -- the law: the first lines of what a log may begin with also begin a log, and their replies come first
 pub first_lines_begin_logs : FirstLinesBeginLogs

@@ -46,7 +46,8 @@ session_tells_in_time (session names l) h =
     later_lines_hold (λ lines place told. Ranged lines → Timed told) later_lines_tell_in_time l h.1
 
 -- if the lines of sessions, one after another, are in their ranges, so are the moments of their replies
-pub sessions_tell_in_time : (sessions : List RecordedSession) → Ranged (flat_map session_lines sessions) → Timed (flat_map session_told sessions)
+pub sessions_tell_in_time : (sessions : List RecordedSession) → Ranged (flat_map session_lines sessions)
+    → Timed (flat_map session_told sessions)
 sessions_tell_in_time [] h = tt
 sessions_tell_in_time (s ∷ sessions) h =
     let own = front_keeps_all IsLogLineInRange (session_lines s) (flat_map session_lines sessions) h in

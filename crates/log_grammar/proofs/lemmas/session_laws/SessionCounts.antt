@@ -41,5 +41,6 @@ sessions_begin_as_many (s ∷ sessions) =
     ∙ ap (λ (n : ℕ). 1 + n) (sessions_begin_as_many sessions) ∙ omega arith
 
 -- as many sessions are counted in a log of version 1 as it has
-pub sessions_are_counted : (sessions : List RecordedSession) → (counts_of (header_one ∷ flat_map session_lines sessions)).sessions ≡ length sessions
+pub sessions_are_counted : (sessions : List RecordedSession)
+    → (counts_of (header_one ∷ flat_map session_lines sessions)).sessions ≡ length sessions
 sessions_are_counted sessions = sessions_begin_as_many sessions

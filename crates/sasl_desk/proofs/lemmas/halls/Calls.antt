@@ -68,7 +68,8 @@ halted_phase_iff_halted Closed = (λ is. absurd (cc is), λ is. absurd (cc is))
 halted_phase_iff_halted (Halted session) = (λ is. refl, λ is. refl)
 
 -- a hall in which the open session of this number takes a turn
-module _ {S : Type 0} {facts : S → StoreFacts} {IsStored : List ℕ → Type 0} {old new : Keeper S} {n : ℕ} {session : Session} {server_nonce : List ℕ} (others : List OpenSession) (given : ℕ) {event : ClientEvent}
+module _ {S : Type 0} {facts : S → StoreFacts} {IsStored : List ℕ → Type 0} {old new : Keeper S} {n : ℕ} {session : Session}
+    {server_nonce : List ℕ} (others : List OpenSession) (given : ℕ) {event : ClientEvent}
     {moment : ℕ} {left : AfterTurn} where
   -- when the session's turn was taken, the hall has answered one more call, and the phase that the turn leaves is that of the place
   turn_adds_hall_call : {start : BookFields} {calls : List (Numbered Call)} {lines : List LogLine}

@@ -37,7 +37,8 @@ halted_phase_shows_halting_turn after.Closed server_nonce is = absurd (cc is)
 halted_phase_shows_halting_turn (Halted session) server_nonce is = refl
 
 -- a desk with an open session, and what a turn makes of it
-module _ {S : Type 0} {facts : S → StoreFacts} {IsStored : List ℕ → Type 0} {old : Keeper S} {session : Session} {server_nonce : List ℕ} {event : ClientEvent} {moment : ℕ}
+module _ {S : Type 0} {facts : S → StoreFacts} {IsStored : List ℕ → Type 0} {old : Keeper S} {session : Session} {server_nonce : List ℕ}
+    {event : ClientEvent} {moment : ℕ}
     {left : AfterTurn} {wire wire' log log' : List ℕ} {new : Desk S} where
   -- when the turn was taken and its lines were written, the desk has answered the call
   pub turn_answers_desk_call : IsTurnWritten facts IsStored old session server_nonce event moment None wire wire' log log' left new.keeper

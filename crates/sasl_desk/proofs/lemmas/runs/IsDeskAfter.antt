@@ -48,7 +48,8 @@ left_desk_fits_place accounts server_nonce kept at (Some session) same is = (is,
 left_desk_fits_place accounts server_nonce kept at None same is = is
 
 -- a desk that begins stands for a book that is its keeper's, and for no call
-pub new_desk_stands_for_book : {S : Type 0} (facts : S → StoreFacts) (IsStored : List ℕ → Type 0) (book : BookFields) (keeper : Keeper S) (was : StoreFacts)
+pub new_desk_stands_for_book : {S : Type 0} (facts : S → StoreFacts) (IsStored : List ℕ → Type 0) (book : BookFields) (keeper : Keeper S)
+    (was : StoreFacts)
     → keeper.book ≡ book → SavesBook IsStored was book (facts keeper.store) → IsDeskAfter facts IsStored book [] (desk_of keeper Closed)
 new_desk_stands_for_book facts IsStored book keeper was same holds = record {
   place = between;

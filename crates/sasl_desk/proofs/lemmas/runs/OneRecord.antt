@@ -28,7 +28,8 @@ one_record goes_away at gone other a b = absurd b
 one_record goes_away at one other a b = absurd a
 
 -- after a line of the client that was due, but for a code, an answer is due
-heard_line_awaits_answer : (at : Place) (line : ClientLine) → is_line_due at line ≡ true → ((account : List ℕ) → at ≡ waits_code account → ⊥)
+heard_line_awaits_answer : (at : Place) (line : ClientLine) → is_line_due at line ≡ true
+    → ((account : List ℕ) → at ≡ waits_code account → ⊥)
     → IsAnswerDue (place_after_line at line)
 heard_line_awaits_answer at (auth mechanism) due apart = tt
 heard_line_awaits_answer at (auth_with mechanism message) due apart = tt
