@@ -11,13 +11,14 @@ that is named is there. Each block of code, definitions, proofs or an edit that 
 library. The sources have each signature in docs/EMBEDDING.md. Each name that a page of promises has between backquotes is in the sources.
 Each name without a space in a page for maintainers, in docs/FAULTS.md, docs/SECURITY.md or docs/TESTING.md is in the sources or in a
 script. A name that a page gives together with a file, as in `name` of `file.rt` or `file.rt` (`name`, `other`), is in that file. So is each
-law of docs/LOG_PROMISES.md in one of the files that are named before its table. run.py runs each script in this folder that takes a
-program, and docs/TESTING.md names each script. A script that runs a list of tests uses all of its functions. The functions of Python files
-here and in tools/ have the types of their arguments and results. The sizes in docs/PROMISES.md and README.md are about those of the
-sources, and docs/TESTING.md says how many rows the tables of vectors and of faulty books have. docs/PROMISES.md says how many lines of
-definitions there are to be read for a promise. docs/ARCHITECTURE.md says about how large each library is. The kit that the Makefile names
-is that in docs/PROMISES.md and README.md. No source has a word by which something is taken unproved. No contract of a public function cites
-a definition of specs/inner. docs/MUTATIONS.md says how many edits each crate has, how many tests of scripts there are, and for how many of
+law of docs/LOG_PROMISES.md in one of the files that are named before its table. Each function in the first column of a table of promises
+exists, and is of the type or the module that is named before it. run.py runs each script in this folder that takes a program, and
+docs/TESTING.md names each script. A script that runs a list of tests uses all of its functions. The functions of Python files here and in
+tools/ have the types of their arguments and results. The sizes in docs/PROMISES.md and README.md are about those of the sources, and
+docs/TESTING.md says how many rows the tables of vectors and of faulty books have. docs/PROMISES.md says how many lines of definitions there
+are to be read for a promise. docs/ARCHITECTURE.md says about how large each library is. The kit that the Makefile names is that in
+docs/PROMISES.md and README.md. No source has a word by which something is taken unproved. No contract of a public function cites a
+definition of specs/inner. docs/MUTATIONS.md says how many edits each crate has, how many tests of scripts there are, and for how many of
 these a bug is planted. tests/data/planted.csv has a row for each edit that a test has to refuse, with what the test says then. Each wrong
 body in must-fail/ and edits/ applies. docs/TIMES.md names each library. No line of a page has over 140 columns, outside tables and code
 blocks. Each fault has a line, and the status is then 1.
@@ -198,6 +199,20 @@ def misplaced_laws(page: Path, texts: dict[str, str]) -> Iterator[str]:
         has = {law for path in texts if path.endswith(named) for law in re.findall(r"pub fn (\w+)", texts[path])}
         told = [law for cell in re.findall(r"^\| (.*?) \|", table, re.M) for law in re.findall(r"`(\w+)`", cell)]
         yield from (f"{page.name}: {law} in {' '.join(named)}" for law in told if law not in has)
+
+
+def missing_functions(page: Path, texts: dict[str, str]) -> Iterator[str]:
+    """The functions in the column *Function* of a page's tables that no source has, or, after the name of a type or a module as
+    in `Type::function`, none that has an `impl` of this type or is this module."""
+    for table in re.findall(r"^\| Function \|.*\n((?:\|.*\n)+)", page.read_text(encoding="utf-8"), re.M):
+        for cell in re.findall(r"^\| (.*?) \|", table, re.M):
+            has = list(texts.values())
+            for of, name in re.findall(r"`(?:(\w+)::)?([a-z_]\w*)`", cell):
+                if of:
+                    is_there = re.compile(rf"\bimpl\b[^{{]*\b{of}\b")
+                    has = [text for path, text in texts.items() if path.endswith(f"/{of}.rt") or is_there.search(text)]
+                if not any(re.search(rf"\bfn {name}\b", text) for text in has):
+                    yield f"{page.name}: {name} in {cell}"
 
 
 def words_of_scripts() -> set[str]:
@@ -481,6 +496,7 @@ def checks() -> Iterator[tuple[str, str, list[str]]]:
         ("no source has this name", promises, unknown_names, paths, known),
         ("nothing has this name", maintainers, unknown_names, paths, known_to_maintainers, skipped),
         ("no file before its table has this law", [TOP / "docs" / "LOG_PROMISES.md"], misplaced_laws, texts),
+        ("no source has this function, or not for the type before it", promises, missing_functions, texts),
     ]:
         yield kind, find.__name__, [fault for page in pages for fault in find(page, *given)]
     for kind, find in [
