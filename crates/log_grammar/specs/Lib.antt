@@ -1,5 +1,5 @@
--- What a log is. A reader of the audit's promise has to believe the files of this folder. The laws in `laws` are proved from them,
--- and so is that `state_machine` has the same grammar.
+-- What a log is. A reader of the audit's promise has to believe the files of this folder except `Upgrades`. The laws in `laws` are
+-- proved from them, and so is that `state_machine` has the same grammar.
 pub mod Words
 pub mod Payload
 pub mod Lines
