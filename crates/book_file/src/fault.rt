@@ -10,7 +10,8 @@ use std::io;
 #[derive(Debug, Drop)]
 pub enum HoldFault {
     /// One of these:
-    /// - the file is not a plain file, has a second name, or belongs to others in a folder that others may write;
+    /// - the file is not a plain file, has a second name (a save would leave the old text there), or belongs to others in a folder
+    ///   that others may write;
     /// - it or its folder can't be opened or locked, or the folder does not exist;
     /// - there is no file, and the path does not end in a name or is a link to nothing;
     /// - the clock can't be read;

@@ -94,10 +94,7 @@ where
 {
     /// Takes hold of the book at `path`. Waits up to 30 seconds for other runs. Errors:
     /// - Missing if there is no file;
-    /// - Unreadable if the file is not a plain file, has another name too (a save would leave the old text there), or belongs to
-    ///   others in a folder that others may write; if it or its folder can't be opened or locked, or the folder does not exist; if
-    ///   there is no file and the path does not end in a name or is a link to nothing; if the clock can't be read; or if memory
-    ///   runs out;
+    /// - Unreadable for each reason that `HoldFault` lists there;
     /// - OwnedByAnother if a save could not keep the book's owner;
     /// - HeldByOthers if other runs held the book all that time;
     /// - InTheWay if what has the path of the next text is not a folder and can't be opened or removed. A folder there only makes
@@ -156,8 +153,9 @@ where
     }
 
     /// Replaces the book with a file that has this text, whole or not at all: a run that is stopped leaves the old text or the new
-    /// one. The new file keeps the book's owner, its group if the user of this run may give it, and the owner's bits of its mode;
-    /// the file of a new book has the mode 0600. Errors:
+    /// one. So does an error: the new text is there if the new file got the book's name, and only then a call failed. The new file
+    /// keeps the book's owner, its group if the user of this run may give it, and the owner's bits of its mode; the file of a new
+    /// book has the mode 0600. Errors:
     /// - FileTooLarge if the text has more bytes than `read` accepts;
     /// - NotFound if the file at the path is not the one that this run read or put there last, or has changed since;
     /// - AlreadyExists if there was none and there now is one;

@@ -54,7 +54,8 @@ pub fn is_same_file(one: &Metadata, other: &Metadata) -> bool {
     one.dev() == other.dev() && one.ino() == other.ino()
 }
 
-/// Whether both are the metadata of one file that has not changed in between: neither its bytes nor its names, owner or mode.
+/// Whether both are the metadata of one file that has not changed in between, neither its bytes nor its names, owner or mode, as far
+/// as its length and the time of its last change show.
 pub(crate) fn are_unchanged(one: &Metadata, other: &Metadata) -> bool
     ensures { OnTrue result (metadata_len one.now ≡ metadata_len other.now) }
 {
