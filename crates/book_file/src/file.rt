@@ -94,7 +94,7 @@ where
 {
     /// Takes hold of the book at `path`. Waits up to 30 seconds for other runs. Errors:
     /// - Missing if there is no file;
-    /// - Unreadable for each reason that `HoldFault` lists there;
+    /// - Unreadable for a reason that `HoldFault::Unreadable` lists;
     /// - OwnedByAnother if a save could not keep the book's owner;
     /// - HeldByOthers if other runs held the book all that time;
     /// - InTheWay if what has the path of the next text is not a folder and can't be opened or removed. A folder there only makes
