@@ -1,4 +1,4 @@
--- What a server keeps of an account for one mechanism, and what both ends make of a password.
+-- What a server keeps under a name for one mechanism, and what both ends make of a password.
 use Rattle.std.specs.Prelude.{ℕ, List, option_map}
 use Rattle.std.specs.declared.option.Option.{Option}
 use Rattle.mac_core.specs.Mechanism.{password_stored_key_by, password_server_key_by}
@@ -11,12 +11,11 @@ pub record Keys : Type 0 where
   pub stored : List ℕ
   pub server : List ℕ
 
--- what a server keeps under a name for one mechanism: an account, or a decoy, which stands in for a name without keys. The other
--- definitions call either the account.
+-- what a server keeps under a name for one mechanism: an account's keys, or a decoy, which stands in for a name without keys
 pub record Entry : Type 0 where
   pub salt : List ℕ
   pub count : ℕ
-  -- the keys of the account; a decoy has none
+  -- an account's keys; a decoy has none
   pub keys : Option Keys
   -- the other names that the account may act as
   pub act_as : List (List ℕ)
@@ -25,7 +24,7 @@ pub record Entry : Type 0 where
 abbrev pub keys_of : ScramKeys → Keys
 keys_of keys = record { stored = keys.stored.items; server = keys.server.items }
 
--- the account that a view shows
+-- the entry that a view shows
 abbrev pub entry_of : KeysView → Entry
 entry_of view = record { salt = view.salt; count = view.count; keys = option_map keys_of view.keys; act_as = view.act_as.now }
 

@@ -12,7 +12,7 @@ use Rattle.scram_ends.specs.declared.first.FirstFault.TheVariants.{Text, Mandato
 use Rattle.scram_ends.specs.declared.recorded.RecordedFault.{RecordedFault}
 use Rattle.scram_ends.specs.declared.recorded.RecordedFault.TheVariants.{First, NotThisChallenge}
 
--- the server's challenge to a client-first message: the client's nonce followed by the server's own part, the account's salt and count, and
+-- the server's challenge to a client-first message: the client's nonce followed by the server's own part, the entry's salt and count, and
 -- no extensions
 pub record IsChallengeTo (entry : Entry) (client_first server_nonce server_first : List ℕ) : Type 0 where
   pub first : ClientFirstParts
@@ -41,7 +41,7 @@ IsRefusedWith client_first (Text fault) = ((first : ClientFirstParts) → IsClie
 IsRefusedWith client_first fault = (first : ClientFirstParts) × IsClientFirst client_first first
     × IsFirstUnmet (λ row. AsksOfFirst row first) first_faults_in_order fault
 
--- why two recorded texts open no login of this account: First, if a server does not take up the first text; NotThisChallenge, if it
+-- why two recorded texts open no login of this entry: First, if a server does not take up the first text; NotThisChallenge, if it
 -- does and the second text is not a challenge to it
 abbrev pub IsRecordedFault : Entry → (client_first server_first : List ℕ) → RecordedFault → Type 0
 IsRecordedFault entry client_first server_first (First fault) = IsRefusedWith client_first fault

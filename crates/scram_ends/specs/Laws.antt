@@ -41,7 +41,7 @@ AcceptsExactlyValid = (login : Challenged) (client_final server_final : List ℕ
     → ((signature : List ℕ) × IsDue login client_final (accept signature) × IsAuthentic server_final signature)
     ↔ IsValidLogin login client_final server_final
 
--- an honest client logs in if the account's keys are those of the password, the server challenges it and the name to act as is
+-- an honest client logs in if the entry's keys are those of the password, the server challenges it and the name to act as is
 -- allowed: acceptance is due with the signature that the client expects, the message due contains that signature, and the login is
 -- valid
 abbrev pub HonestLogsIn : Type 0

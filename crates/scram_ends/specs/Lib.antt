@@ -1,4 +1,4 @@
--- Both ends of a login: what an account has and what is signed, the first two messages, the verdict and a valid login, what a
+-- Both ends of a login: what an entry has and what is signed, the first two messages, the verdict and a valid login, what a
 -- waiting server stands for, why a server or a client refuses, and an honest client.
 pub mod Entry
 pub mod Stages

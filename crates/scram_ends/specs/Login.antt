@@ -20,7 +20,7 @@ pub record IsValidLogin (login : Challenged) (client_final server_final : List â
   pub opening : Opening
   pub final : ClientFinalParts
   pub keys : Keys
-  -- its first two messages open a login of the account
+  -- its first two messages open a login of the entry
   pub is_opening : IsOpening login.entry login.client_first login.server_first opening
   -- the third is a client-final message without a mandatory extension
   pub is_final : IsClientFinal client_final final
@@ -28,7 +28,7 @@ pub record IsValidLogin (login : Challenged) (client_final server_final : List â
   -- its nonce is that of the challenge, and its channel binding is the gs2-header of client-first
   pub nonce : final.nonce â‰¡ opening.challenge.nonce
   pub channel : final.channel â‰¡ gs2_header opening.first
-  -- its proof is one for the account's keys
+  -- its proof is one for the entry's keys
   pub has_keys : login.entry.keys â‰¡ Some keys
   pub proof : IsProof login.mechanism keys (auth_message opening.first login.server_first final) final.proof
   -- the account may act as the name that client-first asks for, if any

@@ -43,7 +43,7 @@ pub record Opening : Type 0 where
   pub authzid : Option (List ℕ)
   pub challenge : ServerFirstParts
 
--- the texts open a login of this account
+-- the texts open a login of this entry
 pub record IsOpening (entry : Entry) (client_first server_first : List ℕ) (opening : Opening) : Type 0 where
   -- the first is a client-first message that a server takes up
   pub is_first : IsClientFirst client_first opening.first
@@ -53,12 +53,12 @@ pub record IsOpening (entry : Entry) (client_first server_first : List ℕ) (ope
   pub not_mandatory : server_first_mandatory opening.challenge ≡ false
   -- its nonce is the client's, followed by at least one byte from the server
   pub longer : ExtendsNonce opening.first.nonce opening.challenge.nonce
-  -- its salt and its iteration count are the account's
+  -- its salt and its iteration count are the entry's
   pub salt : opening.challenge.salt ≡ entry.salt
   pub count : opening.challenge.count ≡ entry.count
 
--- the account of this name may act as the authzid (RFC 5802, section 5.1, `a`): there is none, or it is the name itself or one in the
--- account's act_as
+-- whoever logs in by this name and this entry may act as the authzid (RFC 5802, section 5.1, `a`): there is none, or it is the name
+-- itself or one in the entry's act_as
 abbrev pub IsAllowed : Entry → (name : List ℕ) → (authzid : Option (List ℕ)) → Type 0
 IsAllowed entry name None = Unit {0}
 IsAllowed entry name (Some authzid) = (authzid ≡ name) ⊎ Contains entry.act_as authzid

@@ -22,7 +22,7 @@ pub record Started : Type 0 where
 
 -- a login that a server has challenged
 pub record Challenged : Type 0 where
-  -- the account for the mechanism, or a decoy
+  -- the entry for the name and the mechanism
   pub entry : Entry
   -- the mechanism that the client uses
   pub mechanism : Mechanism
@@ -61,7 +61,7 @@ started_login mechanism limits name authzid nonce client_first = record {
   client_first = client_first;
 }
 
--- the login of this account, with these two messages
+-- the login of this entry, with these two messages
 abbrev pub challenged_login : Entry → Mechanism → (client_first server_first : List ℕ) → Challenged
 challenged_login entry mechanism client_first server_first =
     record { entry = entry; mechanism = mechanism; client_first = client_first; server_first = server_first }

@@ -1,5 +1,5 @@
 -- What a waiting server stands for. It keeps no whole message: of the first two it keeps the nonce, the gs2-header and, if the
--- account has keys, two running MACs that have read AuthMessage up to the challenge.
+-- entry has keys, two running MACs that have read AuthMessage up to the challenge.
 use Rattle.std.specs.Prelude.{ℕ, ◌≡◌, ◌↔◌, IsTrue, List}
 use Rattle.std.specs.declared.option.Option.{Option}
 use Rattle.std.specs.declared.option.Option.TheVariants.{None, Some}

@@ -24,7 +24,7 @@ abbrev pub refusals_in_order : List Refusal
 refusals_in_order = ExtensionsNotSupported ∷ OtherNonce ∷ Channel ∷ InvalidProof ∷ NotAuthorised ∷ []
 
 -- what each row asks of the parts of client-final, given the opening: no mandatory extension; the nonce that was sent; the
--- gs2-header of client-first as channel binding; a proof for keys that the account has; a name to act as that is allowed.
+-- gs2-header of client-first as channel binding; a proof for keys that the entry has; a name to act as that is allowed.
 -- InvalidEncoding is not a row: nothing would meet it.
 abbrev pub AsksOfFinal : Refusal → Challenged → Opening → ClientFinalParts → Type 0
 AsksOfFinal InvalidEncoding login opening final = ⊥
@@ -42,7 +42,7 @@ pub data Due : Type 0 where
   refuse : Refusal → Due
 
 -- the verdict on the parts, given the opening: the refusal of the first row that they do not meet; or, if they meet every row,
--- acceptance with the ServerSignature for the account's keys
+-- acceptance with the ServerSignature for the entry's keys
 abbrev pub IsVerdictOn : Challenged → Opening → ClientFinalParts → Due → Type 0
 IsVerdictOn login opening final (refuse refusal) = IsFirstUnmet (λ row. AsksOfFinal row login opening final) refusals_in_order refusal
 IsVerdictOn login opening final (accept signature) =
