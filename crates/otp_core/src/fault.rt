@@ -97,8 +97,9 @@ impl Setting {
         }
     }
 
-    /// The least and the greatest number that the setting may be. Besides, `failures` is at most the token's `limit`, and `drift`
-    /// is at most its `max_drift`, above or below 0.
+    /// The least and the greatest number that the setting may be; of `drift`, its distance from 0. Those of `drift` and `failures`
+    /// only follow from those of `max_drift` and `limit`: a token's `drift` is at most its `max_drift`, above or below 0, and
+    /// `failures` is at most its `limit`.
     pub fn bounds(self) -> (u64, u64)
         ensures { result ≡ bounds_of self }
     {
