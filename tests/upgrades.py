@@ -78,7 +78,7 @@ def faults(folder: str) -> None:
     equal(ran([*upgrade, missing]), (3, "", f"scramotp: cannot read {missing}\n"), "no log")
 
 
-def time_of(words: list, data: bytes = b"") -> float:
+def time_of(words: list, data: str | bytes = b"") -> float:
     """The processor time of a run on this input, which ends well."""
     before = processor_time()
     equal(ran([PROGRAM, *words], data, stdout=subprocess.DEVNULL), (0, "", ""), words)
