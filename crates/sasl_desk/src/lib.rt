@@ -7,7 +7,6 @@
 //!
 //! A server calls `greet` when a client comes, and `client` for each thing that the client does. After each call it first writes
 //! what was appended to the log, and then sends what was appended to the wire: `log_then_send` does both, and `serve` all of this.
-//! Tests call `greet` and `client` by `Service` of the crate `desk_in_memory`, which keeps both texts in memory.
 //!
 //! ```rust
 //! use sasl_desk::{Book, Desk, Event, Moment, Phase};
