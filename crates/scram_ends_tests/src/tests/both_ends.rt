@@ -11,34 +11,56 @@ fn check_both(
     exchange: &Exchange,
     server_nonce: &str,
 ) -> Result<(), Fail> {
-    let [client_first, challenge, client_final, server_final] = exchange.messages;
+    let [
+        due_client_first,
+        due_challenge,
+        due_client_final,
+        due_server_final,
+    ] = exchange.messages;
     let mechanism = exchange.mechanism;
     let name = PlainName::new(exchange.name.as_bytes()).ok_or("a name")?;
     let password = Password::new(exchange.password.as_bytes()).ok_or("a password")?;
     let nonce = NoncePart::new(exchange.nonce.as_bytes()).ok_or("a nonce")?;
     let server_nonce = NoncePart::new(server_nonce.as_bytes()).ok_or("a nonce")?;
-    let view = view_of(mechanism, password.bytes(), challenge.as_bytes(), &[]).ok_or("an account")?;
+    let view = view_of(mechanism, password.bytes(), due_challenge.as_bytes(), &[]).ok_or(
+        "an account",
+    )?;
 
-    let mut t1 = Vec::new(alloc);
-    let client = Client::start(mechanism, &name, None, &nonce, Limits::usual(), &mut t1)?;
-    check_text(rt, t1.as_slice(), client_first, "the first");
-    let mut t2 = Vec::new(alloc);
-    let Ok(server) = server_first(mechanism, &view, t1.as_slice(), &server_nonce, &mut t2) else {
+    let mut client_first = Vec::new(alloc);
+    let client = Client::start(
+        mechanism,
+        &name,
+        None,
+        &nonce,
+        Limits::usual(),
+        &mut client_first,
+    )?;
+    check_text(rt, client_first.as_slice(), due_client_first, "the first");
+    let mut challenge = Vec::new(alloc);
+    let Ok(server) = server_first(
+        mechanism,
+        &view,
+        client_first.as_slice(),
+        &server_nonce,
+        &mut challenge,
+    ) else {
         return Err(Fail::from("no challenge"));
     };
-    check_text(rt, t2.as_slice(), challenge, "the challenge");
-    let mut t3 = Vec::new(alloc);
-    let Ok(client) = client.first(&password, t2.as_slice(), &mut t3) else {
+    check_text(rt, challenge.as_slice(), due_challenge, "the challenge");
+    let mut client_final = Vec::new(alloc);
+    let Ok(client) = client.first(&password, challenge.as_slice(), &mut client_final) else {
         return Err(Fail::from("no answer"));
     };
-    check_text(rt, t3.as_slice(), client_final, "the last");
-    let mut t4 = Vec::new(alloc);
-    let verdict = server.finish(t3.as_slice(), &mut t4).ok();
+    check_text(rt, client_final.as_slice(), due_client_final, "the last");
+    let mut server_final = Vec::new(alloc);
+    let verdict = server
+        .finish(client_final.as_slice(), &mut server_final)
+        .ok();
     check(rt, &verdict, &Some(Verdict::Accepted), "the verdict");
-    check_text(rt, t4.as_slice(), server_final, "the outcome");
+    check_text(rt, server_final.as_slice(), due_server_final, "the outcome");
     check(
         rt,
-        &client.last(t4.as_slice()),
+        &client.last(server_final.as_slice()),
         &Ok(Authenticated),
         "the end",
     );
