@@ -8,7 +8,6 @@ with its own nonces, one after another, and as logs of version 2, one after anot
 accounts, in each of which many codes pass. Each audit has to answer with the log's own counts. The times are the best of several
 turns, and include the start of the program and the reading of the book.
 """
-import base64
 import hashlib
 import os
 import pathlib
@@ -17,7 +16,7 @@ import sys
 import tempfile
 
 from timed import exactly, processor
-from expected import code, login_keys, proved
+from expected import HASHES, base64_of, code, login_keys, proved
 
 LOGINS = 142_000
 FEW = 1_000
@@ -26,14 +25,10 @@ CODES = 200  # for each account
 TURNS = 5
 SALT = b"0123456789ab"
 SECRET = b"12345678901234567890"
-HASHES = {"sha1": "SCRAM-SHA-1", "sha256": "SCRAM-SHA-256"}
+MECHANISMS = {table: mechanism for mechanism, table in HASHES.items()}
 COUNT = 4096
 # ClientKey and ServerKey of the password (RFC 5802, section 3).
-KEYS = {table: login_keys(table, b"pencil", SALT, COUNT) for table in HASHES}
-
-
-def text_of(data):
-    return base64.b64encode(data).decode()
+KEYS = {table: login_keys(table, b"pencil", SALT, COUNT) for table in MECHANISMS}
 
 
 def book(names, token):
@@ -52,22 +47,22 @@ def book(names, token):
 
 def login(table, name, number):
     """The lines of a login that is accepted, from MECHS to OK."""
-    nonce = text_of(hashlib.md5(f"c{number}".encode()).digest() + b"!!")
-    whole = nonce + text_of(hashlib.md5(f"s{number}".encode()).digest() + b"!!")
+    nonce = base64_of(hashlib.md5(f"c{number}".encode()).digest() + b"!!")
+    whole = nonce + base64_of(hashlib.md5(f"s{number}".encode()).digest() + b"!!")
     bare, front = f"n={name},r={nonce}", f"c=biws,r={whole}"
-    challenge = f"r={whole},s={text_of(SALT)},i={COUNT}"
+    challenge = f"r={whole},s={base64_of(SALT)},i={COUNT}"
     proof, signature = proved(table, *KEYS[table], f"{bare},{challenge},{front}".encode())
     return (
         "S MECHS SCRAM-SHA-256 SCRAM-SHA-1\n"
-        f"C AUTH {HASHES[table]} :n,,{bare}\n"
+        f"C AUTH {MECHANISMS[table]} :n,,{bare}\n"
         f"S CONT :{challenge}\n"
-        f"C RESP :{front},p={text_of(proof)}\n"
-        f"S OK :v={text_of(signature)}\n"
+        f"C RESP :{front},p={base64_of(proof)}\n"
+        f"S OK :v={base64_of(signature)}\n"
     )
 
 
 def logins(count):
-    tables = list(HASHES)
+    tables = list(MECHANISMS)
     return (login(tables[i % 2], "user", i) + "C GONE\nE\n" for i in range(count))
 
 

@@ -16,7 +16,7 @@ import time
 
 from books import mechanism
 from timed import exactly, wall
-from expected import AUDITS, code
+from expected import AUDITS, SHA256_NONCES, code
 
 LOGINS = 100_000
 CODES = 5_000  # one session has 10000 turns
@@ -25,7 +25,6 @@ TURNS = 5
 SECRET = b"12345678901234567890"
 # A recorded session is all of its log except the first line.
 LOGGED = len((AUDITS / "sha256.log").read_bytes()) - len("SCRAMLOG 1\n")
-NONCES = ["--client-nonce", "rOprNGfwEbeRWgbNEkqO", "--server-nonce", "%hvYDpWUa2RaTCAfuxFIlj)hNlF$k0"]
 
 
 def book(accounts):
@@ -63,7 +62,8 @@ def over_memory(bench, path):
 
 def over_file(program, folder, text, codes):
     """The least seconds of a login with these codes, over a book in a file."""
-    words = [program, "login", "--book", f"{folder}/book", "--name", "user", "--socket", f"{folder}/socket", "--moment", "5", *NONCES]
+    paths = ["--book", f"{folder}/book", "--socket", f"{folder}/socket"]
+    words = [program, "login", *paths, "--name", "user", "--moment", "5", *SHA256_NONCES]
     given = "".join(f"{it}\n" for it in ["pencil", *codes])
     turns = []
     for _ in range(TURNS):

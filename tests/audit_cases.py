@@ -7,7 +7,7 @@ RFCs print, and the codes those of RFC 4226 and RFC 6238. `shows` says what is r
 import pathlib
 from typing import NamedTuple
 
-from expected import AUDITS, edited, rows_of
+from expected import AUDITS, edited_texts
 
 TABLE = AUDITS / "cases.csv"
 
@@ -21,12 +21,7 @@ class Case(NamedTuple):
     shows: str
 
 
-def case(row: dict[str, str]) -> Case:
-    """The case that a row describes."""
-    log = edited((AUDITS / row["log"]).with_suffix(".log").read_bytes(), row)
-    return Case((AUDITS / row["book"]).with_suffix(".toml"), log, row["answer"], row["shows"])
-
-
 def cases() -> list[Case]:
     """The cases of all rows, in the table's order."""
-    return [case(row) for row in rows_of(TABLE)]
+    logs = edited_texts(TABLE, "log", ".log")
+    return [Case((AUDITS / row["book"]).with_suffix(".toml"), log, row["answer"], row["shows"]) for row, log in logs]

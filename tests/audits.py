@@ -9,7 +9,6 @@ and codes of RFC 4226. The keys in their books were computed with Python's hashl
 with a proof made by Python's hmac; logs of a million lines; logs that are pipes; progress shown at a terminal; files that can't be read;
 and a book that another run holds.
 """
-import base64
 import fcntl
 import os
 import pathlib
@@ -20,7 +19,7 @@ import time
 import suite
 from audit_cases import TABLE, cases
 from checks import equal
-from expected import AUDITS, SESSION_LEFT, login_keys, proved
+from expected import AUDITS, SESSION_LEFT, base64_of, login_keys, proved
 from processes import Running, until
 from suite import MOST_BYTES, PROGRAM, SALT, audit_says, each, prints
 
@@ -59,7 +58,7 @@ def signed(challenge: str) -> list[str]:
     client, server = login_keys("sha1", b"pencil", bytes.fromhex(SALT), 4096)
     nonce = challenge.split(",")[0]
     joined = f"n=user,r=fyko+d2lbbFgONRv9qkxdawL,{challenge},c=biws,{nonce}".encode()
-    return [base64.b64encode(data).decode() for data in proved("sha1", client, server, joined)]
+    return [base64_of(data) for data in proved("sha1", client, server, joined)]
 
 
 def other_challenges(folder: str) -> None:

@@ -7,7 +7,7 @@ reads.
 """
 from typing import NamedTuple
 
-from expected import BOOK_FAULTS, edited, rows_of
+from expected import BOOK_FAULTS, edited_texts
 
 TABLE = BOOK_FAULTS / "cases.csv"
 
@@ -20,11 +20,6 @@ class Case(NamedTuple):
     shows: str
 
 
-def case(row: dict[str, str]) -> Case:
-    """The case that a row describes."""
-    return Case(edited((BOOK_FAULTS / row["base"]).with_suffix(".toml").read_bytes(), row), row["answer"], row["shows"])
-
-
 def cases() -> list[Case]:
     """The cases of all rows, in the table's order."""
-    return [case(row) for row in rows_of(TABLE)]
+    return [Case(book, row["answer"], row["shows"]) for row, book in edited_texts(TABLE, "base", ".toml")]

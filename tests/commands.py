@@ -14,7 +14,7 @@ from pathlib import Path
 
 import suite
 from checks import equal, holds
-from expected import DATA, keys_of
+from expected import DATA, HASHES, keys_of
 from processes import ran
 from suite import (
     BOOK_OF_USER, KEYS_OF_PENCIL, MOST_BYTES, PROGRAM, SALT, SECRET, SEEDS, BookFolder, each, fault_text, hotp, prints, program_on_path,
@@ -79,7 +79,7 @@ def passwords(folder: str) -> None:
 
 def key_lines(name: str, password: bytes, salt: bytes, count: int) -> str:
     """The two lines of `keys`, from Python's own Hi and HMAC (RFC 5802, section 3)."""
-    stored, server = keys_of({"SCRAM-SHA-1": "sha1", "SCRAM-SHA-256": "sha256"}[name], password, salt, count)
+    stored, server = keys_of(HASHES[name], password, salt, count)
     return f"stored={stored}\nserver={server}\n"
 
 

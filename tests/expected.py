@@ -1,5 +1,7 @@
 """What several scripts compare with or start from, computed in Python and not by the program: codes, keys, salts of decoys, the texts
-of the tables' rows, sessions, logs with numbers, and orders of turns. Also the paths of the recorded logs, books and vectors."""
+of the tables' rows, sessions, logs with numbers, and orders of turns. Also the paths of the recorded logs, books and vectors, the book
+and the nonces of published logins, and the mechanisms' hash functions."""
+import base64
 import csv
 import hashlib
 import hmac
@@ -7,6 +9,7 @@ import itertools
 import os
 import pathlib
 import random
+from collections.abc import Iterator
 
 from checks import equal, holds
 
@@ -25,9 +28,22 @@ MECHS, AUTH, CONT, RESP, OK = LOGIN_LINES[1:6]
 # The text of that log up to the acceptance, and how a session ends whose client goes away.
 ACCEPTED = "".join(f"{line}\n" for line in LOGIN_LINES[:6])
 GONE = "C GONE\nE\n"
+# The book of that example's account `user`, which has no token.
+KEYS_TOML = (AUDITS / "keys.toml").read_text()
+
+# The options with which `login` has the nonces of RFC 7677's example, section 3.
+SHA256_NONCES = ["--client-nonce", "rOprNGfwEbeRWgbNEkqO", "--server-nonce", "%hvYDpWUa2RaTCAfuxFIlj)hNlF$k0"]
+
+# The hash function of each mechanism, by the name that it has in Python and in a book.
+HASHES = {"SCRAM-SHA-1": "sha1", "SCRAM-SHA-256": "sha256"}
 
 # A session of three lines in a log of version 1, in which the client leaves at once.
 SESSION_LEFT = f"{MECHS}\n{GONE}".encode()
+
+
+def base64_of(data: bytes) -> str:
+    """The base64 text of some bytes."""
+    return base64.b64encode(data).decode()
 
 
 def code(secret: bytes, counter: int, digits: int = 6, function: str = "sha1") -> str:
@@ -92,6 +108,13 @@ def edited(text: bytes, row: dict[str, str]) -> bytes:
             equal(text.count(spelled(old)), 1, f"{row}: what is replaced does not stand there once")
             text = text.replace(spelled(old), spelled(new))
     return text
+
+
+def edited_texts(table: pathlib.Path, column: str, suffix: str) -> Iterator[tuple[dict[str, str], bytes]]:
+    """Each row of a table, with its text after the row's edits. A file next to the table has the text; this column names it without its
+    suffix."""
+    for row in rows_of(table):
+        yield row, edited((table.parent / row[column]).with_suffix(suffix).read_bytes(), row)
 
 
 def numbered(log: str) -> str:

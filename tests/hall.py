@@ -17,7 +17,7 @@ import clients
 import suite
 from checks import equal
 from clients import Account, Turn, book, dealt, gone, logged_in, of_session, opened, said, turned_away
-from expected import AUDITS, AUTH, MECHS, RESP, orders_of_turns
+from expected import AUDITS, AUTH, HASHES, MECHS, RESP, orders_of_turns
 from hall_support import HOTP_BOOK, OWN, Hall, clean, login
 from suite import MEMORY, each, read_book
 
@@ -182,7 +182,7 @@ def all_orders(folder: str) -> None:
 def shuffled(_: str) -> None:
     """64 logins to 64 accounts, each with a code, in random orders: each line of a session belongs to its own login, and the log
     is clean."""
-    accounts = [Account(f"user {number}", list(clients.HASHES)[number % 2]) for number in range(64)]
+    accounts = [Account(f"user {number}", list(HASHES)[number % 2]) for number in range(64)]
     # A book is saved 64 times in each order.
     with tempfile.TemporaryDirectory(dir=MEMORY) as folder:
         here, text = Hall(folder, book(accounts)), book(accounts)

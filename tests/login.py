@@ -4,7 +4,6 @@ each log by the book that the login began with.
 
 Usage: login.py PROGRAM [TEST ..]
 """
-import base64
 import os
 import pathlib
 import random
@@ -14,20 +13,16 @@ import time
 
 import suite
 from checks import equal, holds
-from expected import ACCEPTED, AUDITS, GONE, decoy_salt
+from expected import ACCEPTED, AUDITS, GONE, KEYS_TOML, SHA256_NONCES, base64_of, decoy_salt
 from hall_support import clean
 from processes import Running, ran
 from suite import MOST_BYTES, PROGRAM, PUBLISHED as SHA1, each, hotp, login_words, read_book
-
-# The nonces of RFC 7677's example, section 3
-SHA256 = ["--client-nonce", "rOprNGfwEbeRWgbNEkqO", "--server-nonce", "%hvYDpWUa2RaTCAfuxFIlj)hNlF$k0"]
-KEYS = (AUDITS / "keys.toml").read_text()
 
 
 class Login(suite.BookFolder):
     """A folder with a book and a path for the socket, and logins there."""
 
-    def __init__(self, folder: str, text: str = KEYS) -> None:
+    def __init__(self, folder: str, text: str = KEYS_TOML) -> None:
         super().__init__(folder, text)
 
     def words(self, *more: str | pathlib.Path, name: str = "user", path: str | pathlib.Path | None = None) -> list:
@@ -63,7 +58,7 @@ class Login(suite.BookFolder):
 
 def with_codes(look_ahead: int = 3, limit: int = 3, sync_ahead: int | None = None) -> str:
     """The book of RFC 5802's user, with RFC 4226's token."""
-    return KEYS + hotp(look_ahead, limit, sync_ahead)
+    return KEYS_TOML + hotp(look_ahead, limit, sync_ahead)
 
 
 def published_logins(folder: str) -> None:
@@ -75,7 +70,7 @@ def published_logins(folder: str) -> None:
     here.put((AUDITS / "sha256.toml").read_text())
     for trial, more in each([[], ["--mechanism", "SCRAM-SHA-256"]]):
         with trial:
-            here.prints(here.words(*SHA256, *more), "pencil\n", 0, (AUDITS / "sha256.log").read_text())
+            here.prints(here.words(*SHA256_NONCES, *more), "pencil\n", 0, (AUDITS / "sha256.log").read_text())
 
 
 def refused_logins(folder: str) -> None:
@@ -101,7 +96,7 @@ def decoys(folder: str) -> None:
             log = here.log_of(here.words("--mechanism", "SCRAM-SHA-1", name="nobody"), password, 1)
             lines = log.splitlines()
             equal(len(lines), 7, lines)
-            ends = f",s={base64.b64encode(salt).decode()},i=4096"
+            ends = f",s={base64_of(salt)},i=4096"
             holds(lines[3].endswith(ends), "the challenge does not have the decoy's salt", ends, lines)
             equal(lines[5:], ["S NO :e=invalid-proof", "E"], lines)
             here.audited(log, clean(1, 0, 0))
@@ -118,11 +113,11 @@ def names_to_act_as(folder: str) -> None:
     holds(lines[4].startswith(begins), "the client-final message does not begin with", begins, lines)
     equal(lines[5:], ["S NO :e=other-error", "E"], lines)
     here.audited(log, clean(1, 0, 0))
-    here.put(KEYS.replace("act_as = []", 'act_as = ["root"]'))
+    here.put(KEYS_TOML.replace("act_as = []", 'act_as = ["root"]'))
     log = here.log_of(words, "pencil\n", 0)
     holds(log.splitlines()[5].startswith("S OK :v="), "the login is not accepted", log)
     here.audited(log, clean(1, 1, 0))
-    here.put(KEYS)
+    here.put(KEYS_TOML)
     here.prints(here.words(*SHA1), "pencil\n", 0, ACCEPTED + GONE)
     log = here.log_of(here.words(*SHA1, "--as", "user"), "pencil\n", 0)
     holds("\nC AUTH SCRAM-SHA-1 :n,a=user,n=user,r=" in log, "the client does not send the name to act as", log)
@@ -157,7 +152,7 @@ def codes(folder: str) -> None:
         (with_codes(), ["338314"], 1, ["CODE 338314", "FAIL 5"], 0),
         (with_codes(), ["338314", "755224"], 1, ["CODE 338314", "FAIL 5", "CODE 755224", "PASS 5 0"], 1),
         (with_codes(limit=1), ["0", "755224"], 1, ["CODE 0", "FAIL 5", "CODE 755224", "LOCKED 5"], 0),
-        (KEYS, ["755224"], 1, ["CODE 755224", "NOCODE 5"], 0),
+        (KEYS_TOML, ["755224"], 1, ["CODE 755224", "NOCODE 5"], 0),
         (with_codes(sync_ahead=8), [far], 0, [far, "PASS 5 9"], 1),
         (with_codes(sync_ahead=7), [far], 1, [far, "FAIL 5"], 0),
         (with_codes(), ["!" * 16, "~"], 1, ["CODE " + "!" * 16, "FAIL 5", "CODE ~", "FAIL 5"], 0),
@@ -249,12 +244,12 @@ def random_nonces(folder: str) -> None:
             data = random.randbytes(36)
             file.write_bytes(data)
             log = here.log_of(here.words("--random", file, name=name), password, 0)
-            client, service = (base64.b64encode(part).decode() for part in [data[:18], data[18:]])
+            client, service = (base64_of(part) for part in [data[:18], data[18:]])
             lines = log.splitlines()
             holds(lines[2].endswith(f",r={client}"), "the client's nonce is not of the first 18 bytes", name, lines)
             holds(f":r={client}{service},s=" in lines[3], "the server's part is not of the next 18 bytes", name, lines)
             here.audited(log, clean(1, 1, 0))
-    here.put(KEYS)
+    here.put(KEYS_TOML)
     file.write_bytes(data[:18])
     given = ["--mechanism", "SCRAM-SHA-1", "--random", file]
     for trial, (more, nonce) in each([(["--client-nonce", "me"], f"me{client}"), (["--server-nonce", "you"], f"{client}you")]):
@@ -316,7 +311,7 @@ def order_of_faults(folder: str) -> None:
     here.refuses(here.words(*more, path=taken), "pencil", 3, f"cannot read {here.book}")
     here.put("format = 2\n")
     here.refuses(here.words(*more, path=taken), "pencil", 1, "bad book: 61")
-    here.put(KEYS)
+    here.put(KEYS_TOML)
     here.refuses(here.words(*more, path=taken), "pencil", 3, f"cannot read {missing}")
     here.refuses(here.words(path=taken), "pencil", 3, "socket fault")
     equal(taken.read_text(), "", "the file at the socket's path")

@@ -12,13 +12,12 @@ from typing import Any
 
 import suite
 from checks import equal, holds
-from expected import AUDITS
+from expected import KEYS_TOML
 from kills import kill_before_any_call
 from processes import Running, whole
 from suite import BookFolder, code, hotp, login_words
 
-KEYS = (AUDITS / "keys.toml").read_text()
-BOOK = KEYS + hotp(look_ahead=3, limit=100, sync_ahead=10)
+BOOK = KEYS_TOML + hotp(look_ahead=3, limit=100, sync_ahead=10)
 RUNS = 2000
 
 

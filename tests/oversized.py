@@ -21,9 +21,9 @@ import clients
 import expected
 import suite
 from checks import equal, holds
-from clients import Account, base, dealt, escaped, gone, logged_in, opened, said
+from clients import Account, dealt, escaped, gone, logged_in, opened, said
 from command_table import BOOK, command_of, commands, left, login_log, prepare
-from expected import AUDITS, SESSION_LEFT
+from expected import AUDITS, SESSION_LEFT, base64_of
 from hall_support import Hall, clean
 from processes import LIMIT, LIMIT_OF_LINES, ran, sleeps
 from suite import MOST_BYTES, PROGRAM, BookFolder, each, login_words
@@ -39,7 +39,7 @@ NO_AND_END = ["S NO :", "E"]
 
 def decoy(name: str) -> str:
     """The challenge's salt and count for a name without an account (this project's own form, given in docs/FORMATS.md)."""
-    return f"s={base(expected.decoy_salt(name))},i={clients.COUNT}"
+    return f"s={base64_of(expected.decoy_salt(name))},i={clients.COUNT}"
 
 
 def first_messages(account: Account) -> Iterator[tuple[str, tuple[str, str] | None]]:
@@ -67,7 +67,7 @@ def lengths_of_first_messages(folder: str) -> None:
         with trial:
             if good:
                 name, nonce = good
-                known = f"s={base(account.salt)},i={clients.COUNT}" if name == "user" else decoy(name)
+                known = f"s={base64_of(account.salt)},i={clients.COUNT}" if name == "user" else decoy(name)
                 visit = [opened("own"), said(f"AUTH SCRAM-SHA-1 :{escaped(text)}", f"S CONT :r={nonce}own,{known}"), gone()]
             else:
                 visit = [opened("own"), said(f"AUTH SCRAM-SHA-1 :{escaped(text)}", *NO_AND_END)]

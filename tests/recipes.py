@@ -30,7 +30,7 @@ import expected
 import suite
 from book_cases import cases
 from checks import equal, holds
-from expected import AUDITS, VECTORS, keys_of, rows_of
+from expected import AUDITS, HASHES, VECTORS, base64_of, keys_of, rows_of
 from processes import LIMIT_OF_LINES, sleeps, until, whole
 from suite import (
     BOOK_OF_USER, CODES, ROOT, code, document, each, hotp, is_awaited, is_locked, is_root, nobody, program_on_path, read_book, seen, totp,
@@ -597,7 +597,7 @@ def decoys(folder: str) -> None:
 
 def texts(mechanism: str, count: int, salt: str, stored: str, server: str) -> tuple[str, str]:
     """The verifiers of PostgreSQL and of Dovecot."""
-    salt, stored, server = (base64.b64encode(bytes.fromhex(text)).decode() for text in (salt, stored, server))
+    salt, stored, server = (base64_of(bytes.fromhex(text)) for text in (salt, stored, server))
     return f"{mechanism}${count}:{salt}${stored}:{server}", f"{{{mechanism}}}{count},{salt},{stored},{server}"
 
 
@@ -628,7 +628,7 @@ def keys_of_dovecot(folder: str) -> None:
     """Keys that Dovecot made are put into a book unchanged."""
     rows = [row for row in rows_of(VECTORS / "keys.csv") if "doveadm" in row["source"]][::6]
     into, _ = blocks("Keys from PostgreSQL and Dovecot")
-    equal({row["mechanism"] for row in rows}, {"SCRAM-SHA-1", "SCRAM-SHA-256"}, rows)
+    equal({row["mechanism"] for row in rows}, set(HASHES), rows)
     for trial, (number, row) in each(enumerate(rows)):
         with trial:
             of_row = Path(folder, str(number))
@@ -636,9 +636,8 @@ def keys_of_dovecot(folder: str) -> None:
             with_tools(of_row, BOOK_OF_USER)
             fields = [row[name] for name in ["mechanism", "count", "salt_hex", "stored_hex", "server_hex"]]
             does(of_row, into, texts(*fields)[1] + "\n")
-            table = {"SCRAM-SHA-1": "sha1", "SCRAM-SHA-256": "sha256"}[row["mechanism"]]
             keys = {"count": int(row["count"]), "salt": row["salt_hex"], "stored": row["stored_hex"], "server": row["server_hex"]}
-            equal(book_of(of_row)["accounts"][NAME], {table: keys}, "the account's keys", row["source"])
+            equal(book_of(of_row)["accounts"][NAME], {HASHES[row["mechanism"]]: keys}, "the account's keys", row["source"])
             holds(not Path(of_row, "keys.toml").exists(), "the keys' text is left")
 
 

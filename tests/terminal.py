@@ -14,7 +14,7 @@ from typing import Any
 
 import suite
 from checks import equal
-from expected import ACCEPTED, AUDITS, GONE, MECHS
+from expected import ACCEPTED, GONE, KEYS_TOML, MECHS
 from processes import LIMIT_OF_LINES, Running
 from suite import BOOK_OF_USER, KEYS_OF_PENCIL, PROGRAM, PUBLISHED, SALT, each, hotp
 
@@ -56,7 +56,7 @@ def prepare(folder: str, words: list[str]) -> None:
     if words[0] == "enrol":
         book.unlink(missing_ok=True)
     else:
-        keys = (AUDITS / "keys.toml").read_text() if words[0] == "login" else BOOK_OF_USER
+        keys = KEYS_TOML if words[0] == "login" else BOOK_OF_USER
         book.write_text(keys + hotp(look_ahead=3, limit=3))
 
 
