@@ -41,7 +41,7 @@ pub record Table (T : Type 0) : Type 1 where
   -- the other keys
   pub rows : List (Row T)
 
--- the keys of rows
+-- the keys of rows, in the order of the rows
 abbrev pub row_keys : {T : Type 0} → List (Row T) → List (List ℕ)
 row_keys [] = []
 row_keys (r ∷ rows) = r.key ∷ row_keys rows

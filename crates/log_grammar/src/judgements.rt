@@ -42,7 +42,7 @@ pub fn logs_go_on_exactly_so()
         × (all ≡ told ++ told_at place line)) }
 {}
 
-/// The first lines of a clean log are a front.
+/// The first lines of a clean log are a front, however many they are.
 pub fn first_lines_of_clean_logs_are_fronts()
     ensures { (accounts : Accounts) (bytes : List ℕ) (texts : List (List ℕ)) (k : ℕ)
         → IsClean accounts bytes → IsSplit bytes texts [] → IsLogFront accounts (ended_by_lf (take k texts)) }

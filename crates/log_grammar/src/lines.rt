@@ -12,7 +12,7 @@ pub fn each_text_is_at_most_one_line()
     ensures { EachTextIsAtMostOneLine }
 {}
 
-/// A text is at most one line of a log.
+/// A text is at most one line of a log, so a line has nothing that its text does not say.
 pub fn each_text_is_at_most_one_log_line()
     ensures { EachTextIsAtMostOneLogLine }
 {}

@@ -25,7 +25,7 @@ abbrev pub failures_of : TokenFields → ℕ
 failures_of (Hotp t) = t.failures
 failures_of (Totp t) = t.failures
 
--- the failures after a reply
+-- the failures after a reply: a pass ends them, and while the token is locked no more are counted
 abbrev pub failures_after_reply : Reply → ℕ → ℕ
 failures_after_reply (Pass c) before = 0
 failures_after_reply Fail before = before + 1

@@ -33,13 +33,13 @@ session_phase (WaitFirst mechanism) = phase.WaitFirst
 session_phase (WaitFinal waiting) = phase.WaitFinal
 session_phase (WaitCode name) = phase.WaitCode
 
--- the phase of a state
+-- the phase of a state: if a session is open, that of the session
 abbrev pub state_phase : State → Phase
 state_phase Closed = phase.Closed
 state_phase (Open session server_nonce) = session_phase session
 state_phase Halted = phase.Halted
 
--- the phase of a desk
+-- the phase of a desk: what it waits for
 abbrev pub desk_phase : {S : Type 0} → Desk S → Phase
 desk_phase desk = state_phase desk.state
 

@@ -113,7 +113,7 @@ client_first_places pieces = Flag ∷ Authzid ∷ places_with_mext (drop 2 piece
 abbrev pub IsClientFirstFault : List ℕ → TextFault → Type 0
 IsClientFirstFault text f = IsFault max_nonce_part_len (client_first_places (parts text)) [] text f
 
--- the places of server-first
+-- the places of server-first, whose first part may ask for a mandatory extension
 abbrev pub server_first_places : List (List ℕ) → List TextWhy
 server_first_places pieces = places_with_mext pieces (Nonce ∷ Salt ∷ Count ∷ [])
 
@@ -129,7 +129,7 @@ IsClientFinalFault text f = IsFault max_nonce_len (Channel ∷ Nonce ∷ []) (Pr
 abbrev pub verifier_or_error_place : List ℕ → TextWhy
 verifier_or_error_place part = if is_named (byte "e") part then ErrorValue else Verifier
 
--- the places of server-final
+-- the places of server-final: only its first part is fixed
 abbrev pub server_final_places : List (List ℕ) → List TextWhy
 server_final_places pieces = verifier_or_error_place (first_of pieces) ∷ []
 

@@ -10,7 +10,7 @@ use Rattle.scram_text.specs.Name.{IsSaslName}
 use Rattle.scram_text.specs.Base64Field.{base64, IsField}
 use Rattle.scram_text.specs.Parts.{joined, is_flag, authzid_text, mext_parts, IsValue, IsCount, AreExtensions, have_mandatory}
 
--- the parts of client-first
+-- the parts of client-first, without the letters of their attributes. Both names are as they are spelled.
 pub record ClientFirstParts : Type 0 where
   pub flag : List ℕ
   pub authzid : Option (List ℕ)
@@ -51,7 +51,7 @@ pub record IsClientFirst (text : List ℕ) (p : ClientFirstParts) : Type 0 where
   pub utf8_text : IsUtf8Text text
   pub short : length text ≤ max_message_len
 
--- the parts of server-first
+-- the parts of server-first, without the letters of their attributes. The salt is decoded from base64.
 pub record ServerFirstParts : Type 0 where
   pub mext : Option (List ℕ)
   pub nonce : List ℕ
@@ -81,7 +81,7 @@ pub record IsServerFirst (text : List ℕ) (p : ServerFirstParts) : Type 0 where
   pub utf8_text : IsUtf8Text text
   pub short : length text ≤ max_message_len
 
--- the parts of client-final
+-- the parts of client-final, without the letters of their attributes. The channel field and the proof are decoded from base64.
 pub record ClientFinalParts : Type 0 where
   pub channel : List ℕ
   pub nonce : List ℕ
@@ -116,7 +116,7 @@ pub data VerifierOrError : Type 0 where
   verifier : (signature : List ℕ) → VerifierOrError
   server_error : (value : List ℕ) → VerifierOrError
 
--- the parts of server-final
+-- the parts of server-final, which says how the login ended
 pub record ServerFinalParts : Type 0 where
   pub verifier_or_error : VerifierOrError
   pub extensions : List (List ℕ)

@@ -31,7 +31,7 @@ pub fn numbered_logs_go_on_exactly_so()
     ensures { NumberedLogsGoOnExactlySo }
 {}
 
-/// The first lines of a log are a log.
+/// The first lines of a log, however many, are a log.
 pub fn first_numbered_lines_are_logs()
     ensures { FirstNumberedLinesAreLogs }
 {}
