@@ -43,9 +43,9 @@ KIT = re.search(r"^KIT = (.+)$", (TOP / "Makefile").read_text(encoding="utf-8"),
 
 # A comment of a source file, with what is before it in its line if that is blank.
 COMMENT = re.compile(r"(?m)(?:^|\s)(?://|--)(?: .*|$|[/!].*)")
-# What pages of promises have between backquotes although no source has it: an example of a name, words that no source may have, and the
-# kit's own identity.
-NOT_OF_THE_SOURCES = {"IsX", "unsafe", "extern", "axiom", *KIT.split()}
+# What pages of promises have between backquotes although no source has it: an example of a name, words that no source may have, a word of
+# a command of the kit, and the kit's own identity.
+NOT_OF_THE_SOURCES = {"IsX", "unsafe", "extern", "axiom", "doc", *KIT.split()}
 # What the pages of MAINTAINERS have although no source or script has it: calls that are not made, types and options, the beginning of
 # some names, and a command of the system.
 NOT_OF_THE_REPOSITORY = {"shrink_to_fit", "wrapping_abs", "getxattr", "O_NOFOLLOW", "O_NONBLOCK", "read_", "read_until", "as_mut_slice"}
