@@ -131,7 +131,7 @@ fn salt(bytes: [u8; SALT_LEN]) -> Salt
 }
 
 // Adds the account to the book. `text` is the text that its file had, or None if there was no file. Then holds the file and saves
-// the book; if the file has another text by then, adds the account to that book instead.
+// the book; if the file has another text by then, adds the account to that book instead, and makes its keys again.
 fn add_and_save<R, E>(
     rt: &R,
     path: &str,
