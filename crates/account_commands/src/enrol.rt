@@ -35,8 +35,9 @@ const DECOY_COUNT: u32 = 4096;
 
 /// Checks the options in their order, reads the password, the book and the random bytes, and adds the account. If there is no file,
 /// it makes a new book. The keys are made while other runs may use the book; if one has changed it by then, they are made again. At
-/// a terminal it asks for the password. Faults: BadValue, BadPassword, CannotRead, BadBook, NameTaken and CannotWrite, in this
-/// order (no clause says so); also CannotReadInput, CannotWriteOutput and NoMemory.
+/// a terminal it asks for the password. Faults, in this order (no clause says so): BadValue; CannotReadInput and BadPassword;
+/// CannotRead or CannotWrite if the book can't be held, and BadBook; CannotRead of the random file; NameTaken; the same of the
+/// book as it is held once more; CannotWrite if it can't be saved; CannotWriteOutput. NoMemory may come at any time.
 pub fn enrol<R, I, O, E>(
     rt: &R,
     matches: &ArgMatches<'_>,

@@ -153,9 +153,9 @@ where
     }
 
     /// Replaces the book with a file that has this text, whole or not at all: a run that is stopped leaves the old text or the new
-    /// one. So does an error: the new text is there if the new file got the book's name, and only then a call failed. The new file
-    /// keeps the book's owner, its group if the user of this run may give it, and the owner's bits of its mode; the file of a new
-    /// book has the mode 0600. Errors:
+    /// one. After an error, too, the file has one of the two: the new text if a call failed only after the new file had got the book's
+    /// name, else the old one. The new file keeps the book's owner, its group if the user of this run may give it, and the owner's
+    /// bits of its mode; the file of a new book has the mode 0600. Errors:
     /// - FileTooLarge if the text has more bytes than `read` accepts;
     /// - NotFound if the file at the path is not the one that this run read or put there last, or has changed since;
     /// - AlreadyExists if there was none and there now is one;

@@ -5,7 +5,7 @@
 //! `hall` do to a book.
 //!
 //! If there are two faults, contracts mostly leave open which of them a command reports. They state a part of it: a missing token, or
-//! a log that can't be read, is a fault only once a book was read. What a command asks at a terminal no contract states. Tests check
+//! a log that can't be read, is a fault only after a book was read. What a command asks at a terminal no contract states. Tests check
 //! both. A call of a law does nothing at run time: it only gives the proof a fact.
 #![tactic(auto)]
 

@@ -67,9 +67,9 @@ max_drift_bound = 100
 abbrev pub max_limit : ℕ
 max_limit = 100
 
--- the least and the greatest number that a setting may be; of `drift`, its distance from 0. Those of `drift` and `failures` only
--- follow from those of `max_drift` and `limit`: a token's `drift` is at most its `max_drift`, above or below 0, and its `failures` are
--- at most its `limit`.
+-- the least and the greatest number that a setting may be; of `drift`, its distance from 0. Those of `drift` and `failures`
+-- follow from those of `max_drift` and `limit`, and are demanded nowhere by themselves: a token's `drift` is at most its `max_drift`, above
+-- or below 0, and its `failures` are at most its `limit`.
 abbrev pub bounds_of : Setting → ℕ × ℕ
 bounds_of Next = (0, max_counter + 1)
 bounds_of LookAhead = (0, max_look_ahead)

@@ -39,7 +39,7 @@ impl OtpFault {
     }
 }
 
-/// A field of a token that has a range of its own, whether one of its settings or a part of its state. Both are called settings
+/// A field of a token that has a range, whether one of its settings or a part of its state. Both are called settings
 /// here.
 #[derive(Clone, Copy, Debug, PartialEq, Eq)]
 pub enum Setting {
@@ -98,8 +98,8 @@ impl Setting {
     }
 
     /// The least and the greatest number that the setting may be; of `drift`, its distance from 0. Those of `drift` and `failures`
-    /// only follow from those of `max_drift` and `limit`: a token's `drift` is at most its `max_drift`, above or below 0, and
-    /// `failures` is at most its `limit`.
+    /// follow from those of `max_drift` and `limit`, and are demanded nowhere by themselves: a token's `drift` is at most its
+    /// `max_drift`, above or below 0, and `failures` is at most its `limit`.
     pub fn bounds(self) -> (u64, u64)
         ensures { result ≡ bounds_of self }
     {

@@ -26,7 +26,7 @@ use Rattle.sasl_desk.specs.declared.hall.open_session.OpenSession.{OpenSession}
 use Rattle.sasl_desk.specs.declared.session.phase.Phase.{Phase}
 use Rattle.sasl_desk.specs.declared.session.phase.Phase.TheVariants as phase
 
--- a hall, without how its sessions are kept in memory
+-- what definitions say of a hall: its parts, but not how it keeps its sessions in memory
 pub record HallFields (S : Type 0) : Type 0 where
   pub keeper : Keeper S
   -- its open sessions, in any order

@@ -22,8 +22,7 @@ use thiserror::Error;
 /// The least iteration count that a client usually accepts: servers should ask for at least that (RFC 5802, section 5.1).
 const USUAL_LEAST: u32 = 4096;
 
-/// The greatest iteration count that a client usually accepts. With it the keys took 0.38 s by SHA-1 and 0.65 s by SHA-256, on a
-/// Xeon at 2.5 GHz without SHA instructions.
+/// The greatest iteration count that a client usually accepts. Its keys then take under a second.
 const USUAL_MOST: u32 = 1_000_000;
 
 /// The client's end of a login. The type is only there for `Client::start`, which begins a login: no value of it is needed.

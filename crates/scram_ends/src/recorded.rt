@@ -27,7 +27,7 @@ pub enum RecordedFault {
     #[error("{0}")]
     First(FirstFault),
 
-    /// 31: the second text is not a challenge to the client-first message for this account.
+    /// 31: the second text is not a challenge to the client-first message for this entry.
     #[error("the second text is not a challenge for this account and client-first message")]
     NotThisChallenge,
 }
@@ -55,7 +55,7 @@ impl From<FirstFault> for RecordedFault {
 impl ServerWait {
     /// A server after a recorded client-first message and challenge. Errors: those of `first_name` for the client-first message,
     /// else 31 NotThisChallenge if the second text is not a server-first message or asks for a mandatory extension, if its nonce
-    /// does not begin with the client's or adds nothing to it, or if its salt or count is not the account's.
+    /// does not begin with the client's or adds nothing to it, or if its salt or count is not the entry's.
     pub fn recorded(
         mechanism: Mechanism,
         view: &KeysView<'_>,
@@ -78,7 +78,7 @@ impl ServerWait {
     }
 }
 
-// Whether a challenge that was read answers this client's nonce, with the salt and the count of this account.
+// Whether a challenge that was read answers this client's nonce, with the salt and the count of this entry.
 fn is_challenge_to(view: &KeysView<'_>, nonce: &[u8], challenge: &ServerFirst<'_>) -> bool
     ensures opens { OnTrue result ((client_first server_first : List ℕ) (opening : Opening)
         → IsClientFirst client_first opening.first → IsTakenUp opening.first opening.name opening.authzid

@@ -67,7 +67,7 @@ impl FirstRefused {
 
 /// A server that has sent its challenge and waits for the client-final message.
 ///
-/// It does not keep the messages, so its contracts say which account, client-first message and challenge it stands for. Its size is
+/// It does not keep the messages, so its contracts say which entry, client-first message and challenge it stands for. Its size is
 /// fixed.
 #[derive(Drop)]
 pub struct ServerWait {
@@ -82,7 +82,7 @@ pub struct ServerWait {
 }
 
 /// Answers a client-first message: appends the challenge to `out`, with the client's nonce followed by `server_nonce`, the
-/// account's salt and its count. Errors: those of `first_name` for the client-first message, else 99 NoMemory, only if `out` had no
+/// entry's salt and its count. Errors: those of `first_name` for the client-first message, else 99 NoMemory, only if `out` had no
 /// room reserved for the challenge. After an error `out` is unchanged.
 pub fn server_first<A: Allocator>(
     mechanism: Mechanism,

@@ -19,7 +19,7 @@ pub enum Refusal {
     /// The channel field is not exactly the gs2-header of client-first.
     Channel,
 
-    /// The proof is not made with the account's keys, or the account is a decoy.
+    /// The proof is not made with the entry's keys, or the entry is a decoy.
     InvalidProof,
 
     /// The account may not act as the name to act as.

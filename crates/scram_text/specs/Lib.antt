@@ -1,4 +1,5 @@
--- The four messages: limits, characters, parts, whole messages; the first fault of any other text; what is read and written; laws.
+-- The four messages: limits, characters, parts, whole messages; the first fault of any other text; what is read and written; laws. And how
+-- bytes are split into lines.
 pub mod Limits
 pub mod Class
 pub mod Name

@@ -210,7 +210,7 @@ pub(crate) fn begins_with_mext(text: &[u8]) -> bool
 }
 
 /// The least number of parts of a message that needs `fixed` parts besides reserved-mext: one more if it has a reserved-mext.
-/// `text` is the message from the place of reserved-mext on.
+/// `text` is the message from the place of reserved-mext on. That `fixed` is small keeps the sum from overflowing.
 pub(crate) fn least_part_count(text: &[u8], fixed: usize) -> usize
     requires { fixed < 10 }
     ensures { result ≡ length (places_with_mext (parts text.now) []) + fixed }
@@ -236,7 +236,7 @@ pub(crate) struct AfterMext<'a> {
 }
 
 /// Reads reserved-mext, `m=` and a value, if there is one. The text's first part has this index in the message. Errors: 6 Mandatory
-/// if the value is empty.
+/// if the value is empty. That the index is small keeps the next one from overflowing.
 pub(crate) fn mext_of(text: &[u8], index: usize) -> Result<AfterMext<'_>, TextFault>
     requires few { index < 10 }
     requires enough { is_named (byte "m") (first_of (parts text.now)) ≡ true

@@ -37,7 +37,8 @@ read_rows (r ∷ rows) readings make ms = readings.0 ms >>= λ value. read_rows 
 
 -- the record of a table whose marks were checked before, or the first fault: unknown keys come before the rows
 unfoldable pub read_table : {T : Type 0} (t : Table T) → Reading t → Members → Result T BookWhy
-read_table t reading ms = pass_or (has_only (is_among (table_keys t)) ms) Key >>= λ known. read_rows t.rows reading.rows reading.from_values ms
+read_table t reading ms =
+    pass_or (has_only (is_among (table_keys t)) ms) Key >>= λ known. read_rows t.rows reading.rows reading.from_values ms
 
 -- the record whose table this TOML value is, or the first fault
 unfoldable pub table_in : {T : Type 0} (t : Table T) → Reading t → Data → Result T BookWhy
