@@ -240,8 +240,8 @@ def keys_before_the_lock(folder: str) -> None:
     """`enrol` makes its keys while other runs use or make the book, and adds its account to the book as it is afterwards."""
     here = BookFolder(folder, BOOK)
     new = here.folder / "new"
-    slow = [start_enrol(path, "slow", 1000000) for path in [here.book, new]]
-    # Each of the two needs more than a second of processor time for its keys, and is stopped early in that.
+    slow = [start_enrol(path, "slow", 4000000) for path in [here.book, new]]
+    # Each of the two needs some seconds of processor time for its keys, and is stopped early in that.
     until(lambda: all(taken(run.process.pid) > 0.1 for run in slow), "both runs should make keys")
     for run in slow:
         run.process.send_signal(signal.SIGSTOP)
