@@ -172,9 +172,10 @@ def alone(books: Iterable[bytes]) -> set:
 def steps_of(folder: str, book: int) -> list[Steps]:
     """Ways to write `ab` to a book, of which this is the file and which has the text `old`: safe ones, and ones that are not."""
     path, following = (os.fsencode(os.path.join(folder, name)) for name in ("book", "book.new"))
-    new = book + 1
+    number = os.stat(folder).st_ino
+    new = book + number  # which is neither of the two
     made = [Note("made", new), Note("name", new, 0, following)]
-    data, sync, of_folder = Note("data", new, 0, b"ab"), Note("sync", new), Note("sync", os.stat(folder).st_ino)
+    data, sync, of_folder = Note("data", new, 0, b"ab"), Note("sync", new), Note("sync", number)
     removed = Note("gone", 0, 0, path)
     renamed = [Note("name", new, 0, path), Note("gone", 0, 0, following)]
     unsynced = alone({b"old", *PARTS}) | {(text, part) for part in PARTS for text in (b"old", part)}
