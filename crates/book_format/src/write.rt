@@ -1,15 +1,14 @@
 //! Writes the text of an account book.
-ghost use Rattle.std.specs.Prelude.{◌≡◌, false, codes, length, Ok, IfOk, OnOk, string_bytes};
+ghost use Rattle.std.specs.Prelude.{◌≡◌, codes, length, Ok, IfOk, OnOk, string_bytes};
 ghost use Rattle.hex.specs.Hex.{decode_of, encode_lower};
 ghost use Rattle.toml.specs.Data.{string};
-ghost use Rattle.toml.specs.Text.{IsDocumentText};
 ghost use Rattle.toml.specs.View.{table_view};
 ghost use Rattle.mac_core.specs.Mechanism.{digest_len_by};
 ghost use Rattle.mac_core.specs.declared.mechanism.Mechanism.TheVariants.{ScramSha256};
 ghost use Rattle.book_format.specs.Book.{AreAccounts};
 ghost use Rattle.book_format.specs.Put.{put_member};
-ghost use Rattle.book_format.specs.Trees.{AreAccountTrees, IsBookTree, IsBookText};
-ghost use Rattle.book_format.specs.Written.{book_tree, accounts_tree};
+ghost use Rattle.book_format.specs.Trees.{AreAccountTrees, IsBookTree};
+ghost use Rattle.book_format.specs.Written.{book_tree, accounts_tree, IsWrittenText};
 
 mod account;
 mod put;
@@ -30,9 +29,7 @@ impl Contents {
     /// order of the keys, with bytes in lower-case hexadecimal; `act_as` is written even if it is empty. Errors: `AllocError`, only
     /// if memory runs out (no clause says so).
     pub fn write(&self, alloc: Global) -> Result<String, AllocError>
-        ensures stands { IfOk result (λ s. IsBookText (string_bytes s) self.now) }
-        // The text is in the compact style of the crate toml: `false` in IsDocumentText means that it is not pretty.
-        ensures text { IfOk result (λ s. IsDocumentText false (book_tree self.now) (string_bytes s)) }
+        ensures { IfOk result (λ text. IsWrittenText (string_bytes text) self.now) }
     {
         match toml::table_to_string(alloc, &book_table(alloc, self)?) {
             Ok(text) => Ok(text),

@@ -1,9 +1,7 @@
 //! The text of a book, a TOML document.
-ghost use Rattle.std.specs.Prelude.{false, IfOk, string_bytes};
-ghost use Rattle.toml.specs.Text.{IsDocumentText};
+ghost use Rattle.std.specs.Prelude.{IfOk, string_bytes};
 ghost use Rattle.book_format.specs.Readings.{IsReadAnswered};
-ghost use Rattle.book_format.specs.Trees.{IsBookText};
-ghost use Rattle.book_format.specs.Written.{book_tree};
+ghost use Rattle.book_format.specs.Written.{IsWrittenText};
 
 use crate::book::Book;
 use book_format::{BookFault, Contents};
@@ -25,9 +23,7 @@ impl Book {
     /// table for each account, mechanism and token, and bytes in lower-case hexadecimal. Errors: `AllocError`, only if memory runs
     /// out (no clause says so).
     pub fn write(&self, alloc: Global) -> Result<String, AllocError>
-        ensures stands { IfOk result (λ text. IsBookText (string_bytes text) self.now) }
-        // The text is in the compact style of the crate toml: `false` in IsDocumentText means that it is not pretty.
-        ensures text { IfOk result (λ text. IsDocumentText false (book_tree self.now) (string_bytes text)) }
+        ensures { IfOk result (λ text. IsWrittenText (string_bytes text) self.now) }
     {
         self.contents.write(alloc)
     }
