@@ -21,7 +21,7 @@ max_honest_final_len = 1592
 -- the text is client-first with this name, name to act as and nonce, the flag `n` and no extensions
 pub record IsHonestFirst (name : List ℕ) (authzid : Option (List ℕ)) (nonce client_first : List ℕ) (first : ClientFirstParts) : Type 0 where
   pub is_first : IsClientFirst client_first first
-  pub parts : first ≡ client_first_of NoBinding authzid name nonce []
+  pub built : first ≡ client_first_of NoBinding authzid name nonce []
   pub plain : IsPlainName name
   pub plain_authzid : IfSome authzid IsPlainName
 

@@ -51,7 +51,7 @@ module _ (accounts : Accounts) where
   pub refused_first_is_clean : IsClean accounts (one_session (codes "C AUTH SCRAM-SHA-1 :" ∷ bare_no))
   refused_first_is_clean =
       refused_session_is_clean _ _ (got_first (codes "SCRAM-SHA-1") []) (empty_first_was_read accounts)
-      ((λ name l. empty_is_no_client_first l.parts l.is_first.spelled, refl), refl) refl
+      ((λ name l. empty_is_no_client_first l.first l.is_first.spelled, refl), refl) refl
 
   -- a log of one session in which the client goes away after the empty challenge is clean
   pub invited_is_clean : IsClean accounts (one_session (codes "C AUTH SCRAM-SHA-1" ∷ codes "S CONT :" ∷ codes "C GONE" ∷ codes "E" ∷ []))

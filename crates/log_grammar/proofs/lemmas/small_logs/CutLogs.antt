@@ -80,7 +80,7 @@ module _ (accounts : Accounts) where
   empty_first_refusal_is_cut =
       unended_lines_are_cut _ _ over []
       (refusal_was_read accounts _ _ (got_first (codes "SCRAM-SHA-1") []) (empty_first_was_read accounts)
-      ((λ name l. empty_is_no_client_first l.parts l.is_first.spelled, refl), refl) refl) (λ h. h)
+      ((λ name l. empty_is_no_client_first l.first l.is_first.spelled, refl), refl) refl) (λ h. h)
 
   -- a log of one session that stops after the client has gone away at the empty challenge is cut: line 6 is at fault
   pub invited_gone_is_cut : IsWhy accounts (one_session (codes "C AUTH SCRAM-SHA-1" ∷ codes "S CONT :" ∷ codes "C GONE" ∷ [])) 6 is_cut

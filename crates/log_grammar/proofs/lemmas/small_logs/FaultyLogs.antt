@@ -160,7 +160,7 @@ module _ (accounts : Accounts) where
         [],
         l.begins,
         inr (
-          λ name is. empty_is_no_client_first is.parts
+          λ name is. empty_is_no_client_first is.first
               is.is_first.spelled,
           refl,
         ),

@@ -67,7 +67,7 @@ pub written_first_is_honest : (authzid : Option (List ℕ)) (name nonce client_f
     → IsHonestFirst name authzid nonce client_first (client_first_of NoBinding authzid name nonce [])
 written_first_is_honest authzid name nonce client_first is_authzid is_name is_first = record {
   is_first = is_first;
-  parts = refl;
+  built = refl;
   plain = is_name;
   plain_authzid = is_authzid;
 }
@@ -76,7 +76,7 @@ written_first_is_honest authzid name nonce client_first is_authzid is_name is_fi
 pub honest_is_taken_up : {name : List ℕ} {authzid : Option (List ℕ)} {nonce client_first : List ℕ} {first : ClientFirstParts}
     → IsHonestFirst name authzid nonce client_first first → IsTakenUp first name authzid
 honest_is_taken_up {name} {authzid} {first = first} honest =
-    subst (λ (p : ClientFirstParts). IsTakenUp p name authzid) (sym honest.parts) (record {
+    subst (λ (p : ClientFirstParts). IsTakenUp p name authzid) (sym honest.built) (record {
       not_mandatory = refl;
       unbound = inl refl;
       is_name = record { plain = honest.plain; spelled = refl };

@@ -29,8 +29,8 @@ module _ {name : List ℕ} {authzid : Option (List ℕ)} {nonce client_first : L
   -- what is the bare message of an honest client-first message is no longer than a client's may be
   pub honest_bare_is_short : (bare : List ℕ) → bare ≡ client_first_bare first → length bare ≤ MAX_BARE_LEN
   honest_bare_is_short bare same =
-      let nonce_is : first.nonce ≡ nonce = ap (λ (p : ClientFirstParts). p.nonce) honest.parts in
-      let whole = same ∙ ap client_first_bare honest.parts in
+      let nonce_is : first.nonce ≡ nonce = ap (λ (p : ClientFirstParts). p.nonce) honest.built in
+      let whole = same ∙ ap client_first_bare honest.built in
       omega (
         arith,
         ap length whole,
