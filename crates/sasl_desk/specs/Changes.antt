@@ -1,5 +1,5 @@
 -- What happens to a book over its life: runs of desks and of halls, one after another, and what is done with it between them.
-use Rattle.std.specs.Prelude.{ℕ, ◌≡◌, ◌⊎◌, List, [], ◌∷◌, flat_map, reverse}
+use Rattle.std.specs.Prelude.{ℕ, ◌≡◌, List, [], ◌∷◌, flat_map, reverse}
 use Rattle.account_book.specs.{AccountFields, BookFields}
 use Rattle.account_book.specs.Accounts.{IsAdded}
 use Rattle.account_book.specs.Store.{StoreFacts}
@@ -7,7 +7,7 @@ use Rattle.account_book.specs.Tokens.{IsUnlocked, IsBookAttempt}
 use Rattle.account_book.specs.AccountAttempt.{AccountAttempt}
 use Rattle.log_grammar.specs.Numbered.{Numbered}
 use Rattle.sasl_desk.specs.Runs.{Call}
-use Rattle.sasl_desk.specs.Desks.{IsDeskAfter, spent_by_all}
+use Rattle.sasl_desk.specs.Desks.{IsDeskAfter, MayLeave, spent_by_all}
 use Rattle.sasl_desk.specs.Halls.{HallFields, IsHallAfter}
 use Rattle.sasl_desk.specs.Spent.{spent_by}
 use Rattle.sasl_desk.specs.declared.desk.Desk.{Desk}
@@ -19,12 +19,6 @@ pub record RunOf (C : Type 0) : Type 0 where
   pub calls : List C
   pub told : List AccountAttempt
   pub left : BookFields
-
--- what a run that kept this book may leave: the book, or that with one more attempt. The law `store_holds_a_book` says that
--- each text that the store may hold after a call is of such a book. Of a stop within a save it is assumed of the store (`BookStore`) that
--- the old text or the new one is left.
-abbrev pub MayLeave : (kept left : BookFields) → Type 0
-MayLeave kept left = (left ≡ kept) ⊎ ((attempt : AccountAttempt) × IsBookAttempt kept attempt left)
 
 -- what happens to a book: a desk or a hall runs with it, from the text that the store held when the run began to the one that
 -- it holds when the run has stopped; the token of an account judges an attempt, without a desk; the token of an account is

@@ -98,6 +98,15 @@ IsBookAfterReplies start [] book = book ≡ start
 IsBookAfterReplies start (attempt ∷ before) book =
     (old : BookFields) × IsBookAfterReplies start before old × IsBookAttempt old attempt book
 
+-- what a run that kept this book may leave: this book, or this book with one more attempt (the laws `store_holds_a_book` and
+-- `stops_leave_runs`)
+abbrev pub MayLeave : (kept left : BookFields) → Type 0
+MayLeave kept left = (left ≡ kept) ⊎ ((attempt : AccountAttempt) × IsBookAttempt kept attempt left)
+
+-- the text is that of a book that a run which kept this book may leave
+abbrev pub IsTextLeft : (kept : BookFields) → (text : List ℕ) → Type 0
+IsTextLeft kept text = (left : BookFields) × MayLeave kept left × IsBookText text left
+
 -- the counters that replies use, with their accounts, the latest first
 abbrev pub spent_by_all : List AccountAttempt → List (List ℕ × ℕ)
 spent_by_all attempts = flat_map spent_by attempts

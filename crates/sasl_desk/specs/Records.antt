@@ -10,16 +10,16 @@ use Rattle.sasl_desk.specs.Halls.{IsTurnedAway}
 use Rattle.sasl_desk.specs.Runs.{Request, greets, hears, Call, run_lines, IsRun}
 
 -- the line records what a client did: one of its lines, `C BAD` or `C GONE`
-abbrev pub is_record : LogLine → Bool
-is_record (heard line) = true
-is_record bad = true
-is_record gone = true
-is_record line = false
+abbrev pub is_client_record : LogLine → Bool
+is_client_record (heard line) = true
+is_client_record bad = true
+is_client_record gone = true
+is_client_record line = false
 
 -- the request greets a client
-abbrev pub is_greeting : Request → Bool
-is_greeting (greets server_nonce) = true
-is_greeting (hears event moment) = false
+abbrev pub greets_client : Request → Bool
+greets_client (greets server_nonce) = true
+greets_client (hears event moment) = false
 
 -- what a request adds to the records, after these calls: a greeting adds none; what a client does adds its record, at the place where
 -- the log stands
@@ -39,8 +39,8 @@ AreRecords accounts (call ∷ before) records =
 -- the log of these calls has one offer for each greeting, and its records are those of what clients did: nothing that a client did is
 -- left out, and nothing is invented
 pub record HasItsRecords (accounts : Accounts) (calls : List Call) : Type 0 where
-  pub offers : count_by is_mechs (run_lines calls) ≡ count_by (λ call. is_greeting call.request) calls
-  pub records : AreRecords accounts calls (filter is_record (run_lines calls))
+  pub offers : count_by is_mechs (run_lines calls) ≡ count_by (λ call. greets_client call.request) calls
+  pub records : AreRecords accounts calls (filter is_client_record (run_lines calls))
 
 -- the records of a session of a hall: as at a desk; or it was turned away
 abbrev pub HasSessionRecords : Accounts → List Call → Type 0

@@ -1,4 +1,5 @@
--- What was saved of a log's replies: the text of the book to which they lead, and in each text the counters that they used.
+-- What was saved of a log's replies: a text of the book to which they lead; and that the counters that they used are spent in each text
+-- that the store may hold.
 use Rattle.std.specs.Prelude.{ℕ, ◌≡◌, List, ◌++◌, reverse}
 use Rattle.account_book.specs.{BookFields, IsBookText}
 use Rattle.account_book.specs.SavedBooks.{HasStoredText}
@@ -12,30 +13,32 @@ use Rattle.log_grammar.specs.Lines.{LogLine, log_bytes}
 use Rattle.log_grammar.specs.Numbered.{Numbered, IsNumberedLogUpTo}
 use Rattle.log_grammar.specs.Places.{Place}
 use Rattle.log_grammar.specs.Versions.{max_open_sessions}
-use Rattle.sasl_desk.specs.Desks.{MayHold, MayHoldWithinSave, IsBookAfterReplies, spent_by_all}
+use Rattle.sasl_desk.specs.Desks.{MayHold, MayHoldWithinSave, IsBookAfterReplies, IsTextLeft, spent_by_all}
 use Rattle.sasl_desk.specs.Spent.{AreSpent, spent_by}
 
--- `IsStored` is true of some text of the book to which these replies lead
-pub record IsToldSaved (IsStored : List ℕ → Type 0) (start : BookFields) (told : List AccountAttempt) : Type 0 where
+-- these replies lead to a book. `IsStored` is true of some text of it, and each text that the store may hold is of this book, or of it
+-- with one more attempt.
+pub record IsToldSaved (IsStored : List ℕ → Type 0) (start : BookFields) (told : List AccountAttempt) (store : StoreFacts) : Type 0 where
   pub last : BookFields
   pub is_last : IsBookAfterReplies start (reverse told) last
   pub saved : HasStoredText IsStored last
+  pub held : (text : List ℕ) → MayHold store text → IsTextLeft last text
 
--- `IsStored` is true of some text of the book to which the replies in a log of version 1 lead
-pub record IsLogSaved (IsStored : List ℕ → Type 0) (start : BookFields) (log : List ℕ) : Type 0 where
+-- the replies in a log of version 1 are saved in the store, as `IsToldSaved` says
+pub record IsLogSaved (IsStored : List ℕ → Type 0) (start : BookFields) (log : List ℕ) (store : StoreFacts) : Type 0 where
   pub lines : List LogLine
   pub place : Place
   pub told : List AccountAttempt
   pub are_lines : log ≡ log_bytes lines
   pub begins : Begins (demands (accounts_in start)) lines place told
-  pub saved : IsToldSaved IsStored start told
+  pub saved : IsToldSaved IsStored start told store
 
--- `IsStored` is true of some text of the book to which the replies in these lines of a log of version 2 lead
-pub record AreLinesSaved (IsStored : List ℕ → Type 0) (start : BookFields) (lines : List (Numbered LogLine)) : Type 0 where
+-- the replies in these lines of a log of version 2 are saved in the store, as `IsToldSaved` says
+pub record AreLinesSaved (IsStored : List ℕ → Type 0) (start : BookFields) (lines : List (Numbered LogLine)) (store : StoreFacts) : Type 0 where
   pub places : ℕ → Place
   pub told : List AccountAttempt
   pub begins : IsNumberedLogUpTo max_open_sessions (demands (accounts_in start)) lines places told
-  pub saved : IsToldSaved IsStored start told
+  pub saved : IsToldSaved IsStored start told store
 
 -- the text is that of a book in which these counters are spent
 abbrev pub IsTextOfSpent : List (List ℕ × ℕ) → (text : List ℕ) → Type 0

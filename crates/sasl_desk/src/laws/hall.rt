@@ -79,11 +79,11 @@ pub fn store_holds_a_book<S: BookStore>()
         → (left : BookFields) × IsHallRunLeaving S.facts S.IsStored start calls left × IsBookText text left }
 {}
 
-/// After each call, `IsStored` is true of some text of the book to which the replies in the log lead. That the save comes before the
-/// reply is in the contract of `Keeper::judge`.
+/// After each call, `IsStored` is true of some text of the book to which the replies in the log lead, and each text that the store may
+/// hold is of that book, or of it with one more attempt. That the save comes before the reply is in the contract of `Keeper::judge`.
 pub fn log_is_saved<S: BookStore>()
     ensures { (start : BookFields) (calls : List (Numbered Call)) (hall : HallFields S) → IsHallAfter S.facts S.IsStored start calls hall
-        → AreLinesSaved S.IsStored start (hall_lines calls) }
+        → AreLinesSaved S.IsStored start (hall_lines calls) (S.facts hall.keeper.store) }
 {}
 
 /// The hall's book with one more judged attempt is a book that the run may leave: a stop within a call, while the store replaces the

@@ -7,9 +7,9 @@ use Rattle.log_grammar.specs.Places.{Place, between}
 use Rattle.log_grammar.specs.Demands.{Accounts}
 use Rattle.log_grammar.specs.Numbered.{Numbered, of_number}
 use Rattle.sasl_desk.specs.Saved.{AreLinesSaved}
-use Rattle.sasl_desk.specs.Desks.{IsStoredAt}
+use Rattle.sasl_desk.specs.Desks.{IsStoredAt, MayLeave}
 use Rattle.sasl_desk.specs.Halls.{HallFields, hall_lines, IsStoredAfter, IsHallAfter}
-use Rattle.sasl_desk.specs.Changes.{MayLeave, IsHallRunLeaving}
+use Rattle.sasl_desk.specs.Changes.{IsHallRunLeaving}
 use Rattle.sasl_desk.specs.Runs.{Call}
 use Rattle.sasl_desk.proofs.lemmas.runs.Stores.{HoldsTold, store_holds_told, told_is_saved}
 
@@ -33,7 +33,7 @@ module _ {S : Type 0} {facts : S → StoreFacts} {IsStored : List ℕ → Type 0
       store_holds_told IsStored book store s.is_book (accounts_in start) own place stored
 
   -- the law: the book to which the replies in a hall's log lead was saved
-  pub log_is_saved : AreLinesSaved IsStored start (hall_lines calls)
+  pub log_is_saved : AreLinesSaved IsStored start (hall_lines calls) (facts hall.keeper.store)
   log_is_saved = record { places = s.places; told = s.told; begins = s.begins; saved = told_is_saved hall_holds_told }
 
   -- the run of a hall may leave the hall's book, and that book with one more attempt

@@ -5,8 +5,8 @@ use Rattle.account_book.specs.Store.{StoreFacts}
 use Rattle.account_book.specs.AccountAttempt.{AccountAttempt}
 use Rattle.log_grammar.proofs.lemmas.ListEnds.{back_keeps_all}
 use Rattle.sasl_desk.specs.Spent.{AreDifferent, IsCounterSpent, AreSpent, spent_by}
-use Rattle.sasl_desk.specs.Desks.{spent_by_all}
-use Rattle.sasl_desk.specs.Changes.{RunOf, MayLeave, IsRunOf, Change, desk_ran, hall_ran, judged, unlocked, added}
+use Rattle.sasl_desk.specs.Desks.{MayLeave, spent_by_all}
+use Rattle.sasl_desk.specs.Changes.{RunOf, IsRunOf, Change, desk_ran, hall_ran, judged, unlocked, added}
 use Rattle.sasl_desk.specs.Changes.{IsChange, AreChanges, spent_by_change, spent_by_changes}
 use Rattle.sasl_desk.proofs.lemmas.runs.Spent.{spent_stays_spent}
 use Rattle.sasl_desk.proofs.lemmas.runs.BooksAfterReplies.{replies_spend_counters}

@@ -14,16 +14,12 @@ use Rattle.sasl_desk.specs.Runs.{Call, run_lines}
 use Rattle.sasl_desk.specs.Saved.{IsToldSaved, IsLogSaved, IsTextOfSpent, AreToldCountersSaved}
 use Rattle.sasl_desk.specs.Spent.{AreSpent}
 use Rattle.sasl_desk.specs.Desks.{MayHold, MayHoldWithinSave, HoldsBook, IsLostAfter, IsStoredAt, IsBookAfterReplies, spent_by_all}
-use Rattle.sasl_desk.specs.Desks.{IsDeskAfter}
-use Rattle.sasl_desk.specs.Changes.{MayLeave, IsDeskRunLeaving}
+use Rattle.sasl_desk.specs.Desks.{IsDeskAfter, IsTextLeft, MayLeave}
+use Rattle.sasl_desk.specs.Changes.{IsDeskRunLeaving}
 use Rattle.sasl_desk.specs.declared.desk.Desk.{Desk}
 use Rattle.sasl_desk.proofs.lemmas.runs.Spent.{spent_stays_spent}
 use Rattle.sasl_desk.proofs.lemmas.runs.BooksAfterReplies.{replies_spend_counters}
 use Rattle.sasl_desk.proofs.lemmas.runs.Changes.{left_book_keeps_spent_counters}
-
--- the text is that of a book that a run may leave: of this book, which the run kept, or of that with one more attempt
-abbrev pub IsTextLeft : (book : BookFields) → (text : List ℕ) → Type 0
-IsTextLeft book text = (left : BookFields) × MayLeave book left × IsBookText text left
 
 -- a desk or a hall that began with the book `start`, has told these replies, and has the book `kept` in this store
 pub record HoldsTold (IsStored : List ℕ → Type 0) (start : BookFields) (told : List AccountAttempt) (kept : BookFields)
@@ -73,9 +69,9 @@ module _ (IsStored : List ℕ → Type 0) (book : BookFields) (store : StoreFact
 -- a desk or a hall
 module _ {IsStored : List ℕ → Type 0} {start : BookFields} {told : List AccountAttempt} {kept : BookFields} {store : StoreFacts}
     (holds : HoldsTold IsStored start told kept store) where
-  -- a text of the book to which its replies lead was stored
-  pub told_is_saved : IsToldSaved IsStored start told
-  told_is_saved = record { last = kept; is_last = holds.is_book; saved = holds.stored }
+  -- its replies are saved in its store
+  pub told_is_saved : IsToldSaved IsStored start told store
+  told_is_saved = record { last = kept; is_last = holds.is_book; saved = holds.stored; held = holds.texts }
 
   -- each text that its store may hold is that of a book that its run may leave
   pub held_texts_are_left : {IsLeaving : BookFields → Type 0} → ((left : BookFields) → MayLeave kept left → IsLeaving left)
@@ -122,7 +118,7 @@ module _ {S : Type 0} {facts : S → StoreFacts} {IsStored : List ℕ → Type 0
       store_holds_told IsStored desk.keeper.book (facts desk.keeper.store) s.is_book (accounts_in start) calls s.place s.is_stored
 
   -- the law: the book to which the replies in a desk's log lead was saved
-  pub log_is_saved : IsLogSaved IsStored start (log_bytes (run_lines calls))
+  pub log_is_saved : IsLogSaved IsStored start (log_bytes (run_lines calls)) (facts desk.keeper.store)
   log_is_saved = record {
     lines = run_lines calls;
     place = s.place;

@@ -67,14 +67,14 @@ pub refused_first_opens_no_login : (mechanism first : List ℕ) (fault : FirstFa
     → (name : List ℕ)
     → IsTakenUpFor mechanism first name → ⊥
 refused_first_opens_no_login mechanism first fault refusal name is =
-    refused_is_not_taken_up first fault is.parts name is.authzid refusal is.is_first is.taken_up
+    refused_is_not_taken_up first fault is.first name is.authzid refusal is.is_first is.taken_up
 
 -- a message that is taken up opens a login by a mechanism that is offered
 pub taken_first_opens_login : (mechanism first name : List ℕ) (m : Mechanism) (p : ClientFirstParts) (authzid : Option (List ℕ))
     → NamesMechanism mechanism m
     → IsClientFirst first p → IsTakenUp p name authzid → IsTakenUpFor mechanism first name
 taken_first_opens_login mechanism first name m p authzid named is taken =
-    record { m = m; offered = named; parts = p; authzid = authzid; is_first = is; taken_up = taken }
+    record { m = m; offered = named; first = p; authzid = authzid; is_first = is; taken_up = taken }
 
 -- the empty challenge is due to a client that asks for a mechanism that is offered
 pub invitation_is_due : (accounts : Accounts) (server_nonce : List ℕ) (mechanism : List ℕ) (m : Mechanism) → NamesMechanism mechanism m
