@@ -25,9 +25,9 @@ use toml::ser::Error;
 use toml::{Table, Value};
 
 impl Contents {
-    /// The book's text, which `read` reads as these contents unless memory runs out. It has each key that has a value, in byte
-    /// order of the keys, with bytes in lower-case hexadecimal; `act_as` is written even if it is empty. Errors: `AllocError`, only
-    /// if memory runs out (no clause says so).
+    /// The book's text, which `read` reads as these contents unless memory runs out. It has each key that has a value, with bytes in
+    /// lower-case hexadecimal; `act_as` is written even if it is empty. In each table the keys stand in byte order, those of tables
+    /// after the others. Errors: `AllocError`, only if memory runs out (no clause says so).
     pub fn write(&self, alloc: Global) -> Result<String, AllocError>
         ensures { IfOk result (λ text. IsWrittenText (string_bytes text) self.now) }
     {

@@ -19,9 +19,8 @@ impl Book {
         }
     }
 
-    /// The book's text, which `Book::read` reads as the same book unless memory runs out. It has every key that has a value, one
-    /// table for each account, mechanism and token, and bytes in lower-case hexadecimal. Errors: `AllocError`, only if memory runs
-    /// out (no clause says so).
+    /// The book's text, as `Contents::write` writes it, which `Book::read` reads as the same book unless memory runs out. Errors:
+    /// `AllocError`, only if memory runs out (no clause says so).
     pub fn write(&self, alloc: Global) -> Result<String, AllocError>
         ensures { IfOk result (λ text. IsWrittenText (string_bytes text) self.now) }
     {
