@@ -3,6 +3,7 @@ ghost use Rattle.std.specs.Prelude.{◌≡◌, ◌⊎◌, IfOk, IfErr, IfSome, O
 ghost use Rattle.std.specs.Fmt.{decimal};
 ghost use Rattle.scram_text.specs.Class.{IsPassword, IsPlainName};
 ghost use Rattle.scram_text.specs.Parts.{IsCount};
+ghost use Rattle.account_book.specs.{IsBookText};
 ghost use Rattle.command_words.specs.Values.{given_value};
 ghost use Rattle.command_io.specs.File.{IsFileUnreadOrNoMemory};
 ghost use Rattle.command_io.specs.HeldBook.{IsReadBook};
@@ -100,6 +101,7 @@ fn read_or_new<F: Read + Drop>(
 ) -> Result<(Book, Option<String>), Fault>
     requires { IfSome read (λ read. IsReadBook F.remaining (string_bytes read.text) read.book) }
     ensures book { IfOk result (λ found. IsReadOrMade F.remaining (F.remaining random.old.file) (F.remaining random.new.file) found.0) }
+    ensures text { IfOk result (λ found. IfSome found.1 (λ text. IsBookText (string_bytes text) found.0)) }
     ensures err { IfErr result (IsFileUnreadOrNoMemory random.old.path.now) }
     ensures path { random.new.path.now ≡ random.old.path.now }
 {
@@ -146,6 +148,7 @@ where
     R: Files + Clock + AllocGlobal,
     R::File: BookFileExt,
     E: Write,
+    requires { IfSome text (λ text. IsBookText (string_bytes text) book) }
     ensures saved { OnOk result (SavesAccount R.File.remaining R.File.contents book account.now salts.now) }
     ensures err { IfErr result (λ fault. IsNameTaken (IsThisOrReadBook R.File.remaining book) account.now.name fault
         ⊎ CannotBeChanged R.File.remaining path.now fault) }
