@@ -7,6 +7,7 @@ pub mod EventWords
 pub mod Faults
 pub mod HallLogs
 pub mod HeardLines
+pub mod LeftBooks
 pub mod LoginGoesOn
 pub mod Logins
 pub mod LogSays

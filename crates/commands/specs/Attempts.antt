@@ -19,8 +19,8 @@ use Rattle.command_io.specs.Input.{AreFirstLines, LinesInTurn}
 use Rattle.commands.specs.SentCodes.{SaysCodes}
 use Rattle.commands.specs.Verify.{VerifyRun, AnswersLine}
 
--- a line makes this attempt: by the account of this name, at this moment, with what the line says. It gets a reply, so the account has a
--- token.
+-- a line makes this attempt: on the account of this name, at this moment, with what the line says, and with a reply. That the reply is
+-- due is in `MakesAttempts`.
 abbrev pub MakesAttempt : (name : List ℕ) → (moment : ℕ) → (line : List ℕ) → AccountAttempt → Type 0
 MakesAttempt name moment line attempt =
     (sent : CodeTexts) × (reply : Reply) × SaysCodes line sent × (attempt ≡ account_attempt_of name moment sent (Some reply))

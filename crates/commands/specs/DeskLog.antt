@@ -4,6 +4,7 @@ use Rattle.std.specs.List.{AllByRecursion}
 use Rattle.std.specs.Io.KnownBytes.{Appends}
 use Rattle.std.specs.declared.option.Option.{Option}
 use Rattle.account_book.specs.{BookFields}
+use Rattle.account_book.specs.Store.{StoreFacts}
 use Rattle.log_grammar.specs.Books.{accounts_in}
 use Rattle.log_grammar.specs.Demands.{Accounts}
 use Rattle.log_grammar.specs.Lines.{log_bytes}
@@ -30,10 +31,9 @@ pub record IsRunLog (accounts : Accounts) (server_nonce : List ℕ) (IsNow : ℕ
   pub is_log : log ≡ log_bytes (run_lines calls)
 
 -- what was there before is followed by a log of this kind, for example a clean one, judged by the accounts of a book. It is the log
--- of a desk with this part of the nonce and moments of which `IsNow` is true; and the store has saved the text of the book to which
--- the replies in it lead.
+-- of a desk with this part of the nonce and moments of which `IsNow` is true; and the replies in it are saved in the store.
 abbrev pub HasSavedLog : (IsStored : List ℕ → Type 0) → (IsNow : ℕ → Type 0) → (IsOfKind : Accounts → List ℕ → Type 0) → BookFields
-    → (server_nonce : List ℕ) → (before after : Option (List ℕ)) → Type 0
-HasSavedLog IsStored IsNow IsOfKind book server_nonce before after =
+    → (server_nonce : List ℕ) → StoreFacts → (before after : Option (List ℕ)) → Type 0
+HasSavedLog IsStored IsNow IsOfKind book server_nonce store before after =
     (log : List ℕ) × IsOfKind (accounts_in book) log × IsRunLog (accounts_in book) server_nonce IsNow log × Appends before after log
-    × IsLogSaved IsStored book log
+    × IsLogSaved IsStored book log store

@@ -7,6 +7,7 @@ use Rattle.std.specs.declared.option.Option.{Option}
 use Rattle.clap.specs.declared.parser.matches.ArgMatches.{ArgMatches}
 use Rattle.scram_text.specs.Class.{IsNoncePart}
 use Rattle.account_book.specs.{BookFields}
+use Rattle.account_book.specs.Store.{StoreFacts}
 use Rattle.book_file.specs.Saved.{IsSavedText}
 use Rattle.command_line.specs.declared.fault.Fault.{Fault}
 use Rattle.command_line.specs.declared.fault.Fault.TheVariants.{BadEvent}
@@ -74,9 +75,9 @@ pub record SaysEvents (input : Option (List ℕ)) (last : List (List ℕ)) : Typ
   pub are : AreFirstLines input lines last
   pub said : AllZip SaysEvent lines events
 
--- a hall that began with this book heard the lines of an input; `last` are its last lines, which are left out
+-- a hall that began with this book heard the lines of an input, and leaves this store; `last` are its last lines, which are left out
 pub record PrintsHallLog (IsStored : List ℕ → Type 0) (book : BookFields) (input : Option (List ℕ)) (last : List (List ℕ))
-    (old new : Option (List ℕ)) : Type 0 where
+    (store : StoreFacts) (old new : Option (List ℕ)) : Type 0 where
   -- the hall heard what the lines say, in order
   pub says : SaysEvents input last
   pub calls : List (Numbered Call)
@@ -86,8 +87,8 @@ pub record PrintsHallLog (IsStored : List ℕ → Type 0) (book : BookFields) (i
   -- what it logged is a front, and is printed
   pub is_front : IsLogFront (accounts_in book) (hall_bytes calls)
   pub printed : Appends old new (hall_bytes calls)
-  -- the store has saved the text of the book to which the replies in the log lead
-  pub saved : AreLinesSaved IsStored book (hall_lines calls)
+  -- the replies in the log are saved in the store
+  pub saved : AreLinesSaved IsStored book (hall_lines calls) store
 
 -- after these calls of a hall the line says no event, or one of a session that is not open
 abbrev pub IsBadEventAfter : Accounts → List (Numbered Call) → (line : List ℕ) → Type 0
@@ -100,9 +101,11 @@ pub record RunsHall {File : Type 0} (bytes_of written_to : File → Option (List
   pub text : List ℕ
   pub book : BookFields
   pub is_read : IsReadBook bytes_of text book
-  pub printed : PrintsHallLog (IsSavedText written_to) book input last old new
+  -- that this store is the run's is in the contract of `hear_input`
+  pub store : StoreFacts
+  pub printed : PrintsHallLog (IsSavedText written_to) book input last store old new
 
--- `RunsHall`, and the next line of the input is bad after it
+-- a hall runs (`RunsHall`), and the next line of its input says no event, or one of a session that is not open
 abbrev pub RunsToBadEvent : {File : Type 0} → (bytes_of written_to : File → Option (List ℕ)) → (input old new : Option (List ℕ)) → Type 0
 RunsToBadEvent bytes_of written_to input old new =
     (line : List ℕ) × (last : List (List ℕ)) × (run : RunsHall bytes_of written_to input (line ∷ last) old new)

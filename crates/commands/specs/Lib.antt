@@ -1,9 +1,10 @@
--- What a run of the program does, in the order in which to read it: `verify`, `login` and `hall` with the faults that end them, `audit`
--- and `upgrade`, and the program itself.
+-- What a run of the program does, in the order in which to read it: `verify`, what a run leaves, `login` and `hall` with the faults that
+-- end them, `audit` and `upgrade`, and the program itself.
 pub mod Talked
 pub mod SentCodes
 pub mod Verify
 pub mod Attempts
+pub mod LeftBooks
 pub mod Nonces
 pub mod DeskLog
 pub mod PrintedLog

@@ -7,6 +7,7 @@ use Rattle.clap.specs.declared.parser.matches.ArgMatches.{ArgMatches}
 use Rattle.scram_text.specs.Class.{IsPassword, IsPlainName}
 use Rattle.scram_ends.specs.{name_of}
 use Rattle.account_book.specs.{BookFields}
+use Rattle.account_book.specs.Store.{StoreFacts}
 use Rattle.book_file.specs.Saved.{IsSavedText}
 use Rattle.command_line.specs.declared.option_name.OptionName.TheVariants as option
 use Rattle.command_words.specs.Values.{value_of, given_value}
@@ -80,8 +81,10 @@ pub record PrintsLogin {File : Type 0} (bytes_of written_to : File → Option (L
   pub moment : Option ℕ
   pub is_moment : option_map decimal moment ≡ value_of words option.Moment
   pub moment_range : IfSome moment IsMoment
-  -- the text of the book to which the replies in the log lead was written to a file
-  pub printed : HasSavedLog (IsSavedText written_to) (IsGiven moment) IsOfKind book server_nonce old new
+  -- the text of the book to which the replies in the log lead was written to a file; what the store then holds, and that it is the
+  -- run's, is in the contract of `talk_over`
+  pub store : StoreFacts
+  pub printed : HasSavedLog (IsSavedText written_to) (IsGiven moment) IsOfKind book server_nonce store old new
 
 -- what a login prints, given the bytes of files and those written to them
 module _ {File : Type 0} (bytes_of written_to : File → Option (List ℕ)) where

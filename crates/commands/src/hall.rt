@@ -1,7 +1,10 @@
 //! The command `hall`: judges up to 64 logins at a time, over one book, from the events in its input, and prints the log.
 ghost use Rattle.std.specs.Prelude.{ℕ, List, [], IfErr, IsErrOf, OnOk};
+ghost use Rattle.command_io.specs.HeldBook.{held_shown};
+ghost use Rattle.commands.specs.Attempts.{HoldsItsBook};
 ghost use Rattle.commands.specs.Hall.{PrintsHallLog, RunsHall, StopsHall, StopsHearing};
 ghost use Rattle.commands.specs.inner.HallSteps.{PrintsToBadEvent};
+ghost use Rattle.commands.specs.LeftBooks.{HoldsAfterReplies};
 ghost use Rattle.commands.specs.PrintedLog.{StopsAfter};
 
 mod event;
@@ -54,38 +57,43 @@ where
     match open_book::open(rt, given(matches, OptionName::Book), faults) {
         Ok(held) => {
             ask(input, faults, EVENTS);
-            hear_input(rt.alloc(), held, input, output)
+            let (heard, output, _store) = hear_input(rt.alloc(), held, input, output);
+            (heard, output)
         }
         Err(fault) => (Err(fault), output),
     }
 }
 
-// Gives a hall over a held book the event in each input line, and prints its log. Returns the output too.
+// Gives a hall over a held book the event in each input line, and prints its log. Returns the output and the store too.
 fn hear_input<S, I, O>(
     alloc: Global,
     held: HeldBook<'_, S>,
     input: &mut I,
     output: O,
-) -> (Result<(), Fault>, O)
+) -> (Result<(), Fault>, O, S)
 where
     S: BookStore + Drop,
     I: BufRead,
     O: Write + Drop,
-    ensures ok { OnOk result.0 (PrintsHallLog S.IsStored held.entry.keeper.book (I.remaining input.old) []
+    ensures ok { OnOk result.0 (PrintsHallLog S.IsStored held.entry.keeper.book (I.remaining input.old) [] (S.facts result.2)
         (O.contents output) (O.contents result.1)) }
     ensures err { IfErr result.0 (λ fault. StopsAfter fault (O.contents output) (O.contents result.1)
-        ((last : List (List ℕ)) × PrintsHallLog S.IsStored held.entry.keeper.book (I.remaining input.old) last
+        ((last : List (List ℕ)) × PrintsHallLog S.IsStored held.entry.keeper.book (I.remaining input.old) last (S.facts result.2)
         (O.contents output) (O.contents result.1))) }
     ensures bad { IsErrOf result.0 Fault.BadEvent
-        → PrintsToBadEvent S.IsStored held.entry.keeper.book (I.remaining input.old) (O.contents output) (O.contents result.1) }
+        → PrintsToBadEvent S.IsStored held.entry.keeper.book (S.facts result.2) (I.remaining input.old) (O.contents output)
+        (O.contents result.1) }
     ensures why { IfErr result.0 (StopsHearing held.entry.path.now) }
+    // However the run ends, what it leaves is a book to which replies lead, if the store held a text of the book as it began.
+    ensures left { HoldsItsBook (held_shown S.facts held.entry) → HoldsAfterReplies held.entry.keeper.book (S.facts result.2) }
 {
     let mut lines = Lines::new(input);
     match LoggedHall::begin(alloc, held, PrintedLog::new(output)) {
         Ok(mut hall) => {
             let heard = hall.hear_lines(alloc, &mut lines);
-            (heard, hall.into_log().into_output())
+            let (log, store) = hall.into_log_and_store();
+            (heard, log.into_output(), store)
         }
-        Err((log, fault)) => (Err(fault), log.into_output()),
+        Err((log, store, fault)) => (Err(fault), log.into_output(), store),
     }
 }

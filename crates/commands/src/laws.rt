@@ -1,23 +1,30 @@
-//! Laws of what the commands do to a book, as the laws of `sasl_desk` take it. Each is the contract of a function that does nothing.
+//! Laws that make changes of what the commands do to a book, as the laws of `sasl_desk` take them. Each is the contract of a function
+//! that does nothing.
 ghost use Rattle.std.specs.Prelude.{◌⊎◌, Bool, ℕ, List, [], ◌∷◌, ◌++◌, reverse};
 ghost use Rattle.std.specs.Io.KnownBytes.{Appends};
 ghost use Rattle.std.specs.declared.option.Option.{Option};
 ghost use Rattle.clap.specs.declared.parser.matches.ArgMatches.{ArgMatches};
 ghost use Rattle.account_book.specs.{BookFields, IsBookText};
-ghost use Rattle.account_book.specs.Enrolled.{enrolled};
 ghost use Rattle.account_book.specs.AccountAttempt.{AccountAttempt};
+ghost use Rattle.account_book.specs.SavedBooks.{SavesBook};
+ghost use Rattle.account_book.specs.Store.{StoreFacts};
 ghost use Rattle.book_file.specs.Saved.{IsSavedText};
 ghost use Rattle.command_line.specs.declared.fault.Fault.{Fault};
 ghost use Rattle.command_line.specs.declared.option_name.OptionName.TheVariants as option;
 ghost use Rattle.command_words.specs.Values.{given_value};
 ghost use Rattle.sasl_desk.specs.Desks.{spent_by_all, IsBookAfterReplies, MayHold, MayHoldWithinSave};
-ghost use Rattle.sasl_desk.specs.Changes.{Change, added, unlocked, AreChanges};
+ghost use Rattle.sasl_desk.specs.Changes.{Change, unlocked, AreChanges};
 ghost use Rattle.sasl_desk.specs.Saved.{IsToldSaved};
 ghost use Rattle.sasl_desk.specs.Spent.{AreSpent};
+ghost use Rattle.command_io.specs.{FailsToSave};
+ghost use Rattle.command_io.specs.HeldBook.{HeldFacts, FailsToChange, IsEnrolled, IsTokenUnlocked};
 ghost use Rattle.command_io.specs.Input.{LinesInTurn};
+ghost use Rattle.command_io.specs.declared.new_account.NewAccount.{NewAccount};
+ghost use Rattle.command_io.specs.declared.new_account.Salts.{Salts};
 ghost use Rattle.account_commands.specs.Enrol.{EnrolsAsked};
 ghost use Rattle.account_commands.specs.Unlock.{UnlocksAsked};
 ghost use Rattle.commands.specs.Attempts.{judged_changes, printed_replies, HoldsItsBook, MakesAttempts, PrintsUntil, SavesNextLine};
+ghost use Rattle.commands.specs.LeftBooks.{addition_of, HoldsAfterReplies, IsTextAfter, LeavesOldTextOrBook};
 ghost use Rattle.commands.specs.Verify.{VerifyRun, AnswersLine, AnswersFirstLines, BeginsToVerify, VerifiesAllLines, VerifiesFirstLines};
 
 use account_book::BookStore;
@@ -32,12 +39,12 @@ pub fn changes_follow_changes<S: BookStore>()
 
 /// What a run of `verify` did to its book, after any number of its lines, is a list of attempts, one for each line that it answered, with
 /// what the line says, judged by the token. Such attempts are changes of the book (`changes`). The replies to them are what it printed
-/// (`all`). Each text that the store may hold then is of the book that the attempts lead to (`saved`). So both also hold of a run that is
-/// stopped between two lines.
+/// (`all`). Each text that the store may hold then is of the book that the attempts lead to (`saved`). So all three also hold of a run
+/// that is stopped between two lines.
 ///
-/// While the run saves the attempt of its next line, and until it prints the reply, the text that the store may hold is of this book, or
-/// of the book that the attempts lead to with this one as the last of them (`within`). If a fault ended the run, they lead to the book
-/// of whichever text the store may hold: those of the lines before the one at fault, and perhaps that of this line (`first`).
+/// While the run saves the attempt of its next line, and until it prints the reply, each text that the store may hold is of the book
+/// before that attempt or of the book after it (`within`). If a fault ended the run, each such text is of the book to which the attempts
+/// of the lines before the fault lead, perhaps with that of the line at fault (`first`).
 ///
 /// All this holds if the store had not failed as the run began, and held a text of the run's book.
 ///
@@ -112,9 +119,41 @@ pub fn other_commands_make_changes<R: Files, S: BookStore>()
         → AreChanges S.facts S.IsStored run.first (unlocked (given_value words option.Name) ∷ []) run.last }
     ensures enrol { (words : ArgMatches) (input old new : Option (List ℕ))
         (run : EnrolsAsked R.File.remaining R.File.contents words input old new)
-        → AreChanges S.facts S.IsStored run.is_added.saved.first (added run.account.name (enrolled run.account.password
-        run.is_added.salts.sha1 run.is_added.salts.sha256 run.account.count) ∷ []) run.is_added.saved.last }
-    ensures told { (start : BookFields) (told : List AccountAttempt)
-        (saved : IsToldSaved (IsSavedText R.File.contents) start told)
+        → AreChanges S.facts S.IsStored run.is_added.saved.first (addition_of run.account run.is_added.salts ∷ [])
+        run.is_added.saved.last }
+    ensures told { (start : BookFields) (told : List AccountAttempt) (store : StoreFacts)
+        (saved : IsToldSaved (IsSavedText R.File.contents) start told store)
         → AreChanges S.facts S.IsStored start (judged_changes told) saved.last }
+{}
+
+/// Which book each text is of that the store may hold when a run ends, wherever it ends. By `unlock`, `enrol`, `added` and `replies`
+/// changes lead to it, so `no_counter_passes_twice` of `sasl_desk` also holds if the next run begins with such a text:
+/// - A change that fails leaves the book that was held, or this book with the change (`unlock`, `enrol`: `HeldBook::unlock` and
+///   `HeldBook::enrol` ensure `FailsToChange`). So does a failed save of a book to which an account was added, in a store that holds the
+///   book from before (`added`: `HeldBook::begin` ensures `FailsToSave`).
+/// - The runs of `login` and `hall` leave a book to which attempts lead (`replies`: `talk_over` and `hear_input` ensure
+///   `HoldsAfterReplies`).
+///
+/// Of any save: if it fails or is stopped, it leaves a text from before, or one of the book that it was given (`failed`, `stopped`). If
+/// it succeeds, it leaves a text of the book (`done`).
+pub fn runs_leave_changed_books<S: BookStore>()
+    ensures unlock { (name : List ℕ) (old : HeldFacts) (fault : Fault) (new : HeldFacts) (text : List ℕ)
+        → FailsToChange old (IsTokenUnlocked name) fault new → HoldsItsBook old → MayHold new.store text
+        → IsTextAfter S.facts S.IsStored old.book [] text ⊎ IsTextAfter S.facts S.IsStored old.book (unlocked name ∷ []) text }
+    ensures enrol { (account : NewAccount) (salts : Salts) (old : HeldFacts) (fault : Fault) (new : HeldFacts) (text : List ℕ)
+        → FailsToChange old (IsEnrolled account salts) fault new → HoldsItsBook old → MayHold new.store text
+        → IsTextAfter S.facts S.IsStored old.book [] text
+        ⊎ IsTextAfter S.facts S.IsStored old.book (addition_of account salts ∷ []) text }
+    ensures added { (account : NewAccount) (salts : Salts) (old : HeldFacts) (book : BookFields) (new : StoreFacts) (text : List ℕ)
+        → FailsToSave old.store book new → HoldsItsBook old → IsEnrolled account salts old.book book → MayHold new text
+        → IsTextAfter S.facts S.IsStored old.book [] text
+        ⊎ IsTextAfter S.facts S.IsStored old.book (addition_of account salts ∷ []) text }
+    ensures replies { (start : BookFields) (store : StoreFacts) (text : List ℕ) → HoldsAfterReplies start store → MayHold store text
+        → (attempts : List AccountAttempt) × IsTextAfter S.facts S.IsStored start (judged_changes attempts) text }
+    ensures failed { (old : StoreFacts) (book : BookFields) (new : StoreFacts) → FailsToSave old book new
+        → LeavesOldTextOrBook old book new }
+    ensures stopped { (old : StoreFacts) (book : BookFields) (asked text : List ℕ) → IsBookText asked book
+        → MayHoldWithinSave old asked text → MayHold old text ⊎ IsBookText text book }
+    ensures done { (old : StoreFacts) (book : BookFields) (new : StoreFacts) (text : List ℕ) → SavesBook S.IsStored old book new
+        → MayHold new text → IsBookText text book }
 {}

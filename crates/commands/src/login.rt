@@ -7,13 +7,15 @@ ghost use Rattle.log_grammar.specs.Versions.{IsClean, IsLogFront};
 ghost use Rattle.sasl_desk.specs.{IsMoment};
 ghost use Rattle.sasl_desk.specs.Desks.{desk_phase};
 ghost use Rattle.sasl_desk.specs.declared.session.phase.Phase.TheVariants as Phase;
-ghost use Rattle.command_io.specs.HeldBook.{IsReadBook};
+ghost use Rattle.command_io.specs.HeldBook.{held_shown, IsReadBook};
 ghost use Rattle.command_io.specs.BadValues.{HasBadPassword};
 ghost use Rattle.command_io.specs.Input.{IsInputUnreadOrNoMemory, TakesLine};
 ghost use Rattle.commands.specs.declared.login.client_end.Stage.{Stage};
+ghost use Rattle.commands.specs.Attempts.{HoldsItsBook};
 ghost use Rattle.commands.specs.DeskLog.{HasSavedLog, IsGiven};
-ghost use Rattle.commands.specs.inner.DeskLogSteps.{IsDeskLog, StaysItsLog, StaysItsLogWith, IsLogAfterFault, IsLogAfterFaultWith};
+ghost use Rattle.commands.specs.inner.DeskLogSteps.{IsDeskLog, StaysDeskLog, StaysDeskLogWith, IsLogAfterFault, IsLogAfterFaultWith};
 ghost use Rattle.commands.specs.Login.{EndsTalk, PrintsTalk, IsUserAsked, RunsLogin};
+ghost use Rattle.commands.specs.LeftBooks.{HoldsAfterReplies};
 ghost use Rattle.commands.specs.LoginFaults.{CannotPrepare, StopsLogin, StopsTalking};
 ghost use Rattle.commands.specs.Nonces.{AreNonces};
 ghost use Rattle.commands.specs.Talked.{LogSays, talked_in};
@@ -110,7 +112,15 @@ where
     };
     match socket::open(rt, given(matches, OptionName::Socket)) {
         // In this call the moment of `Brand` is `login.moment`, as `ghosts-talk_over` in proofs/login/login/Invariants.antt says.
-        Ok((connection, _file)) => talk_over::<Brand, R, _, _, _>(rt, login, &connection, output),
+        Ok((connection, _file)) => {
+            let (passed, output, _store) = talk_over::<Brand, R, _, _, _>(
+                rt,
+                login,
+                &connection,
+                output,
+            );
+            (passed, output)
+        }
         Err(fault) => (Err(fault), output),
     }
 }
@@ -173,13 +183,13 @@ fn read_password<I: BufRead>(alloc: Global, lines: &mut Lines<'_, I>) -> Result<
 }
 
 // Lets the client of a login talk to a desk over the book, and prints the desk's log. Returns whether the client was logged in and
-// each code passed, and the output.
+// each code passed, the output, and the store.
 fn talk_over<G, R, S, I, O>(
     rt: &R,
     login: LoginSetup<'_, S, I>,
     connection: &Connection,
     output: O,
-) -> (Result<bool, Fault>, O)
+) -> (Result<bool, Fault>, O, S)
 where
     G: GivenMoment,
     R: Clock + AllocGlobal,
@@ -188,14 +198,17 @@ where
     O: Write + Drop,
     requires { login.moment ≡ G.moment }
     ensures ok { OnOk result.0
-        (HasSavedLog S.IsStored (IsGiven G.moment) IsClean login.entry.held.keeper.book login.entry.server_nonce
+        (HasSavedLog S.IsStored (IsGiven G.moment) IsClean login.entry.held.keeper.book login.entry.server_nonce (S.facts result.2)
         (O.contents output) (O.contents result.1)) }
     ensures talk { IfOk result.0 (λ passed. PrintsTalk login.entry.client.user login.entry.client.nonce login.entry.client.password
         (I.remaining login.entry.lines.input.now) (O.contents output) passed (O.contents result.1)) }
     ensures err { IfErr result.0 (λ fault. StopsAfter fault (O.contents output) (O.contents result.1)
-        (HasSavedLog S.IsStored (IsGiven G.moment) IsLogFront login.entry.held.keeper.book login.entry.server_nonce
+        (HasSavedLog S.IsStored (IsGiven G.moment) IsLogFront login.entry.held.keeper.book login.entry.server_nonce (S.facts result.2)
         (O.contents output) (O.contents result.1))) }
     ensures why { IfErr result.0 (StopsTalking login.entry.held.path.now) }
+    // However the run ends, what it leaves is a book to which replies lead, if the store held a text of the book as it began.
+    ensures left { HoldsItsBook (held_shown S.facts login.entry.held)
+        → HoldsAfterReplies login.entry.held.keeper.book (S.facts result.2) }
 {
     let LoginSetup {
         held,
@@ -222,9 +235,10 @@ where
                 client,
                 &mut lines,
             );
-            (passed, talk.into_log().into_output())
+            let (log, store) = talk.into_log_and_store();
+            (passed, log.into_output(), store)
         }
-        Err((log, fault)) => (Err(fault), log.into_output()),
+        Err((log, store, fault)) => (Err(fault), log.into_output(), store),
     }
 }
 
@@ -249,12 +263,13 @@ where
     requires silent { client.stage ≡ Stage.Silent }
     ensures talk { IfOk result (λ passed. EndsTalk client.user client.nonce client.password (I.remaining lines.old.input.now)
         (talked_in R.facts W.facts L.facts talk.old) passed (talked_in R.facts W.facts L.facts talk.new)) }
-    ensures log { OnOk result (StaysItsLogWith S.facts S.IsStored C.IsNow server_nonce
+    ensures log { OnOk result (StaysDeskLogWith S.facts S.IsStored C.IsNow server_nonce
         talk.old.desk (L.facts talk.old.log) talk.new.desk (L.facts talk.new.log)) }
     ensures closed { OnOk result (desk_phase talk.new.desk ≡ Phase.Closed) }
     ensures clean { OnOk result ((start : BookFields) (before : Option (List ℕ))
         → IsDeskLog S.facts S.IsStored C.IsNow start before server_nonce talk.old.desk (L.facts talk.old.log)
-        → HasSavedLog S.IsStored C.IsNow IsClean start server_nonce before (L.facts talk.new.log).given) }
+        → HasSavedLog S.IsStored C.IsNow IsClean start server_nonce (S.facts talk.new.desk.keeper.store) before
+        (L.facts talk.new.log).given) }
     ensures after_fault { IfErr result (IsLogAfterFaultWith S.facts S.IsStored C.IsNow server_nonce
         talk.old.desk (L.facts talk.old.log) talk.new.desk (L.facts talk.new.log)) }
     ensures err { IfErr result (StopsTalking talk.old.path.now) }
@@ -279,7 +294,7 @@ where
     C: sasl_desk::Clock + Drop,
     ensures client { talk.new.ends.client ≡ talk.old.ends.client }
     ensures silent { OnOk result (LogSays (L.facts talk.old.log).given (L.facts talk.new.log).given []) }
-    ensures log { OnOk result (StaysItsLog S.facts S.IsStored C.IsNow talk.old.desk (L.facts talk.old.log)
+    ensures log { OnOk result (StaysDeskLog S.facts S.IsStored C.IsNow talk.old.desk (L.facts talk.old.log)
         talk.new.desk (L.facts talk.new.log)) }
     ensures closed { OnOk result (desk_phase talk.new.desk ≡ Phase.Closed) }
     ensures after_fault { IfErr result (IsLogAfterFault S.facts S.IsStored C.IsNow talk.old.desk (L.facts talk.old.log)

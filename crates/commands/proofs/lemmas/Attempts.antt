@@ -30,7 +30,7 @@ use Rattle.commands.specs.SentCodes.{SaysCodes}
 use Rattle.commands.specs.Verify.{VerifyRun, AnswersLine, AnswersFirstLines, BeginsToVerify, FailsAtLine, IsUnprinted}
 
 -- a store that saved a book holds its text
-saved_book_is_held : (IsStored : List ℕ → Type 0) (old new : HeldFacts) → SavesBook IsStored old.store new.book new.store → HoldsItsBook new
+pub saved_book_is_held : (IsStored : List ℕ → Type 0) (old new : HeldFacts) → SavesBook IsStored old.store new.book new.store → HoldsItsBook new
 saved_book_is_held IsStored old new saves = record {
   working = saves.saved.working;
   saved = subst (λ (t : List ℕ). IsBookText t new.book) (sym saves.saved.saved) saves.is_text;
@@ -51,12 +51,12 @@ saved_reply_keeps_book_held IsStored old name moment sent Locked new is holds =
 saved_reply_keeps_book_held IsStored old name moment sent reply new is holds = saved_book_is_held IsStored old new is.kept
 
 -- each text that the store may hold is one of the book, if it holds one and has not failed
-held_text_is_of_book : (held : HeldFacts) (text : List ℕ) → HoldsItsBook held → MayHold held.store text → IsBookText text held.book
+pub held_text_is_of_book : (held : HeldFacts) (text : List ℕ) → HoldsItsBook held → MayHold held.store text → IsBookText text held.book
 held_text_is_of_book held text holds (inl same) = subst (λ (t : List ℕ). IsBookText t held.book) (sym same) holds.saved
 held_text_is_of_book held text holds (inr (failed, same)) = absurd (false≢true (sym holds.working ∙ failed))
 
 -- after a change that fails, the store is as it was, or it failed to save a book with the change
-store_was_unasked_or_failed : (old : HeldFacts) (Changes : BookFields → BookFields → Type 0) (fault : Fault) (new : StoreFacts)
+pub store_was_unasked_or_failed : (old : HeldFacts) (Changes : BookFields → BookFields → Type 0) (fault : Fault) (new : StoreFacts)
     → IsStoreAfterFault old Changes fault new → (new ≡ old.store) ⊎ IsChangeUnsaved Changes old.book old.store NotSaved new
 store_was_unasked_or_failed old Changes (CannotWrite file) new fails = inr fails
 store_was_unasked_or_failed old Changes fault new same = inl same

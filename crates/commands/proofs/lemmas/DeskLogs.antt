@@ -1,5 +1,8 @@
 -- The log of a login stays the log of its desk at each step, also at one that fails, unless the fault is that the log has failed.
-use Rattle.std.proofs.Common.{◌≡◌, ◌≢◌, inl, inr, ℕ, List, [], ◌∷◌, ◌++◌, refl, sym, ◌∙◌, ap, subst}
+use Rattle.std.proofs.Common.{◌≡◌, ◌≢◌, inl, inr, ℕ, List, [], ◌∷◌, ◌++◌, Option, refl, sym, ◌∙◌, ap, subst}
+use Rattle.std.specs.Prelude.{IfErr, OnOk}
+use Rattle.std.specs.declared.result.Result.{Result}
+use Rattle.std.specs.declared.result.Result.TheVariants.{Err, Ok}
 use Rattle.std.specs.Io.KnownBytes.{Appends}
 use Rattle.std.proofs.KnownBytes.{Appends-trans}
 use Rattle.account_book.specs.{BookFields}
@@ -19,7 +22,7 @@ use Rattle.sasl_desk.specs.declared.fault.ServeFault.{ServeFault}
 use Rattle.sasl_desk.specs.declared.fault.ServeFault.TheVariants.{Halted, Unwritable, NoMemory, WriteFault, LogFault}
 use Rattle.sasl_desk.proofs.lemmas.turns.TurnBytes.{log_bytes-append}
 use Rattle.commands.specs.DeskLog.{IsRequestWith}
-use Rattle.commands.specs.inner.DeskLogSteps.{IsDeskLog, StaysItsLog, StaysItsLogWith, IsLogAfterFault}
+use Rattle.commands.specs.inner.DeskLogSteps.{IsDeskLog, StaysDeskLog, StaysDeskLogWith, IsLogAfterFault, IsLogAfterFaultWith}
 use Rattle.commands.specs.inner.TurnFaults.{IsFaultOfServing}
 
 -- a desk with this book, store and state
@@ -33,7 +36,7 @@ module _ {S : Type 0} {facts : S → StoreFacts} {IsStored : List ℕ → Type 0
     next_call_keeps_log : (server_nonce : List ℕ) (request : Request) (lines : List LogLine) → IsRequestWith server_nonce IsNow request
         → ((start : BookFields) (calls : List Call) → IsDeskAfter facts IsStored start calls old
         → IsDeskAfter facts IsStored start (call_of request lines ∷ calls) new)
-        → Appends log.given log'.given (log_bytes lines) → StaysItsLogWith facts IsStored IsNow server_nonce old log new log'
+        → Appends log.given log'.given (log_bytes lines) → StaysDeskLogWith facts IsStored IsNow server_nonce old log new log'
     next_call_keeps_log server_nonce request lines is stands more start before l = record {
       calls = call_of request lines ∷ l.calls;
       stands = stands start l.calls l.stands;
@@ -45,14 +48,14 @@ module _ {S : Type 0} {facts : S → StoreFacts} {IsStored : List ℕ → Type 0
     -- the log stays the desk's as it takes what the desk wrote into an empty buffer to greet a client
     pub greeting_keeps_log : {server_nonce wire wire' none written : List ℕ}
         → Answers facts IsStored old (greets server_nonce) wire wire' none written new → none ≡ [] → Appends log.given log'.given written
-        → StaysItsLogWith facts IsStored IsNow server_nonce old log new log'
+        → StaysDeskLogWith facts IsStored IsNow server_nonce old log new log'
     greeting_keeps_log {server_nonce = server_nonce} a empty put =
         next_call_keeps_log server_nonce (greets server_nonce) a.lines refl a.stands
         (subst (λ (bytes : List ℕ). Appends log.given log'.given bytes)
         (a.logged ∙ ap (λ (l : List ℕ). l ++ log_bytes a.lines) empty) put)
 
     -- the log stays the desk's when it takes nothing and the desk stays the same
-    same_desk_keeps_log : IsSameDesk old new → log' ≡ log → StaysItsLog facts IsStored IsNow old log new log'
+    same_desk_keeps_log : IsSameDesk old new → log' ≡ log → StaysDeskLog facts IsStored IsNow old log new log'
     same_desk_keeps_log same unlogged server_nonce start before l =
         let book = ap (λ (b : BookFields). desk_with b new.keeper.store new.state) same.book in
         let store = ap (λ (s : S). desk_with old.keeper.book s new.state) same.store in
@@ -64,42 +67,59 @@ module _ {S : Type 0} {facts : S → StoreFacts} {IsStored : List ℕ → Type 0
     -- the log stays the desk's after a turn that was served
     pub served_turn_keeps_log : {moment : ℕ} {input input' : SourceFacts} {wire wire' : SinkFacts}
         → IsTurnServed facts IsStored moment (service_of old input wire log) (service_of new input' wire' log') → IsNow moment
-        → StaysItsLog facts IsStored IsNow old log new log'
+        → StaysDeskLog facts IsStored IsNow old log new log'
     served_turn_keeps_log served now server_nonce =
         next_call_keeps_log server_nonce _ served.done.lines now served.done.answers.stands served.done.written.by_log
 
-    -- the log stays the desk's after an event that was not done, or the fault is that the log has failed
+    -- the log stays the desk's after an event that was not done, or it is lost
     undone_turn_leaves_log : (event : ClientEvent) (moment : ℕ) (wire wire' : SinkFacts) (path : List ℕ) (why : ServeFault) (fault : Fault)
         → (why ≢ Halted → IsNow moment) → IsFaultOfServing path why fault
         → IsNotDone facts IsStored (hears event moment) old new wire wire' log log' why
         → IsLogAfterFault facts IsStored IsNow old log new log' fault
-    undone_turn_leaves_log event moment wire wire' path Halted fault now is (same, unsent, unlogged) = inr
-        (same_desk_keeps_log same unlogged)
-    undone_turn_leaves_log event moment wire wire' path NoMemory fault now is (same, unsent, unlogged) =
-        inr (same_desk_keeps_log same unlogged)
-    undone_turn_leaves_log event moment wire wire' path Unwritable fault now never undone = absurd never
-    undone_turn_leaves_log event moment wire wire' path WriteFault fault now is undone =
-        inr (λ server_nonce. next_call_keeps_log server_nonce (hears event moment) undone.lines
-        (now (λ same. cc same)) undone.answers.stands
-        undone.logged)
-    undone_turn_leaves_log event moment wire wire' path LogFault fault now is undone = inl (is, undone.log_fails)
+    undone_turn_leaves_log event moment wire wire' path Halted fault now is (same, unsent, unlogged) server_nonce =
+        inr (same_desk_keeps_log same unlogged server_nonce)
+    undone_turn_leaves_log event moment wire wire' path NoMemory fault now is (same, unsent, unlogged) server_nonce =
+        inr (same_desk_keeps_log same unlogged server_nonce)
+    undone_turn_leaves_log event moment wire wire' path Unwritable fault now never undone server_nonce = absurd never
+    undone_turn_leaves_log event moment wire wire' path WriteFault fault now is undone server_nonce =
+        inr (next_call_keeps_log server_nonce (hears event moment) undone.lines (now (λ same. cc same)) undone.answers.stands undone.logged)
+    undone_turn_leaves_log event moment wire wire' path LogFault fault now is undone server_nonce =
+        inl ((is, undone.log_fails), λ start before l. (_, undone.answers.stands start l.calls l.stands))
 
--- what stays a desk's log in two steps, one after the other, stays its log
-pub two_steps_keep_log : {S : Type 0} {facts : S → StoreFacts} {IsStored : List ℕ → Type 0} {IsNow : ℕ → Type 0} {server_nonce : List ℕ}
-    {old middle new : Desk S} {a b c : SinkFacts}
-    → StaysItsLogWith facts IsStored IsNow server_nonce old a middle b → StaysItsLog facts IsStored IsNow middle b new c
-    → StaysItsLogWith facts IsStored IsNow server_nonce old a new c
-two_steps_keep_log first second start before l = second _ start before (first start before l)
+-- two steps of a desk, one after the other
+module _ {S : Type 0} {facts : S → StoreFacts} {IsStored : List ℕ → Type 0} {IsNow : ℕ → Type 0} {server_nonce : List ℕ}
+    {old middle new : Desk S} {a b c : SinkFacts} (first : StaysDeskLogWith facts IsStored IsNow server_nonce old a middle b) where
+  -- what stays a desk's log in both steps stays its log
+  pub two_steps_keep_log : StaysDeskLog facts IsStored IsNow middle b new c → StaysDeskLogWith facts IsStored IsNow server_nonce old a new c
+  two_steps_keep_log second start before l = second _ start before (first start before l)
+
+  -- what is true of the log after a fault in the second step is true of it after both
+  pub fault_after_step_leaves_log : {fault : Fault} → IsLogAfterFault facts IsStored IsNow middle b new c fault
+      → IsLogAfterFaultWith facts IsStored IsNow server_nonce old a new c fault
+  fault_after_step_leaves_log second = elim (second server_nonce) [
+    | inl (failed, stands) ↦ inl (failed, λ start before l. stands start before (first start before l))
+    | inr stays ↦ inr (λ start before l. stays start before (first start before l))
+  ]
+
+-- a desk whose log it was as a run began has answered calls when the run has ended, also after a fault
+pub desk_stands_at_end : {S : Type 0} {facts : S → StoreFacts} {IsStored : List ℕ → Type 0} {IsNow : ℕ → Type 0} {server_nonce : List ℕ}
+    {old new : Desk S} {a : SinkFacts} (b : SinkFacts) {T : Type 0} (result : Result T Fault) {start : BookFields} {before : Option (List ℕ)}
+    → OnOk result (StaysDeskLogWith facts IsStored IsNow server_nonce old a new b)
+    → IfErr result (IsLogAfterFaultWith facts IsStored IsNow server_nonce old a new b)
+    → IsDeskLog facts IsStored IsNow start before server_nonce old a → (calls : List Call) × IsDeskAfter facts IsStored start calls new
+desk_stands_at_end b (Ok done) stays after_fault l = let last = stays _ _ l in (last.calls, last.stands)
+desk_stands_at_end b (Err fault) done (inl (failed, stands)) l = stands _ _ l
+desk_stands_at_end b (Err fault) done (inr stays) l = let last = stays _ _ l in (last.calls, last.stands)
 
 module _ {S : Type 0} {facts : S → StoreFacts} {IsStored : List ℕ → Type 0} {IsNow : ℕ → Type 0} (moment : ℕ) (old new : Service S)
     (path : List ℕ) where
-  -- after a turn that was not served the log is still the desk's, or the fault is that it has failed
+  -- after a turn that was not served the log is still the desk's, or it is lost
   pub unserved_turn_leaves_log : (why : ServeFault) (fault : Fault) → (why ≢ Halted → IsNow moment)
       → IsTurnFault facts IsStored moment old new why → IsFaultOfServing path why fault
       → IsLogAfterFault facts IsStored IsNow old.desk old.log new.desk new.log fault
   unserved_turn_leaves_log Halted fault now same is =
       subst (λ (s : Service S). IsLogAfterFault facts IsStored IsNow old.desk old.log s.desk s.log fault) (sym same)
-      (inr (λ server_nonce start before l. l))
+      (λ server_nonce. inr (λ start before l. l))
   unserved_turn_leaves_log NoMemory fault now (read, reads, undone) is =
       undone_turn_leaves_log (event_read read) moment old.wire new.wire path NoMemory fault now is undone
   unserved_turn_leaves_log Unwritable fault now served never = absurd never

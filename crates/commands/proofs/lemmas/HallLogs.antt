@@ -1,5 +1,5 @@
 -- The log of a hall after one more event.
-use Rattle.std.proofs.Common.{◌≡◌, inl, inr, ℕ, Bool, List, [], ◌∷◌, ◌++◌, sym, ◌∙◌, ap, subst, append_assoc}
+use Rattle.std.proofs.Common.{◌≡◌, ◌⊎◌, inl, inr, ℕ, Bool, List, [], ◌∷◌, ◌++◌, sym, ◌∙◌, ap, subst, append_assoc}
 use Rattle.std.specs.Prelude.{map}
 use Rattle.std.specs.Io.KnownBytes.{Appends}
 use Rattle.std.proofs.KnownBytes.{Appends-trans}
@@ -18,9 +18,9 @@ use Rattle.sasl_desk.specs.declared.session.phase.Phase.{Phase}
 use Rattle.sasl_desk.specs.declared.hall.Hall.{Hall}
 use Rattle.sasl_desk.proofs.lemmas.halls.CallBytes.{hall_bytes-next_call}
 use Rattle.sasl_desk.proofs.lemmas.halls.Working.{reordered_hall_stands}
-use Rattle.commands.specs.inner.TurnFaults.{IsUnsavedOrUnlogged}
+use Rattle.commands.specs.inner.TurnFaults.{IsLogFault, IsUnsavedOrUnlogged}
 use Rattle.commands.specs.Hall.{InputEvent, opens, does_at, SaysEvent, SaysNoEvent, IsCallFor}
-use Rattle.commands.specs.inner.HallSteps.{IsHallLogOf, Hears}
+use Rattle.commands.specs.inner.HallSteps.{IsHallLogOf, Hears, MayHaveHeard}
 
 -- a hall that is the same, up to the order of its open sessions, differs from what it was in its open sessions alone
 same_hall_differs_in_open_sessions : {S : Type 0} (old new : HallFields S) → IsSameHall old new
@@ -63,6 +63,16 @@ module _ {S : Type 0} {facts : S → StoreFacts} {IsStored : List ℕ → Type 0
         (reordered_hall_stands same.open_sessions l.stands);
     logged = subst (λ (k : SinkFacts). Appends before k.given (hall_bytes l.calls)) (sym unlogged) l.logged;
   }
+
+  -- after a call by which the hall heard an event, the log took what the hall wrote, or it is lost
+  pub answered_event_may_be_heard : {n : ℕ} {request : Request} {phase : Phase} {wire wire' none written : List ℕ} {fault : Fault}
+      (event : InputEvent) → AnswersIn facts IsStored (hall_shown old) n request phase wire wire' none written (hall_shown new)
+      → ((lines : List LogLine) → IsCallFor event (numbered n (call_of request lines))) → none ≡ []
+      → IsLogFault log' fault ⊎ Appends log.given log'.given written
+      → MayHaveHeard facts IsStored (Hears facts IsStored (event ∷ [])) old log new log' fault
+  answered_event_may_be_heard event a is empty (inl failed) =
+      inl (failed, λ start before earlier l. (_, (a.stands start l.calls l.stands).0))
+  answered_event_may_be_heard event a is empty (inr put) = inr (inr (answered_event_is_heard event a is empty put))
 
 -- a hall that hears some events and then more has heard them all, one after another
 pub hearings_join : {S : Type 0} {facts : S → StoreFacts} {IsStored : List ℕ → Type 0} (events more : List InputEvent)

@@ -1,6 +1,9 @@
 -- What a hall hears from the lines of its input, one after another.
 use Rattle.std.proofs.Common.{◌≡◌, inl, inr, ℕ, ◌≤◌, Bool, List, [], ◌∷◌, ◌++◌, reverse, length, Option, None, append-nil, sym, subst}
+use Rattle.std.specs.Prelude.{IfErr, OnOk}
 use Rattle.std.specs.Io.KnownBytes.{Appends, IsAtEnd}
+use Rattle.std.specs.declared.result.Result.{Result}
+use Rattle.std.specs.declared.result.Result.TheVariants.{Err, Ok}
 use Rattle.std.proofs.lemmas.Grind.{reverse_onto}
 use Rattle.account_book.specs.{BookFields}
 use Rattle.account_book.specs.Store.{StoreFacts}
@@ -19,7 +22,7 @@ use Rattle.sasl_desk.proofs.lemmas.halls.Stores.{log_is_saved}
 use Rattle.command_io.specs.Input.{line_bytes, TakesLine}
 use Rattle.command_io.proofs.lemmas.InputLines.{end_has_no_lines, taken_line_begins_lines, some_lines}
 use Rattle.commands.specs.Hall.{InputEvent, opens, does_at, IsBadEventAfter, AreCallsFor, PrintsHallLog}
-use Rattle.commands.specs.inner.HallSteps.{IsBadEvent, IsHallLogOf, Hears, HearsLine, HearsUpTo, HearsFirstLines, MayHaveHeard, MeetsBadEvent, PrintsToBadEvent}
+use Rattle.commands.specs.inner.HallSteps.{IsBadEvent, IsHallLogOf, Hears, HearsLine, HearsUpTo, HearsAllLines, HearsFirstLines, LosesHallLog, MayHaveHeard, MeetsBadEvent, PrintsToBadEvent}
 use Rattle.commands.specs.PrintedLog.{StopsAfter}
 use Rattle.commands.proofs.lemmas.HallLogs.{hearings_join}
 
@@ -60,17 +63,26 @@ module _ {S : Type 0} {facts : S → StoreFacts} {IsStored : List ℕ → Type 0
         heard = λ start before earlier l. l;
       })
 
-  -- after a fault before the next line was read, a hall has heard the first lines of its input
-  pub hall_before_line_heard_first : (fault : Fault) → HearsFirstLines facts IsStored first start a now b fault
-  hall_before_line_heard_first fault =
-      let more = some_lines left in
-      inr (
+  -- a hall has heard the lines before the place to which it has come
+  hall_heard_lines_before : (last : List (List ℕ)) × HearsUpTo facts IsStored first last start a now b
+  hall_heard_lines_before =
+      let more = some_lines left in (
         more.0,
         come more.0 now b (record {
           says = record { lines = []; events = []; are = more.1; said = tt };
           heard = λ start before earlier l. l;
         }),
       )
+
+  -- after a fault before the next line was read, a hall has heard the first lines of its input
+  pub hall_before_line_heard_first : (fault : Fault) → HearsFirstLines facts IsStored first start a now b fault
+  hall_before_line_heard_first fault = inr hall_heard_lines_before
+
+  -- if the log is lost in what a hall hears next, it is lost in what the hall has heard since the start
+  lost_log_stays_lost : {new : Hall S} (c : SinkFacts) {fault : Fault} → LosesHallLog facts IsStored now b new c fault
+      → LosesHallLog facts IsStored start a new c fault
+  lost_log_stays_lost c (failed, stands) =
+      (failed, λ book before earlier l. stands book before _ (hall_heard_lines_before.1.heard book before earlier l))
 
 -- a hall that has come to a line of its input
 module _ {S : Type 0} {facts : S → StoreFacts} {IsStored : List ℕ → Type 0} {first left rest : Option (List ℕ)} {start now : Hall S}
@@ -94,11 +106,11 @@ module _ {S : Type 0} {facts : S → StoreFacts} {IsStored : List ℕ → Type 0
         }),
       )
 
-  -- after a fault at a line, a hall has heard the lines before it, and this line or not; or the log has failed
+  -- after a fault at a line, a hall has heard the lines before it, and this line or not; or the log is lost
   pub hall_at_line_heard_first : {new : Hall S} {c : SinkFacts} (fault : Fault)
       → MayHaveHeard facts IsStored (HearsLine facts IsStored line) now b new c fault
       → HearsFirstLines facts IsStored first start a new c fault
-  hall_at_line_heard_first fault (inl failed) = inl failed
+  hall_at_line_heard_first {c = c} fault (inl lost) = inl (lost_log_stays_lost come c lost)
   hall_at_line_heard_first fault (inr (inl none)) = let found = unheard_line_is_left none in inr (line ∷ found.0, found.1)
   hall_at_line_heard_first fault (inr (inr heard)) = hall_before_line_heard_first (hall_comes_past_line heard) fault
 
@@ -106,6 +118,15 @@ module _ {S : Type 0} {facts : S → StoreFacts} {IsStored : List ℕ → Type 0
   pub hall_meets_bad_event : IsBadEvent line (hall_shown now) → MeetsBadEvent facts IsStored first start a now b
   hall_meets_bad_event bad =
       let found = unheard_line_is_left (λ start before earlier l. l) in (line, found.0, found.1, bad)
+
+-- a hall whose log it was as a run began has answered calls when the run has ended, also after a fault
+pub hall_stands_at_end : {S : Type 0} {facts : S → StoreFacts} {IsStored : List ℕ → Type 0} (input : Option (List ℕ)) {old new : Hall S}
+    {a : SinkFacts} (b : SinkFacts) (result : Result (Unit {0}) Fault) {start : BookFields} {before : Option (List ℕ)}
+    → OnOk result (HearsAllLines facts IsStored input old a new b) → IfErr result (HearsFirstLines facts IsStored input old a new b)
+    → IsHallLogOf facts IsStored start before [] old a → (calls : List (Numbered Call)) × IsHallAfter facts IsStored start calls (hall_shown new)
+hall_stands_at_end input b (Ok done) heard after_fault l = let last = heard.heard _ _ [] l in (last.calls, last.stands)
+hall_stands_at_end input b (Err fault) done (inl (failed, stands)) l = stands _ _ [] l
+hall_stands_at_end input b (Err fault) done (inr (last, heard)) l = let last = heard.heard _ _ [] l in (last.calls, last.stands)
 
 -- a hall that stands for its calls
 module _ {S : Type 0} {facts : S → StoreFacts} {IsStored : List ℕ → Type 0} {start : BookFields} {calls : List (Numbered Call)}
@@ -129,7 +150,7 @@ module _ {S : Type 0} {facts : S → StoreFacts} {IsStored : List ℕ → Type 0
     (was : given ≡ before) (is : after ≡ log'.given) (begun : IsHallLogOf facts IsStored book given [] old log) where
   -- a hall prints the log of what it heard of its input, and that log is a front
   pub hall_prints_its_log : {last : List (List ℕ)} → HearsUpTo facts IsStored input last old log new log'
-      → PrintsHallLog IsStored book input last before after
+      → PrintsHallLog IsStored book input last (facts new.keeper.store) before after
   hall_prints_its_log heard =
       let hall = heard.heard book given [] begun in record {
         says = heard.says;
@@ -144,12 +165,14 @@ module _ {S : Type 0} {facts : S → StoreFacts} {IsStored : List ℕ → Type 0
 
   -- after a fault, a hall has printed nothing, or the log of what it heard of its input's first lines, or the output can't be written
   pub hall_stops_after : (fault : Fault) → HearsFirstLines facts IsStored input old log new log' fault
-      → StopsAfter fault before after ((last : List (List ℕ)) × PrintsHallLog IsStored book input last before after)
-  hall_stops_after fault (inl (output, failed)) = inl (inl output)
+      → StopsAfter fault before after
+      ((last : List (List ℕ)) × PrintsHallLog IsStored book input last (facts new.keeper.store) before after)
+  hall_stops_after fault (inl ((output, failed), stands)) = inl (inl output)
   hall_stops_after fault (inr (last, heard)) = inr (last, hall_prints_its_log heard)
 
   -- a hall that meets a bad event prints the log of what it heard before, and the next line is bad after that
-  pub hall_prints_to_bad_event : MeetsBadEvent facts IsStored input old log new log' → PrintsToBadEvent IsStored book input before after
+  pub hall_prints_to_bad_event : MeetsBadEvent facts IsStored input old log new log'
+      → PrintsToBadEvent IsStored book (facts new.keeper.store) input before after
   unfolding hall_prints_its_log
   hall_prints_to_bad_event (line, last, heard, bad) =
       let hall = heard.heard book given [] begun in (

@@ -32,8 +32,8 @@ module _ {S : Type 0} {facts : S → StoreFacts} {IsStored : List ℕ → Type 0
   -- after a fault a login has printed nothing, or its saved log, which is a front, or the output can't be written
   pub login_stops_after : {new : Desk S} {log' : SinkFacts} {fault : Fault} → after ≡ log'.given
       → IsLogAfterFaultWith facts IsStored IsNow server_nonce old log new log' fault
-      → StopsAfter fault before after (HasSavedLog IsStored IsNow IsLogFront book server_nonce before after)
-  login_stops_after is (inl (output, failed)) = inl (inl output)
+      → StopsAfter fault before after (HasSavedLog IsStored IsNow IsLogFront book server_nonce (facts new.keeper.store) before after)
+  login_stops_after is (inl ((output, failed), stands)) = inl (inl output)
   login_stops_after {log' = log'} is (inr stays) =
       let desk = stays book given begun in
       let bytes = log_bytes (run_lines desk.calls) in
@@ -47,13 +47,13 @@ module _ {S : Type 0} {facts : S → StoreFacts} {IsStored : List ℕ → Type 0
       )
 
   -- a clean log of a desk is printed as the saved log
-  pub clean_log_is_printed : {logged : Option (List ℕ)} → after ≡ logged
+  pub clean_log_is_printed : {logged : Option (List ℕ)} {store : StoreFacts} → after ≡ logged
       → ((start : BookFields) (earlier : Option (List ℕ)) → IsDeskLog facts IsStored IsNow start earlier server_nonce old log
-      → HasSavedLog IsStored IsNow IsClean start server_nonce earlier logged)
-      → HasSavedLog IsStored IsNow IsClean book server_nonce before after
-  clean_log_is_printed {logged = logged} is clean =
-      subst (λ (o : Option (List ℕ)). HasSavedLog IsStored IsNow IsClean book server_nonce before o) (sym is)
-      (subst (λ (o : Option (List ℕ)). HasSavedLog IsStored IsNow IsClean book server_nonce o logged) was (clean book given begun))
+      → HasSavedLog IsStored IsNow IsClean start server_nonce store earlier logged)
+      → HasSavedLog IsStored IsNow IsClean book server_nonce store before after
+  clean_log_is_printed {logged = logged} {store = store} is clean =
+      subst (λ (o : Option (List ℕ)). HasSavedLog IsStored IsNow IsClean book server_nonce store before o) (sym is)
+      (subst (λ (o : Option (List ℕ)). HasSavedLog IsStored IsNow IsClean book server_nonce store o logged) was (clean book given begun))
 
 -- a talk that has ended is printed, after the first line of the log
 pub ended_talk_is_printed : (user : User) (nonce password : List ℕ) (input : Option (List ℕ)) (first last : Talked)

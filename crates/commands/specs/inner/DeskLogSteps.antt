@@ -27,20 +27,30 @@ module _ {S : Type 0} (facts : S → StoreFacts) (IsStored : List ℕ → Type 0
     pub logged : Appends before log.given (log_bytes (run_lines calls))
 
   -- if the log was that of the desk, with this part of the nonce, it still is
-  abbrev pub StaysItsLogWith : (server_nonce : List ℕ) → (old : Desk S) → (log : SinkFacts) → (new : Desk S) → (log' : SinkFacts) → Type 0
-  StaysItsLogWith server_nonce old log new log' =
+  abbrev pub StaysDeskLogWith : (server_nonce : List ℕ) → (old : Desk S) → (log : SinkFacts) → (new : Desk S) → (log' : SinkFacts) → Type 0
+  StaysDeskLogWith server_nonce old log new log' =
       (start : BookFields) (before : Option (List ℕ)) → IsDeskLog start before server_nonce old log
       → IsDeskLog start before server_nonce new log'
 
   -- if the log was that of the desk, with any part of the nonce, it still is
-  abbrev pub StaysItsLog : (old : Desk S) → (log : SinkFacts) → (new : Desk S) → (log' : SinkFacts) → Type 0
-  StaysItsLog old log new log' = (server_nonce : List ℕ) → StaysItsLogWith server_nonce old log new log'
+  abbrev pub StaysDeskLog : (old : Desk S) → (log : SinkFacts) → (new : Desk S) → (log' : SinkFacts) → Type 0
+  StaysDeskLog old log new log' = (server_nonce : List ℕ) → StaysDeskLogWith server_nonce old log new log'
 
-  -- what is true of the log after a fault: the fault is that it has failed, or it is still the desk's
-  abbrev pub IsLogAfterFault : (old : Desk S) → (log : SinkFacts) → (new : Desk S) → (log' : SinkFacts) → Fault → Type 0
-  IsLogAfterFault old log new log' fault = IsLogFault log' fault ⊎ StaysItsLog old log new log'
+  -- the log has failed, and that is the fault. If the log was that of the desk, with this part of the nonce, the desk still stands for the
+  -- book with which it began and some calls; which of them are in the log is not said.
+  abbrev pub LosesDeskLogWith : (server_nonce : List ℕ) → (old : Desk S) → (log : SinkFacts) → (new : Desk S) → (log' : SinkFacts) → Fault
+      → Type 0
+  LosesDeskLogWith server_nonce old log new log' fault =
+      IsLogFault log' fault
+      × ((start : BookFields) (before : Option (List ℕ)) → IsDeskLog start before server_nonce old log
+      → (calls : List Call) × IsDeskAfter facts IsStored start calls new)
 
-  -- `IsLogAfterFault`, of a desk with this part of the nonce
+  -- what is true after a fault, of a desk with this part of the nonce: the log is lost, or it is still the desk's
   abbrev pub IsLogAfterFaultWith : (server_nonce : List ℕ) → (old : Desk S) → (log : SinkFacts) → (new : Desk S) → (log' : SinkFacts)
       → Fault → Type 0
-  IsLogAfterFaultWith server_nonce old log new log' fault = IsLogFault log' fault ⊎ StaysItsLogWith server_nonce old log new log'
+  IsLogAfterFaultWith server_nonce old log new log' fault =
+      LosesDeskLogWith server_nonce old log new log' fault ⊎ StaysDeskLogWith server_nonce old log new log'
+
+  -- whatever the part of the nonce, the log is lost after a fault, or it is still the desk's
+  abbrev pub IsLogAfterFault : (old : Desk S) → (log : SinkFacts) → (new : Desk S) → (log' : SinkFacts) → Fault → Type 0
+  IsLogAfterFault old log new log' fault = (server_nonce : List ℕ) → IsLogAfterFaultWith server_nonce old log new log' fault

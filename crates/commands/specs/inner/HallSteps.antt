@@ -45,10 +45,18 @@ module _ {S : Type 0} (facts : S → StoreFacts) (IsStored : List ℕ → Type 0
   abbrev pub HearsLine : (line : List ℕ) → (old : Hall S) → (log : SinkFacts) → (new : Hall S) → (log' : SinkFacts) → Type 0
   HearsLine line old log new log' = (event : InputEvent) × SaysEvent line event × Hears (event ∷ []) old log new log'
 
-  -- after a fault at what the hall was to hear: the log has failed, and that is the fault; or the hall has heard nothing, or this
+  -- the log has failed, and that is the fault. If the log was the hall's, the hall still stands for the book with which it began and some
+  -- calls; which of them are in the log is not said.
+  abbrev pub LosesHallLog : (old : Hall S) → (log : SinkFacts) → (new : Hall S) → (log' : SinkFacts) → Fault → Type 0
+  LosesHallLog old log new log' fault =
+      IsLogFault log' fault
+      × ((start : BookFields) (before : Option (List ℕ)) (earlier : List InputEvent) → IsHallLogOf start before earlier old log
+      → (calls : List (Numbered Call)) × IsHallAfter facts IsStored start calls (hall_shown new))
+
+  -- after a fault at what the hall was to hear: the log is lost; or the hall has heard nothing, or this
   abbrev pub MayHaveHeard : (This : Hall S → SinkFacts → Hall S → SinkFacts → Type 0) → (old : Hall S) → (log : SinkFacts) → (new : Hall S)
       → (log' : SinkFacts) → Fault → Type 0
-  MayHaveHeard This old log new log' fault = IsLogFault log' fault ⊎ (Hears [] old log new log' ⊎ This old log new log')
+  MayHaveHeard This old log new log' fault = LosesHallLog old log new log' fault ⊎ (Hears [] old log new log' ⊎ This old log new log')
 
   -- the hall has heard what the lines of an input say, in order; `last` are its last lines, which are left out
   pub record HearsUpTo (input : Option (List ℕ)) (last : List (List ℕ)) (old : Hall S) (log : SinkFacts) (new : Hall S)
@@ -60,18 +68,18 @@ module _ {S : Type 0} (facts : S → StoreFacts) (IsStored : List ℕ → Type 0
   abbrev pub HearsAllLines : Option (List ℕ) → (old : Hall S) → (log : SinkFacts) → (new : Hall S) → (log' : SinkFacts) → Type 0
   HearsAllLines input old log new log' = HearsUpTo input [] old log new log'
 
-  -- after a fault: the fault is that the log has failed, or the hall has heard what the first lines of the input say, and its log has that
+  -- after a fault: the log is lost, or the hall has heard what the first lines of the input say, and its log has that
   abbrev pub HearsFirstLines : Option (List ℕ) → (old : Hall S) → (log : SinkFacts) → (new : Hall S) → (log' : SinkFacts) → Fault → Type 0
   HearsFirstLines input old log new log' fault =
-      IsLogFault log' fault ⊎ ((last : List (List ℕ)) × HearsUpTo input last old log new log')
+      LosesHallLog old log new log' fault ⊎ ((last : List (List ℕ)) × HearsUpTo input last old log new log')
 
   -- the next line of the input says no event, or one of a session that is not open in the hall after the lines before it
   abbrev pub MeetsBadEvent : Option (List ℕ) → (old : Hall S) → (log : SinkFacts) → (new : Hall S) → (log' : SinkFacts) → Type 0
   MeetsBadEvent input old log new log' =
       (line : List ℕ) × (last : List (List ℕ)) × HearsUpTo input (line ∷ last) old log new log' × IsBadEvent line (hall_shown new)
 
--- `PrintsHallLog`, and the next line is bad after it
-abbrev pub PrintsToBadEvent : (IsStored : List ℕ → Type 0) → BookFields → (input old new : Option (List ℕ)) → Type 0
-PrintsToBadEvent IsStored book input old new =
-    (line : List ℕ) × (last : List (List ℕ)) × (log : PrintsHallLog IsStored book input (line ∷ last) old new)
+-- the log of a hall is printed (`PrintsHallLog`), and the next line says no event, or one of a session that is not open
+abbrev pub PrintsToBadEvent : (IsStored : List ℕ → Type 0) → BookFields → StoreFacts → (input old new : Option (List ℕ)) → Type 0
+PrintsToBadEvent IsStored book store input old new =
+    (line : List ℕ) × (last : List (List ℕ)) × (log : PrintsHallLog IsStored book input (line ∷ last) store old new)
     × IsBadEventAfter (accounts_in book) log.calls line

@@ -8,7 +8,7 @@ use Rattle.commands.proofs.hall.hall.Goals as goal
 
 pub returns-in-Ok-clause-err : goal.returns-in-Ok-clause-err
 returns-in-Ok-clause-err g c =
-    IfErr-weaker c.hear_input.result.0 _ _
+    IfErr-weaker c.hear_input-heard.result.0 _ _
     (λ fault (stops, bad, why). inr (
       subst (λ (path : List ℕ). StopsHearing path fault) (c.in-Ok.ensures.path ∙ c.given.ensures) why,
       second_case_weakens (λ printed. (
@@ -17,14 +17,15 @@ returns-in-Ok-clause-err g c =
           text = _;
           book = _;
           is_read = c.in-Ok.ensures.read;
+          store = _;
           printed = printed.1;
         },
       )) stops,
       λ is.
           let (line, last, log, bad_line) = bad is in
-          (line, last, record { text = _; book = _; is_read = c.in-Ok.ensures.read; printed = log }, bad_line),
+          (line, last, record { text = _; book = _; is_read = c.in-Ok.ensures.read; store = _; printed = log }, bad_line),
     ))
-    (if_err_all_three c.hear_input.result.0 _ _ _ c.hear_input.ensures.err c.hear_input.ensures.bad c.hear_input.ensures.why)
+    (if_err_all_three c.hear_input-heard.result.0 _ _ _ c.hear_input-heard.ensures.err c.hear_input-heard.ensures.bad c.hear_input-heard.ensures.why)
 
 pub returns-in-Err-clause-err : goal.returns-in-Err-clause-err
 returns-in-Err-clause-err g c =

@@ -9,5 +9,5 @@ pub returns-clause-enrol : goal.returns-clause-enrol
 returns-clause-enrol g c = λ words input old new run. (run.is_added.saved.first, refl, run.is_added.saved.is_enrolled)
 
 pub returns-clause-told : goal.returns-clause-told
-returns-clause-told g c = λ start told saved.
+returns-clause-told g c = λ start told store saved.
     replies_are_changes g.S.BookStore.facts g.S.BookStore.IsStored start (reverse told) saved.last saved.is_last

@@ -4,8 +4,7 @@ use Rattle.sasl_desk.proofs.lemmas.runs.Stores.{log_is_saved}
 use Rattle.command_io.proofs.lemmas.Results.{handed_fault_keeps_fact}
 use Rattle.commands.specs.inner.DeskLogSteps.{IsLogAfterFaultWith}
 use Rattle.commands.specs.Talked.{talked_in}
-use Rattle.commands.proofs.lemmas.Cases.{second_case_weakens}
-use Rattle.commands.proofs.lemmas.DeskLogs.{two_steps_keep_log}
+use Rattle.commands.proofs.lemmas.DeskLogs.{fault_after_step_leaves_log, two_steps_keep_log}
 use Rattle.commands.proofs.login.converse.Goals as goal
 
 pub returns-in_err-hang_up-clause-after_fault : goal.returns-in_err-hang_up-clause-after_fault
@@ -14,7 +13,7 @@ returns-in_err-hang_up-clause-after_fault g c =
     (IsLogAfterFaultWith g.S.BookStore.facts g.S.BookStore.IsStored g.C.Clock.IsNow c.args.server_nonce c.args.talk.now.desk
     (g.L.Sink.facts c.args.talk.now.log) c.hang_up.new.talk.desk (g.L.Sink.facts c.hang_up.new.talk.log))
     c.from_residual-in_err-hang_up.ensures.1
-    (second_case_weakens (two_steps_keep_log c.in_ok-passed.ensures.log) c.in_err-hang_up.ensures.after_fault)
+    (fault_after_step_leaves_log c.in_ok-passed.ensures.log c.in_err-hang_up.ensures.after_fault)
 
 -- after the login and the codes the client is sent nothing more
 pub returns-clause-talk : goal.returns-clause-talk

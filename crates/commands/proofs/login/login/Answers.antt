@@ -6,7 +6,7 @@ use Rattle.commands.proofs.login.login.Goals as goal
 
 pub returns-in-Ok-open-clause-ok : goal.returns-in-Ok-open-clause-ok
 returns-in-Ok-open-clause-ok g c =
-    if_ok_from_both c.talk_over.result.0 _ _ _ c.talk_over.ensures.talk c.talk_over.ensures.ok
+    if_ok_from_both c.talk_over-passed.result.0 _ _ _ c.talk_over-passed.ensures.talk c.talk_over-passed.ensures.ok
     (λ passed talk printed. (
       _,
       _,
@@ -18,6 +18,7 @@ returns-in-Ok-open-clause-ok g c =
         moment = _;
         is_moment = c.in-Ok.ensures.moment.0;
         moment_range = c.in-Ok.ensures.moment.1;
+        store = _;
         printed = printed;
       },
       let (has_lf, first) = c.in-Ok.ensures.password in record {
@@ -37,7 +38,7 @@ returns-in-Err-clause-err g c = inl (c.in-Err.ensures.err, refl)
 
 pub returns-in-Ok-open-clause-err : goal.returns-in-Ok-open-clause-err
 returns-in-Ok-open-clause-err g c =
-    IfErr-weaker c.talk_over.result.0 _ _
+    IfErr-weaker c.talk_over-passed.result.0 _ _
     (λ fault stops. inr (
       rw c.in-Ok.ensures.path at stops.0,
       second_case_weakens (λ printed. (
@@ -51,8 +52,9 @@ returns-in-Ok-open-clause-err g c =
           moment = _;
           is_moment = c.in-Ok.ensures.moment.0;
           moment_range = c.in-Ok.ensures.moment.1;
+          store = _;
           printed = printed;
         },
       )) stops.1,
     ))
-    (if_err_both _ _ c.talk_over.result.0 c.talk_over.ensures.why c.talk_over.ensures.err)
+    (if_err_both _ _ c.talk_over-passed.result.0 c.talk_over-passed.ensures.why c.talk_over-passed.ensures.err)
