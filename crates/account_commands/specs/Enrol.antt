@@ -54,7 +54,7 @@ pub record TakesSalts (old : Option (List ℕ)) (salts : Salts) (new : Option (L
 abbrev pub IsThisOrReadBook : {File : Type 0} → (bytes_of : File → Option (List ℕ)) → (this book : BookFields) → Type 0
 IsThisOrReadBook bytes_of this book = (book ≡ this) ⊎ IsOfFile bytes_of book
 
--- an account with the keys of a password is added to a book, which is this one or was read from a file since, and the text of the
+-- an account with the keys of a password is added to a book, which is this one or was read from a file since, and a text of the
 -- resulting book is written to a file
 pub record SavesAccount {File : Type 0} (bytes_of written_to : File → Option (List ℕ)) (this : BookFields) (account : NewAccount)
     (salts : Salts) : Type 0 where
@@ -93,7 +93,8 @@ pub record EnrolsAsked {File : Type 0} (bytes_of written_to : File → Option (L
   -- the name is printed
   pub printed : Appends old new (codes "enrolled " ++ (account.name ++ byte "\n" ∷ []))
 
--- the words and the input describe no account: an option refuses its value, or the first line is not a password or can't be read
+-- the words and the input describe no account: an option refuses its value, the first line is not a password or
+-- can't be read, or memory ran out
 abbrev pub DescribesNoAccount : ArgMatches → (input : Option (List ℕ)) → Fault → Type 0
 DescribesNoAccount words input fault =
     HasBadValue (option.Name ∷ option.Count ∷ []) words fault ⊎ (HasBadPassword input fault ⊎ IsInputUnreadOrNoMemory fault)
@@ -102,7 +103,7 @@ DescribesNoAccount words input fault =
 abbrev pub IsNameTaken : (Is : BookFields → Type 0) → (name : List ℕ) → Fault → Type 0
 IsNameTaken Is name fault = (fault ≡ NameTaken) × (book : BookFields) × Is book × (is_some (account_at book name) ≡ true)
 
--- the book at this path can't be held or read, or can't be saved
+-- the book at this path can't be held, read or saved, or memory ran out
 abbrev pub CannotBeChanged : {File : Type 0} → (bytes_of : File → Option (List ℕ)) → (path : List ℕ) → Fault → Type 0
 CannotBeChanged bytes_of path fault = CannotOpenBook bytes_of path fault ⊎ IsFileUnwrittenOrNoMemory path fault
 

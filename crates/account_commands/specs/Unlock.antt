@@ -16,8 +16,8 @@ use Rattle.command_words.specs.Values.{given_value}
 use Rattle.command_io.specs.BadValues.{HasBadValue}
 use Rattle.command_io.specs.HeldBook.{IsReadBook, IsTokenUnlocked, CannotOpenBook}
 
--- a book is read from a file, the token of the name that the words give is unlocked, and the text of the resulting book is written
--- to a file; and the name is printed
+-- a book is read from a file, the token of the name that the words give is unlocked, and a text of the resulting book is written to
+-- a file; and the name is printed
 pub record UnlocksAsked {File : Type 0} (bytes_of written_to : File → Option (List ℕ)) (words : ArgMatches) (old new : Option (List ℕ))
     : Type 0 where
   pub name_range : IsPlainName (given_value words option.Name)
@@ -29,7 +29,7 @@ pub record UnlocksAsked {File : Type 0} (bytes_of written_to : File → Option (
   pub is_saved : HasStoredText (IsSavedText written_to) last
   pub printed : Appends old new (codes "unlocked " ++ (given_value words option.Name ++ byte "\n" ∷ []))
 
--- a book that was read has no token for the name, or can't be saved in the file of this path: the fault says which
+-- a book that was read has no token for the name, or can't be saved in the file of this path, or memory ran out: the fault says which
 abbrev pub CannotUnlockToken : {File : Type 0} → (bytes_of : File → Option (List ℕ)) → (path name : List ℕ) → Fault → Type 0
 CannotUnlockToken bytes_of path name fault =
     (text : List ℕ) × (book : BookFields) × IsReadBook bytes_of text book × IsTokenFault path (account_at book name) fault

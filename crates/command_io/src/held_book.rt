@@ -27,8 +27,8 @@ pub struct HeldBook<'a, S> {
 }
 
 impl<'a, S: BookStore> HeldBook<'a, S> {
-    /// A held book that `store` holds already (no contract says so); `path` is the path that faults name.
-    pub fn new(book: Book, store: S, path: &'a str) -> HeldBook<'a, S>
+    /// A held book whose text is in `store` already, which no clause asks for; `path` is the path that faults name.
+    pub fn resume(book: Book, store: S, path: &'a str) -> HeldBook<'a, S>
         ensures book { result.keeper.book ≡ book }
         ensures store { result.keeper.store ≡ store }
         ensures path { result.path.now ≡ path.now }
@@ -39,8 +39,8 @@ impl<'a, S: BookStore> HeldBook<'a, S> {
         }
     }
 
-    /// A held book that `store` then holds; `path` is the path that faults name. Faults, returned with the store: CannotWrite if the
-    /// store fails, and NoMemory, after which the store is unchanged.
+    /// Saves the book in `store`, and holds it from then on; `path` is the path that faults name. Faults, returned with the store:
+    /// CannotWrite if the store fails, and NoMemory, after which the store is unchanged.
     pub fn begin(
         alloc: Global,
         book: Book,
@@ -51,7 +51,7 @@ impl<'a, S: BookStore> HeldBook<'a, S> {
         ensures path { IfOk result (λ held. held.path.now ≡ path.now) }
         ensures saved { IfOk result (λ held. SavesBook S.IsStored (S.facts store) book (S.facts held.keeper.store)) }
         ensures err { IfErr result (λ failed. IsFileUnwrittenOrNoMemory path.now failed.1) }
-        ensures why { IfErr result (λ failed. failed.1 ≢ Fault.NoMemory → FailsToSave (S.facts store) book (S.facts failed.0)) }
+        ensures unsaved { IfErr result (λ failed. failed.1 ≢ Fault.NoMemory → FailsToSave (S.facts store) book (S.facts failed.0)) }
         ensures unasked { IfErr result (λ failed. failed.1 ≡ Fault.NoMemory → failed.0 ≡ store) }
     {
         let Ok(file) = String::from_str(alloc, path) else {
@@ -64,7 +64,7 @@ impl<'a, S: BookStore> HeldBook<'a, S> {
     }
 
     /// The book, its store, and the path of its file.
-    pub fn into_parts(self) -> (Book, S, &'a str)
+    pub fn close(self) -> (Book, S, &'a str)
         ensures book { result.0 ≡ self.entry.keeper.book }
         ensures store { result.1 ≡ self.entry.keeper.store }
         ensures path { result.2.now ≡ self.entry.path.now }

@@ -100,7 +100,7 @@ where
 {
     let book = Book::read(alloc, text.as_bytes())?;
     let store = FileStore::new(file, text);
-    Ok(HeldBook::new(book, store, path))
+    Ok(HeldBook::resume(book, store, path))
 }
 
 /// The text of a held book's file, or None if there is no file yet. Faults: CannotRead, BadBook if the text is not UTF-8, and NoMemory.

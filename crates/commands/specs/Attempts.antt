@@ -13,7 +13,7 @@ use Rattle.command_line.specs.declared.fault.Fault.TheVariants.{CannotWriteOutpu
 use Rattle.log_grammar.specs.Lines.{reply_text}
 use Rattle.sasl_desk.specs.{CodeTexts, Reply}
 use Rattle.sasl_desk.specs.Changes.{Change, judged}
-use Rattle.sasl_desk.specs.Desks.{HoldsBook, IsBookAfterReplies}
+use Rattle.sasl_desk.specs.Desks.{HoldsBook, IsBookAfterAttempts}
 use Rattle.command_io.specs.HeldBook.{HeldFacts}
 use Rattle.command_io.specs.Input.{AreFirstLines, LinesInTurn}
 use Rattle.commands.specs.SentCodes.{SaysCodes}
@@ -52,7 +52,7 @@ pub record MakesAttempts (name : List ℕ) (moment : ℕ) (input : Option (List 
   pub lines : List (List ℕ)
   pub are : AreFirstLines input lines last
   pub made : AllZip (MakesAttempt name moment) lines attempts
-  pub leads : IsBookAfterReplies old (reverse attempts) new
+  pub leads : IsBookAfterAttempts old (reverse attempts) new
 
 -- a run of `verify` within a save: it has answered the lines of its input before this one, and the store is given a text of the book with
 -- the attempt that this line makes

@@ -111,8 +111,8 @@ RunsToBadEvent bytes_of written_to input old new =
     (line : List ℕ) × (last : List (List ℕ)) × (run : RunsHall bytes_of written_to input (line ∷ last) old new)
     × IsBadEventAfter (accounts_in run.book) run.printed.calls line
 
--- the fault at which a hall stops hearing: one at which it stops, or of its own that a line of its input says no event, or one of a
--- session that is not open
+-- the fault at which a hall stops hearing: a line of its input says no event, or one of a session that is not open; or the hall stops
+-- (`StopsServing`)
 abbrev pub StopsHearing : (path : List ℕ) → Fault → Type 0
 StopsHearing path fault = StopsServing BadEvent path fault
 

@@ -5,7 +5,7 @@ use Rattle.account_book.specs.AccountAttempt.{AccountAttempt}
 use Rattle.account_book.specs.Enrolled.{enrolled}
 use Rattle.account_book.specs.Store.{StoreFacts}
 use Rattle.sasl_desk.specs.Changes.{Change, added, AreChanges}
-use Rattle.sasl_desk.specs.Desks.{IsBookAfterReplies, MayHold}
+use Rattle.sasl_desk.specs.Desks.{IsBookAfterAttempts, MayHold}
 use Rattle.command_io.specs.declared.new_account.NewAccount.{NewAccount}
 use Rattle.command_io.specs.declared.new_account.Salts.{Salts}
 
@@ -13,11 +13,11 @@ use Rattle.command_io.specs.declared.new_account.Salts.{Salts}
 abbrev pub LeavesOldTextOrBook : (old : StoreFacts) → BookFields → (new : StoreFacts) → Type 0
 LeavesOldTextOrBook old book new = (text : List ℕ) → MayHold new text → MayHold old text ⊎ IsBookText text book
 
--- each text that the store may hold is of a book to which some replies, the latest of which comes first, lead from this one
-abbrev pub HoldsAfterReplies : (start : BookFields) → StoreFacts → Type 0
-HoldsAfterReplies start store =
+-- each text that the store may hold is of a book to which some attempts, the latest of which comes first, lead from this one
+abbrev pub HoldsAfterAttempts : (start : BookFields) → StoreFacts → Type 0
+HoldsAfterAttempts start store =
     (text : List ℕ) → MayHold store text
-    → (left : BookFields) × (latest_first : List AccountAttempt) × IsBookAfterReplies start latest_first left × IsBookText text left
+    → (left : BookFields) × (latest_first : List AccountAttempt) × IsBookAfterAttempts start latest_first left × IsBookText text left
 
 -- the change of a book to which an account with the keys of a password is added
 abbrev pub addition_of : NewAccount → Salts → Change

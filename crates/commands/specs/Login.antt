@@ -81,21 +81,21 @@ pub record PrintsLogin {File : Type 0} (bytes_of written_to : File → Option (L
   pub moment : Option ℕ
   pub is_moment : option_map decimal moment ≡ value_of words option.Moment
   pub moment_range : IfSome moment IsMoment
-  -- the text of the book to which the replies in the log lead was written to a file; what the store then holds, and that it is the
+  -- a text of the book to which the replies in the log lead was written to a file; what the store then holds, and that it is the
   -- run's, is in the contract of `talk_over`
   pub store : StoreFacts
   pub printed : HasSavedLog (IsSavedText written_to) (IsGiven moment) IsOfKind book server_nonce store old new
 
 -- what a login prints, given the bytes of files and those written to them
 module _ {File : Type 0} (bytes_of written_to : File → Option (List ℕ)) where
-  -- a clean log is printed, with nonces that the words give, or fresh ones. It is that of a login that the words ask for, with these
+  -- a clean log is printed, with nonces that the words give or that were read (`AreNonces`). It is that of a login that the words ask for, with these
   -- nonces. `passed` says whether it shows that the login is accepted and each code passes.
   abbrev pub RunsLogin : ArgMatches → (input old : Option (List ℕ)) → (passed : Bool) → (new : Option (List ℕ)) → Type 0
   RunsLogin words input old passed new =
       (nonce : List ℕ) × (server_nonce : List ℕ) × AreNonces bytes_of words nonce server_nonce
       × PrintsLogin bytes_of written_to words server_nonce IsClean old new × PrintsTalkAsked words nonce input old passed new
 
-  -- a front of a log is printed, with nonces that the words give, or fresh ones
+  -- a front of a log is printed, with nonces that the words give or that were read (`AreNonces`)
   abbrev pub PrintsLoginFront : ArgMatches → (old new : Option (List ℕ)) → Type 0
   PrintsLoginFront words old new =
       (nonce : List ℕ) × (server_nonce : List ℕ) × AreNonces bytes_of words nonce server_nonce

@@ -31,7 +31,7 @@ CannotPrepare bytes_of words input fault =
     ⊎ (IsInputUnreadOrNoMemory fault
     ⊎ (CannotOpenBook bytes_of (given_value words option.Book) fault ⊎ IsFileUnreadOrNoMemory (given_value words option.Random) fault)))
 
--- the fault that ends a talk: one at which its desk stops, or of its own that the socket fails
+-- the fault that ends a talk: the socket fails, or its desk stops (`StopsServing`)
 abbrev pub StopsTalking : (path : List ℕ) → Fault → Type 0
 StopsTalking path fault = StopsServing Socket path fault
 

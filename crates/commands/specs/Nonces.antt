@@ -30,14 +30,15 @@ TakesNonces old given_client given_server client server new =
 
 -- the client's nonce and the server's part of it are both given; or each that is not is the base64 text of the next random bytes of a
 -- file, the client's first
-abbrev pub AreGivenOrFresh : {File : Type 0} → (bytes_of : File → Option (List ℕ)) → (given_client given_server : Option (List ℕ))
+abbrev pub AreGivenOrRead : {File : Type 0} → (bytes_of : File → Option (List ℕ)) → (given_client given_server : Option (List ℕ))
     → (client server : List ℕ) → Type 0
-AreGivenOrFresh {File} bytes_of given_client given_server client server =
+AreGivenOrRead {File} bytes_of given_client given_server client server =
     ((given_client ≡ Some client) × (given_server ≡ Some server))
     ⊎ ((file : File) × (after : File) × TakesNonces (bytes_of file) given_client given_server client server (bytes_of after))
 
--- the nonces are those that the words give, or fresh ones; each that the words give can be a part of a nonce
+-- the nonces are those that the words give, or were read (that these are fresh is not promised); each that the words give can be a part of
+-- a nonce
 pub record AreNonces {File : Type 0} (bytes_of : File → Option (List ℕ)) (words : ArgMatches) (nonce server_nonce : List ℕ) : Type 0 where
   pub client_range : IfSome (value_of words option.ClientNonce) IsNoncePart
   pub server_range : IfSome (value_of words option.ServerNonce) IsNoncePart
-  pub are : AreGivenOrFresh bytes_of (value_of words option.ClientNonce) (value_of words option.ServerNonce) nonce server_nonce
+  pub are : AreGivenOrRead bytes_of (value_of words option.ClientNonce) (value_of words option.ServerNonce) nonce server_nonce

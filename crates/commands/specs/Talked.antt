@@ -26,8 +26,8 @@ pub record Talked : Type 0 where
   pub logged : Option (List ℕ)
 
 -- what is known of the client of a talk, from its end of the connection and from the log
-abbrev pub talked_in : {S R W L C : Type 0} → (R → SourceFacts) → (W → SinkFacts) → (L → SinkFacts) → Talk S R W L C → Talked
-talked_in source sink log talk = record {
+abbrev pub talked_shown : {S R W L C : Type 0} → (R → SourceFacts) → (W → SinkFacts) → (L → SinkFacts) → Talk S R W L C → Talked
+talked_shown source sink log talk = record {
   said = (sink talk.ends.client.writer).given;
   to_receive = (source talk.ends.client.reader).left;
   logged = (log talk.log).given;

@@ -40,12 +40,12 @@ pub record VerifyRun : Type 0 where
   pub printed : Option (List ℕ)
 
 -- a run of `verify`, from its held book
-abbrev pub verify_run_of : {S : Type 0} → (S → StoreFacts) → HeldBook S → Option (List ℕ) → VerifyRun
-verify_run_of facts held printed = record { held = held_shown facts held; printed = printed }
+abbrev pub verify_run_shown : {S : Type 0} → (S → StoreFacts) → HeldBook S → Option (List ℕ) → VerifyRun
+verify_run_shown facts held printed = record { held = held_shown facts held; printed = printed }
 
--- the fault of a reply that is not printed: the output can't be written; or memory ran out, and nothing is printed
-abbrev pub IsUnprinted : Fault → (old new : Option (List ℕ)) → Type 0
-IsUnprinted fault old new = (fault ≡ CannotWriteOutput) ⊎ ((fault ≡ NoMemory) × (new ≡ old))
+-- the printing of a reply fails: the output can't be written, and what it holds is not known; or memory ran out, and nothing is printed
+abbrev pub FailsToPrint : Fault → (old new : Option (List ℕ)) → Type 0
+FailsToPrint fault old new = (fault ≡ CannotWriteOutput) ⊎ ((fault ≡ NoMemory) × (new ≡ old))
 
 -- the reply to what a line says is not saved, and nothing is printed: there is no token to judge it by, the book's file, of this path,
 -- can't be written, or memory ran out
@@ -70,16 +70,16 @@ module _ (IsStored : List ℕ → Type 0) where
     pub saved : IsReplySaved IsStored old.held name moment sent reply new.held
     pub printed : Appends old.printed new.printed (printed_reply reply moment)
 
-  -- the reply to what a line says is saved, and is not printed
-  abbrev pub IsReplyUnprinted : (name : List ℕ) → (moment : ℕ) → CodeTexts → (old : VerifyRun) → Fault → (new : VerifyRun) → Type 0
-  IsReplyUnprinted name moment sent old fault new =
-      (reply : Reply) × IsReplySaved IsStored old.held name moment sent reply new.held × IsUnprinted fault old.printed new.printed
+  -- the reply to what a line says is saved, and its printing fails
+  abbrev pub FailsToPrintReply : (name : List ℕ) → (moment : ℕ) → CodeTexts → (old : VerifyRun) → Fault → (new : VerifyRun) → Type 0
+  FailsToPrintReply name moment sent old fault new =
+      (reply : Reply) × IsReplySaved IsStored old.held name moment sent reply new.held × FailsToPrint fault old.printed new.printed
 
-  -- a fault at a line: the reply to what it says is not saved, or it is saved and not printed
+  -- a fault at a line: the reply to what it says is not saved, or it is saved and its printing fails
   abbrev pub FailsAtLine : (path name : List ℕ) → (moment : ℕ) → (line : List ℕ) → (old : VerifyRun) → Fault → (new : VerifyRun) → Type 0
   FailsAtLine path name moment line old fault new =
       (sent : CodeTexts) × SaysCodes line sent
-      × (IsReplyLost path name moment sent old fault new ⊎ IsReplyUnprinted name moment sent old fault new)
+      × (IsReplyLost path name moment sent old fault new ⊎ FailsToPrintReply name moment sent old fault new)
 
   -- a line is answered; `passed` says whether its code passed
   abbrev pub AnswersLine : (name : List ℕ) → (moment : ℕ) → (line : List ℕ) → VerifyRun → (passed : Bool) → VerifyRun → Type 0

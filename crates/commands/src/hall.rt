@@ -4,7 +4,7 @@ ghost use Rattle.command_io.specs.HeldBook.{held_shown};
 ghost use Rattle.commands.specs.Attempts.{HoldsItsBook};
 ghost use Rattle.commands.specs.Hall.{PrintsHallLog, RunsHall, StopsHall, StopsHearing};
 ghost use Rattle.commands.specs.inner.HallSteps.{PrintsToBadEvent};
-ghost use Rattle.commands.specs.LeftBooks.{HoldsAfterReplies};
+ghost use Rattle.commands.specs.LeftBooks.{HoldsAfterAttempts};
 ghost use Rattle.commands.specs.PrintedLog.{StopsAfter};
 
 mod event;
@@ -84,8 +84,8 @@ where
         → PrintsToBadEvent S.IsStored held.entry.keeper.book (S.facts result.2) (I.remaining input.old) (O.contents output)
         (O.contents result.1) }
     ensures why { IfErr result.0 (StopsHearing held.entry.path.now) }
-    // However the run ends, what it leaves is a book to which replies lead, if the store held a text of the book as it began.
-    ensures left { HoldsItsBook (held_shown S.facts held.entry) → HoldsAfterReplies held.entry.keeper.book (S.facts result.2) }
+    // However the run ends, what it leaves is a book to which attempts lead, if the store held a text of the book as it began.
+    ensures left { HoldsItsBook (held_shown S.facts held.entry) → HoldsAfterAttempts held.entry.keeper.book (S.facts result.2) }
 {
     let mut lines = Lines::new(input);
     match LoggedHall::begin(alloc, held, PrintedLog::new(output)) {

@@ -1,5 +1,5 @@
-//! Laws that make changes of what the commands do to a book, as the laws of `sasl_desk` take them. Each is the contract of a function
-//! that does nothing.
+//! Laws: what each command does to a book is a list of changes (`AreChanges`), of which the laws of `sasl_desk` speak. Each is the
+//! contract of a function that does nothing.
 ghost use Rattle.std.specs.Prelude.{◌⊎◌, Bool, ℕ, List, [], ◌∷◌, ◌++◌, reverse};
 ghost use Rattle.std.specs.Io.KnownBytes.{Appends};
 ghost use Rattle.std.specs.declared.option.Option.{Option};
@@ -12,7 +12,7 @@ ghost use Rattle.book_file.specs.Saved.{IsSavedText};
 ghost use Rattle.command_line.specs.declared.fault.Fault.{Fault};
 ghost use Rattle.command_line.specs.declared.option_name.OptionName.TheVariants as option;
 ghost use Rattle.command_words.specs.Values.{given_value};
-ghost use Rattle.sasl_desk.specs.Desks.{spent_by_all, IsBookAfterReplies, MayHold, MayHoldWithinSave};
+ghost use Rattle.sasl_desk.specs.Desks.{spent_by_all, IsBookAfterAttempts, MayHold, MayHoldWithinSave};
 ghost use Rattle.sasl_desk.specs.Changes.{Change, unlocked, AreChanges};
 ghost use Rattle.sasl_desk.specs.Saved.{IsToldSaved};
 ghost use Rattle.sasl_desk.specs.Spent.{AreSpent};
@@ -24,7 +24,7 @@ ghost use Rattle.command_io.specs.declared.new_account.Salts.{Salts};
 ghost use Rattle.account_commands.specs.Enrol.{EnrolsAsked};
 ghost use Rattle.account_commands.specs.Unlock.{UnlocksAsked};
 ghost use Rattle.commands.specs.Attempts.{judged_changes, printed_replies, HoldsItsBook, MakesAttempts, PrintsUntil, SavesNextLine};
-ghost use Rattle.commands.specs.LeftBooks.{addition_of, HoldsAfterReplies, IsTextAfter, LeavesOldTextOrBook};
+ghost use Rattle.commands.specs.LeftBooks.{addition_of, HoldsAfterAttempts, IsTextAfter, LeavesOldTextOrBook};
 ghost use Rattle.commands.specs.Verify.{VerifyRun, AnswersLine, AnswersFirstLines, BeginsToVerify, VerifiesAllLines, VerifiesFirstLines};
 
 use account_book::BookStore;
@@ -56,7 +56,7 @@ pub fn answered_lines_are_changes<S: BookStore>()
         → (attempts : List AccountAttempt)
         × MakesAttempts name moment input last attempts old.held.book new.held.book
         × Appends old.printed new.printed (printed_replies attempts) }
-    ensures changes { (attempts : List AccountAttempt) (old new : BookFields) → IsBookAfterReplies old (reverse attempts) new
+    ensures changes { (attempts : List AccountAttempt) (old new : BookFields) → IsBookAfterAttempts old (reverse attempts) new
         → AreChanges S.facts S.IsStored old (judged_changes attempts) new }
     ensures saved { (name : List ℕ) (moment : ℕ) (input : Option (List ℕ)) (last : List (List ℕ)) (old : VerifyRun) (all_passed : Bool)
         (new : VerifyRun) (text : List ℕ) → LinesInTurn (AnswersLine S.IsStored name moment) input last old all_passed new
@@ -77,8 +77,8 @@ pub fn answered_lines_are_changes<S: BookStore>()
         × PrintsUntil fault attempts old.printed new.printed }
 {}
 
-/// What the replies that `verify` printed used is spent in the book of whichever text the store may hold after the run, and so is what
-/// was spent before the run; all these counters are different. This holds of a run that answered all lines (`all`), and of one that a
+/// Each counter that a printed reply of `verify` used is spent in the book of each text that the store may hold after the run. So is each
+/// counter that was spent before, and all are different. This holds of a run that answered all lines (`all`), and of one that a
 /// fault ended (`first`). If the output can't be written, it is not known what is printed. It also holds of a run wherever it is stopped:
 /// between two lines (`between`), or while it saves the attempt of its next line and until it prints the reply (`within`).
 pub fn verified_counters_are_spent<R: Files>()
@@ -112,8 +112,8 @@ pub fn verified_counters_are_spent<R: Files>()
 {}
 
 /// What `unlock` and `enrol` do to a book is one change. What a log of `login` or of `hall` tells of codes is a list of changes, from the
-/// book that the log began with to the one whose text was saved: the attempts, each with its reply. So `no_counter_passes_twice` of
-/// `sasl_desk` holds of runs of all these commands, one after another, if each begins with the book that the one before left.
+/// book that the log began with to the one whose text was saved: the attempts, each with its reply. Which book a run leaves is in
+/// `runs_leave_changed_books`. By both, `no_counter_passes_twice` of `sasl_desk` holds of runs of all these commands, one after another.
 pub fn other_commands_make_changes<R: Files, S: BookStore>()
     ensures unlock { (words : ArgMatches) (old new : Option (List ℕ)) (run : UnlocksAsked R.File.remaining R.File.contents words old new)
         → AreChanges S.facts S.IsStored run.first (unlocked (given_value words option.Name) ∷ []) run.last }
@@ -126,13 +126,14 @@ pub fn other_commands_make_changes<R: Files, S: BookStore>()
         → AreChanges S.facts S.IsStored start (judged_changes told) saved.last }
 {}
 
-/// Which book each text is of that the store may hold when a run ends, wherever it ends. By `unlock`, `enrol`, `added` and `replies`
-/// changes lead to it, so `no_counter_passes_twice` of `sasl_desk` also holds if the next run begins with such a text:
+/// Of `unlock`, `enrol`, `login` and `hall`: the book of each text that the store may hold when the run ends, wherever it ends (of
+/// `verify`: `answered_lines_are_changes`). By `unlock`, `enrol`, `added` and `attempts` changes lead to it, so `no_counter_passes_twice`
+/// of `sasl_desk` also holds if the next run begins with such a text:
 /// - A change that fails leaves the book that was held, or this book with the change (`unlock`, `enrol`: `HeldBook::unlock` and
 ///   `HeldBook::enrol` ensure `FailsToChange`). So does a failed save of a book to which an account was added, in a store that holds the
 ///   book from before (`added`: `HeldBook::begin` ensures `FailsToSave`).
-/// - The runs of `login` and `hall` leave a book to which attempts lead (`replies`: `talk_over` and `hear_input` ensure
-///   `HoldsAfterReplies`).
+/// - The runs of `login` and `hall` leave a book to which attempts lead (`attempts`: `talk_over` and `hear_input` ensure
+///   `HoldsAfterAttempts`).
 ///
 /// Of any save: if it fails or is stopped, it leaves a text from before, or one of the book that it was given (`failed`, `stopped`). If
 /// it succeeds, it leaves a text of the book (`done`).
@@ -148,7 +149,7 @@ pub fn runs_leave_changed_books<S: BookStore>()
         → FailsToSave old.store book new → HoldsItsBook old → IsEnrolled account salts old.book book → MayHold new text
         → IsTextAfter S.facts S.IsStored old.book [] text
         ⊎ IsTextAfter S.facts S.IsStored old.book (addition_of account salts ∷ []) text }
-    ensures replies { (start : BookFields) (store : StoreFacts) (text : List ℕ) → HoldsAfterReplies start store → MayHold store text
+    ensures attempts { (start : BookFields) (store : StoreFacts) (text : List ℕ) → HoldsAfterAttempts start store → MayHold store text
         → (attempts : List AccountAttempt) × IsTextAfter S.facts S.IsStored start (judged_changes attempts) text }
     ensures failed { (old : StoreFacts) (book : BookFields) (new : StoreFacts) → FailsToSave old book new
         → LeavesOldTextOrBook old book new }

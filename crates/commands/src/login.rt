@@ -15,10 +15,10 @@ ghost use Rattle.commands.specs.Attempts.{HoldsItsBook};
 ghost use Rattle.commands.specs.DeskLog.{HasSavedLog, IsGiven};
 ghost use Rattle.commands.specs.inner.DeskLogSteps.{IsDeskLog, StaysDeskLog, StaysDeskLogWith, IsLogAfterFault, IsLogAfterFaultWith};
 ghost use Rattle.commands.specs.Login.{EndsTalk, PrintsTalk, IsUserAsked, RunsLogin};
-ghost use Rattle.commands.specs.LeftBooks.{HoldsAfterReplies};
+ghost use Rattle.commands.specs.LeftBooks.{HoldsAfterAttempts};
 ghost use Rattle.commands.specs.LoginFaults.{CannotPrepare, StopsLogin, StopsTalking};
 ghost use Rattle.commands.specs.Nonces.{AreNonces};
-ghost use Rattle.commands.specs.Talked.{LogSays, talked_in};
+ghost use Rattle.commands.specs.Talked.{LogSays, talked_shown};
 ghost use Rattle.commands.specs.PrintedLog.{StopsAfter};
 
 mod client_end;
@@ -98,8 +98,8 @@ where
     I: TerminalInput,
     O: Write + Drop,
     E: TerminalOutput,
-    // The log has a login of the user whom the words describe, with the nonces that they give (a fresh one for each that they do not
-    // give) and with the password in the input's first line. If it returns true, this login is accepted, and after it are only passes,
+    // The log has a login of the user whom the words describe, with the nonces that they give (one made of random bytes for each that
+    // they do not give) and with the password in the input's first line. If it returns true, this login is accepted, and after it are only passes,
     // one for each further line of the input. If it returns false, the login is not accepted, or some line is answered by another reply.
     ensures ok { IfOk result.0 (λ passed. RunsLogin R.File.remaining R.File.contents matches.now (I.remaining input.old)
         (O.contents output) passed (O.contents result.1)) }
@@ -206,9 +206,9 @@ where
         (HasSavedLog S.IsStored (IsGiven G.moment) IsLogFront login.entry.held.keeper.book login.entry.server_nonce (S.facts result.2)
         (O.contents output) (O.contents result.1))) }
     ensures why { IfErr result.0 (StopsTalking login.entry.held.path.now) }
-    // However the run ends, what it leaves is a book to which replies lead, if the store held a text of the book as it began.
+    // However the run ends, what it leaves is a book to which attempts lead, if the store held a text of the book as it began.
     ensures left { HoldsItsBook (held_shown S.facts login.entry.held)
-        → HoldsAfterReplies login.entry.held.keeper.book (S.facts result.2) }
+        → HoldsAfterAttempts login.entry.held.keeper.book (S.facts result.2) }
 {
     let LoginSetup {
         held,
@@ -262,7 +262,7 @@ where
     requires closed { desk_phase talk.old.desk ≡ Phase.Closed }
     requires silent { client.stage ≡ Stage.Silent }
     ensures talk { IfOk result (λ passed. EndsTalk client.user client.nonce client.password (I.remaining lines.old.input.now)
-        (talked_in R.facts W.facts L.facts talk.old) passed (talked_in R.facts W.facts L.facts talk.new)) }
+        (talked_shown R.facts W.facts L.facts talk.old) passed (talked_shown R.facts W.facts L.facts talk.new)) }
     ensures log { OnOk result (StaysDeskLogWith S.facts S.IsStored C.IsNow server_nonce
         talk.old.desk (L.facts talk.old.log) talk.new.desk (L.facts talk.new.log)) }
     ensures closed { OnOk result (desk_phase talk.new.desk ≡ Phase.Closed) }

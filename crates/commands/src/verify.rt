@@ -2,7 +2,7 @@
 ghost use Rattle.std.specs.Prelude.{◌≡◌, ◌⊎◌, ◌&&◌, IfOk, IfErr, OnOk};
 ghost use Rattle.std.specs.Io.KnownBytes.{Appends};
 ghost use Rattle.command_io.specs.HeldBook.{held_shown};
-ghost use Rattle.commands.specs.Verify.{printed_reply, verify_run_of, IsLineAnswered, IsUnprinted, CannotBeginToVerify, FailsAtLine};
+ghost use Rattle.commands.specs.Verify.{printed_reply, verify_run_shown, IsLineAnswered, FailsToPrint, CannotBeginToVerify, FailsAtLine};
 ghost use Rattle.commands.specs.Verify.{is_passed, MayBePrinted, AnswersAllLines, AnswersFirstLines, VerifiesAllLines, VerifiesFirstLines};
 
 use crate::sent_codes::codes_in;
@@ -73,9 +73,9 @@ fn answer_lines<S: BookStore, I: BufRead, O: Write>(
     output: &mut O,
 ) -> Result<bool, Fault>
     ensures ok { IfOk result (λ all_passed. AnswersAllLines S.IsStored name.now moment (I.remaining input.old)
-        (verify_run_of S.facts held.old (O.contents output.old)) all_passed (verify_run_of S.facts held.new (O.contents output.new))) }
+        (verify_run_shown S.facts held.old (O.contents output.old)) all_passed (verify_run_shown S.facts held.new (O.contents output.new))) }
     ensures err { IfErr result (λ fault. AnswersFirstLines S.IsStored held.old.path.now name.now moment (I.remaining input.old)
-        (verify_run_of S.facts held.old (O.contents output.old)) fault (verify_run_of S.facts held.new (O.contents output.new))) }
+        (verify_run_shown S.facts held.old (O.contents output.old)) fault (verify_run_shown S.facts held.new (O.contents output.new))) }
 {
     let mut lines = Lines::new(input);
     let mut all_passed = true;
@@ -96,9 +96,9 @@ fn answer_line<S: BookStore, O: Write>(
     output: &mut O,
 ) -> Result<Reply, Fault>
     ensures ok { IfOk result (λ reply. IsLineAnswered S.IsStored name.now moment line.now
-        (verify_run_of S.facts held.old (O.contents output.old)) reply (verify_run_of S.facts held.new (O.contents output.new))) }
+        (verify_run_shown S.facts held.old (O.contents output.old)) reply (verify_run_shown S.facts held.new (O.contents output.new))) }
     ensures err { IfErr result (λ fault. FailsAtLine S.IsStored held.old.path.now name.now moment line.now
-        (verify_run_of S.facts held.old (O.contents output.old)) fault (verify_run_of S.facts held.new (O.contents output.new))) }
+        (verify_run_shown S.facts held.old (O.contents output.old)) fault (verify_run_shown S.facts held.new (O.contents output.new))) }
     ensures path { held.new.path.now ≡ held.old.path.now }
 {
     let reply = held.judge(alloc, name, moment, codes_in(line))?;
@@ -124,7 +124,7 @@ fn print_reply<S: BookStore, O: Write>(
 ) -> Result<(), Fault>
     requires { MayBePrinted S.IsStored moment reply (held_shown S.facts held.now) }
     ensures printed { OnOk result (Appends (O.contents output.old) (O.contents output.new) (printed_reply reply moment)) }
-    ensures err { IfErr result (λ fault. IsUnprinted fault (O.contents output.old) (O.contents output.new)) }
+    ensures err { IfErr result (λ fault. FailsToPrint fault (O.contents output.old) (O.contents output.new)) }
 {
     let mut line = Vec::new(alloc);
     write_reply(moment, Some(reply), &mut line).map_err(|_| Fault::NoMemory)?;

@@ -20,9 +20,8 @@ pub record RunOf (C : Type 0) : Type 0 where
   pub told : List AccountAttempt
   pub left : BookFields
 
--- what happens to a book: a desk or a hall runs with it, from the text that the store held when the run began to the one that
--- it holds when the run has stopped; the token of an account judges an attempt, without a desk; the token of an account is
--- unlocked; an account is added
+-- a change of a book: a run of a desk or a hall, from the text that the store held as it began to the one that it holds once it has
+-- stopped; an attempt that a token judges outside such a run; an unlocked token; an added account
 pub data Change : Type 0 where
   desk_ran : (run : RunOf Call) → Change
   hall_ran : (run : RunOf (Numbered Call)) → Change

@@ -58,7 +58,7 @@ MayHold store text = (text ≡ store.saved) ⊎ ((store.failed ≡ true) × (tex
 abbrev pub MayHoldWithinSave : (before : StoreFacts) → (asked : List ℕ) → (text : List ℕ) → Type 0
 MayHoldWithinSave before asked text = MayHold before text ⊎ (text ≡ asked)
 
--- the store has not failed, and holds the text of the book, and `IsStored` is true of that text
+-- the store has not failed, and holds a text of the book, of which `IsStored` is true
 pub record HoldsBook (IsStored : List ℕ → Type 0) (book : BookFields) (store : StoreFacts) : Type 0 where
   pub working : store.failed ≡ false
   pub saved : IsBookText store.saved book
@@ -79,9 +79,9 @@ pub record IsLostAfter (IsStored : List ℕ → Type 0) (accounts : Accounts) (c
   pub next : BookFields
   pub is_latest : IsLatestAttempt accounts calls attempt
   pub is_judged : IsBookAttempt book attempt next
-  -- the failed save was given the text of the next book
+  -- the failed save was given a text of the next book
   pub asked : IsBookText store.asked next
-  -- the store says that it holds the text of the book before the attempt, which was saved, or that of the next book
+  -- the store says that it holds a text of the book before the attempt, which was saved, or one of the next book
   pub saved : (IsBookText store.saved book × IsStored store.saved) ⊎ IsBookText store.saved next
   -- some text of the book before the attempt was saved
   pub before : HasStoredText IsStored book
@@ -92,11 +92,11 @@ abbrev pub IsStoredAt : (IsStored : List ℕ → Type 0) → Accounts → List C
 IsStoredAt IsStored accounts calls halted book store = IsLostAfter IsStored accounts calls book store
 IsStoredAt IsStored accounts calls place book store = HoldsBook IsStored book store
 
--- the book after these replies, the latest of which comes first: each attempt was judged in the book before it
-abbrev pub IsBookAfterReplies : (start : BookFields) → (latest_first : List AccountAttempt) → (book : BookFields) → Type 0
-IsBookAfterReplies start [] book = book ≡ start
-IsBookAfterReplies start (attempt ∷ before) book =
-    (old : BookFields) × IsBookAfterReplies start before old × IsBookAttempt old attempt book
+-- the book after these attempts, the latest of which comes first: each was judged in the book before it
+abbrev pub IsBookAfterAttempts : (start : BookFields) → (latest_first : List AccountAttempt) → (book : BookFields) → Type 0
+IsBookAfterAttempts start [] book = book ≡ start
+IsBookAfterAttempts start (attempt ∷ before) book =
+    (old : BookFields) × IsBookAfterAttempts start before old × IsBookAttempt old attempt book
 
 -- what a run that kept this book may leave: this book, or this book with one more attempt (the laws `store_holds_a_book` and
 -- `stops_leave_runs`)
@@ -107,7 +107,7 @@ MayLeave kept left = (left ≡ kept) ⊎ ((attempt : AccountAttempt) × IsBookAt
 abbrev pub IsTextLeft : (kept : BookFields) → (text : List ℕ) → Type 0
 IsTextLeft kept text = (left : BookFields) × MayLeave kept left × IsBookText text left
 
--- the counters that replies use, with their accounts, the latest first
+-- the counters that the replies of these attempts use, with their accounts, in the order of the attempts
 abbrev pub spent_by_all : List AccountAttempt → List (List ℕ × ℕ)
 spent_by_all attempts = flat_map spent_by attempts
 
@@ -142,7 +142,7 @@ module _ {S : Type 0} (facts : S → StoreFacts) (IsStored : List ℕ → Type 0
     -- the session waits for what is due there, or the desk has halted
     pub is_state : IsStateAt (accounts_in start) (server_nonce_of calls) place desk.state
     -- the book has each attempt in it, and the store holds its text, except after a save in which the store failed
-    pub is_book : IsBookAfterReplies start (reverse told) desk.keeper.book
+    pub is_book : IsBookAfterAttempts start (reverse told) desk.keeper.book
     pub is_stored : IsStoredAt IsStored (accounts_in start) calls place desk.keeper.book (facts desk.keeper.store)
 
   -- what a call did: it added lines, and a desk that had answered some calls has now answered this one as well
@@ -152,7 +152,7 @@ module _ {S : Type 0} (facts : S → StoreFacts) (IsStored : List ℕ → Type 0
     pub sent : wire' ≡ wire ++ wire_bytes lines
     pub stands : (start : BookFields) (calls : List Call) → IsDeskAfter start calls old
         → IsDeskAfter start (call_of request lines ∷ calls) new
-    -- the call saved what its lines record
+    -- the store was asked for one save for each line that needs one, and was given a text of the book with the attempt of this call
     pub saves : (start : BookFields) (calls : List Call) → IsDeskAfter start calls old → CountsSaves facts lines old.keeper new.keeper
     pub asks : (start : BookFields) (calls : List Call) (standing : IsDeskAfter start calls old)
         → AsksToSaveAttempt facts request standing.place lines old.keeper new.keeper

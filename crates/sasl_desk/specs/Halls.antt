@@ -16,7 +16,7 @@ use Rattle.log_grammar.specs.Demands.{Accounts, demands}
 use Rattle.log_grammar.specs.Numbered.{Numbered, numbered, of_number, given_in, closed_in, IsNumberedLogUpTo}
 use Rattle.log_grammar.specs.Versions.{max_open_sessions}
 use Rattle.log_grammar.specs.NumberedLines.{numbered_text, IsNumberedLineWritable, max_session_number}
-use Rattle.sasl_desk.specs.Desks.{session_phase, IsStoredAt, HoldsBook, IsBookAfterReplies}
+use Rattle.sasl_desk.specs.Desks.{session_phase, IsStoredAt, HoldsBook, IsBookAfterAttempts}
 use Rattle.sasl_desk.specs.OpenSessions.{is_of}
 use Rattle.sasl_desk.specs.Runs.{Request, greets, Call, call_of, server_nonce_of, wire_bytes, IsRun}
 use Rattle.sasl_desk.specs.SavedCalls.{CountsSaves, AsksToSaveAttempt, IsQuiet, LeavesFailedStore}
@@ -145,7 +145,7 @@ module _ {S : Type 0} (facts : S → StoreFacts) (IsStored : List ℕ → Type 0
     -- each open session waits for what is due at its place, or the hall has halted
     pub standing : hall.is_halted ≡ false → AllByRecursion (IsOpenSessionAt (accounts_in start) calls places) hall.open_sessions
     -- the book has each attempt in it, and the store holds its text, except after a save in which the store failed
-    pub is_book : IsBookAfterReplies start (reverse told) hall.keeper.book
+    pub is_book : IsBookAfterAttempts start (reverse told) hall.keeper.book
     pub is_stored : IsStoredAfter IsStored (accounts_in start) calls places hall.keeper.book (facts hall.keeper.store)
 
   -- what a call of a session did: it added lines, and a hall that had answered some calls has now answered this one as well
@@ -162,7 +162,7 @@ module _ {S : Type 0} (facts : S → StoreFacts) (IsStored : List ℕ → Type 0
         → new.is_halted ≡ false → phase_of_number new number ≡ phase_unless_over phase_after
     -- the phase that is returned is Halted if and only if the hall has halted
     pub shows_halt : (phase_after ≡ phase.Halted) ↔ (new.is_halted ≡ true)
-    -- the call saved what its lines record
+    -- the store was asked for one save for each line that needs one, and was given a text of the book with the attempt of this call
     pub saves : (start : BookFields) (calls : List (Numbered Call)) → IsHallAfter start calls old
         → CountsSaves facts lines old.keeper new.keeper
     pub asks : (start : BookFields) (calls : List (Numbered Call)) (standing : IsHallAfter start calls old)

@@ -13,14 +13,14 @@ use Rattle.log_grammar.specs.Lines.{LogLine, log_bytes}
 use Rattle.log_grammar.specs.Numbered.{Numbered, IsNumberedLogUpTo}
 use Rattle.log_grammar.specs.Places.{Place}
 use Rattle.log_grammar.specs.Versions.{max_open_sessions}
-use Rattle.sasl_desk.specs.Desks.{MayHold, MayHoldWithinSave, IsBookAfterReplies, IsTextLeft, spent_by_all}
+use Rattle.sasl_desk.specs.Desks.{MayHold, MayHoldWithinSave, IsBookAfterAttempts, IsTextLeft, spent_by_all}
 use Rattle.sasl_desk.specs.Spent.{AreSpent, spent_by}
 
--- these replies lead to a book. `IsStored` is true of some text of it, and each text that the store may hold is of this book, or of it
+-- these attempts lead to a book. `IsStored` is true of some text of it, and each text that the store may hold is of this book, or of it
 -- with one more attempt.
 pub record IsToldSaved (IsStored : List ℕ → Type 0) (start : BookFields) (told : List AccountAttempt) (store : StoreFacts) : Type 0 where
   pub last : BookFields
-  pub is_last : IsBookAfterReplies start (reverse told) last
+  pub is_last : IsBookAfterAttempts start (reverse told) last
   pub saved : HasStoredText IsStored last
   pub held : (text : List ℕ) → MayHold store text → IsTextLeft last text
 

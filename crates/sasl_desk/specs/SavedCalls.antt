@@ -1,4 +1,4 @@
--- What a call of a desk or a hall does to its keeper: what its lines record has been saved, and nothing else is asked of the store.
+-- What a call of a desk or a hall asks of its store: one save for a reply that changes the token, or for HALT, and nothing else.
 use Rattle.std.specs.Prelude.{◌≡◌, ◌+◌, true, false, Bool, List, [], ◌∷◌, length, filter}
 use Rattle.account_book.specs.{BookFields, IsBookText}
 use Rattle.account_book.specs.SavedBooks.{needs_save}
@@ -33,7 +33,7 @@ module _ {S : Type 0} (facts : S → StoreFacts) where
   abbrev pub CountsSaves : List LogLine → (old new : Keeper S) → Type 0
   CountsSaves lines old new = (facts new.store).saves ≡ (facts old.store).saves + length (filter is_saving lines)
 
-  -- if the store was asked to save, it was given the text of the book with the attempt of this call
+  -- if the store was asked to save, it was given a text of the book with the attempt of this call
   abbrev pub AsksToSaveAttempt : Request → Place → List LogLine → (old new : Keeper S) → Type 0
   AsksToSaveAttempt request place lines old new = (filter is_saving lines ≡ [] → ⊥)
       → (attempt : AccountAttempt) × (next : BookFields) × IsAttemptOf request place lines attempt

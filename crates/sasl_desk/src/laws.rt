@@ -9,7 +9,7 @@ ghost use Rattle.log_grammar.specs.Lines.{LogLine, said, halt, log_bytes};
 ghost use Rattle.log_grammar.specs.Places.{Place};
 ghost use Rattle.log_grammar.specs.Demands.{Accounts};
 ghost use Rattle.sasl_desk.specs.AcceptedLogins.{LinesAcceptExactlyValid};
-ghost use Rattle.sasl_desk.specs.Desks.{MayHold, IsDeskAfter, IsBookAfterReplies, desk_phase, spent_by_all};
+ghost use Rattle.sasl_desk.specs.Desks.{MayHold, IsDeskAfter, IsBookAfterAttempts, desk_phase, spent_by_all};
 ghost use Rattle.sasl_desk.specs.Records.{HasItsRecords};
 ghost use Rattle.sasl_desk.specs.Changes.{IsDeskRunLeaving, Change, AreChanges, spent_by_changes};
 ghost use Rattle.sasl_desk.specs.Halls.{IsSessionRun};
@@ -35,7 +35,7 @@ pub fn spent_stays_spent()
 /// are spent in the book after the replies.
 pub fn replies_spend_counters()
     ensures { (start : BookFields) (latest_first : List AccountAttempt) (last : BookFields) (spent : List (List ℕ × ℕ))
-        → IsBookAfterReplies start latest_first last → AreSpent spent start → AreSpent (spent_by_all latest_first ++ spent) last }
+        → IsBookAfterAttempts start latest_first last → AreSpent spent start → AreSpent (spent_by_all latest_first ++ spent) last }
 {}
 
 /// What a session records of its client may stand in a log: a line of the client if and only if it is due, `C BAD` and `C GONE` if

@@ -17,7 +17,7 @@ use Rattle.command_line.specs.declared.fault.Fault.{Fault}
 use Rattle.command_line.specs.declared.fault.Fault.TheVariants.{CannotWrite, CannotWriteOutput}
 use Rattle.log_grammar.proofs.lemmas.ListEnds.{related_lists-append}
 use Rattle.sasl_desk.specs.{CodeTexts, Reply, Locked}
-use Rattle.sasl_desk.specs.Desks.{spent_by_all, IsBookAfterReplies, MayHold, MayHoldWithinSave}
+use Rattle.sasl_desk.specs.Desks.{spent_by_all, IsBookAfterAttempts, MayHold, MayHoldWithinSave}
 use Rattle.sasl_desk.specs.Changes.{Change, judged, AreChanges}
 use Rattle.sasl_desk.specs.Spent.{AreSpent, spent_by}
 use Rattle.sasl_desk.proofs.lemmas.runs.BooksAfterReplies.{reply_adds_to_book}
@@ -27,7 +27,7 @@ use Rattle.command_io.specs.HeldBook.{HeldFacts, IsReplySaved, IsStoreAfterFault
 use Rattle.command_io.specs.Input.{AreLinesOf, EachInTurn, LinesInTurn}
 use Rattle.commands.specs.Attempts.{MakesAttempt, printed_replies, PrintsUntil, HoldsItsBook, MakesAttempts, SavesNextLine}
 use Rattle.commands.specs.SentCodes.{SaysCodes}
-use Rattle.commands.specs.Verify.{VerifyRun, AnswersLine, AnswersFirstLines, BeginsToVerify, FailsAtLine, IsUnprinted}
+use Rattle.commands.specs.Verify.{VerifyRun, AnswersLine, AnswersFirstLines, BeginsToVerify, FailsAtLine, FailsToPrint}
 
 -- a store that saved a book holds its text
 pub saved_book_is_held : (IsStored : List ℕ → Type 0) (old new : HeldFacts) → SavesBook IsStored old.store new.book new.store → HoldsItsBook new
@@ -89,16 +89,16 @@ module _ {S : Type 0} (facts : S → StoreFacts) (IsStored : List ℕ → Type 0
 
   -- the law, of replies, of which the latest is given first: their attempts are changes
   pub replies_are_changes : (start : BookFields) (latest_first : List AccountAttempt) (book : BookFields)
-      → IsBookAfterReplies start latest_first book → AreChanges facts IsStored start (map judged latest_first) book
+      → IsBookAfterAttempts start latest_first book → AreChanges facts IsStored start (map judged latest_first) book
   replies_are_changes start [] book same = same
   replies_are_changes start (attempt ∷ before) book (old, earlier, one) = (old, replies_are_changes start before old earlier, one)
 
 -- replies that follow others are, together with these, replies from the first book to the last; the latest of each are given first
 replies_follow_replies : (first : BookFields) (before : List AccountAttempt) (middle : BookFields) (after : List AccountAttempt)
-    (last : BookFields) → IsBookAfterReplies first before middle → IsBookAfterReplies middle after last
-    → IsBookAfterReplies first (after ++ before) last
+    (last : BookFields) → IsBookAfterAttempts first before middle → IsBookAfterAttempts middle after last
+    → IsBookAfterAttempts first (after ++ before) last
 replies_follow_replies first before middle [] last earlier same =
-    subst (λ (b : BookFields). IsBookAfterReplies first before b) (sym same) earlier
+    subst (λ (b : BookFields). IsBookAfterAttempts first before b) (sym same) earlier
 replies_follow_replies first before middle (attempt ∷ after) last earlier (next, later, one) =
     (next, replies_follow_replies first before middle after next earlier later, one)
 
@@ -124,7 +124,7 @@ module _ (IsStored : List ℕ → Type 0) (name : List ℕ) (moment : ℕ) where
   record HaveMade (lines : List (List ℕ)) (attempts : List AccountAttempt) (old new : VerifyRun) : Type 0 where
     made : AllZip (MakesAttempt name moment) lines attempts
     printed : Appends old.printed new.printed (printed_replies attempts)
-    leads : IsBookAfterReplies old.held.book (reverse attempts) new.held.book
+    leads : IsBookAfterAttempts old.held.book (reverse attempts) new.held.book
 
   -- lines that are answered have made attempts
   answered_lines_have_made : (lines : List (List ℕ)) (old : VerifyRun) (all_passed : Bool) (new : VerifyRun)
@@ -142,7 +142,7 @@ module _ (IsStored : List ℕ → Type 0) (name : List ℕ) (moment : ℕ) where
         record {
           made = ((answered.sent, reply, answered.says, refl), more.1.made);
           printed = Appends-trans old.printed next.printed new.printed _ (printed_replies more.0) answered.printed more.1.printed;
-          leads = subst (λ (l : List AccountAttempt). IsBookAfterReplies old.held.book l new.held.book)
+          leads = subst (λ (l : List AccountAttempt). IsBookAfterAttempts old.held.book l new.held.book)
               (sym (reverse_onto more.0 attempt []))
               (replies_follow_replies old.held.book (attempt ∷ []) next.held.book (reverse more.0) new.held.book
               (old.held.book, refl, answered.saved.due) more.1.leads);
@@ -293,7 +293,7 @@ module _ (IsStored : List ℕ → Type 0) (name : List ℕ) (moment : ℕ) where
 
         -- if the reply to this line was saved and not printed, the run left the book with the attempt
         unprinted_reply_leaves_text : (sent : CodeTexts) (reply : Reply) → SaysCodes line sent
-            → IsReplySaved IsStored middle.held name moment sent reply new.held → IsUnprinted fault middle.printed new.printed
+            → IsReplySaved IsStored middle.held name moment sent reply new.held → FailsToPrint fault middle.printed new.printed
             → LeavesText
         unprinted_reply_leaves_text sent reply says saved unprinted =
             leaves_book_after sent reply new.held.book says saved.due

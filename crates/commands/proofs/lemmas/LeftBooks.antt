@@ -7,13 +7,13 @@ use Rattle.account_book.specs.AccountAttempt.{AccountAttempt}
 use Rattle.command_io.specs.{FailsToSave}
 use Rattle.command_io.specs.HeldBook.{HeldFacts, FailsToChange}
 use Rattle.command_line.specs.declared.fault.Fault.{Fault}
-use Rattle.sasl_desk.specs.Desks.{IsBookAfterReplies, MayHold}
+use Rattle.sasl_desk.specs.Desks.{IsBookAfterAttempts, MayHold}
 use Rattle.sasl_desk.specs.Faults.{IsNotBegun}
 use Rattle.sasl_desk.specs.Saved.{IsToldSaved}
 use Rattle.sasl_desk.specs.declared.fault.DeskFault.{DeskFault}
 use Rattle.sasl_desk.specs.declared.fault.DeskFault.TheVariants.{Halted, Unwritable, NoNumber, NoMemory}
 use Rattle.commands.specs.Attempts.{HoldsItsBook}
-use Rattle.commands.specs.LeftBooks.{HoldsAfterReplies, LeavesOldTextOrBook}
+use Rattle.commands.specs.LeftBooks.{HoldsAfterAttempts, LeavesOldTextOrBook}
 use Rattle.commands.proofs.lemmas.Attempts.{held_text_is_of_book, saved_book_is_held, store_was_unasked_or_failed}
 
 -- a save that fails leaves a text that the store may have held, or one of the book that it was given
@@ -61,7 +61,7 @@ done_save_leaves_book IsStored old book new saves text may =
 
 -- what is left of a book that was held, if nothing but the book itself was saved, is this book
 pub held_book_leaves_no_reply : (held : HeldFacts) (new : StoreFacts) → LeavesOldTextOrBook held.store held.book new → HoldsItsBook held
-    → HoldsAfterReplies held.book new
+    → HoldsAfterAttempts held.book new
 held_book_leaves_no_reply held new left holds text may = (
   held.book,
   [],
@@ -74,13 +74,13 @@ held_book_leaves_no_reply held new left holds text may = (
 
 -- replies that are saved lead to each book of which the store may hold a text, perhaps with one more
 pub saved_replies_leave_book : {IsStored : List ℕ → Type 0} {start : BookFields} {told : List AccountAttempt} {store : StoreFacts}
-    → IsToldSaved IsStored start told store → HoldsAfterReplies start store
+    → IsToldSaved IsStored start told store → HoldsAfterAttempts start store
 saved_replies_leave_book {start = start} {told = told} saved text may =
     let (left, leaves, is_text) = saved.held text may in elim leaves [
       | inl same ↦ (
         left,
         reverse told,
-        subst (λ (b : BookFields). IsBookAfterReplies start (reverse told) b) (sym same) saved.is_last,
+        subst (λ (b : BookFields). IsBookAfterAttempts start (reverse told) b) (sym same) saved.is_last,
         is_text,
       )
       | inr (attempt, one) ↦ (left, attempt ∷ reverse told, (saved.last, saved.is_last, one), is_text)

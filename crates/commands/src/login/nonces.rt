@@ -1,8 +1,8 @@
-//! The nonces of a login: those that the words give, or fresh random ones.
+//! The nonces of a login: those that the words give, or ones that are made of random bytes.
 ghost use Rattle.std.specs.Prelude.{◌≡◌, IfOk, IfErr, length};
 ghost use Rattle.scram_text.specs.Base64Field.{base64};
 ghost use Rattle.command_io.specs.File.{IsFileUnreadOrNoMemory};
-ghost use Rattle.commands.specs.Nonces.{AreGivenOrFresh, TakesNonce, TakesNonces};
+ghost use Rattle.commands.specs.Nonces.{AreGivenOrRead, TakesNonce, TakesNonces};
 ghost use Rattle.commands.specs.declared.login.nonces.TheConstants.{NONCE_BYTES};
 
 use base64::engine::general_purpose::STANDARD;
@@ -31,7 +31,7 @@ pub(crate) fn login_nonces<R: Files + AllocGlobal>(
     client: Option<NoncePart>,
     server: Option<NoncePart>,
 ) -> Result<Nonces, Fault>
-    ensures ok { IfOk result (λ nonces. AreGivenOrFresh R.File.remaining client server nonces.client nonces.server) }
+    ensures ok { IfOk result (λ nonces. AreGivenOrRead R.File.remaining client server nonces.client nonces.server) }
     ensures err { IfErr result (IsFileUnreadOrNoMemory path.now) }
 {
     match (client, server) {

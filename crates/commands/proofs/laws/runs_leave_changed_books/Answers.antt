@@ -2,7 +2,7 @@ use Rattle.std.proofs.Common.{inl, inr, ℕ, List, refl, reverse, sym, subst}
 use Rattle.std.proofs.lemmas.List.{reverse-reverse}
 use Rattle.account_book.specs.{IsBookText}
 use Rattle.account_book.specs.AccountAttempt.{AccountAttempt}
-use Rattle.sasl_desk.specs.Desks.{IsBookAfterReplies}
+use Rattle.sasl_desk.specs.Desks.{IsBookAfterAttempts}
 use Rattle.command_io.specs.HeldBook.{IsEnrolled, IsTokenUnlocked}
 use Rattle.commands.proofs.lemmas.Attempts.{held_text_is_of_book, replies_are_changes}
 use Rattle.commands.proofs.lemmas.LeftBooks.{done_save_leaves_book, failed_change_leaves_old_or_changed, failed_save_leaves_old_or_book}
@@ -41,9 +41,9 @@ returns-clause-stopped g c = λ old book asked text is_text may. elim may [
 pub returns-clause-done : goal.returns-clause-done
 returns-clause-done g c = λ old book new text saves may. done_save_leaves_book g.S.BookStore.IsStored old book new saves text may
 
-pub returns-clause-replies : goal.returns-clause-replies
-returns-clause-replies g c = λ start store text left may.
+pub returns-clause-attempts : goal.returns-clause-attempts
+returns-clause-attempts g c = λ start store text left may.
     let (book, latest_first, leads, is_text) = left text may in
-    let again = subst (λ (l : List AccountAttempt). IsBookAfterReplies start l book) (sym (reverse-reverse latest_first)) leads in
+    let again = subst (λ (l : List AccountAttempt). IsBookAfterAttempts start l book) (sym (reverse-reverse latest_first)) leads in
     let changes = replies_are_changes g.S.BookStore.facts g.S.BookStore.IsStored start (reverse (reverse latest_first)) book again in
     (reverse latest_first, (book, changes, is_text))

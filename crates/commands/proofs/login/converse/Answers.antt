@@ -3,7 +3,7 @@ use Rattle.sasl_desk.proofs.lemmas.runs.Logs.{log_is_clean_closed}
 use Rattle.sasl_desk.proofs.lemmas.runs.Stores.{log_is_saved}
 use Rattle.command_io.proofs.lemmas.Results.{handed_fault_keeps_fact}
 use Rattle.commands.specs.inner.DeskLogSteps.{IsLogAfterFaultWith}
-use Rattle.commands.specs.Talked.{talked_in}
+use Rattle.commands.specs.Talked.{talked_shown}
 use Rattle.commands.proofs.lemmas.DeskLogs.{fault_after_step_leaves_log, two_steps_keep_log}
 use Rattle.commands.proofs.login.converse.Goals as goal
 
@@ -18,7 +18,7 @@ returns-in_err-hang_up-clause-after_fault g c =
 -- after the login and the codes the client is sent nothing more
 pub returns-clause-talk : goal.returns-clause-talk
 returns-clause-talk g c = record {
-  last = talked_in g.R.Source.facts g.W.Sink.facts g.L.Sink.facts c.log_in_and_send.new.self;
+  last = talked_shown g.R.Source.facts g.W.Sink.facts g.L.Sink.facts c.log_in_and_send.new.self;
   sends = c.in_ok-passed.ensures.sends;
   ends = c.in_ok-hang_up.ensures.silent;
 }

@@ -20,7 +20,7 @@ use Rattle.log_grammar.specs.Versions.{max_open_sessions}
 use Rattle.log_grammar.proofs.lemmas.lines.LackLf.{reply_is_writable}
 use Rattle.log_grammar.proofs.lemmas.lines.Written.{halt_is_writable}
 use Rattle.sasl_log.proofs.lemmas.steps.Tokens.{book_reply_is_due}
-use Rattle.sasl_desk.specs.Desks.{IsBookAfterReplies}
+use Rattle.sasl_desk.specs.Desks.{IsBookAfterAttempts}
 use Rattle.sasl_desk.specs.Events.{ClientEvent}
 use Rattle.sasl_desk.specs.Halls.{hall_of, hall_lines, IsHallAfter}
 use Rattle.sasl_desk.specs.Runs.{hears, Call, call_of, server_nonce_of}
@@ -120,7 +120,7 @@ module _ {S : Type 0} {facts : S → StoreFacts} {IsStored : List ℕ → Type 0
         turns = (tt, (tt, tt));
         writable = (written, (halt_is_writable, tt));
         leaves = (refl, refl);
-        is_book = subst (λ (b : BookFields). IsBookAfterReplies start (reverse s.told) b) (sym judged.0) s.is_book;
+        is_book = subst (λ (b : BookFields). IsBookAfterAttempts start (reverse s.told) b) (sym judged.0) s.is_book;
         stored = lost_save_fits_halt IsStored accounts (of_number n calls) (s.places n) old.book new.book (facts old.store)
             (facts new.store) name event moment sent run due.place (working_hall_holds_book s refl) judged;
       }

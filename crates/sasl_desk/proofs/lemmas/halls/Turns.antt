@@ -18,7 +18,7 @@ use Rattle.log_grammar.specs.state_machine.NumberedSteps.{put}
 use Rattle.log_grammar.proofs.lemmas.many_sessions.OpenCounts.{open_number_is_in_range}
 use Rattle.log_grammar.proofs.lemmas.many_sessions.LinesOfNumber.{one_and_others_cover_each, put_sets_own, put_keeps_others, given_in-append}
 use Rattle.log_grammar.proofs.lemmas.many_sessions.LinesOfNumber.{closed_in-append}
-use Rattle.sasl_desk.specs.Desks.{IsStoredAt, IsBookAfterReplies}
+use Rattle.sasl_desk.specs.Desks.{IsStoredAt, IsBookAfterAttempts}
 use Rattle.sasl_desk.specs.Events.{ClientEvent}
 use Rattle.sasl_desk.specs.OpenSessions.{is_of}
 use Rattle.sasl_desk.specs.Halls.{hall_of, hall_lines, IsHallAfter}
@@ -74,7 +74,7 @@ module _ {S : Type 0} {facts : S → StoreFacts} {IsStored : List ℕ → Type 0
     -- the session is left at that place
     pub leaves : LeavesSession (accounts_in start) next (closed_in (map (numbered n) lines)) left
     -- the new book is the one after these replies
-    pub is_book : IsBookAfterReplies start (reverse told) new.book
+    pub is_book : IsBookAfterAttempts start (reverse told) new.book
     -- the store holds what it has to hold when the session is at that place
     pub stored : IsStoredAt IsStored (accounts_in start) (call_of (hears event moment) lines ∷ of_number n calls) next new.book
         (facts new.store)

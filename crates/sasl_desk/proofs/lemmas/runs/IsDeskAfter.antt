@@ -26,7 +26,7 @@ use Rattle.sasl_desk.specs.Events.{ClientEvent}
 use Rattle.sasl_desk.specs.inner.SessionTurns.{IsLeftAt, IsDueCode, turn_lines}
 use Rattle.sasl_desk.specs.Runs.{greets, hears, Call, call_of, run_lines, server_nonce_of}
 use Rattle.sasl_desk.specs.inner.TurnResults.{after_turn_of, judged_lines, after_judged, SessionAnswers, IsTurnOf}
-use Rattle.sasl_desk.specs.Desks.{IsStateAt, HoldsBook, IsStoredAt, IsBookAfterReplies, IsDeskAfter, desk_of, state_after}
+use Rattle.sasl_desk.specs.Desks.{IsStateAt, HoldsBook, IsStoredAt, IsBookAfterAttempts, IsDeskAfter, desk_of, state_after}
 use Rattle.sasl_desk.specs.declared.desk.Desk.{Desk}
 use Rattle.sasl_desk.specs.declared.desk.state.State.TheVariants.{Closed, Open, Halted}
 use Rattle.sasl_desk.specs.declared.session.Session.{Session}
@@ -157,7 +157,7 @@ module _ {S : Type 0} {facts : S → StoreFacts} {IsStored : List ℕ → Type 0
           begins = log_goes_on_by_path accounts (run_lines calls) s.place s.told lines halted s.begins taken.path (tt, (tt, tt));
           writable = appended_lists_keep_all IsLogLineWritable (run_lines calls) lines s.writable (written, (halt_is_writable, tt));
           is_state = tt;
-          is_book = subst (λ (b : BookFields). IsBookAfterReplies start (reverse s.told) b) (sym judged.0) s.is_book;
+          is_book = subst (λ (b : BookFields). IsBookAfterAttempts start (reverse s.told) b) (sym judged.0) s.is_book;
           is_stored = lost_save_fits_halt IsStored accounts calls s.place old.book new.book (facts old.store) (facts new.store) name event
               moment sent s.is_run due.place open_desk_holds_book judged;
         }

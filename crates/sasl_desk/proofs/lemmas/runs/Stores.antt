@@ -13,7 +13,7 @@ use Rattle.log_grammar.specs.Demands.{Accounts}
 use Rattle.sasl_desk.specs.Runs.{Call, run_lines}
 use Rattle.sasl_desk.specs.Saved.{IsToldSaved, IsLogSaved, IsTextOfSpent, AreToldCountersSaved}
 use Rattle.sasl_desk.specs.Spent.{AreSpent}
-use Rattle.sasl_desk.specs.Desks.{MayHold, MayHoldWithinSave, HoldsBook, IsLostAfter, IsStoredAt, IsBookAfterReplies, spent_by_all}
+use Rattle.sasl_desk.specs.Desks.{MayHold, MayHoldWithinSave, HoldsBook, IsLostAfter, IsStoredAt, IsBookAfterAttempts, spent_by_all}
 use Rattle.sasl_desk.specs.Desks.{IsDeskAfter, IsTextLeft, MayLeave}
 use Rattle.sasl_desk.specs.Changes.{IsDeskRunLeaving}
 use Rattle.sasl_desk.specs.declared.desk.Desk.{Desk}
@@ -25,7 +25,7 @@ use Rattle.sasl_desk.proofs.lemmas.runs.Changes.{left_book_keeps_spent_counters}
 pub record HoldsTold (IsStored : List ℕ → Type 0) (start : BookFields) (told : List AccountAttempt) (kept : BookFields)
     (store : StoreFacts) : Type 0 where
   -- the replies lead to its book
-  pub is_book : IsBookAfterReplies start (reverse told) kept
+  pub is_book : IsBookAfterAttempts start (reverse told) kept
   -- a text of its book was stored
   pub stored : HasStoredText IsStored kept
   -- each text that the store may hold is that of a book that its run may leave
@@ -56,7 +56,7 @@ module _ (IsStored : List ℕ → Type 0) (book : BookFields) (store : StoreFact
   )
 
   -- replies that lead to the book, and a store that is as it has to be at a place of a log
-  module _ {start : BookFields} {told : List AccountAttempt} (is_book : IsBookAfterReplies start (reverse told) book)
+  module _ {start : BookFields} {told : List AccountAttempt} (is_book : IsBookAfterAttempts start (reverse told) book)
       (accounts : Accounts) (calls : List Call) where
     -- at each place of a log, the replies lead to the book that the store holds
     pub store_holds_told : (place : Place) → IsStoredAt IsStored accounts calls place book store
