@@ -88,8 +88,8 @@ pub record PrintsLogin {File : Type 0} (bytes_of written_to : File → Option (L
 
 -- what a login prints, given the bytes of files and those written to them
 module _ {File : Type 0} (bytes_of written_to : File → Option (List ℕ)) where
-  -- a clean log is printed, with nonces that the words give or that were read (`AreNonces`). It is that of a login that the words ask for, with these
-  -- nonces. `passed` says whether it shows that the login is accepted and each code passes.
+  -- a clean log is printed, with nonces that the words give or that were read (`AreNonces`). It is that of a login that the words ask
+  -- for, with these nonces. `passed` says whether it shows that the login is accepted and each code passes.
   abbrev pub RunsLogin : ArgMatches → (input old : Option (List ℕ)) → (passed : Bool) → (new : Option (List ℕ)) → Type 0
   RunsLogin words input old passed new =
       (nonce : List ℕ) × (server_nonce : List ℕ) × AreNonces bytes_of words nonce server_nonce

@@ -99,8 +99,9 @@ where
     O: Write + Drop,
     E: TerminalOutput,
     // The log has a login of the user whom the words describe, with the nonces that they give (one made of random bytes for each that
-    // they do not give) and with the password in the input's first line. If it returns true, this login is accepted, and after it are only passes,
-    // one for each further line of the input. If it returns false, the login is not accepted, or some line is answered by another reply.
+    // they do not give) and with the password in the input's first line. If it returns true, this login is accepted, and after it are
+    // only passes, one for each further line of the input. If it returns false, the login is not accepted, or some line is answered by
+    // another reply.
     ensures ok { IfOk result.0 (λ passed. RunsLogin R.File.remaining R.File.contents matches.now (I.remaining input.old)
         (O.contents output) passed (O.contents result.1)) }
     ensures err { IfErr result.0 (λ fault. StopsLogin R.File.remaining R.File.contents matches.now fault (I.remaining input.old)

@@ -73,7 +73,8 @@ fn answer_lines<S: BookStore, I: BufRead, O: Write>(
     output: &mut O,
 ) -> Result<bool, Fault>
     ensures ok { IfOk result (λ all_passed. AnswersAllLines S.IsStored name.now moment (I.remaining input.old)
-        (verify_run_shown S.facts held.old (O.contents output.old)) all_passed (verify_run_shown S.facts held.new (O.contents output.new))) }
+        (verify_run_shown S.facts held.old (O.contents output.old)) all_passed
+        (verify_run_shown S.facts held.new (O.contents output.new))) }
     ensures err { IfErr result (λ fault. AnswersFirstLines S.IsStored held.old.path.now name.now moment (I.remaining input.old)
         (verify_run_shown S.facts held.old (O.contents output.old)) fault (verify_run_shown S.facts held.new (O.contents output.new))) }
 {

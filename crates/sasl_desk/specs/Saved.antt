@@ -34,7 +34,8 @@ pub record IsLogSaved (IsStored : List ℕ → Type 0) (start : BookFields) (log
   pub saved : IsToldSaved IsStored start told store
 
 -- the replies in these lines of a log of version 2 are saved in the store, as `IsToldSaved` says
-pub record AreLinesSaved (IsStored : List ℕ → Type 0) (start : BookFields) (lines : List (Numbered LogLine)) (store : StoreFacts) : Type 0 where
+pub record AreLinesSaved (IsStored : List ℕ → Type 0) (start : BookFields) (lines : List (Numbered LogLine)) (store : StoreFacts)
+    : Type 0 where
   pub places : ℕ → Place
   pub told : List AccountAttempt
   pub begins : IsNumberedLogUpTo max_open_sessions (demands (accounts_in start)) lines places told
