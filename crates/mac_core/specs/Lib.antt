@@ -1,4 +1,4 @@
--- HMAC, the keys of SCRAM, and both for each mechanism, in the order in which to read them.
+-- HMAC, the keys of SCRAM, and both for each mechanism. Read `Hmac`, `Keys`, `Mechanism`; `Digest` is only a length that a trait cites.
 pub mod Digest
 pub mod Hmac
 pub mod Keys

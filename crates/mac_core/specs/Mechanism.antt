@@ -59,11 +59,11 @@ abbrev pub server_key_by : Mechanism → (salted : List ℕ) → List ℕ
 server_key_by mechanism = server_key (hash_by mechanism) (block_len_by mechanism)
 
 -- StoredKey of a password
-abbrev pub password_stored_key_by : Mechanism → (password salt : List ℕ) → (count : ℕ) → List ℕ
+abbrev pub password_stored_key_by : Mechanism → (password salt : List ℕ) → (i : ℕ) → List ℕ
 password_stored_key_by mechanism = password_stored_key (hash_by mechanism) (block_len_by mechanism)
 
 -- ServerKey of a password
-abbrev pub password_server_key_by : Mechanism → (password salt : List ℕ) → (count : ℕ) → List ℕ
+abbrev pub password_server_key_by : Mechanism → (password salt : List ℕ) → (i : ℕ) → List ℕ
 password_server_key_by mechanism = password_server_key (hash_by mechanism) (block_len_by mechanism)
 
 -- the running MAC is that of this key and text, with the mechanism's hash function

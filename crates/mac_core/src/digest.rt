@@ -14,8 +14,14 @@ use arrayvec::ArrayVec;
 use sha1::Sha1;
 use sha2::{Digest, Sha256, Sha512};
 
+// The longest digest of the hash functions here, that of SHA-512, in bytes.
+const MAX_DIGEST_LEN: usize = 64;
+
+// The longest block of the hash functions here, that of SHA-512, in bytes.
+pub(crate) const MAX_BLOCK_LEN: usize = 128;
+
 /// A digest, a MAC or a key: at most 64 bytes, in a fixed buffer.
-pub type Tag = ArrayVec<u8, 64>;
+pub type Tag = ArrayVec<u8, MAX_DIGEST_LEN>;
 
 /// A hash function. A value of the type is a running hash of a message that is added piece by piece.
 ///

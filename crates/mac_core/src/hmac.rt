@@ -3,7 +3,7 @@ ghost use Rattle.std.specs.Prelude.{◌≡◌, ◌-◌, ◌≤◌, ℕ, List, []
 ghost use Rattle.mac_core.specs.Hmac.{xor_each, padded_key, hmac, IsMacOf, IsPreparedFor};
 
 use crate::bytes::copy_of;
-use crate::digest::{HashFn, Tag};
+use crate::digest::{HashFn, MAX_BLOCK_LEN, Tag};
 use arrayvec::ArrayVec;
 
 // The byte of the inner pad, ipad (RFC 2104, section 2).
@@ -11,9 +11,6 @@ const IPAD: u8 = 0x36;
 
 // The byte of the outer pad, opad (RFC 2104, section 2).
 const OPAD: u8 = 0x5C;
-
-// The longest block of the hash functions here, that of SHA-512.
-const MAX_BLOCK_LEN: usize = 128;
 
 // A padded key: K0 of FIPS 198-1, section 4.
 type Block = ArrayVec<u8, MAX_BLOCK_LEN>;
@@ -44,6 +41,7 @@ fn padded_key<H: HashFn>(key: &[u8]) -> Block
     }
 }
 
+// Each byte of the block XORed with `byte`, as in K0 xor ipad and K0 xor opad (RFC 2104, section 2).
 fn xor_each(block: &Block, byte: u8) -> Block
     ensures { result.items ≡ xor_each byte block.now.items }
 {

@@ -9,7 +9,7 @@ use crate::digest::{HashFn, Tag};
 use crate::hmac::Prepared;
 use crate::mac;
 
-/// The xor of `a` and `b`, byte by byte. They must have the same length; the result has it too.
+/// The XOR of `a` and `b`, byte by byte. They must have the same length; the result has it too.
 pub fn xor(a: &Tag, b: &Tag) -> Tag
     requires { length a.now.items ≡ length b.now.items }
     ensures value { result.items ≡ xor_bytes a.now.items b.now.items }

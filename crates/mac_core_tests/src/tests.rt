@@ -1,9 +1,8 @@
 //! Expected values from outside: RFC 2202, RFC 4231 and NIST's examples for HMAC, RFC 6070 and RFC 7914 for Hi,
 //! the proof and the signature of RFC 5802's example, and the keys of the users of RFC 5802 and RFC 7677, computed
 //! with Python's hashlib.
-use mac_core::hmac::Mac;
 use mac_core::{
-    HSha1, HSha256, HSha512, HashFn, Mechanism, Prepared, ScramMac, Tag, client_key, hi, mac,
+    HSha1, HSha256, HSha512, HashFn, Mac, Mechanism, Prepared, ScramMac, Tag, client_key, hi, mac,
     scram_keys, server_key, stored_key, xor,
 };
 use std::alloc::{AllocError, Global};

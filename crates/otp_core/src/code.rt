@@ -4,17 +4,20 @@ ghost use Rattle.mac_core.specs.Hmac.{IsPreparedFor};
 ghost use Rattle.otp_core.specs.Code.{min_tag_len, truncated, last_digits, code_of, hotp_text, IsCodeText, steps_from};
 ghost use Rattle.otp_core.specs.Ranges.{max_digits};
 
-use crate::digits::Digits;
+use crate::digits::{Digits, MAX_DIGITS};
 use crate::moment::Moment;
 use crate::secret::Secret;
 use arrayvec::ArrayVec;
 use mac_core::{HashFn, Prepared, Tag};
 use std::marker::Model;
 
+// Room for the digits of a code.
+const CODE_ROOM: usize = MAX_DIGITS as usize;
+
 /// A one-time code: 6 to 8 ASCII digits. Contracts see it as the list of their bytes.
 #[derive(Drop)]
 pub struct Code {
-    digits: ArrayVec<u8, 8>,
+    digits: ArrayVec<u8, CODE_ROOM>,
 }
 
 impl Model for Code {
@@ -48,7 +51,7 @@ fn truncated_number(tag: &[u8]) -> u32
 }
 
 // The last `count` decimal digits of a number in ASCII, with leading zeros.
-fn digits_of(mut number: u32, count: usize) -> ArrayVec<u8, 8>
+fn digits_of(mut number: u32, count: usize) -> ArrayVec<u8, CODE_ROOM>
     requires { count ≤ max_digits }
     ensures { result.items ≡ last_digits count number }
 {

@@ -8,7 +8,7 @@ use arrayvec::ArrayVec;
 use mac_core::copy_of;
 use std::marker::Model;
 
-/// The least length of a secret, in bytes.
+/// The least length of a secret, in bytes. RFC 4226, section 4, requires 16, but tokens with 10 are in use.
 pub const MIN_SECRET_LEN: usize = 10;
 
 /// The greatest length of a secret, in bytes.

@@ -12,7 +12,7 @@ mod reply;
 mod window;
 
 use crate::fault::OtpFault;
-use crate::moment::{MAX_MOMENT, Moment};
+use crate::moment::{Moment, law_of_moments};
 use crate::sent::SentCodes;
 pub use kinds::{
     HotpFields, MAX_COUNTER, MAX_DRIFT_BOUND, MAX_LIMIT, MAX_LOOK_AHEAD, MAX_STEP, MAX_SYNC_AHEAD,
@@ -123,7 +123,7 @@ impl Token {
     pub fn judge(&mut self, moment: Moment, sent: SentCodes<'_>) -> Reply
         ensures { IsTokenAttempt self.old moment (texts_of sent.entry) result self.new }
     {
-        prove!(moment.seconds() <= MAX_MOMENT);
+        law_of_moments(moment);
         match sent {
             SentCodes::One(text) => judge_one(&mut self.fields, moment, text),
             SentCodes::Two(first, second) => judge_pair(&mut self.fields, moment, first, second),

@@ -8,13 +8,13 @@ use Rattle.scram_text.specs.declared.client_first.Flag.TheVariants.{NoBinding}
 use Rattle.scram_ends.specs.Stages.{Answered}
 use Rattle.scram_ends.specs.Auth.{auth_message, proof_of, expected_signature}
 
--- the most bytes of the client-first message of an honest client: `n,a=`, `,n=` and `,r=`, two names, each byte of which may take three,
--- and its part of the nonce
+-- the most bytes of the client-first message of an honest client: `n,a=`, `,n=` and `,r=` are 10, two names of 255 bytes, each of
+-- which may take three, 1530, and its part of the nonce 256
 abbrev pub max_honest_first_len : ℕ
 max_honest_first_len = 1796
 
--- the most bytes of the client-final message of an honest client: `c=`, `,r=` and `,p=`, the base64 of the longest gs2-header, the longest
--- nonce, and the base64 of the longest proof
+-- the most bytes of the client-final message of an honest client: `c=`, `,r=` and `,p=` are 8, the base64 of the longest gs2-header
+-- (770 bytes) has 1028, the longest nonce 512, and the base64 of a proof of SCRAM-SHA-256 (32 bytes) 44
 abbrev pub max_honest_final_len : ℕ
 max_honest_final_len = 1592
 

@@ -18,8 +18,8 @@ use Rattle.scram_ends.specs.declared.server.ServerWait.{ServerWait}
 pub record IsSigning (signing : Signing) (used : Mechanism) (keys : Keys) (read : List ℕ) : Type 0 where
   pub mechanism : signing.mechanism ≡ used
   pub stored : signing.stored.items ≡ keys.stored
-  pub client : IsScramMac used signing.client keys.stored read
-  pub server : IsScramMac used signing.server keys.server read
+  pub proof_mac : IsScramMac used signing.proof_mac keys.stored read
+  pub signature_mac : IsScramMac used signing.signature_mac keys.server read
 
 -- if there are keys, there is a value that signs with them and whose MACs have read `read`; if there are none, there is no value
 abbrev pub IsSigningFor : Option Signing → Mechanism → Option Keys → List ℕ → Type 0

@@ -19,10 +19,10 @@ use mac_core::{Mechanism, Tag};
 use scram_text::{MAX_NONCE_PART_LEN, TextFault, WriteFault};
 use thiserror::Error;
 
-/// The least iteration count that a client usually accepts: servers should ask for at least that (RFC 5802, section 5.1).
+// The least iteration count that a client usually accepts: servers should ask for at least that (RFC 5802, section 5.1).
 const USUAL_LEAST: u32 = 4096;
 
-/// The greatest iteration count that a client usually accepts. Its keys then take under a second.
+// The greatest iteration count that a client usually accepts. Its keys then take under a second.
 const USUAL_MOST: u32 = 1_000_000;
 
 /// The client's end of a login. The type is only there for `Client::start`, which begins a login: no value of it is needed.

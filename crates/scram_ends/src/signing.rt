@@ -16,12 +16,12 @@ pub(crate) struct Signing {
     mechanism: Mechanism,
     // StoredKey.
     stored: Tag,
-    // Under StoredKey; it checks the proof.
-    client: ScramMac,
-    // Under ServerKey; it signs.
-    server: ScramMac,
+    // Under StoredKey.
+    proof_mac: ScramMac,
+    // Under ServerKey.
+    signature_mac: ScramMac,
 
-    ghost is_mac: { ∥ ((key : List ℕ) × (read : List ℕ) × IsScramMac mechanism server key read) ∥₁ },
+    ghost is_mac: { ∥ ((key : List ℕ) × (read : List ℕ) × IsScramMac mechanism signature_mac key read) ∥₁ },
 }
 
 impl Signing {
@@ -40,8 +40,8 @@ impl Signing {
         Signing {
             mechanism,
             stored: copy_of(keys.stored.as_slice()),
-            client: running_mac(mechanism, &keys.stored, bare, server_first),
-            server: running_mac(mechanism, &keys.server, bare, server_first),
+            proof_mac: running_mac(mechanism, &keys.stored, bare, server_first),
+            signature_mac: running_mac(mechanism, &keys.server, bare, server_first),
         }
     }
 
@@ -51,7 +51,7 @@ impl Signing {
         ensures { (m : Mechanism) (keys : Keys) (read : List ℕ) → IsSigning self.now m keys read
             → (IsTrue result ↔ IsProof m keys (read ++ client_final_without_proof.now) proof.now.items) }
     {
-        let signature = signed(&self.client, client_final_without_proof);
+        let signature = signed(&self.proof_mac, client_final_without_proof);
         if proof.len() != signature.len() {
             return false;
         }
@@ -66,7 +66,7 @@ impl Signing {
             → result.items ≡ server_signature m keys (read ++ client_final_without_proof.now) }
         ensures some { 1 ≤ length result.items }
     {
-        signed(&self.server, client_final_without_proof)
+        signed(&self.signature_mac, client_final_without_proof)
     }
 }
 

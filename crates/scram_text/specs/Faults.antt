@@ -71,7 +71,7 @@ Fits max_nonce ErrorValue part = IsAttrVal (byte "e") IsValue part
 pub record IsFirstMisfit (max_nonce : ℕ) (places : List TextWhy) (k : ℕ) (pieces : List (List ℕ)) (f : TextFault) : Type 0 where
   pub part : List ℕ
   pub first : IsFirstUnmet (λ row. Fits max_nonce row.0 row.1) (zip places pieces) (f.why, part)
-  pub number : f.part ≡ k + length first.before
+  pub index : f.part ≡ k + length first.before
 
 -- the places of n parts: the fixed ones at the front and at the back, and extensions between them
 abbrev pub places : (front back : List TextWhy) → (n : ℕ) → List TextWhy

@@ -7,16 +7,16 @@ use Rattle.scram_text.specs.Class.{Lacks}
 abbrev pub LacksComma : List ℕ → Type 0
 LacksComma bytes = Lacks (byte ",") bytes
 
--- the text begins with "2C" or "3D", the codes that may follow `=` in a saslname
-abbrev pub begins_with_code : List ℕ → Bool
-begins_with_code [] = false
-begins_with_code (a ∷ []) = false
-begins_with_code (a ∷ b ∷ rest) = (a == byte "2") && (b == byte "C") || (a == byte "3") && (b == byte "D")
+-- the text begins with "2C" or "3D", which may follow `=` in a saslname
+abbrev pub begins_with_escape : List ℕ → Bool
+begins_with_escape [] = false
+begins_with_escape (a ∷ []) = false
+begins_with_escape (a ∷ b ∷ rest) = (a == byte "2") && (b == byte "C") || (a == byte "3") && (b == byte "D")
 
 -- each `=` begins "=2C" or "=3D"
 abbrev pub is_escaped : List ℕ → Bool
 is_escaped [] = true
-is_escaped (c ∷ rest) = (not (c == byte "=") || begins_with_code rest) && is_escaped rest
+is_escaped (c ∷ rest) = (not (c == byte "=") || begins_with_escape rest) && is_escaped rest
 
 -- saslname = 1*(value-safe-char / "=2C" / "=3D"), as "a=2Cb". That the characters are UTF-8 without NUL is asked of the whole text
 -- (IsUtf8Text).

@@ -27,7 +27,7 @@ pub(crate) fn is_plain(byte: u8) -> bool
 }
 
 /// Whether these are 1 to `most` bytes from 0x20 to 0x7E.
-pub(crate) fn is_plain_word(bytes: &[u8], most: usize) -> bool
+pub(crate) fn is_plain_run(bytes: &[u8], most: usize) -> bool
     ensures { IsTrue result ↔ IsCharsOf is_plain most bytes.now }
 {
     are_plain(bytes) && !bytes.is_empty() && bytes.len() <= most

@@ -97,7 +97,7 @@ pub(crate) fn cut_last(text: &[u8]) -> Option<(&[u8], &[u8])>
 }
 
 /// The value of a part that is this letter, `=` and a value, or None if the part has another form.
-pub(crate) fn headed(part: &[u8], letter: u8) -> Option<&[u8]>
+pub(crate) fn value_named(part: &[u8], letter: u8) -> Option<&[u8]>
     ensures { MatchOption result (is_named letter part.now ≡ false)
         (λ value. part.now ≡ letter ∷ byte "=" ∷ value.now) }
 {
@@ -108,7 +108,7 @@ pub(crate) fn headed(part: &[u8], letter: u8) -> Option<&[u8]>
 }
 
 /// Whether the part begins with this letter and `=`.
-pub(crate) fn is_named(letter: u8, part: &[u8]) -> bool
+pub(crate) fn is_named(part: &[u8], letter: u8) -> bool
     ensures { result ≡ is_named letter part.now }
 {
     matches!(part, [first, b'=', ..] if *first == letter)
@@ -137,6 +137,7 @@ fn is_attribute(part: &[u8]) -> bool
 pub(crate) struct Extensions<'a> {
     /// All of them, with the commas between them; empty if there are none.
     pub(crate) text: &'a [u8],
+
     /// Whether one is named `m`.
     pub(crate) mandatory: bool,
 }
@@ -180,7 +181,7 @@ fn check_extensions(text: &[u8], first: usize) -> Result<bool, TextFault>
                 why: TextWhy::Extension,
             });
         }
-        mandatory |= is_named(b'm', part);
+        mandatory |= is_named(part, b'm');
         index += 1;
         left = more;
     }
@@ -206,7 +207,7 @@ pub(crate) fn cut_two(text: &[u8]) -> (&[u8], &[u8], Option<&[u8]>)
 pub(crate) fn begins_with_mext(text: &[u8]) -> bool
     ensures { result ≡ is_named (byte "m") (first_of (parts text.now)) }
 {
-    is_named(b'm', text)
+    is_named(text, b'm')
 }
 
 /// The least number of parts of a message that needs `fixed` parts besides reserved-mext: one more if it has a reserved-mext.
@@ -225,13 +226,13 @@ pub(crate) fn least_part_count(text: &[u8], fixed: usize) -> usize
 /// What follows the place of reserved-mext.
 #[derive(Drop)]
 pub(crate) struct AfterMext<'a> {
-    // Whether there was a reserved-mext.
+    /// Whether there was a reserved-mext.
     pub(crate) has_mext: bool,
 
-    // The text after it, or the whole text.
+    /// The text after it, or the whole text.
     pub(crate) rest: &'a [u8],
 
-    // The index in the message of the first part of `rest`.
+    /// The index in the message of the first part of `rest`.
     pub(crate) index: usize,
 }
 

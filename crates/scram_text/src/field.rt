@@ -23,7 +23,7 @@ pub(crate) fn nonce_of(part: &[u8], most: usize) -> Option<&[u8]>
     ensures spelled { IfSome result (λ nonce. part.now ≡ codes "r=" ++ nonce.now) }
     ensures class { IfSome result (λ nonce. IsNonce most nonce.now) }
 {
-    let nonce = cut::headed(part, b'r')?;
+    let nonce = cut::value_named(part, b'r')?;
     if class::is_nonce(nonce, most) {
         Some(nonce)
     } else {
@@ -37,7 +37,7 @@ pub(crate) fn name_of(part: &[u8], letter: u8) -> Option<SaslText<'_>>
     ensures spelled { IfSome result (λ name. part.now ≡ letter ∷ byte "=" ∷ name) }
     ensures class { IfSome result (λ name. IsSaslName name) }
 {
-    let spelled = cut::headed(part, letter)?;
+    let spelled = cut::value_named(part, letter)?;
     SaslText::new(spelled)
 }
 
@@ -48,7 +48,7 @@ pub(crate) fn value_of(part: &[u8], letter: u8) -> Option<&[u8]>
     ensures spelled { IfSome result (λ value. part.now ≡ letter ∷ byte "=" ∷ value.now) }
     ensures class { IfSome result (λ value. IsValue value.now) }
 {
-    let value = cut::headed(part, letter)?;
+    let value = cut::value_named(part, letter)?;
     if value.is_empty() { None } else { Some(value) }
 }
 
@@ -72,7 +72,7 @@ pub(crate) fn count_of(part: &[u8]) -> Option<u32>
     ensures spelled { IfSome result (λ count. part.now ≡ codes "i=" ++ decimal count) }
     ensures class { IfSome result (λ count. IsCount count) }
 {
-    let digits = cut::headed(part, b'i')?;
+    let digits = cut::value_named(part, b'i')?;
     count(digits)
 }
 
@@ -97,7 +97,7 @@ pub(crate) fn channel_of(part: &[u8]) -> Option<ArrayVec<u8, MAX_CHANNEL_LEN>>
     ensures spelled { IfSome result (λ channel. part.now ≡ codes "c=" ++ base64 channel.items) }
     ensures class { IfSome result (λ channel. IsField max_channel_len channel.items) }
 {
-    let text = cut::headed(part, b'c')?;
+    let text = cut::value_named(part, b'c')?;
     bytes_of::<MAX_CHANNEL_LEN, MAX_CHANNEL_LEN>(text)
 }
 
@@ -110,7 +110,7 @@ pub(crate) fn short_bytes_of(part: &[u8], letter: u8) -> Option<Tag>
     ensures spelled { IfSome result (λ tag. part.now ≡ letter ∷ byte "=" ∷ base64 tag.items) }
     ensures class { IfSome result (λ tag. IsField max_tag_len tag.items) }
 {
-    let text = cut::headed(part, letter)?;
+    let text = cut::value_named(part, letter)?;
     bytes_of::<MAX_TAG_LEN, SHORT_FIELD_ROOM>(text)
 }
 

@@ -3,7 +3,7 @@ ghost use Rattle.std.specs.Prelude.{◌≡◌, ◌≤◌, ℕ, List, [], ◌++�
 ghost use Rattle.std.specs.Option.{SomeIff};
 ghost use Rattle.scram_text.specs.Limits.{max_name_len};
 ghost use Rattle.scram_text.specs.Class.{IsPlainName};
-ghost use Rattle.scram_text.specs.Name.{IsSaslName, LacksComma, SpellsName, byte_spelling, name_spelling, is_escaped, begins_with_code};
+ghost use Rattle.scram_text.specs.Name.{IsSaslName, LacksComma, SpellsName, byte_spelling, name_spelling, is_escaped, begins_with_escape};
 ghost use Rattle.scram_text.specs.Appended.{IsAppended, LacksRoom};
 
 use crate::draft::MessageDraft;
@@ -36,7 +36,7 @@ impl PlainName {
     pub fn new(bytes: &[u8]) -> Option<PlainName>
         ensures { SomeIff result (IsPlainName bytes.now) bytes.now }
     {
-        if !class::is_plain_word(bytes, MAX_NAME_LEN) {
+        if !class::is_plain_run(bytes, MAX_NAME_LEN) {
             return None;
         }
         Some(PlainName {
@@ -167,7 +167,7 @@ fn is_escaped(text: &[u8]) -> bool
 {
     let mut rest = text;
     while let [first, more @ ..] = rest {
-        if *first == b'=' && !begins_with_code(more) {
+        if *first == b'=' && !begins_with_escape(more) {
             return false;
         }
         rest = more;
@@ -176,8 +176,8 @@ fn is_escaped(text: &[u8]) -> bool
 }
 
 // Whether the text begins with `2C` or `3D`.
-fn begins_with_code(text: &[u8]) -> bool
-    ensures { result ≡ begins_with_code text.now }
+fn begins_with_escape(text: &[u8]) -> bool
+    ensures { result ≡ begins_with_escape text.now }
 {
     matches!(text, [b'2', b'C', ..] | [b'3', b'D', ..])
 }

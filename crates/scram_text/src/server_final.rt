@@ -86,7 +86,7 @@ fn read_verifier_or_error(part: &[u8]) -> Result<FinalResult<'_>, TextFault>
     ensures fault { IfErr result (λ f. (Fits max_nonce_len (verifier_or_error_place part.now) part.now → ⊥) × (f
         ≡ fault 0 (verifier_or_error_place part.now))) }
 {
-    if cut::is_named(b'e', part) {
+    if cut::is_named(part, b'e') {
         match field::value_of(part, b'e') {
             Some(value) => Ok(FinalResult::ErrorValue(value)),
             None => Err(TextFault {

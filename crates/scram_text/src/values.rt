@@ -27,7 +27,7 @@ impl Password {
     pub fn new(bytes: &[u8]) -> Option<Password>
         ensures { SomeIff result (IsPassword bytes.now) bytes.now }
     {
-        if !class::is_plain_word(bytes, MAX_PASSWORD_LEN) {
+        if !class::is_plain_run(bytes, MAX_PASSWORD_LEN) {
             return None;
         }
         Some(Password {

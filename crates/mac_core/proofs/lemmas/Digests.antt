@@ -1,5 +1,5 @@
 -- The digests and MACs of a mechanism are bytes; and XORing twice with the same bytes changes nothing.
-use Rattle.std.proofs.Common.{◌≡◌, ℕ, zero, suc, ◌<◌, ◌/◌, ◌^◌, List, [], ◌∷◌, ◌++◌, length, refl, ◌∙◌, ap, arith}
+use Rattle.std.proofs.Common.{◌≡◌, ℕ, zero, suc, ◌<◌, ◌/◌, ◌^◌, List, [], ◌∷◌, ◌++◌, length, refl, ◌∙◌, ap, subst, sym, arith}
 use Rattle.std.proofs.Math.Nat.{mod-lt}
 use Rattle.std.specs.Prelude.{bit_xor, slice_index}
 use Rattle.std.specs.Int.{byte_at, bytes_high_first}
@@ -35,19 +35,23 @@ joined_is_bytes [] back is also i = also i
 joined_is_bytes (b ∷ front) back is also zero = is 0
 joined_is_bytes (b ∷ front) back is also (suc i) = joined_is_bytes front back (λ j. is (suc j)) also i
 
+-- bytes that are written word after word are bytes
+words_are_bytes : (written : List ℕ → ℕ → List ℕ) → ((words : List ℕ) → written words 0 ≡ [])
+    → ((words : List ℕ) (n : ℕ) → written words (suc n) ≡ written words n ++ bytes_high_first 4 (slice_index words n))
+    → (words : List ℕ) (n : ℕ) → AreBytes (written words n)
+words_are_bytes written none next words zero = subst AreBytes (sym (none words)) (λ i. omega arith)
+words_are_bytes written none next words (suc n) = subst AreBytes (sym (next words n))
+    (joined_is_bytes (written words n) _ (words_are_bytes written none next words n) (number_is_bytes 4 (slice_index words n)))
+
 -- the elements of a digest of SHA-1 are each below 256
 sha1_digest_is_bytes : (words : List ℕ) (n : ℕ) → AreBytes (short.digest_bytes words n)
 unfolding short.digest_bytes
-sha1_digest_is_bytes words zero i = omega arith
-sha1_digest_is_bytes words (suc n) i =
-    joined_is_bytes (short.digest_bytes words n) _ (sha1_digest_is_bytes words n) (number_is_bytes 4 (slice_index words n)) i
+sha1_digest_is_bytes = words_are_bytes short.digest_bytes (λ words. refl) (λ words n. refl)
 
 -- the elements of a digest of SHA-256 are each below 256
 sha256_digest_is_bytes : (words : List ℕ) (n : ℕ) → AreBytes (long.digest_bytes words n)
 unfolding long.digest_bytes
-sha256_digest_is_bytes words zero i = omega arith
-sha256_digest_is_bytes words (suc n) i =
-    joined_is_bytes (long.digest_bytes words n) _ (sha256_digest_is_bytes words n) (number_is_bytes 4 (slice_index words n)) i
+sha256_digest_is_bytes = words_are_bytes long.digest_bytes (λ words. refl) (λ words n. refl)
 
 -- the elements of a text's digest by a mechanism are each below 256
 digest_is_bytes : (m : Mechanism) (text : List ℕ) → AreBytes (hash_by m text)

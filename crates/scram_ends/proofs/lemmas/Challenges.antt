@@ -1,7 +1,12 @@
 -- The nonce of a challenge and the client's own; and a challenge to answer is not refused.
-use Rattle.std.proofs.Common.{◌≡◌, ℕ, ◌<◌, true, false, List, ◌++◌, length, length-append, sym, ◌∙◌, ap, subst, arith, eqb}
+use Rattle.std.proofs.Common.{◌≡◌, ℕ, ◌<◌, ◌+◌, true, false, List, ◌++◌, length, take, drop, length-append, sym, ◌∙◌, ap, subst, arith, eqb}
 use Rattle.std.specs.Prelude.{◌≢◌}
+use Rattle.std.specs.Borrow.{Bor}
+use Rattle.std.specs.Cmp.Lexicographic.{pointwise}
+use Rattle.std.specs.declared.option.Option.TheVariants.{Some}
 use Rattle.std.proofs.lemmas.Bool.{eqb-true, eqb-false}
+use Rattle.std.proofs.lemmas.Bool.Decides.{Decides-eqb}
+use Rattle.std.proofs.lemmas.Slice.Eq.{strip_prefix_is}
 use Rattle.scram_text.specs.FirstUnmet.{IsFirstUnmet}
 use Rattle.scram_text.specs.Messages.{ServerFirstParts}
 use Rattle.scram_text.proofs.lemmas.FirstUnmet.{met_rows_have_no_first_unmet}
@@ -23,6 +28,16 @@ nonce_begins_otherwise client_nonce nonce sent prefix same is none more cut =
 pub nonce_begins_with_clients : (client_nonce nonce sent prefix rest : List ℕ)
     → sent ≡ nonce → prefix ≡ client_nonce → sent ≡ prefix ++ rest → nonce ≡ client_nonce ++ rest
 nonce_begins_with_clients client_nonce nonce sent prefix rest same is cut = sym same ∙ (cut ∙ ap (λ (front : List ℕ). front ++ rest) is)
+
+-- a challenge's nonce from which the client's was stripped is the client's with the rest after it
+pub stripped_nonce_begins_with_clients : {client_nonce nonce sent prefix : List ℕ} (rest : Bor (List ℕ)) → sent ≡ nonce
+    → prefix ≡ client_nonce
+    → (pointwise eqb (take (length prefix) sent) prefix ≡ true) × (rest.now ≡ drop (length prefix) sent)
+    × (length rest.now + length prefix ≡ length sent)
+    → nonce ≡ client_nonce ++ rest.now
+stripped_nonce_begins_with_clients {client_nonce} {nonce} {sent} {prefix} rest same is stripped =
+    nonce_begins_with_clients client_nonce nonce sent prefix rest.now same is
+    (strip_prefix_is Decides-eqb sent prefix (Some rest) stripped)
 
 -- if a challenge's nonce is the client's with nothing after it, it is not longer
 pub nonce_is_not_longer : (client_nonce nonce rest : List ℕ)

@@ -1,14 +1,17 @@
 //! The client's first message, for example `n,,n=user,r=fyko+d2lbbFgONRv9qkxdawL`.
 ghost use Rattle.std.specs.Prelude.{◌≡◌, ◌≤◌, ◌<◌, ◌+◌, ℕ, List, ◌++◌, length, IfSome, IfOk, IfErr};
 ghost use Rattle.std.specs.Option.{option_copied};
+ghost use Rattle.std.specs.declared.option.Option.{Option};
 ghost use Rattle.scram_text.specs.Class.{IsPlainName, IsNoncePart};
-ghost use Rattle.scram_text.specs.Messages.{ClientFirstParts};
+ghost use Rattle.scram_text.specs.Messages.{ClientFirstParts, gs2_header, client_first_bare, client_first_text};
 ghost use Rattle.scram_text.specs.Appended.{LeavesOnErr, LacksRoom};
 ghost use Rattle.scram_ends.specs.Stages.{started_login};
 ghost use Rattle.scram_ends.specs.Honest.{IsHonestFirst, max_honest_first_len};
 ghost use Rattle.scram_ends.specs.Client.{StandsForStarted};
 
 use crate::client::{Client, ClientOne, Limits};
+use crate::lengths::{MAX_BARE_LEN, MAX_HEADER_LEN};
+use arrayvec::ArrayVec;
 use mac_core::{Mechanism, copy_of};
 use scram_text::{Flag, NoncePart, PlainName, WriteFault, write_header_and_bare};
 use std::alloc::Allocator;
@@ -40,15 +43,29 @@ impl Client {
         let start = out.len();
         law_of_names(name, authzid, nonce);
         let header_len = write_header_and_bare(Flag::NoBinding, authzid, name, nonce, b"", out)?;
-        let (header, bare) = out[start..].split_at(header_len);
+        let (header, bare) = cut_header(&out[start..], header_len);
         Ok(ClientOne {
             mechanism,
             limits,
-            bare: copy_of(bare),
-            header: copy_of(header),
+            bare,
+            header,
             nonce: copy_of(nonce.bytes()),
         })
     }
+}
+
+// The gs2-header of an honest client's message, which has this length, and the bare message after it.
+fn cut_header(
+    message: &[u8],
+    header_len: usize,
+) -> (ArrayVec<u8, MAX_HEADER_LEN>, ArrayVec<u8, MAX_BARE_LEN>)
+    requires { (name : List ℕ) × (authzid : Option (List ℕ)) × (nonce : List ℕ) × (first : ClientFirstParts)
+        × IsHonestFirst name authzid nonce message.now first × (header_len ≡ length (gs2_header first)) }
+    ensures { (first : ClientFirstParts) → message.now ≡ client_first_text first → header_len ≡ length (gs2_header first)
+        → (result.0.items ≡ gs2_header first) × (result.1.items ≡ client_first_bare first) }
+{
+    let (header, bare) = message.split_at(header_len);
+    (copy_of(header), copy_of(bare))
 }
 
 // A law: names and nonces are in their classes by their types. Only the proof needs it.

@@ -1,30 +1,23 @@
 //! Both ends in one login: each gets what the other wrote.
 use super::logins::{Exchange, PUBLISHED};
 use super::*;
-use scram_ends::{Authenticated, Client, Limits};
+use scram_ends::{Authenticated, Client, ClientOne, Limits};
 use scram_text::Password;
 
-// Checks that each message is the published one; `server_nonce` is the server's part of the nonce.
-fn check_both(
+// Lets the client begin and the server challenge it, and checks both messages. Returns both ends and the challenge.
+fn check_challenge(
     rt: &impl Abort,
     alloc: Global,
     exchange: &Exchange,
     server_nonce: &str,
-) -> Result<(), Fail> {
-    let [
-        due_client_first,
-        due_challenge,
-        due_client_final,
-        due_server_final,
-    ] = exchange.messages;
+) -> Result<(ClientOne, ServerWait, Vec<u8>), Fail> {
+    let [due_client_first, due_challenge, _, _] = exchange.messages;
     let mechanism = exchange.mechanism;
     let name = PlainName::new(exchange.name.as_bytes()).ok_or("a name")?;
-    let password = Password::new(exchange.password.as_bytes()).ok_or("a password")?;
     let nonce = NoncePart::new(exchange.nonce.as_bytes()).ok_or("a nonce")?;
     let server_nonce = NoncePart::new(server_nonce.as_bytes()).ok_or("a nonce")?;
-    let view = view_of(mechanism, password.bytes(), due_challenge.as_bytes(), &[]).ok_or(
-        "an account",
-    )?;
+    let password = exchange.password.as_bytes();
+    let view = view_of(mechanism, password, due_challenge.as_bytes(), &[]).ok_or("an account")?;
 
     let mut client_first = Vec::new(alloc);
     let client = Client::start(
@@ -47,6 +40,20 @@ fn check_both(
         return Err(Fail::from("no challenge"));
     };
     check_text(rt, challenge.as_slice(), due_challenge, "the challenge");
+    Ok((client, server, challenge))
+}
+
+// Checks that each message is the published one; `server_nonce` is the server's part of the nonce.
+fn check_both(
+    rt: &impl Abort,
+    alloc: Global,
+    exchange: &Exchange,
+    server_nonce: &str,
+) -> Result<(), Fail> {
+    let [_, _, due_client_final, due_server_final] = exchange.messages;
+    let password = Password::new(exchange.password.as_bytes()).ok_or("a password")?;
+    let (client, server, challenge) = check_challenge(rt, alloc, exchange, server_nonce)?;
+
     let mut client_final = Vec::new(alloc);
     let Ok(client) = client.first(&password, challenge.as_slice(), &mut client_final) else {
         return Err(Fail::from("no answer"));

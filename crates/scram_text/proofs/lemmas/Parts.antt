@@ -68,7 +68,7 @@ pub unfit_part_is_misfit : (most k : ℕ) (place : TextWhy) (places : List TextW
 unfit_part_is_misfit most k place places part pieces no_fit = record {
   part = part;
   first = record { before = []; after = zip places pieces; split = refl; met = tt; unmet = no_fit };
-  number = omega arith;
+  index = omega arith;
 }
 
 -- if the first part fits, the first that does not fit is a later one
@@ -78,7 +78,7 @@ pub fitting_part_keeps_misfit : (most k : ℕ) (place : TextWhy) (places : List 
 fitting_part_keeps_misfit most k place places part pieces f fits later = record {
   part = later.part;
   first = met_row_keeps_first (λ row. Fits most row.0 row.1) (place, part) (zip places pieces) (f.why, later.part) fits later.first;
-  number = omega (arith, later.number);
+  index = omega (arith, later.index);
 }
 
 -- the first part that does not fit is the same if its index is written in another way

@@ -91,7 +91,7 @@ later_parts_keep_misfit most later more k pieces others f misfit =
         met = misfit.first.met;
         unmet = misfit.first.unmet;
       };
-      number = misfit.number;
+      index = misfit.index;
     }
 
 -- the first part that does not fit is the same with extensions before it

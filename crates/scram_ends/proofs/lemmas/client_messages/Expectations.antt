@@ -1,5 +1,5 @@
 -- A client that has written client-final is honest, and expects the signature of its login.
-use Rattle.std.proofs.Common.{◌≡◌, ℕ, ◌+◌, List, [], ◌++◌, ◌∙◌, ap, refl}
+use Rattle.std.proofs.Common.{◌≡◌, ℕ, List, [], ◌++◌, ◌∙◌, ap, refl}
 use Rattle.mac_core.specs.declared.mechanism.Mechanism.{Mechanism}
 use Rattle.scram_text.specs.Messages.{ServerFirstParts, IsServerFirst, client_final_without_proof, ClientFinalParts, client_final_text, IsClientFinal}
 use Rattle.scram_text.specs.Written.{client_final_of}

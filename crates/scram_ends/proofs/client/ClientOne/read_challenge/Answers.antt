@@ -1,11 +1,11 @@
 use Rattle.std.proofs.Common.{sym, ◌∙◌, inl, inr, refl, arith}
-use Rattle.std.specs.declared.option.Option.TheVariants.{None, Some}
+use Rattle.std.specs.declared.option.Option.TheVariants.{None}
 use Rattle.std.proofs.lemmas.Slice.Eq.{strip_prefix_is}
 use Rattle.std.proofs.lemmas.Bool.Decides.{Decides-eqb}
 use Rattle.scram_text.proofs.lemmas.FirstUnmet.{found_is_first}
 use Rattle.scram_ends.specs.Client.{challenge_faults_in_order, AsksOfChallenge}
 use Rattle.scram_ends.specs.declared.client.ClientFault.TheVariants.{NonceNotMine, NonceNotLonger, CountOutside}
-use Rattle.scram_ends.proofs.lemmas.Challenges.{nonce_begins_otherwise, nonce_begins_with_clients, nonce_is_not_longer, nonce_is_longer}
+use Rattle.scram_ends.proofs.lemmas.Challenges.{nonce_begins_otherwise, stripped_nonce_begins_with_clients, nonce_is_not_longer, nonce_is_longer}
 use Rattle.scram_ends.proofs.client.ClientOne.read_challenge.Goals.{then-challenge-self-via-then-challenge-self}
 use Rattle.scram_ends.proofs.client.ClientOne.read_challenge.Goals.{then-challenge-self-via-else-challenge-self+then-self-challenge}
 use Rattle.scram_ends.proofs.client.ClientOne.read_challenge.Goals as goal
@@ -31,9 +31,7 @@ pub returns-then-is_empty-clause-err : goal.returns-then-is_empty-clause-err
 returns-then-is_empty-clause-err c =
     let self = c.args.self.now in
     let found = c.in_ok-challenge.ensures.found in
-    let mine = nonce_begins_with_clients self.nonce.items found.0.nonce _ _ c.in-Some.more.now found.2.nonce c.as_slice.ensures.value
-    (strip_prefix_is Decides-eqb c.in_ok-challenge.challenge.nonce.now c.as_slice.result.now
-    (Some c.in-Some.more) c.in-Some.ensures.cases) in (
+    let mine = stripped_nonce_begins_with_clients c.in-Some.more found.2.nonce c.as_slice.ensures.value c.in-Some.ensures.cases in (
       found.0,
       found.1,
       found_is_first (λ row. AsksOfChallenge row self.limits self.nonce.items found.0) challenge_faults_in_order NonceNotLonger (inr (
@@ -53,9 +51,7 @@ pub returns-then-challenge-self-clause-err : goal.returns-then-challenge-self-cl
 returns-then-challenge-self-clause-err c =
     let self = c.args.self.now in
     let found = c.in_ok-challenge.ensures.found in
-    let mine = nonce_begins_with_clients self.nonce.items found.0.nonce _ _ c.in-Some.more.now found.2.nonce c.as_slice.ensures.value
-    (strip_prefix_is Decides-eqb c.in_ok-challenge.challenge.nonce.now c.as_slice.result.now
-    (Some c.in-Some.more) c.in-Some.ensures.cases) in (
+    let mine = stripped_nonce_begins_with_clients c.in-Some.more found.2.nonce c.as_slice.ensures.value c.in-Some.ensures.cases in (
       found.0,
       found.1,
       found_is_first (λ row. AsksOfChallenge row self.limits self.nonce.items found.0) challenge_faults_in_order CountOutside (inr (
@@ -81,9 +77,7 @@ pub returns-clause-ok : goal.returns-clause-ok
 returns-clause-ok c =
     let self = c.args.self.now in
     let found = c.in_ok-challenge.ensures.found in
-    let mine = nonce_begins_with_clients self.nonce.items found.0.nonce _ _ c.in-Some.more.now found.2.nonce c.as_slice.ensures.value
-    (strip_prefix_is Decides-eqb c.in_ok-challenge.challenge.nonce.now c.as_slice.result.now
-    (Some c.in-Some.more) c.in-Some.ensures.cases) in (
+    let mine = stripped_nonce_begins_with_clients c.in-Some.more found.2.nonce c.as_slice.ensures.value c.in-Some.ensures.cases in (
       found.0,
       found.2,
       record {
