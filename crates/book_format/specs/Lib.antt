@@ -1,4 +1,5 @@
 -- Which text is that of an account book, which first fault another text has, and the text that a book is written as.
+-- In the order in which to read them: what a book is; demands, rows and types; the tables; first faults, trees, texts, laws.
 pub mod Account
 pub mod Book
 pub mod Faults

@@ -9,7 +9,7 @@ use Rattle.book_format.specs.Book.{BookFields}
 use Rattle.book_format.specs.Rows.{IsTable, IsTableIn}
 use Rattle.book_format.specs.Tables.{account_table, document_table}
 
--- the table has these accounts, each at its name, and nothing else
+-- the table has these accounts, each at its name, and nothing else; a parsed table has its members in the order of their names, as bytes
 abbrev pub AreAccountTrees : Members → List (List ℕ × AccountFields) → Type 0
 AreAccountTrees no_members [] = Unit {0}
 AreAccountTrees no_members (entry ∷ entries) = ⊥

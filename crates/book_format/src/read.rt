@@ -6,11 +6,10 @@ ghost use Rattle.mac_core.specs.Mechanism.{digest_len_by};
 ghost use Rattle.mac_core.specs.declared.mechanism.Mechanism.TheVariants.{ScramSha256};
 ghost use Rattle.book_format.specs.Readings.{IsReadAnswered};
 ghost use Rattle.book_format.specs.inner.Steps.{IsReadAs, IsReadOrFault, seen};
-ghost use Rattle.book_format.specs.inner.Books.{at_top, tree_in, top_of, accounts_of_table, book_in};
+ghost use Rattle.book_format.specs.inner.Books.{at_top, tree_in, top_shown, top_of, accounts_of_table, book_in};
 ghost use Rattle.book_format.specs.FirstFault.{is_one};
 ghost use Rattle.book_format.specs.inner.Rows.{read_some};
 ghost use Rattle.book_format.specs.inner.Values.{table_of};
-ghost use Rattle.book_format.specs.declared.read.Top.{Top};
 
 mod accounts;
 mod field;
@@ -98,11 +97,7 @@ fn document_of(alloc: Global, bytes: &[u8]) -> Result<Table, BookWhy>
 // key at fault: `Key` if it is missing or its value has the wrong type, else `KeyLength` or `Count`.
 #[tactic(auto, unfolding(crate::specs::inner::Books::top_of, crate::specs::inner::Rows::read_table))]
 fn top_of(table: &Table) -> Result<Top<'_>, BookWhy>
-    ensures { seen (λ t. record {
-      decoy_key = t.decoy_key;
-      decoy_count = t.decoy_count;
-      accounts = option_map (λ m. table_view m.now) t.accounts;
-    }) result ≡ top_of (table_view table.now) }
+    ensures { seen top_shown result ≡ top_of (table_view table.now) }
 {
     if !is_format(table) {
         return Err(BookWhy::Format);

@@ -1,7 +1,8 @@
 -- How a book's text is read: the text, `format`, the document's keys, then each account.
-use Rattle.std.specs.Prelude.{ℕ, ◌+◌, if◌then◌else◌, List, [], ◌∷◌, codes, Option, Some, None, option_and_then, ok_or, Result, Ok, Err}
+use Rattle.std.specs.Prelude.{ℕ, ◌+◌, if◌then◌else◌, List, [], ◌∷◌, codes, Option, Some, None, option_map, option_and_then, ok_or, Result, Ok, Err}
 use Rattle.std.specs.Str.{is_utf8}
 use Rattle.toml.specs.Data.{Data, Members, no_members, member, get_member, as_integer}
+use Rattle.toml.specs.View.{table_view}
 use Rattle.toml.specs.Parse.{parse_document}
 use Rattle.book_format.specs.Account.{AccountFields}
 use Rattle.book_format.specs.Book.{BookFields}
@@ -11,6 +12,7 @@ use Rattle.book_format.specs.inner.Steps.{◌>>=◌, pass_or}
 use Rattle.book_format.specs.inner.Values.{plain_name_of}
 use Rattle.book_format.specs.inner.Rows.{read_table, table_in}
 use Rattle.book_format.specs.inner.Tables.{account_reading, document_reading}
+use Rattle.book_format.specs.declared.read.Top.{Top}
 use Rattle.book_format.specs.declared.fault.BookFault.{BookFault}
 use Rattle.book_format.specs.declared.fault.BookWhy.{BookWhy}
 use Rattle.book_format.specs.declared.fault.BookWhy.TheVariants.{Toml, Format}
@@ -44,6 +46,10 @@ accounts_from index (member key d ms) = do
 abbrev pub accounts_of_table : Option Members → Result (List (List ℕ × AccountFields)) BookFault
 accounts_of_table None = Ok []
 accounts_of_table (Some ms) = accounts_from 0 ms
+
+-- the document's own keys, as they were read
+abbrev pub top_shown : Top → TopFields
+top_shown t = record { decoy_key = t.decoy_key; decoy_count = t.decoy_count; accounts = option_map (λ m. table_view m.now) t.accounts }
 
 -- the values of the document's own keys, or the first fault: that of `format` comes before all others
 unfoldable pub top_of : Members → Result TopFields BookWhy

@@ -17,6 +17,7 @@ ghost use Rattle.book_format.specs.declared.fault.BookWhy.TheVariants.{Key};
 use crate::fault::BookWhy;
 use arrayvec::ArrayVec;
 use mac_core::Tag;
+use scram_text::MAX_TAG_LEN;
 use toml::{Table, Value};
 
 /// The value at a key, or None if the key is missing.
@@ -127,7 +128,7 @@ fn bytes_within(least: usize, most: usize, text: &str) -> Option<Tag>
     if count < least || most < count {
         return None;
     }
-    let mut buffer = [0; 64];
+    let mut buffer = [0; MAX_TAG_LEN];
     hex::decode_to_slice(text, &mut buffer[..count]).ok()?;
     ArrayVec::try_from(&buffer[..count]).ok()
 }
