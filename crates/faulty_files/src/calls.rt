@@ -5,6 +5,9 @@ use std::io;
 use std::io::ErrorKind;
 use std::time::Duration;
 
+/// More calls than any run makes in a test that lets each of them fail in turn.
+pub const MORE_CALLS_THAN_ANY_RUN: u32 = 60;
+
 /// The calls that were made, and the number of the one that is to fail.
 #[derive(Drop)]
 pub struct Calls {

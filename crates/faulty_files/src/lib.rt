@@ -6,6 +6,6 @@ mod calls;
 mod file;
 mod runtime;
 
-pub use calls::Calls;
+pub use calls::{Calls, MORE_CALLS_THAN_ANY_RUN};
 pub use file::FaultyFile;
 pub use runtime::Faulty;

@@ -14,11 +14,11 @@ use std::time::{Clock, Duration};
 /// A runtime that does what `rt` does, records each call, and fails one.
 #[derive(Drop)]
 pub struct Faulty<'a> {
-    /// The runtime that does the work.
-    pub rt: &'a HostRuntime,
+    // The runtime that does the work.
+    rt: &'a HostRuntime,
 
-    /// The recorded calls, and which call fails.
-    pub calls: &'a Calls,
+    // The recorded calls, and which call fails.
+    calls: &'a Calls,
 }
 
 impl<'a> Faulty<'a> {
