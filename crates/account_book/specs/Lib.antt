@@ -7,6 +7,7 @@ pub mod Tokens
 pub mod View
 pub mod Store
 pub mod SavedBooks
+pub mod Spent
 pub mod Faults
 pub mod Laws
 -- what contracts of this crate speak of, for callers that do not list the crates below

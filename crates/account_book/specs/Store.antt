@@ -41,3 +41,12 @@ IsNotSaved old text new = ((old.failed ≡ true) × (new ≡ old)) ⊎ IsFailedS
 abbrev pub IsSaveAnswered : StoreFacts → List ℕ → Result (Unit {0}) StoreFault → StoreFacts → Type 0
 IsSaveAnswered old text (Ok done) new = IsSaved old text new
 IsSaveAnswered old text (Err fault) new = IsNotSaved old text new
+
+-- the store may hold this text: the one that it says it holds; or, if it has failed, the one that the failed save was given
+abbrev pub MayHold : StoreFacts → (text : List ℕ) → Type 0
+MayHold store text = (text ≡ store.saved) ⊎ ((store.failed ≡ true) × (text ≡ store.asked))
+
+-- while the store saves the text `asked`, it may hold this text: one that it may have held as the save began, or `asked`. That a store
+-- which is stopped within a save holds no other is assumed of it (`BookStore`).
+abbrev pub MayHoldWithinSave : (before : StoreFacts) → (asked : List ℕ) → (text : List ℕ) → Type 0
+MayHoldWithinSave before asked text = MayHold before text ⊎ (text ≡ asked)

@@ -1,5 +1,5 @@
 -- The tokens of a book's accounts.
-use Rattle.std.specs.Prelude.{ℕ, ◌≡◌, List, option_and_then, Option, MatchOption}
+use Rattle.std.specs.Prelude.{ℕ, ◌≡◌, List, [], ◌∷◌, option_and_then, Option, MatchOption}
 use Rattle.std.specs.declared.option.Option.TheVariants.{None, Some}
 use Rattle.otp_core.specs.Attempt.{CodeTexts}
 use Rattle.otp_core.specs.Ranges.{IsMoment}
@@ -40,3 +40,9 @@ pub record IsBookAttempt (old : BookFields) (attempt : AccountAttempt) (new : Bo
 -- token, nothing changes
 abbrev pub IsUnlocked : BookFields → List ℕ → BookFields → Type 0
 IsUnlocked old name new = MatchOption (token_at old name) (new ≡ old) (λ token. IsChanged old name (with_token (unlocked token)) new)
+
+-- the book after these attempts, the latest of which comes first: each was judged in the book before it
+abbrev pub IsBookAfterAttempts : (start : BookFields) → (latest_first : List AccountAttempt) → (book : BookFields) → Type 0
+IsBookAfterAttempts start [] book = book ≡ start
+IsBookAfterAttempts start (attempt ∷ before) book =
+    (old : BookFields) × IsBookAfterAttempts start before old × IsBookAttempt old attempt book

@@ -13,8 +13,7 @@ use Rattle.otp_core.specs.declared.hash.OtpHash.TheVariants.{Sha1}
 use Rattle.command_line.specs.declared.fault.Fault.{Fault}
 use Rattle.command_line.specs.declared.fault.Fault.TheVariants.{NoCounterOrMoment, BeforeFirstStep, CannotWriteOutput, NoMemory}
 use Rattle.command_line.specs.declared.option_name.OptionName.TheVariants as option
-use Rattle.command_words.specs.Values.{value_of, given_value}
-use Rattle.command_io.specs.BadValues.{GivesBadValue, HasBadValue}
+use Rattle.command_words.specs.Values.{value_of, given_value, GivesBadValue, HasBadValue}
 use Rattle.account_commands.specs.declared.moving_factor.MovingFactor.{MovingFactor}
 use Rattle.account_commands.specs.declared.moving_factor.MovingFactor.TheVariants.{Counter, Time}
 

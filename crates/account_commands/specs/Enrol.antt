@@ -13,15 +13,13 @@ use Rattle.account_book.specs.Accounts.{account_at}
 use Rattle.account_book.specs.SavedBooks.{HasStoredText}
 use Rattle.account_book.specs.View.{decoy_salt_len}
 use Rattle.book_file.specs.Saved.{IsSavedText}
-use Rattle.command_line.specs.Fault.{IsFileUnwrittenOrNoMemory}
 use Rattle.command_line.specs.declared.fault.Fault.{Fault}
 use Rattle.command_line.specs.declared.fault.Fault.TheVariants.{NameTaken, CannotWriteOutput}
 use Rattle.command_line.specs.declared.option_name.OptionName.TheVariants as option
-use Rattle.command_words.specs.Values.{given_value}
-use Rattle.command_io.specs.BadValues.{HasBadPassword, HasBadValue}
-use Rattle.command_io.specs.File.{IsFileUnreadOrNoMemory}
+use Rattle.command_words.specs.Values.{given_value, HasBadValue}
+use Rattle.command_io.specs.File.{IsFileUnreadOrNoMemory, IsFileUnwrittenOrNoMemory}
 use Rattle.command_io.specs.HeldBook.{IsEnrolled, IsReadBook, CannotOpenBook}
-use Rattle.command_io.specs.Input.{IsFirstLine, IsInputUnreadOrNoMemory}
+use Rattle.command_io.specs.Input.{IsFirstLine, IsInputUnreadOrNoMemory, HasBadPassword}
 use Rattle.command_io.specs.declared.new_account.NewAccount.{NewAccount}
 use Rattle.command_io.specs.declared.new_account.Salts.{Salts}
 

@@ -12,9 +12,8 @@ use Rattle.scram_text.specs.Parts.{IsCount}
 use Rattle.command_line.specs.declared.fault.Fault.{Fault}
 use Rattle.command_line.specs.declared.fault.Fault.TheVariants.{CannotWriteOutput}
 use Rattle.command_line.specs.declared.option_name.OptionName.TheVariants as option
-use Rattle.command_words.specs.Values.{given_value}
-use Rattle.command_io.specs.BadValues.{HasBadPassword, HasBadValue}
-use Rattle.command_io.specs.Input.{IsFirstLine, IsInputUnreadOrNoMemory}
+use Rattle.command_words.specs.Values.{given_value, HasBadValue}
+use Rattle.command_io.specs.Input.{IsFirstLine, IsInputUnreadOrNoMemory, HasBadPassword}
 
 -- the two lines of `keys`: StoredKey and ServerKey of a password (RFC 5802, section 3) in lower-case hexadecimal, each after its name and
 -- an equals sign

@@ -8,13 +8,11 @@ use Rattle.account_book.specs.{BookFields}
 use Rattle.account_book.specs.Accounts.{account_at}
 use Rattle.account_book.specs.SavedBooks.{HasStoredText}
 use Rattle.book_file.specs.Saved.{IsSavedText}
-use Rattle.command_line.specs.Fault.{IsTokenFault}
 use Rattle.command_line.specs.declared.fault.Fault.{Fault}
 use Rattle.command_line.specs.declared.fault.Fault.TheVariants.{CannotWriteOutput}
 use Rattle.command_line.specs.declared.option_name.OptionName.TheVariants as option
-use Rattle.command_words.specs.Values.{given_value}
-use Rattle.command_io.specs.BadValues.{HasBadValue}
-use Rattle.command_io.specs.HeldBook.{IsReadBook, IsTokenUnlocked, CannotOpenBook}
+use Rattle.command_words.specs.Values.{given_value, HasBadValue}
+use Rattle.command_io.specs.HeldBook.{IsReadBook, IsTokenUnlocked, CannotOpenBook, IsTokenFault}
 
 -- a book is read from a file, the token of the name that the words give is unlocked, and a text of the resulting book is written to
 -- a file; and the name is printed

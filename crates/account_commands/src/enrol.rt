@@ -124,6 +124,7 @@ fn two_salts<F: Read + Drop>(random: &mut RandomFile<'_, F>) -> Result<Salts, Fa
     Ok(Salts { sha1, sha256 })
 }
 
+// The salt of these bytes.
 fn salt(bytes: [u8; SALT_LEN]) -> Salt
     ensures { result ≡ bytes }
 {

@@ -2,8 +2,7 @@
 ghost use Rattle.std.specs.Prelude.{◌≡◌, ◌≤◌, ◌⊎◌, ℕ, List, IfErr, IfOk, OnOk, string_bytes};
 ghost use Rattle.std.specs.Io.KnownBytes.{Appends};
 ghost use Rattle.scram_text.specs.Class.{IsPassword};
-ghost use Rattle.command_io.specs.BadValues.{HasBadPassword};
-ghost use Rattle.command_io.specs.Input.{IsFirstLine};
+ghost use Rattle.command_io.specs.Input.{IsFirstLine, HasBadPassword};
 ghost use Rattle.command_io.specs.Printed.{PrintsNothingUnlessOutputFailed};
 ghost use Rattle.account_commands.specs.Keys.{printed_keys, CannotPrintKeys, PrintsKeysAsked};
 

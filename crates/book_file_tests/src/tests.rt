@@ -3,7 +3,7 @@ mod folder;
 
 use account_book::{BookStore, StoreFault};
 use book_file::{BookFile, BookFileExt, FileStore, HoldFault, is_same_file};
-use faulty_files::{Calls, Faulty};
+use faulty_files::{Calls, Faulty, MORE_CALLS_THAN_ANY_RUN};
 use folder::text_at;
 use std::fs;
 use std::fs::{File, OpenFile, Permissions};
@@ -349,7 +349,7 @@ fn each_call_fails_in_turn(rt: HostRuntime) -> Result<(), Fail> {
     let folder = folder::make(&rt, "turns")?;
     let book = format!(in rt.alloc(); "{folder}/book")?;
     let mut saved_at_last = false;
-    for failing in 1..60u32 {
+    for failing in 1..MORE_CALLS_THAN_ANY_RUN {
         fs::write(&rt, book.as_str(), "old")?;
         let calls = Calls::new(rt.alloc(), failing);
         let faulty = Faulty::new(&rt, &calls);
@@ -395,7 +395,7 @@ fn each_failed_call_is_told(rt: HostRuntime) -> Result<(), Fail> {
     let book = format!(in rt.alloc(); "{folder}/book")?;
     let mut is_told = false;
     let mut saved_at_last = false;
-    for failing in 1..60u32 {
+    for failing in 1..MORE_CALLS_THAN_ANY_RUN {
         fs::write(&rt, book.as_str(), "old")?;
         let calls = Calls::new(rt.alloc(), failing);
         let faulty = Faulty::new(&rt, &calls);
@@ -450,7 +450,7 @@ fn each_call_for_a_new_book_fails_in_turn(rt: HostRuntime) -> Result<(), Fail> {
     let folder = folder::make(&rt, "new-turns")?;
     let book = format!(in rt.alloc(); "{folder}/book")?;
     let mut saved_at_last = false;
-    for failing in 1..60u32 {
+    for failing in 1..MORE_CALLS_THAN_ANY_RUN {
         let calls = Calls::new(rt.alloc(), failing);
         let faulty = Faulty::new(&rt, &calls);
         let mut is_saved = false;

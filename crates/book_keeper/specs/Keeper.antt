@@ -30,11 +30,11 @@ abbrev pub IsChangeUnsaved : (Changes : BookFields → BookFields → Type 0) �
 IsChangeUnsaved Changes old_book old_store why new_store =
     (next : BookFields) × Changes old_book next × IsUnsaved old_store next why new_store
 
--- a book that has changed is saved; if nothing has, nothing is asked of the store
-abbrev pub IsSavedIfChanged : (IsStored : List ℕ → Type 0) → (has_changed : Bool) → (old_book : BookFields) → (old_store : StoreFacts)
+-- if a save is due, the store saves the new book; else the book and the store stay as they were
+abbrev pub IsSavedIfDue : (IsStored : List ℕ → Type 0) → (is_due : Bool) → (old_book : BookFields) → (old_store : StoreFacts)
     → (new_book : BookFields) → (new_store : StoreFacts) → Type 0
-IsSavedIfChanged IsStored true old_book old_store new_book new_store = SavesBook IsStored old_store new_book new_store
-IsSavedIfChanged IsStored false old_book old_store new_book new_store = (new_book ≡ old_book) × (new_store ≡ old_store)
+IsSavedIfDue IsStored true old_book old_store new_book new_store = SavesBook IsStored old_store new_book new_store
+IsSavedIfDue IsStored false old_book old_store new_book new_store = (new_book ≡ old_book) × (new_store ≡ old_store)
 
 -- a reply that needs a save is due to an attempt, which makes the old book the new one
 abbrev pub IsSavingReplyDue : (name : List ℕ) → (moment : ℕ) → CodeTexts → (old new : BookFields) → Type 0
@@ -45,12 +45,12 @@ IsSavingReplyDue name moment sent old new =
 abbrev pub IsToBeSaved : BookFields → (name : List ℕ) → (moment : ℕ) → CodeTexts → Type 0
 IsToBeSaved old name moment sent = (next : BookFields) × IsSavingReplyDue name moment sent old next
 
--- the outcome of a code: a reply that is due and kept; or the store failed to save the book with the reply that was due
+-- what becomes of a code: a reply that is due and kept; or the store failed to save the book with the reply that was due
 abbrev pub IsCodeJudged : (IsStored : List ℕ → Type 0) → (old_book : BookFields) → (old_store : StoreFacts) → (name : List ℕ)
     → (moment : ℕ) → CodeTexts → CodeJudged → (new_book : BookFields) → (new_store : StoreFacts) → Type 0
 IsCodeJudged IsStored old_book old_store name moment sent (Replied reply) new_book new_store =
     IsBookAttempt old_book (account_attempt_of name moment sent reply) new_book
-    × IsSavedIfChanged IsStored (needs_save reply) old_book old_store new_book new_store
+    × IsSavedIfDue IsStored (needs_save reply) old_book old_store new_book new_store
 IsCodeJudged IsStored old_book old_store name moment sent NotSaved new_book new_store =
     (new_book ≡ old_book)
     × IsChangeUnsaved (IsSavingReplyDue name moment sent) old_book old_store fault.NotSaved new_store

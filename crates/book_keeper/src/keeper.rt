@@ -5,7 +5,7 @@ ghost use Rattle.account_book.specs.Accounts.{account_at, IsAdded, IsChanged};
 ghost use Rattle.account_book.specs.Enrolled.{enrolled};
 ghost use Rattle.account_book.specs.SavedBooks.{SavesBook};
 ghost use Rattle.account_book.specs.Tokens.{token_at, with_token, IsUnlocked};
-ghost use Rattle.book_keeper.specs.Keeper.{IsChangeUnsaved, IsCodeJudged, IsSavedIfChanged, IsToBeSaved, IsUnsaved};
+ghost use Rattle.book_keeper.specs.Keeper.{IsChangeUnsaved, IsCodeJudged, IsSavedIfDue, IsToBeSaved, IsUnsaved};
 
 use account_book::{Book, BookStore, EnrolFault};
 use otp_core::{Moment, Reply, SentCodes, Token, law_of_moments};
@@ -112,7 +112,7 @@ impl<S: BookStore> Keeper<S> {
         ensures found { IfOk result (λ free. free ≡ not (is_some (account_at self.old.book name.now))) }
         ensures added { IfOk result (λ free. free ≡ true
             → IsAdded self.old.book name.now (enrolled password.now sha1_salt.now sha256_salt.now count) self.new.book) }
-        ensures ok { IfOk result (λ free. IsSavedIfChanged S.IsStored free self.old.book (S.facts self.old.store) self.new.book
+        ensures ok { IfOk result (λ free. IsSavedIfDue S.IsStored free self.old.book (S.facts self.old.store) self.new.book
             (S.facts self.new.store)) }
         ensures undone { OnErr result (self.new.book ≡ self.old.book) }
         ensures err { IfErr result (λ fault. IsChangeUnsaved
@@ -144,7 +144,7 @@ impl<S: BookStore> Keeper<S> {
     pub fn unlock(&mut self, alloc: Global, name: &PlainName) -> Result<bool, SaveFault>
         ensures found { IfOk result (λ found. found ≡ is_some (token_at self.old.book name.now)) }
         ensures unlocked { OnOk result (IsUnlocked self.old.book name.now self.new.book) }
-        ensures ok { IfOk result (λ found. IsSavedIfChanged S.IsStored found self.old.book (S.facts self.old.store) self.new.book
+        ensures ok { IfOk result (λ found. IsSavedIfDue S.IsStored found self.old.book (S.facts self.old.store) self.new.book
             (S.facts self.new.store)) }
         ensures undone { OnErr result (self.new.book ≡ self.old.book) }
         ensures err { IfErr result (λ fault. IsChangeUnsaved (λ old. IsUnlocked old name.now) self.old.book (S.facts self.old.store) fault

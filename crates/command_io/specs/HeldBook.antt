@@ -10,15 +10,16 @@ use Rattle.book_format.specs.declared.fault.BookFault.{BookFault}
 use Rattle.account_book.specs.AccountAttempt.{account_attempt_of}
 use Rattle.account_book.specs.Accounts.{IsAdded}
 use Rattle.account_book.specs.Enrolled.{enrolled}
-use Rattle.account_book.specs.SavedBooks.{needs_save, SavesBook}
+use Rattle.account_book.specs.SavedBooks.{needs_save, SavesBook, HoldsBook}
 use Rattle.account_book.specs.Store.{StoreFacts}
 use Rattle.account_book.specs.Tokens.{IsUnlocked, IsBookAttempt, token_at}
-use Rattle.book_keeper.specs.Keeper.{IsChangeUnsaved, IsSavedIfChanged, IsSavingReplyDue}
+use Rattle.book_keeper.specs.Keeper.{IsChangeUnsaved, IsSavedIfDue, IsSavingReplyDue}
 use Rattle.book_keeper.specs.declared.keeper.SaveFault.TheVariants.{NotSaved}
 use Rattle.book_file.specs.Text.{IsRead}
 use Rattle.command_line.specs.Fault.{fault_of_book}
 use Rattle.command_line.specs.declared.fault.Fault.{Fault}
 use Rattle.command_line.specs.declared.fault.Fault.TheVariants.{NoSuchAccount, NoToken, CannotRead, CannotWrite, NoMemory}
+use Rattle.command_io.specs.File.{IsFileUnwrittenOrNoMemory}
 use Rattle.command_io.specs.declared.held_book.HeldBook.{HeldBook}
 use Rattle.command_io.specs.declared.new_account.NewAccount.{NewAccount}
 use Rattle.command_io.specs.declared.new_account.Salts.{Salts}
@@ -31,6 +32,10 @@ pub record HeldFacts : Type 0 where
 -- what is known of this held book
 abbrev pub held_shown : {S : Type 0} → (S → StoreFacts) → HeldBook S → HeldFacts
 held_shown facts held = record { book = held.keeper.book; store = facts held.keeper.store }
+
+-- the store of a held book has not failed, and holds a text of the book, wherever that text is from
+abbrev pub HoldsItsBook : HeldFacts → Type 0
+HoldsItsBook held = HoldsBook (λ text. Unit {0}) held.book held.store
 
 -- the store after a change that fails: if the fault is that the book's file can't be written, it fails to save some book with the change;
 -- after any other fault it is as it was
@@ -62,6 +67,12 @@ CannotOpenBook bytes_of path fault = CannotHoldOrNoMemory path fault ⊎ IsFault
 abbrev pub LacksToken : Option AccountFields → Fault → Type 0
 LacksToken found fault = MatchOption found (fault ≡ NoSuchAccount) (λ account. (fault ≡ NoToken) × (account.token ≡ None))
 
+-- the fault of a change to the token of the account that was looked up, in the book whose file has this path:
+-- there is no account, it has no token, the book can't be saved, or memory ran out
+abbrev pub IsTokenFault : (path : List ℕ) → (found : Option AccountFields) → Fault → Type 0
+IsTokenFault path found fault = MatchOption found (fault ≡ NoSuchAccount)
+    (λ account. MatchOption account.token (fault ≡ NoToken) (λ token. IsFileUnwrittenOrNoMemory path fault))
+
 -- the account with this name has a token, whose failures are 0 after the change; nothing else is changed
 abbrev pub IsTokenUnlocked : (name : List ℕ) → (old new : BookFields) → Type 0
 IsTokenUnlocked name old new = (is_some (token_at old name) ≡ true) × IsUnlocked old name new
@@ -75,7 +86,7 @@ IsEnrolled account salts old new =
 pub record IsReplySaved (IsStored : List ℕ → Type 0) (old : HeldFacts) (name : List ℕ) (moment : ℕ) (sent : CodeTexts) (reply : Reply)
     (new : HeldFacts) : Type 0 where
   pub due : IsBookAttempt old.book (account_attempt_of name moment sent (Some reply)) new.book
-  pub kept : IsSavedIfChanged IsStored (needs_save (Some reply)) old.book old.store new.book new.store
+  pub kept : IsSavedIfDue IsStored (needs_save (Some reply)) old.book old.store new.book new.store
 
 -- a reply is not saved, and this is the fault: only a reply that was due can fail to be saved
 abbrev pub IsReplyUnsaved : (old : HeldFacts) → (name : List ℕ) → (moment : ℕ) → CodeTexts → Fault → (new : HeldFacts) → Type 0

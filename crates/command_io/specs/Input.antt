@@ -3,9 +3,10 @@ use Rattle.std.specs.Prelude.{ℕ, ◌≡◌, ◌⊎◌, Bool, ◌&&◌, true, f
 use Rattle.std.specs.Str.{byte}
 use Rattle.std.specs.Io.KnownBytes.{Consumes, IsAtEnd}
 use Rattle.std.specs.declared.option.Option.{Option}
+use Rattle.scram_text.specs.Class.{IsPassword}
 use Rattle.scram_text.specs.SplitLines.{LacksLf, IsSplit}
 use Rattle.command_line.specs.declared.fault.Fault.{Fault}
-use Rattle.command_line.specs.declared.fault.Fault.TheVariants.{CannotReadInput, NoMemory}
+use Rattle.command_line.specs.declared.fault.Fault.TheVariants.{BadPassword, CannotReadInput, NoMemory}
 
 -- the most bytes of its input that a command reads (16 MiB)
 abbrev pub max_input_len : ℕ
@@ -29,6 +30,10 @@ pub record TakesLine (old : Option (List ℕ)) (line : List ℕ) (has_lf : Bool)
 -- the first line of an input, if its bytes are known: they are the line, or begin with it and an LF
 abbrev pub IsFirstLine : (input : Option (List ℕ)) → (line : List ℕ) → Type 0
 IsFirstLine input line = LacksLf line × IfSome input (λ bytes. (bytes ≡ line) ⊎ ((rest : List ℕ) × (bytes ≡ line ++ byte "\n" ∷ rest)))
+
+-- the first line of the input is not a password
+abbrev pub HasBadPassword : (input : Option (List ℕ)) → Fault → Type 0
+HasBadPassword input fault = (fault ≡ BadPassword) × ((line : List ℕ) × IsFirstLine input line × (IsPassword line → ⊥))
 
 -- what follows the last LF is also a line, if it has a byte
 abbrev pub last_line : List ℕ → List (List ℕ)

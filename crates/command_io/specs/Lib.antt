@@ -1,5 +1,4 @@
--- What the commands share: bad values, files, the book that a run holds, lines of the input, and what is printed.
-pub mod BadValues
+-- What the commands share: files, the book that a run holds, lines of the input, and what is printed.
 pub mod File
 pub mod HeldBook
 pub mod Input

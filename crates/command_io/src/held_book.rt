@@ -4,9 +4,9 @@ ghost use Rattle.otp_core.specs.Attempt.{texts_of};
 ghost use Rattle.account_book.specs.Accounts.{account_at};
 ghost use Rattle.account_book.specs.SavedBooks.{SavesBook};
 ghost use Rattle.account_book.specs.Tokens.{token_at};
+ghost use Rattle.command_io.specs.File.{IsFileUnwrittenOrNoMemory};
 ghost use Rattle.book_keeper.specs.Keeper.{FailsToSave};
-ghost use Rattle.command_line.specs.Fault.{IsTokenFault, IsFileUnwrittenOrNoMemory};
-ghost use Rattle.command_io.specs.HeldBook.{held_shown, FailsToChange, IsUnlockSaved};
+ghost use Rattle.command_io.specs.HeldBook.{held_shown, FailsToChange, IsUnlockSaved, IsTokenFault};
 ghost use Rattle.command_io.specs.HeldBook.{IsEnrolled, IsReplySaved, IsReplyUnsaved, IsTokenUnlocked, LacksToken};
 
 use crate::new_account::{NewAccount, Salts};

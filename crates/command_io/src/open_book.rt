@@ -128,7 +128,7 @@ where
 }
 
 /// The fault of a command that could not hold the book at `path`: CannotRead, CannotWrite or NoMemory. If other runs held the book,
-/// or it belongs to another user, a line on `faults` says so first.
+/// or it belongs to another user, a line on `faults` says so first, unless the fault is NoMemory.
 #[tactic(auto, using(crate::proofs::lemmas::HeldFaults::failed_read_prevents_holding))]
 pub fn hold_fault<E: Write>(alloc: Global, path: &str, fault: HoldFault, faults: &mut E) -> Fault
     ensures { CannotHoldOrNoMemory path.now result }

@@ -1,6 +1,5 @@
 -- The faults with which a command ends, and their exit statuses.
-use Rattle.std.specs.Prelude.{ℕ, ◌≡◌, List, Option, MatchOption, string_bytes}
-use Rattle.book_format.specs.Account.{AccountFields}
+use Rattle.std.specs.Prelude.{ℕ}
 use Rattle.book_format.specs.Faults.{book_why_number}
 use Rattle.book_format.specs.declared.fault.BookFault.{BookFault}
 use Rattle.book_format.specs.declared.fault.BookWhy.{BookWhy}
@@ -28,17 +27,6 @@ status_of Socket = 3
 status_of CannotReadInput = 3
 status_of CannotWriteOutput = 3
 status_of NoMemory = 3
-
--- memory ran out, or the file of this path can't be written
-abbrev pub IsFileUnwrittenOrNoMemory : (path : List ℕ) → Fault → Type 0
-IsFileUnwrittenOrNoMemory path (CannotWrite file) = string_bytes file ≡ path
-IsFileUnwrittenOrNoMemory path fault = fault ≡ NoMemory
-
--- the fault of a change to the token of the account that was looked up, in the book whose file has this path:
--- there is no account, it has no token, or the book can't be saved
-abbrev pub IsTokenFault : (path : List ℕ) → (found : Option AccountFields) → Fault → Type 0
-IsTokenFault path found fault = MatchOption found (fault ≡ NoSuchAccount)
-    (λ account. MatchOption account.token (fault ≡ NoToken) (λ token. IsFileUnwrittenOrNoMemory path fault))
 
 -- what is wrong with a book's text, as a command reports it: by its number, or that memory ran out
 abbrev pub fault_of_book_why : BookWhy → Fault

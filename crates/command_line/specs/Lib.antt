@@ -1,3 +1,4 @@
--- Faults with their exit statuses, and the names of options.
+-- Faults with their exit statuses, the names of options, and the texts that options refuse.
 pub mod Fault
 pub mod Options
+pub mod Values

@@ -7,6 +7,7 @@ ghost use Rattle.otp_core.specs.Ranges.{IsSecretLength, IsDigitCount, IsMoment};
 ghost use Rattle.otp_core.specs.Hash.{hash_name};
 ghost use Rattle.scram_text.specs.Class.{IsNoncePart, IsPlainName, IsSalt};
 ghost use Rattle.scram_text.specs.Parts.{IsCount};
+ghost use Rattle.command_line.specs.Values.{Refuses};
 
 use crate::fault::Fault;
 use crate::option_name::OptionName;
@@ -31,8 +32,7 @@ pub fn number_within(option: OptionName, text: &str, least: u64, most: u64) -> R
 /// The iteration count that `text` spells in decimal, 1 to 4294967295. Errors: BadValue for any other text.
 pub fn count(text: &str) -> Result<u32, Fault>
     ensures ok { IfOk result (λ n. (text.now ≡ decimal n) × IsCount n) }
-    ensures err { IfErr result (λ fault. (fault ≡ Fault.BadValue OptionName.Count)
-        × ((n : ℕ) → IsCount n → text.now ≢ decimal n)) }
+    ensures err { IfErr result (λ fault. (fault ≡ Fault.BadValue OptionName.Count) × Refuses OptionName.Count text.now) }
 {
     let n = number_within(OptionName::Count, text, 1, u64::from(MAX_ITERATION_COUNT))?;
     Ok(n as u32)
@@ -41,8 +41,7 @@ pub fn count(text: &str) -> Result<u32, Fault>
 /// The number of digits of a code that `text` spells, 6 to 8. Errors: BadValue for any other text.
 pub fn digits(text: &str) -> Result<Digits, Fault>
     ensures ok { IfOk result (λ digits. (text.now ≡ decimal digits) × IsDigitCount digits) }
-    ensures err { IfErr result (λ fault. (fault ≡ Fault.BadValue OptionName.Digits)
-        × ((n : ℕ) → IsDigitCount n → text.now ≢ decimal n)) }
+    ensures err { IfErr result (λ fault. (fault ≡ Fault.BadValue OptionName.Digits) × Refuses OptionName.Digits text.now) }
 {
     let (least, most) = (u64::from(MIN_DIGITS), u64::from(MAX_DIGITS));
     let n = number_within(OptionName::Digits, text, least, most)?;
@@ -68,8 +67,7 @@ pub fn moment(option: OptionName, text: &str) -> Result<Moment, Fault>
 /// The account name, which is this text: 1 to 255 bytes from 0x20 to 0x7E. Errors: BadValue for any other text.
 pub fn name(text: &str) -> Result<PlainName, Fault>
     ensures ok { IfOk result (λ name. (name ≡ text.now) × IsPlainName text.now) }
-    ensures err { IfErr result (λ fault. (fault ≡ Fault.BadValue OptionName.Name)
-        × (IsPlainName text.now → ⊥)) }
+    ensures err { IfErr result (λ fault. (fault ≡ Fault.BadValue OptionName.Name) × Refuses OptionName.Name text.now) }
 {
     plain_name(OptionName::Name, text)
 }
@@ -77,8 +75,7 @@ pub fn name(text: &str) -> Result<PlainName, Fault>
 /// The name to act as, which is this text: 1 to 255 bytes from 0x20 to 0x7E. Errors: BadValue for any other text.
 pub fn authzid(text: &str) -> Result<PlainName, Fault>
     ensures ok { IfOk result (λ name. (name ≡ text.now) × IsPlainName text.now) }
-    ensures err { IfErr result (λ fault. (fault ≡ Fault.BadValue OptionName.As)
-        × (IsPlainName text.now → ⊥)) }
+    ensures err { IfErr result (λ fault. (fault ≡ Fault.BadValue OptionName.As) × Refuses OptionName.As text.now) }
 {
     plain_name(OptionName::As, text)
 }
@@ -96,8 +93,7 @@ pub fn nonce(option: OptionName, text: &str) -> Result<NoncePart, Fault>
 /// The SCRAM mechanism with this name: SCRAM-SHA-1 or SCRAM-SHA-256. Errors: BadValue for any other text.
 pub fn mechanism(name: &str) -> Result<Mechanism, Fault>
     ensures ok { IfOk result (λ mechanism. name.now ≡ name_of mechanism) }
-    ensures err { IfErr result (λ fault. (fault ≡ Fault.BadValue OptionName.Mechanism)
-        × ((mechanism : Mechanism) → name.now ≢ name_of mechanism)) }
+    ensures err { IfErr result (λ fault. (fault ≡ Fault.BadValue OptionName.Mechanism) × Refuses OptionName.Mechanism name.now) }
 {
     Mechanism::of_name(name.as_bytes()).ok_or(Fault::BadValue(OptionName::Mechanism))
 }
@@ -105,8 +101,7 @@ pub fn mechanism(name: &str) -> Result<Mechanism, Fault>
 /// The hash function with this name: `sha1`, `sha256` or `sha512`. Errors: BadValue for any other text.
 pub fn hash(name: &str) -> Result<OtpHash, Fault>
     ensures ok { IfOk result (λ hash. name.now ≡ hash_name hash) }
-    ensures err { IfErr result (λ fault. (fault ≡ Fault.BadValue OptionName.Hash)
-        × ((hash : OtpHash) → name.now ≢ hash_name hash)) }
+    ensures err { IfErr result (λ fault. (fault ≡ Fault.BadValue OptionName.Hash) × Refuses OptionName.Hash name.now) }
 {
     OtpHash::of_name(name).ok_or(Fault::BadValue(OptionName::Hash))
 }
@@ -115,8 +110,8 @@ pub fn hash(name: &str) -> Result<OtpHash, Fault>
 /// memory runs out.
 pub fn salt(alloc: Global, text: &str) -> Result<Salt, Fault>
     ensures ok { IfOk result (λ salt. (decode_of text.now ≡ Ok salt) × IsSalt salt) }
-    ensures err { IfErr result (λ fault. (fault ≡ Fault.NoMemory) ⊎ ((fault ≡ Fault.BadValue OptionName.Salt)
-        × ((salt : List ℕ) → decode_of text.now ≡ Ok salt → IsSalt salt → ⊥))) }
+    ensures err { IfErr result (λ fault. (fault ≡ Fault.NoMemory)
+        ⊎ ((fault ≡ Fault.BadValue OptionName.Salt) × Refuses OptionName.Salt text.now)) }
 {
     let bytes = bytes(alloc, OptionName::Salt, text)?;
     Salt::new(bytes.as_slice()).ok_or(Fault::BadValue(OptionName::Salt))
@@ -126,8 +121,8 @@ pub fn salt(alloc: Global, text: &str) -> Result<Salt, Fault>
 /// memory runs out.
 pub fn secret(alloc: Global, text: &str) -> Result<Secret, Fault>
     ensures ok { IfOk result (λ secret. (decode_of text.now ≡ Ok secret) × IsSecretLength (length secret)) }
-    ensures err { IfErr result (λ fault. (fault ≡ Fault.NoMemory) ⊎ ((fault ≡ Fault.BadValue OptionName.Secret)
-        × ((secret : List ℕ) → decode_of text.now ≡ Ok secret → IsSecretLength (length secret) → ⊥))) }
+    ensures err { IfErr result (λ fault. (fault ≡ Fault.NoMemory)
+        ⊎ ((fault ≡ Fault.BadValue OptionName.Secret) × Refuses OptionName.Secret text.now)) }
 {
     let bytes = bytes(alloc, OptionName::Secret, text)?;
     Secret::new(bytes.as_slice()).map_err(|_| Fault::BadValue(OptionName::Secret))

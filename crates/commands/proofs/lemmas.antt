@@ -15,3 +15,4 @@ pub mod Nonces
 pub mod OneEvent
 pub mod Printed
 pub mod Runs
+pub mod TakenOutputs

@@ -1,23 +1,19 @@
 -- What a run of `verify` does to its book: each line that it answers is an attempt, and so a change of the book.
 use Rattle.std.specs.Prelude.{ℕ, ◌≡◌, ◌⊎◌, Bool, List, [], ◌∷◌, ◌++◌, map, reverse}
 use Rattle.std.specs.List.{AllZip, flat_map}
-use Rattle.std.specs.Str.{byte}
 use Rattle.std.specs.Io.KnownBytes.{Appends}
 use Rattle.std.specs.declared.option.Option.{Option}
 use Rattle.std.specs.declared.option.Option.TheVariants.{Some}
 use Rattle.account_book.specs.{BookFields, IsBookText}
 use Rattle.account_book.specs.AccountAttempt.{AccountAttempt, account_attempt_of}
-use Rattle.account_book.specs.Tokens.{IsBookAttempt}
+use Rattle.account_book.specs.Tokens.{IsBookAttempt, IsBookAfterAttempts}
 use Rattle.command_line.specs.declared.fault.Fault.{Fault}
 use Rattle.command_line.specs.declared.fault.Fault.TheVariants.{CannotWriteOutput}
-use Rattle.log_grammar.specs.Lines.{reply_text}
 use Rattle.sasl_desk.specs.{CodeTexts, Reply}
 use Rattle.sasl_desk.specs.Changes.{Change, judged}
-use Rattle.sasl_desk.specs.Desks.{HoldsBook, IsBookAfterAttempts}
-use Rattle.command_io.specs.HeldBook.{HeldFacts}
 use Rattle.command_io.specs.Input.{AreFirstLines, LinesInTurn}
 use Rattle.commands.specs.SentCodes.{SaysCodes}
-use Rattle.commands.specs.Verify.{VerifyRun, AnswersLine}
+use Rattle.commands.specs.Verify.{printed_reply, VerifyRun, AnswersLine}
 
 -- a line makes this attempt: on the account of this name, at this moment, with what the line says, and with a reply. That the reply is
 -- due is in `MakesAttempts`.
@@ -27,7 +23,7 @@ MakesAttempt name moment line attempt =
 
 -- the lines that are printed for the replies to attempts, in order
 abbrev pub printed_replies : List AccountAttempt → List ℕ
-printed_replies attempts = flat_map (λ attempt. reply_text attempt.moment attempt.reply ++ byte "\n" ∷ []) attempts
+printed_replies attempts = flat_map (λ attempt. printed_reply attempt.moment attempt.reply) attempts
 
 -- what is printed when a fault ends a run: the replies to these attempts, or to all but the last of them. If the output can't be written,
 -- it is not known what it holds.
@@ -40,10 +36,6 @@ PrintsUntil fault attempts old new =
 -- the changes of a book that attempts are, the latest first
 abbrev pub judged_changes : List AccountAttempt → List Change
 judged_changes attempts = map judged (reverse attempts)
-
--- the store of a held book has not failed, and holds a text of the book, wherever that text is from
-abbrev pub HoldsItsBook : HeldFacts → Type 0
-HoldsItsBook held = HoldsBook (λ text. Unit {0}) held.book held.store
 
 -- the first lines of an input, all but these last ones: each made one of these attempts, in order, and the attempts made the old book the
 -- new one

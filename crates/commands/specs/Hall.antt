@@ -28,8 +28,8 @@ use Rattle.command_io.specs.HeldBook.{IsReadBook, CannotOpenBook}
 use Rattle.command_io.specs.Input.{AreFirstLines}
 use Rattle.commands.specs.PrintedLog.{StopsAfter, StopsServing}
 
--- an event of a hall: a client arrives, and this is the server's part of its nonce; or the client of the session of this number
--- does this at this moment
+-- an event of a hall: a client comes, and this is the server's part of its nonce; or the client of the session of this number sends a
+-- line or goes away, at this moment
 pub data InputEvent : Type 0 where
   opens : (server_nonce : List ℕ) → InputEvent
   does_at : (session : ℕ) (event : ClientEvent) (moment : ℕ) → InputEvent

@@ -1,23 +1,11 @@
 -- Which books a run may leave: of each text that its store may hold when it ends, the book.
-use Rattle.std.specs.Prelude.{ℕ, ◌⊎◌, List}
+use Rattle.std.specs.Prelude.{ℕ, List}
 use Rattle.account_book.specs.{BookFields, IsBookText}
-use Rattle.account_book.specs.AccountAttempt.{AccountAttempt}
 use Rattle.account_book.specs.Enrolled.{enrolled}
 use Rattle.account_book.specs.Store.{StoreFacts}
 use Rattle.sasl_desk.specs.Changes.{Change, added, AreChanges}
-use Rattle.sasl_desk.specs.Desks.{IsBookAfterAttempts, MayHold}
 use Rattle.command_io.specs.declared.new_account.NewAccount.{NewAccount}
 use Rattle.command_io.specs.declared.new_account.Salts.{Salts}
-
--- each text that the new store may hold is one that the old store may have held, or one of this book
-abbrev pub LeavesOldTextOrBook : (old : StoreFacts) → BookFields → (new : StoreFacts) → Type 0
-LeavesOldTextOrBook old book new = (text : List ℕ) → MayHold new text → MayHold old text ⊎ IsBookText text book
-
--- each text that the store may hold is of a book to which some attempts, the latest of which comes first, lead from this one
-abbrev pub HoldsAfterAttempts : (start : BookFields) → StoreFacts → Type 0
-HoldsAfterAttempts start store =
-    (text : List ℕ) → MayHold store text
-    → (left : BookFields) × (latest_first : List AccountAttempt) × IsBookAfterAttempts start latest_first left × IsBookText text left
 
 -- the change of a book to which an account with the keys of a password is added
 abbrev pub addition_of : NewAccount → Salts → Change

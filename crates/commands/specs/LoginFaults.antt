@@ -5,11 +5,10 @@ use Rattle.clap.specs.declared.parser.matches.ArgMatches.{ArgMatches}
 use Rattle.command_line.specs.declared.option_name.OptionName.TheVariants as option
 use Rattle.command_line.specs.declared.fault.Fault.{Fault}
 use Rattle.command_line.specs.declared.fault.Fault.TheVariants.{Socket}
-use Rattle.command_words.specs.Values.{given_value}
-use Rattle.command_io.specs.BadValues.{GivesBadValue, HasBadPassword, HasBadValue}
+use Rattle.command_words.specs.Values.{given_value, GivesBadValue, HasBadValue}
 use Rattle.command_io.specs.File.{IsFileUnreadOrNoMemory}
 use Rattle.command_io.specs.HeldBook.{CannotOpenBook}
-use Rattle.command_io.specs.Input.{IsInputUnreadOrNoMemory}
+use Rattle.command_io.specs.Input.{IsInputUnreadOrNoMemory, HasBadPassword}
 use Rattle.commands.specs.Login.{PrintsLoginFront}
 use Rattle.commands.specs.PrintedLog.{StopsAfter, StopsServing}
 

@@ -10,15 +10,14 @@ use Rattle.scram_text.specs.Class.{IsPlainName}
 use Rattle.account_book.specs.{BookFields}
 use Rattle.account_book.specs.Accounts.{account_at}
 use Rattle.account_book.specs.Store.{StoreFacts}
+use Rattle.command_io.specs.HeldBook.{IsTokenFault}
 use Rattle.book_file.specs.Saved.{IsSavedText}
-use Rattle.command_line.specs.Fault.{IsTokenFault}
 use Rattle.command_line.specs.declared.fault.Fault.{Fault}
 use Rattle.command_line.specs.declared.fault.Fault.TheVariants.{CannotWriteOutput, NoMemory}
 use Rattle.command_line.specs.declared.option_name.OptionName.TheVariants as option
-use Rattle.command_words.specs.Values.{given_value}
+use Rattle.command_words.specs.Values.{given_value, HasBadValue}
 use Rattle.log_grammar.specs.Lines.{reply_text}
 use Rattle.sasl_desk.specs.{CodeTexts, IsMoment, Reply, Pass, Fail, Locked}
-use Rattle.command_io.specs.BadValues.{HasBadValue}
 use Rattle.command_io.specs.HeldBook.{HeldFacts, held_shown, IsReadBook, IsReplySaved, IsReplyUnsaved, CannotOpenBook, LacksToken}
 use Rattle.command_io.specs.Input.{LinesInTurn, IsInputUnreadOrNoMemory}
 use Rattle.command_io.specs.declared.held_book.HeldBook.{HeldBook}
@@ -31,8 +30,8 @@ is_passed Fail = false
 is_passed Locked = false
 
 -- the line that is printed for a reply to a code at a moment
-abbrev pub printed_reply : Reply → (moment : ℕ) → List ℕ
-printed_reply reply moment = reply_text moment (Some reply) ++ byte "\n" ∷ []
+abbrev pub printed_reply : (moment : ℕ) → Option Reply → List ℕ
+printed_reply moment reply = reply_text moment reply ++ byte "\n" ∷ []
 
 -- the book that a run of `verify` holds, and what it has printed, if that is known
 pub record VerifyRun : Type 0 where
@@ -68,7 +67,7 @@ module _ (IsStored : List ℕ → Type 0) where
     pub sent : CodeTexts
     pub says : SaysCodes line sent
     pub saved : IsReplySaved IsStored old.held name moment sent reply new.held
-    pub printed : Appends old.printed new.printed (printed_reply reply moment)
+    pub printed : Appends old.printed new.printed (printed_reply moment (Some reply))
 
   -- the reply to what a line says is saved, and its printing fails
   abbrev pub FailsToPrintReply : (name : List ℕ) → (moment : ℕ) → CodeTexts → (old : VerifyRun) → Fault → (new : VerifyRun) → Type 0

@@ -1,10 +1,9 @@
 //! The command `hall`: judges up to 64 logins at a time, over one book, from the events in its input, and prints the log.
 ghost use Rattle.std.specs.Prelude.{ℕ, List, [], IfErr, IsErrOf, OnOk};
-ghost use Rattle.command_io.specs.HeldBook.{held_shown};
-ghost use Rattle.commands.specs.Attempts.{HoldsItsBook};
+ghost use Rattle.account_book.specs.SavedBooks.{HoldsAfterAttempts};
+ghost use Rattle.command_io.specs.HeldBook.{held_shown, HoldsItsBook};
 ghost use Rattle.commands.specs.Hall.{PrintsHallLog, RunsHall, StopsHall, StopsHearing};
 ghost use Rattle.commands.specs.inner.HallSteps.{PrintsToBadEvent};
-ghost use Rattle.commands.specs.LeftBooks.{HoldsAfterAttempts};
 ghost use Rattle.commands.specs.PrintedLog.{StopsAfter};
 
 mod event;

@@ -1,30 +1,30 @@
-//! Laws: what each command does to a book is a list of changes (`AreChanges`), of which the laws of `sasl_desk` speak. Each is the
-//! contract of a function that does nothing.
+//! Laws: what a command that changes a book does to it is a list of changes (`AreChanges`), of which the laws of `sasl_desk` speak.
+//! Each is the contract of a function that does nothing.
 ghost use Rattle.std.specs.Prelude.{◌⊎◌, Bool, ℕ, List, [], ◌∷◌, ◌++◌, reverse};
 ghost use Rattle.std.specs.Io.KnownBytes.{Appends};
 ghost use Rattle.std.specs.declared.option.Option.{Option};
 ghost use Rattle.clap.specs.declared.parser.matches.ArgMatches.{ArgMatches};
 ghost use Rattle.account_book.specs.{BookFields, IsBookText};
 ghost use Rattle.account_book.specs.AccountAttempt.{AccountAttempt};
-ghost use Rattle.account_book.specs.SavedBooks.{SavesBook};
-ghost use Rattle.account_book.specs.Store.{StoreFacts};
+ghost use Rattle.account_book.specs.SavedBooks.{SavesBook, HoldsAfterAttempts, LeavesOldTextOrBook};
+ghost use Rattle.account_book.specs.Store.{StoreFacts, MayHold, MayHoldWithinSave};
+ghost use Rattle.account_book.specs.Spent.{spent_by_all, AreSpent};
+ghost use Rattle.account_book.specs.Tokens.{IsBookAfterAttempts};
 ghost use Rattle.book_file.specs.Saved.{IsSavedText};
 ghost use Rattle.command_line.specs.declared.fault.Fault.{Fault};
 ghost use Rattle.command_line.specs.declared.option_name.OptionName.TheVariants as option;
 ghost use Rattle.command_words.specs.Values.{given_value};
-ghost use Rattle.sasl_desk.specs.Desks.{spent_by_all, IsBookAfterAttempts, MayHold, MayHoldWithinSave};
 ghost use Rattle.sasl_desk.specs.Changes.{Change, unlocked, AreChanges};
 ghost use Rattle.sasl_desk.specs.Saved.{IsToldSaved};
-ghost use Rattle.sasl_desk.specs.Spent.{AreSpent};
 ghost use Rattle.command_io.specs.{FailsToSave};
-ghost use Rattle.command_io.specs.HeldBook.{HeldFacts, FailsToChange, IsEnrolled, IsTokenUnlocked};
+ghost use Rattle.command_io.specs.HeldBook.{HeldFacts, FailsToChange, IsEnrolled, IsTokenUnlocked, HoldsItsBook};
 ghost use Rattle.command_io.specs.Input.{LinesInTurn};
 ghost use Rattle.command_io.specs.declared.new_account.NewAccount.{NewAccount};
 ghost use Rattle.command_io.specs.declared.new_account.Salts.{Salts};
 ghost use Rattle.account_commands.specs.Enrol.{EnrolsAsked};
 ghost use Rattle.account_commands.specs.Unlock.{UnlocksAsked};
-ghost use Rattle.commands.specs.Attempts.{judged_changes, printed_replies, HoldsItsBook, MakesAttempts, PrintsUntil, SavesNextLine};
-ghost use Rattle.commands.specs.LeftBooks.{addition_of, HoldsAfterAttempts, IsTextAfter, LeavesOldTextOrBook};
+ghost use Rattle.commands.specs.Attempts.{judged_changes, printed_replies, MakesAttempts, PrintsUntil, SavesNextLine};
+ghost use Rattle.commands.specs.LeftBooks.{addition_of, IsTextAfter};
 ghost use Rattle.commands.specs.Verify.{VerifyRun, AnswersLine, AnswersFirstLines, BeginsToVerify, VerifiesAllLines, VerifiesFirstLines};
 
 use account_book::BookStore;

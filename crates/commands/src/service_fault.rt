@@ -1,6 +1,6 @@
 //! The fault of a command whose desk or hall can't go on.
 ghost use Rattle.std.specs.Prelude.{◌≡◌, ◌≢◌};
-ghost use Rattle.command_line.specs.Fault.{IsFileUnwrittenOrNoMemory};
+ghost use Rattle.command_io.specs.File.{IsFileUnwrittenOrNoMemory};
 ghost use Rattle.commands.specs.inner.TurnFaults.{IsFaultOfServing};
 
 use command_line::Fault;

@@ -1,5 +1,5 @@
 //! The command `verify`: judges each input line as a one-time code, or as two in a row.
-ghost use Rattle.std.specs.Prelude.{◌≡◌, ◌⊎◌, ◌&&◌, IfOk, IfErr, OnOk};
+ghost use Rattle.std.specs.Prelude.{◌≡◌, ◌⊎◌, ◌&&◌, Some, IfOk, IfErr, OnOk};
 ghost use Rattle.std.specs.Io.KnownBytes.{Appends};
 ghost use Rattle.command_io.specs.HeldBook.{held_shown};
 ghost use Rattle.commands.specs.Verify.{printed_reply, verify_run_shown, IsLineAnswered, FailsToPrint, CannotBeginToVerify, FailsAtLine};
@@ -82,7 +82,7 @@ fn answer_lines<S: BookStore, I: BufRead, O: Write>(
     let mut all_passed = true;
     while let Some(line) = lines.next(alloc)? {
         let reply = answer_line(alloc, held, name, moment, line.as_slice(), output)?;
-        all_passed = and_reply_passed(all_passed, reply);
+        all_passed &= is_pass(reply);
     }
     Ok(all_passed)
 }
@@ -107,11 +107,11 @@ fn answer_line<S: BookStore, O: Write>(
     Ok(reply)
 }
 
-// Whether each reply so far was a pass, and this one is too.
-fn and_reply_passed(so_far: bool, reply: Reply) -> bool
-    ensures { result ≡ (so_far && is_passed reply) }
+// Whether the reply says that the code, or both codes in a row, passed.
+fn is_pass(reply: Reply) -> bool
+    ensures { result ≡ is_passed reply }
 {
-    so_far && matches!(reply, Reply::Pass(_))
+    matches!(reply, Reply::Pass(_))
 }
 
 // Prints a reply and flushes the output. It may be called only after `HeldBook::judge` has returned the reply, and so has saved the
@@ -124,7 +124,7 @@ fn print_reply<S: BookStore, O: Write>(
     output: &mut O,
 ) -> Result<(), Fault>
     requires { MayBePrinted S.IsStored moment reply (held_shown S.facts held.now) }
-    ensures printed { OnOk result (Appends (O.contents output.old) (O.contents output.new) (printed_reply reply moment)) }
+    ensures printed { OnOk result (Appends (O.contents output.old) (O.contents output.new) (printed_reply moment (Some reply))) }
     ensures err { IfErr result (λ fault. FailsToPrint fault (O.contents output.old) (O.contents output.new)) }
 {
     let mut line = Vec::new(alloc);

@@ -23,13 +23,18 @@ pub struct MemoryStore {
     // The text of the save that failed, if the store still holds the one from before; else None.
     asked: Option<String>,
 
+    // Whether a save has failed.
     failed: bool,
 
     /// How many saves it has begun, including the one that failed.
     pub saves: u64,
 
+    // The number of the save that fails, counted from 1; 0 if none does.
     failing: u64,
+
+    // Whether that save fails only after the new text is in its place.
     is_late: bool,
+
     ghost room: { failed ≡ false → saves + 1 < 2 ^ 64 },
 }
 

@@ -5,11 +5,11 @@ use Rattle.account_book.specs.Accounts.{IsAdded}
 use Rattle.account_book.specs.Store.{StoreFacts}
 use Rattle.account_book.specs.Tokens.{IsUnlocked, IsBookAttempt}
 use Rattle.account_book.specs.AccountAttempt.{AccountAttempt}
+use Rattle.account_book.specs.Spent.{spent_by_all, spent_by}
 use Rattle.log_grammar.specs.Numbered.{Numbered}
 use Rattle.sasl_desk.specs.Runs.{Call}
-use Rattle.sasl_desk.specs.Desks.{IsDeskAfter, MayLeave, spent_by_all}
+use Rattle.sasl_desk.specs.Desks.{IsDeskAfter, MayLeave}
 use Rattle.sasl_desk.specs.Halls.{HallFields, IsHallAfter}
-use Rattle.sasl_desk.specs.Spent.{spent_by}
 use Rattle.sasl_desk.specs.declared.desk.Desk.{Desk}
 
 -- a run of a desk or of a hall, by its calls: the book that it began with, the calls that it answered, the replies in its log, and the

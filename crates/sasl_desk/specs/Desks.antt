@@ -1,10 +1,10 @@
 -- What a desk stands for: the book with which it began, and the run since.
-use Rattle.std.specs.Prelude.{ℕ, ◌≡◌, ◌⊎◌, true, false, List, [], ◌∷◌, ◌++◌, flat_map, reverse}
+use Rattle.std.specs.Prelude.{ℕ, ◌≡◌, ◌⊎◌, true, List, [], ◌∷◌, ◌++◌, reverse}
 use Rattle.account_book.specs.{BookFields, IsBookText}
-use Rattle.account_book.specs.SavedBooks.{HasStoredText}
+use Rattle.account_book.specs.SavedBooks.{HasStoredText, HoldsBook}
 use Rattle.account_book.specs.Store.{StoreFacts}
 use Rattle.account_book.specs.AccountAttempt.{AccountAttempt}
-use Rattle.account_book.specs.Tokens.{IsBookAttempt}
+use Rattle.account_book.specs.Tokens.{IsBookAttempt, IsBookAfterAttempts}
 use Rattle.book_keeper.specs.declared.keeper.Keeper.{Keeper}
 use Rattle.log_grammar.specs.Books.{accounts_in}
 use Rattle.log_grammar.specs.Lines.{LogLine, log_bytes}
@@ -14,7 +14,6 @@ use Rattle.log_grammar.specs.Begins.{Begins}
 use Rattle.sasl_desk.specs.Runs.{Request, Call, call_of, run_lines, server_nonce_of, wire_bytes, IsRun}
 use Rattle.sasl_desk.specs.SavedCalls.{IsAttemptOf, CountsSaves, AsksToSaveAttempt, IsQuiet, LeavesFailedStore}
 use Rattle.sasl_desk.specs.Sessions.{IsSessionAt, CanBeWritten}
-use Rattle.sasl_desk.specs.Spent.{spent_by}
 use Rattle.sasl_desk.specs.declared.session.Session.{Session}
 use Rattle.sasl_desk.specs.declared.session.Session.TheVariants.{WaitAuth, WaitFirst, WaitFinal, WaitCode}
 use Rattle.sasl_desk.specs.declared.turn.AfterTurn.{AfterTurn}
@@ -49,21 +48,6 @@ IsStateAt accounts server_nonce place Closed = place ≡ between
 IsStateAt accounts server_nonce place (Open session own) = IsSessionAt accounts place session × (own ≡ server_nonce)
 IsStateAt accounts server_nonce place Halted = Unit {0}
 
--- the store may hold this text: the one that it says it holds; or, if it has failed, the one that the failed save was given
-abbrev pub MayHold : StoreFacts → (text : List ℕ) → Type 0
-MayHold store text = (text ≡ store.saved) ⊎ ((store.failed ≡ true) × (text ≡ store.asked))
-
--- while the store saves the text `asked`, it may hold this text: one that it may have held as the save began, or `asked`. That a store
--- which is stopped within a save holds no other is assumed of it (`BookStore`).
-abbrev pub MayHoldWithinSave : (before : StoreFacts) → (asked : List ℕ) → (text : List ℕ) → Type 0
-MayHoldWithinSave before asked text = MayHold before text ⊎ (text ≡ asked)
-
--- the store has not failed, and holds a text of the book, of which `IsStored` is true
-pub record HoldsBook (IsStored : List ℕ → Type 0) (book : BookFields) (store : StoreFacts) : Type 0 where
-  pub working : store.failed ≡ false
-  pub saved : IsBookText store.saved book
-  pub stored : IsStored store.saved
-
 -- the latest call judged this attempt
 abbrev pub IsLatestAttempt : Accounts → List Call → AccountAttempt → Type 0
 IsLatestAttempt accounts [] attempt = ⊥
@@ -92,12 +76,6 @@ abbrev pub IsStoredAt : (IsStored : List ℕ → Type 0) → Accounts → List C
 IsStoredAt IsStored accounts calls halted book store = IsLostAfter IsStored accounts calls book store
 IsStoredAt IsStored accounts calls place book store = HoldsBook IsStored book store
 
--- the book after these attempts, the latest of which comes first: each was judged in the book before it
-abbrev pub IsBookAfterAttempts : (start : BookFields) → (latest_first : List AccountAttempt) → (book : BookFields) → Type 0
-IsBookAfterAttempts start [] book = book ≡ start
-IsBookAfterAttempts start (attempt ∷ before) book =
-    (old : BookFields) × IsBookAfterAttempts start before old × IsBookAttempt old attempt book
-
 -- what a run that kept this book may leave: this book, or this book with one more attempt (the laws `store_holds_a_book` and
 -- `stops_leave_runs`)
 abbrev pub MayLeave : (kept left : BookFields) → Type 0
@@ -106,10 +84,6 @@ MayLeave kept left = (left ≡ kept) ⊎ ((attempt : AccountAttempt) × IsBookAt
 -- the text is that of a book that a run which kept this book may leave
 abbrev pub IsTextLeft : (kept : BookFields) → (text : List ℕ) → Type 0
 IsTextLeft kept text = (left : BookFields) × MayLeave kept left × IsBookText text left
-
--- the counters that the replies of these attempts use, with their accounts, in the order of the attempts
-abbrev pub spent_by_all : List AccountAttempt → List (List ℕ × ℕ)
-spent_by_all attempts = flat_map spent_by attempts
 
 -- the desk of this keeper, in this state
 abbrev pub desk_of : {S : Type 0} → Keeper S → State → Desk S
@@ -131,7 +105,7 @@ state_after (after.Halted session) server_nonce = Halted
 module _ {S : Type 0} (facts : S → StoreFacts) (IsStored : List ℕ → Type 0) where
   -- a desk that began with a book has answered these calls
   pub record IsDeskAfter (start : BookFields) (calls : List Call) (desk : Desk S) : Type 0 where
-    -- where the log stands, and the replies to codes in it
+    -- where the log stands, and the attempts by codes in it, each with its reply
     pub place : Place
     pub told : List AccountAttempt
     -- what was asked is recorded and answered

@@ -8,6 +8,8 @@ use Rattle.scram_text.specs.SplitLines.{ended_by_lf}
 use Rattle.account_book.specs.{BookFields}
 use Rattle.account_book.specs.Store.{StoreFacts}
 use Rattle.account_book.specs.AccountAttempt.{AccountAttempt}
+use Rattle.account_book.specs.SavedBooks.{HoldsBook}
+use Rattle.account_book.specs.Tokens.{IsBookAfterAttempts}
 use Rattle.book_keeper.specs.declared.keeper.Keeper.{Keeper}
 use Rattle.log_grammar.specs.Books.{accounts_in}
 use Rattle.log_grammar.specs.Lines.{LogLine, header_two, said, ended, busy, log_bytes}
@@ -16,8 +18,8 @@ use Rattle.log_grammar.specs.Demands.{Accounts, demands}
 use Rattle.log_grammar.specs.Numbered.{Numbered, numbered, of_number, given_in, closed_in, IsNumberedLogUpTo}
 use Rattle.log_grammar.specs.Versions.{max_open_sessions}
 use Rattle.log_grammar.specs.NumberedLines.{numbered_text, IsNumberedLineWritable, max_session_number}
-use Rattle.sasl_desk.specs.Desks.{session_phase, IsStoredAt, HoldsBook, IsBookAfterAttempts}
-use Rattle.sasl_desk.specs.OpenSessions.{is_of}
+use Rattle.sasl_desk.specs.Desks.{session_phase, IsStoredAt}
+use Rattle.sasl_desk.specs.OpenSessions.{has_number}
 use Rattle.sasl_desk.specs.Runs.{Request, greets, Call, call_of, server_nonce_of, wire_bytes, IsRun}
 use Rattle.sasl_desk.specs.SavedCalls.{CountsSaves, AsksToSaveAttempt, IsQuiet, LeavesFailedStore}
 use Rattle.sasl_desk.specs.Sessions.{IsSessionAt}
@@ -103,7 +105,7 @@ phase_after_halt false (Some open_session) = Some (session_phase open_session.se
 
 -- the phase of the session of a number, or none if it is not open
 abbrev pub phase_of_number : {S : Type 0} → HallFields S → ℕ → Option Phase
-phase_of_number hall number = phase_after_halt hall.is_halted (find (is_of number) hall.open_sessions)
+phase_of_number hall number = phase_after_halt hall.is_halted (find (has_number number) hall.open_sessions)
 
 -- what `Hall::phase` returns of a session in this phase: none if the session is over
 abbrev pub phase_unless_over : Phase → Option Phase
@@ -127,7 +129,7 @@ IsPhaseOrNoneOf place (Some phase) = (place ≢ between) × IsPhaseOf place phas
 module _ {S : Type 0} (facts : S → StoreFacts) (IsStored : List ℕ → Type 0) where
   -- a hall that began with a book has answered these calls, each of the session of its number
   pub record IsHallAfter (start : BookFields) (calls : List (Numbered Call)) (hall : HallFields S) : Type 0 where
-    -- where the session of each number stands, and the replies to codes, in the order of the whole log
+    -- where the session of each number stands, and the attempts by codes, each with its reply, in the order of the whole log
     pub places : ℕ → Place
     pub told : List AccountAttempt
     -- what each session was asked is recorded and answered; nothing was asked of a number that was not given
@@ -140,7 +142,7 @@ module _ {S : Type 0} (facts : S → StoreFacts) (IsStored : List ℕ → Type 0
     pub given : hall.given ≡ given_in (hall_lines calls)
     pub last_number : hall.given ≤ max_session_number
     -- a session that is open is kept once, and no other number is kept
-    pub open_sessions : (number : ℕ) → count_by (is_of number) hall.open_sessions ≡ open_at (places number)
+    pub open_sessions : (number : ℕ) → count_by (has_number number) hall.open_sessions ≡ open_at (places number)
     pub counted : length hall.open_sessions + closed_in (hall_lines calls) ≡ given_in (hall_lines calls)
     -- each open session waits for what is due at its place, or the hall has halted
     pub standing : hall.is_halted ≡ false → AllByRecursion (IsOpenSessionAt (accounts_in start) calls places) hall.open_sessions

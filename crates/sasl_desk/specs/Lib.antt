@@ -6,7 +6,6 @@ pub mod Sessions
 pub mod DueLines
 pub mod Bounds
 pub mod Runs
-pub mod Spent
 pub mod SavedCalls
 pub mod Desks
 pub mod OpenSessions

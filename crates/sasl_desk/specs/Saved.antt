@@ -3,9 +3,10 @@
 use Rattle.std.specs.Prelude.{ℕ, ◌≡◌, List, ◌++◌, reverse}
 use Rattle.account_book.specs.{BookFields, IsBookText}
 use Rattle.account_book.specs.SavedBooks.{HasStoredText}
-use Rattle.account_book.specs.Store.{StoreFacts}
+use Rattle.account_book.specs.Store.{StoreFacts, MayHold, MayHoldWithinSave}
 use Rattle.account_book.specs.AccountAttempt.{AccountAttempt}
-use Rattle.account_book.specs.Tokens.{IsBookAttempt}
+use Rattle.account_book.specs.Tokens.{IsBookAttempt, IsBookAfterAttempts}
+use Rattle.account_book.specs.Spent.{spent_by_all, AreSpent, spent_by}
 use Rattle.log_grammar.specs.Books.{accounts_in}
 use Rattle.log_grammar.specs.Begins.{Begins}
 use Rattle.log_grammar.specs.Demands.{demands}
@@ -13,8 +14,7 @@ use Rattle.log_grammar.specs.Lines.{LogLine, log_bytes}
 use Rattle.log_grammar.specs.Numbered.{Numbered, IsNumberedLogUpTo}
 use Rattle.log_grammar.specs.Places.{Place}
 use Rattle.log_grammar.specs.Versions.{max_open_sessions}
-use Rattle.sasl_desk.specs.Desks.{MayHold, MayHoldWithinSave, IsBookAfterAttempts, IsTextLeft, spent_by_all}
-use Rattle.sasl_desk.specs.Spent.{AreSpent, spent_by}
+use Rattle.sasl_desk.specs.Desks.{IsTextLeft}
 
 -- these attempts lead to a book. `IsStored` is true of some text of it, and each text that the store may hold is of this book, or of it
 -- with one more attempt.

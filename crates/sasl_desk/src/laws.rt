@@ -1,22 +1,23 @@
-//! Laws of sessions, of a keeper of books and of desks. Each is the contract of a function that does nothing.
+//! Laws of spent counters, of sessions and of desks. Each is the contract of a function that does nothing.
 ghost use Rattle.std.specs.Prelude.{◌≡◌, ◌⊎◌, true, ℕ, List, [], ◌∷◌, ◌++◌};
 ghost use Rattle.account_book.specs.{BookFields, IsBookText};
 ghost use Rattle.account_book.specs.AccountAttempt.{AccountAttempt};
-ghost use Rattle.account_book.specs.Tokens.{IsBookAttempt};
+ghost use Rattle.account_book.specs.Tokens.{IsBookAttempt, IsBookAfterAttempts};
+ghost use Rattle.account_book.specs.Store.{MayHold};
+ghost use Rattle.account_book.specs.Spent.{spent_by_all, SpentStaysSpent, AreSpent};
 ghost use Rattle.log_grammar.specs.Books.{accounts_in};
 ghost use Rattle.log_grammar.specs.Versions.{IsLogFront, IsClean};
 ghost use Rattle.log_grammar.specs.Lines.{LogLine, said, halt, log_bytes};
 ghost use Rattle.log_grammar.specs.Places.{Place};
 ghost use Rattle.log_grammar.specs.Demands.{Accounts};
 ghost use Rattle.sasl_desk.specs.AcceptedLogins.{LinesAcceptExactlyValid};
-ghost use Rattle.sasl_desk.specs.Desks.{MayHold, IsDeskAfter, IsBookAfterAttempts, desk_phase, spent_by_all};
+ghost use Rattle.sasl_desk.specs.Desks.{IsDeskAfter, desk_phase};
 ghost use Rattle.sasl_desk.specs.Records.{HasItsRecords};
 ghost use Rattle.sasl_desk.specs.Changes.{IsDeskRunLeaving, Change, AreChanges, spent_by_changes};
 ghost use Rattle.sasl_desk.specs.Halls.{IsSessionRun};
 ghost use Rattle.sasl_desk.specs.Runs.{Call, run_lines, wire_bytes, IsRun, call_lines};
 ghost use Rattle.sasl_desk.specs.Saved.{IsLogSaved, AreToldCountersSaved};
 ghost use Rattle.sasl_desk.specs.Sessions.{LongTextsAreBad};
-ghost use Rattle.sasl_desk.specs.Spent.{SpentStaysSpent, AreSpent};
 ghost use Rattle.sasl_desk.specs.declared.desk.Desk.{Desk};
 ghost use Rattle.sasl_desk.specs.declared.session.phase.Phase.TheVariants as phase;
 ghost use Rattle.sasl_desk.specs.DueLines.{DueLinesStand, BadLinesStand, GoneClientsStand};
@@ -55,8 +56,9 @@ pub fn log_is_a_front<S: BookStore>()
 /// A desk's log is clean if no session is open, if the store has failed, or if the log ends with `S HALT`.
 pub fn log_is_clean<S: BookStore>()
     ensures closed { (start : BookFields) (calls : List Call) (desk : Desk S) → IsDeskAfter S.facts S.IsStored start calls desk
-        → (desk_phase desk ≡ phase.Closed) ⊎ ((S.facts desk.keeper.store).failed ≡ true)
-        → IsClean (accounts_in start) (log_bytes (run_lines calls)) }
+        → desk_phase desk ≡ phase.Closed → IsClean (accounts_in start) (log_bytes (run_lines calls)) }
+    ensures failed { (start : BookFields) (calls : List Call) (desk : Desk S) → IsDeskAfter S.facts S.IsStored start calls desk
+        → (S.facts desk.keeper.store).failed ≡ true → IsClean (accounts_in start) (log_bytes (run_lines calls)) }
     ensures halted { (start : BookFields) (calls : List Call) (desk : Desk S) → IsDeskAfter S.facts S.IsStored start calls desk
         → (lines : List LogLine) → run_lines calls ≡ lines ++ said halt ∷ [] → IsClean (accounts_in start) (log_bytes (run_lines calls)) }
 {}

@@ -61,6 +61,12 @@ set_value_keeps_ranges test (e ∷ es) account h k =
     either_list_is_in_range (test e.0) ((e.0, account) ∷ es) (e ∷ set_value test es account) (k, h.1)
     (h.0, set_value_keeps_ranges test es account h.1 k)
 
+-- accounts remain in their ranges if one that is found among them is changed so that it remains in its ranges
+pub change_keeps_ranges : (test : List ℕ → Bool) (es : List (List ℕ × AccountFields)) (account changed : AccountFields)
+    → AreAccounts es → lookup test es ≡ Some account → (IsAccount account → IsAccount changed) → AreAccounts (set_value test es changed)
+change_keeps_ranges test es account changed h found keeps =
+    set_value_keeps_ranges test es changed h (keeps (subst (λ o. IfSome o IsAccount) found (found_account_is_in_range test es h)))
+
 -- accounts remain in their ranges with one more that is in its ranges
 pub insert_entry_keeps_ranges : (cmp : List ℕ → List ℕ → Ordering) (es : List (List ℕ × AccountFields)) (name : List ℕ)
     (account : AccountFields)

@@ -7,8 +7,7 @@ ghost use Rattle.account_book.specs.View.{decoy_entry, decoy_salt, entry_in, mec
 
 use crate::book::Book;
 use book_format::{Account, MechKeys};
-use mac_core::hmac::Mac;
-use mac_core::{HSha256, Mechanism};
+use mac_core::{HSha256, Mac, Mechanism};
 use scram_ends::KeysView;
 use scram_text::{PlainName, Salt};
 

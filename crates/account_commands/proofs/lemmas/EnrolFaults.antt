@@ -4,7 +4,7 @@ use Rattle.std.specs.Prelude.{None, Some, true, false, is_some, MatchOption}
 use Rattle.clap.specs.declared.parser.matches.ArgMatches.{ArgMatches}
 use Rattle.account_book.specs.{AccountFields, BookFields}
 use Rattle.account_book.specs.Accounts.{account_at}
-use Rattle.command_line.specs.Fault.{IsFileUnwrittenOrNoMemory}
+use Rattle.command_io.specs.File.{IsFileUnwrittenOrNoMemory}
 use Rattle.command_line.specs.declared.fault.Fault.{Fault}
 use Rattle.command_line.specs.declared.fault.Fault.TheVariants.{NameTaken, NoMemory}
 use Rattle.command_line.specs.declared.option_name.OptionName.TheVariants as option

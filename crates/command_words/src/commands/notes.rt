@@ -8,6 +8,7 @@ pub(crate) const STATUSES: &str = "Exit status:
   2  wrong usage, an invalid option value, or an input line that cannot be a password
   3  a file, a socket, the input or the output failed, or memory ran out
 
+`scramotp COMMAND --help` shows the options of a command, and an example.
 The form of a book, recipes and the causes of faults are in docs/ of the sources.";
 
 pub(crate) const KEYS_NOTES: &str =
@@ -151,7 +152,7 @@ pub(crate) const HALL_NOTES: &str = "Each line of standard input is an event:
                       each client
   line N MOMENT TEXT  the client of session N sends a line; TEXT is the line without its LF, and may
                       hold any other byte; MOMENT is the time in seconds since 1970
-  gone N MOMENT       the client of session N disconnects
+  gone N MOMENT       the client of session N disconnects, or you end its session
 
 Sessions are numbered 1, 2 and so on, in the order in which clients connect. Up to 64 can be open. A
 client that connects while 64 are open gets the reply BUSY. Any other input line, or an event for a

@@ -10,22 +10,21 @@ use Rattle.std.proofs.lemmas.List.{reverse-append}
 use Rattle.clap.specs.declared.parser.matches.ArgMatches.{ArgMatches}
 use Rattle.account_book.specs.{BookFields, IsBookText}
 use Rattle.account_book.specs.SavedBooks.{SavesBook}
-use Rattle.account_book.specs.Store.{StoreFacts, IsFailedSave}
+use Rattle.account_book.specs.Store.{StoreFacts, IsFailedSave, MayHold, MayHoldWithinSave}
 use Rattle.account_book.specs.AccountAttempt.{AccountAttempt, account_attempt_of}
-use Rattle.account_book.specs.Tokens.{IsBookAttempt}
+use Rattle.account_book.specs.Tokens.{IsBookAttempt, IsBookAfterAttempts}
+use Rattle.account_book.specs.Spent.{spent_by_all, AreSpent, spent_by}
 use Rattle.command_line.specs.declared.fault.Fault.{Fault}
 use Rattle.command_line.specs.declared.fault.Fault.TheVariants.{CannotWrite, CannotWriteOutput}
 use Rattle.log_grammar.proofs.lemmas.ListEnds.{related_lists-append}
 use Rattle.sasl_desk.specs.{CodeTexts, Reply, Locked}
-use Rattle.sasl_desk.specs.Desks.{spent_by_all, IsBookAfterAttempts, MayHold, MayHoldWithinSave}
 use Rattle.sasl_desk.specs.Changes.{Change, judged, AreChanges}
-use Rattle.sasl_desk.specs.Spent.{AreSpent, spent_by}
 use Rattle.sasl_desk.proofs.lemmas.runs.BooksAfterReplies.{reply_adds_to_book}
 use Rattle.sasl_desk.proofs.lemmas.runs.Changes.{rest_is_spent}
 use Rattle.command_io.specs.{IsChangeUnsaved, IsSavingReplyDue, NotSaved}
-use Rattle.command_io.specs.HeldBook.{HeldFacts, IsReplySaved, IsStoreAfterFault}
+use Rattle.command_io.specs.HeldBook.{HeldFacts, IsReplySaved, IsStoreAfterFault, HoldsItsBook}
 use Rattle.command_io.specs.Input.{AreLinesOf, EachInTurn, LinesInTurn}
-use Rattle.commands.specs.Attempts.{MakesAttempt, printed_replies, PrintsUntil, HoldsItsBook, MakesAttempts, SavesNextLine}
+use Rattle.commands.specs.Attempts.{MakesAttempt, printed_replies, PrintsUntil, MakesAttempts, SavesNextLine}
 use Rattle.commands.specs.SentCodes.{SaysCodes}
 use Rattle.commands.specs.Verify.{VerifyRun, AnswersLine, AnswersFirstLines, BeginsToVerify, FailsAtLine, FailsToPrint}
 

@@ -1,6 +1,6 @@
 -- The faults with which a desk or a hall can't begin, none of which is `BadEvent`, and those at which a hall stops hearing.
 use Rattle.std.proofs.Common.{◌≡◌, ◌⊎◌, inl, inr, ℕ, List, Option, ap, ◌∙◌, subst}
-use Rattle.command_line.specs.Fault.{IsFileUnwrittenOrNoMemory}
+use Rattle.command_io.specs.File.{IsFileUnwrittenOrNoMemory}
 use Rattle.command_line.specs.declared.fault.Fault.{Fault}
 use Rattle.command_line.specs.declared.fault.Fault.TheVariants.{BadEvent}
 use Rattle.sasl_log.specs.Sink.{SinkFacts}

@@ -5,7 +5,7 @@ use Rattle.std.specs.Io.KnownBytes.{Appends}
 use Rattle.std.proofs.KnownBytes.{Appends-trans}
 use Rattle.account_book.specs.{BookFields}
 use Rattle.account_book.specs.Store.{StoreFacts}
-use Rattle.command_line.specs.Fault.{IsFileUnwrittenOrNoMemory}
+use Rattle.command_io.specs.File.{IsFileUnwrittenOrNoMemory}
 use Rattle.command_line.specs.declared.fault.Fault.{Fault}
 use Rattle.command_line.specs.declared.fault.Fault.TheVariants.{BadEvent}
 use Rattle.log_grammar.specs.Lines.{LogLine}

@@ -1,19 +1,17 @@
 -- Which books a run leaves in its store, wherever it ends.
 use Rattle.std.proofs.Common.{◌⊎◌, inl, inr, ℕ, List, [], ◌∷◌, reverse, refl, sym, ◌∙◌, subst}
 use Rattle.account_book.specs.{BookFields, IsBookText}
-use Rattle.account_book.specs.SavedBooks.{SavesBook}
-use Rattle.account_book.specs.Store.{StoreFacts}
+use Rattle.account_book.specs.SavedBooks.{SavesBook, HoldsAfterAttempts, LeavesOldTextOrBook}
+use Rattle.account_book.specs.Store.{StoreFacts, MayHold}
 use Rattle.account_book.specs.AccountAttempt.{AccountAttempt}
+use Rattle.account_book.specs.Tokens.{IsBookAfterAttempts}
 use Rattle.command_io.specs.{FailsToSave}
-use Rattle.command_io.specs.HeldBook.{HeldFacts, FailsToChange}
+use Rattle.command_io.specs.HeldBook.{HeldFacts, FailsToChange, HoldsItsBook}
 use Rattle.command_line.specs.declared.fault.Fault.{Fault}
-use Rattle.sasl_desk.specs.Desks.{IsBookAfterAttempts, MayHold}
 use Rattle.sasl_desk.specs.Faults.{IsNotBegun}
 use Rattle.sasl_desk.specs.Saved.{IsToldSaved}
 use Rattle.sasl_desk.specs.declared.fault.DeskFault.{DeskFault}
 use Rattle.sasl_desk.specs.declared.fault.DeskFault.TheVariants.{Halted, Unwritable, NoNumber, NoMemory}
-use Rattle.commands.specs.Attempts.{HoldsItsBook}
-use Rattle.commands.specs.LeftBooks.{HoldsAfterAttempts, LeavesOldTextOrBook}
 use Rattle.commands.proofs.lemmas.Attempts.{held_text_is_of_book, saved_book_is_held, store_was_unasked_or_failed}
 
 -- a save that fails leaves a text that the store may have held, or one of the book that it was given

@@ -3,7 +3,7 @@ use Rattle.std.proofs.Common.{◌≡◌, ◌≢◌, inl, inr, ℕ, Bool, Option,
 use Rattle.std.specs.Io.KnownBytes.{Appends}
 use Rattle.account_book.specs.{BookFields}
 use Rattle.account_book.specs.Store.{StoreFacts}
-use Rattle.command_line.specs.Fault.{IsFileUnwrittenOrNoMemory}
+use Rattle.command_io.specs.File.{IsFileUnwrittenOrNoMemory}
 use Rattle.command_line.specs.declared.fault.Fault.{Fault}
 use Rattle.command_line.specs.declared.fault.Fault.TheVariants.{NoMemory as OutOfMemory}
 use Rattle.log_grammar.specs.Lines.{log_bytes, header_one}

@@ -72,6 +72,7 @@ fn machine_moment<R: Clock>(rt: &R) -> Moment {
     Moment::new(since.as_secs()).unwrap_or(start_of_1970())
 }
 
+// The first moment.
 fn start_of_1970() -> Moment {
     let Some(moment) = Moment::new(0) else {
         unreachable!()

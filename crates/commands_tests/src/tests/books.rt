@@ -2,7 +2,7 @@
 use super::streams::{Faults, Input};
 use super::text_of;
 use commands::run;
-use faulty_files::{Calls, Faulty};
+use faulty_files::{Calls, Faulty, MORE_CALLS_THAN_ANY_RUN};
 use std::io::ErrorKind;
 use std::process::Abort;
 use std::test::Fail;
@@ -117,7 +117,7 @@ fn verify_with_each_call_failing(rt: HostRuntime) -> Result<(), Fail> {
     let book = path.as_str();
     let next = format!(in rt.alloc(); "{book}.new")?;
     let mut passed_at_last = false;
-    for failing in 1..60u32 {
+    for failing in 1..MORE_CALLS_THAN_ANY_RUN {
         fs::write(&rt, book, BOOK)?;
         let calls = Calls::new(rt.alloc(), failing);
         let faulty = Faulty::new(&rt, &calls);
@@ -172,12 +172,9 @@ fn audit_with_each_call_failing(rt: HostRuntime) -> Result<(), Fail> {
     fs::write(&rt, log.as_str(), LOG)?;
     let words = ["scramotp", "audit", "--book", book, "--log", log.as_str()];
     let mut clean_at_last = false;
-    for failing in 1..60u32 {
+    for failing in 1..MORE_CALLS_THAN_ANY_RUN {
         let calls = Calls::new(rt.alloc(), failing);
-        let faulty = Faulty {
-            rt: &rt,
-            calls: &calls,
-        };
+        let faulty = Faulty::new(&rt, &calls);
         let mut output = Vec::new(rt.alloc());
         let mut faults = Faults::new(rt.alloc(), false);
         let mut input = Input::new("", false);

@@ -28,7 +28,7 @@ impl Model for OpenSessions {
 impl OpenSessions {
     ghost use Rattle.std.specs.List.{find, position};
     ghost use Rattle.std.specs.List.Sorted.{IsPermutation};
-    ghost use Rattle.sasl_desk.specs.OpenSessions.{is_of};
+    ghost use Rattle.sasl_desk.specs.OpenSessions.{has_number};
 
     /// No sessions, with room for 64. Errors: 99 NoMemory if memory runs out.
     pub(crate) fn new(alloc: Global) -> Result<OpenSessions, NoMemory>
@@ -51,7 +51,7 @@ impl OpenSessions {
 
     // The index of the open session of this number, or None if there is none.
     fn index_of(&self, number: u64) -> Option<usize>
-        ensures { result ≡ position (is_of number) self.now }
+        ensures { result ≡ position (has_number number) self.now }
     {
         self.sessions
             .iter()
@@ -61,8 +61,8 @@ impl OpenSessions {
     /// The session of this number, or None if none is open.
     pub(crate) fn session(&self, number: u64) -> Option<&Session>
         ensures some { IfSome result (λ session.
-            (open_session : OpenSession) × (find (is_of number) self.now ≡ Some open_session) × (session.now ≡ open_session.session)) }
-        ensures none { IfNone result (find (is_of number) self.now ≡ None) }
+            (open_session : OpenSession) × (find (has_number number) self.now ≡ Some open_session) × (session.now ≡ open_session.session)) }
+        ensures none { IfNone result (find (has_number number) self.now ≡ None) }
     {
         match self.index_of(number) {
             Some(index) => Some(&self.sessions[index].session),
@@ -70,11 +70,11 @@ impl OpenSessions {
         }
     }
 
-    /// Takes out the open session of this number, or returns None if there is none.
-    pub(crate) fn leave(&mut self, number: u64) -> Option<OpenSession>
+    /// Removes the open session of this number and returns it, or None if there is none.
+    pub(crate) fn remove(&mut self, number: u64) -> Option<OpenSession>
         ensures some { IfSome result (λ open_session.
             IsPermutation self.old (open_session ∷ self.new) × (open_session.number ≡ number) × (length self.new < max_open_sessions)) }
-        ensures none { IfNone result ((find (is_of number) self.old ≡ None) × (self.new ≡ self.old)) }
+        ensures none { IfNone result ((find (has_number number) self.old ≡ None) × (self.new ≡ self.old)) }
     {
         match self.index_of(number) {
             Some(index) => Some(self.sessions.swap_remove(index)),

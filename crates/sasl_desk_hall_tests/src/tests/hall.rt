@@ -64,7 +64,7 @@ fn hear(
         even,
         log,
     } = party;
-    if hall.phase(number).is_none() && !hall.halted() {
+    if hall.phase(number).is_none() && !hall.is_halted() {
         return Err("the session is not open".into());
     }
     let event = if line.is_empty() {

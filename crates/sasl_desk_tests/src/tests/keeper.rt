@@ -1,4 +1,4 @@
-//! Codes of RFC 4226, appendix D, and what the store holds after them.
+//! The tests of `Keeper` of `book_keeper`: codes of RFC 4226, appendix D, and what the store holds after them.
 use account_book::Book;
 use desk_in_memory::{BOOK, FailurePoint, MemoryStore, book_text_with};
 use sasl_desk::{CodeJudged, Keeper, Moment, Reply, SaveFault, SentCodes};

@@ -1,20 +1,20 @@
-use Rattle.std.proofs.Common.{ap, ◌∙◌}
+use Rattle.std.proofs.Common.{ap}
 use Rattle.std.proofs.lemmas.Result.{IfErr-weaker, on_ok_weaker}
 use Rattle.sasl_log.specs.Sink.{SinkFacts}
 use Rattle.sasl_desk.proofs.lemmas.halls.Stores.{hall_holds_told}
 use Rattle.sasl_desk.proofs.lemmas.runs.Stores.{told_is_saved}
 use Rattle.command_io.specs.HeldBook.{held_shown}
-use Rattle.commands.specs.declared.printed_log.PrintedLog.{PrintedLog}
 use Rattle.commands.proofs.lemmas.Faults.{failed_begin_excludes_bad_event, failed_begin_prints_nothing, failed_begin_stops_hearing}
 use Rattle.commands.proofs.lemmas.HeardLines.{hall_prints_its_log, hall_prints_to_bad_event, hall_stands_at_end, hall_stops_after}
 use Rattle.commands.proofs.lemmas.LeftBooks.{held_book_leaves_no_reply, saved_replies_leave_book}
+use Rattle.commands.proofs.lemmas.TakenOutputs.{taken_output_holds_log}
 use Rattle.commands.proofs.hall.hear_input.Goals as goal
 
 -- the hall heard what the lines say, and its log, from which the output was taken back, is a front
 pub returns-in-Ok-clause-ok : goal.returns-in-Ok-clause-ok
 returns-in-Ok-clause-ok g c =
     let before = ap (λ (f : SinkFacts). f.given) c.new.ensures in
-    let after = c.into_output.ensures ∙ ap (λ (l : PrintedLog _). g.O.Write.contents l.output) c.into_log_and_store-log.ensures.log in
+    let after = taken_output_holds_log g.O.Write.contents c.into_output.ensures c.into_log_and_store-log.ensures.log in
     rw c.into_log_and_store-log.ensures.store
     (on_ok_weaker c.hear_lines-heard.result
     (hall_prints_its_log before after c.in-Ok.ensures.log)
@@ -23,7 +23,7 @@ returns-in-Ok-clause-ok g c =
 pub returns-in-Ok-clause-err : goal.returns-in-Ok-clause-err
 returns-in-Ok-clause-err g c =
     let before = ap (λ (f : SinkFacts). f.given) c.new.ensures in
-    let after = c.into_output.ensures ∙ ap (λ (l : PrintedLog _). g.O.Write.contents l.output) c.into_log_and_store-log.ensures.log in
+    let after = taken_output_holds_log g.O.Write.contents c.into_output.ensures c.into_log_and_store-log.ensures.log in
     rw c.into_log_and_store-log.ensures.store
     (IfErr-weaker c.hear_lines-heard.result _ _
     (λ fault. hall_stops_after before after c.in-Ok.ensures.log fault)
@@ -37,7 +37,7 @@ returns-in-Err-clause-err g c =
 pub returns-in-Ok-clause-bad : goal.returns-in-Ok-clause-bad
 returns-in-Ok-clause-bad g c = λ is.
     let before = ap (λ (f : SinkFacts). f.given) c.new.ensures in
-    let after = c.into_output.ensures ∙ ap (λ (l : PrintedLog _). g.O.Write.contents l.output) c.into_log_and_store-log.ensures.log in
+    let after = taken_output_holds_log g.O.Write.contents c.into_output.ensures c.into_log_and_store-log.ensures.log in
     rw c.into_log_and_store-log.ensures.store
     (hall_prints_to_bad_event before after c.in-Ok.ensures.log
     (rw c.new-lines.ensures.input at (c.hear_lines-heard.ensures.bad is)))

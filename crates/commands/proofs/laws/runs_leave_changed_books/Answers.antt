@@ -2,7 +2,7 @@ use Rattle.std.proofs.Common.{inl, inr, ℕ, List, refl, reverse, sym, subst}
 use Rattle.std.proofs.lemmas.List.{reverse-reverse}
 use Rattle.account_book.specs.{IsBookText}
 use Rattle.account_book.specs.AccountAttempt.{AccountAttempt}
-use Rattle.sasl_desk.specs.Desks.{IsBookAfterAttempts}
+use Rattle.account_book.specs.Tokens.{IsBookAfterAttempts}
 use Rattle.command_io.specs.HeldBook.{IsEnrolled, IsTokenUnlocked}
 use Rattle.commands.proofs.lemmas.Attempts.{held_text_is_of_book, replies_are_changes}
 use Rattle.commands.proofs.lemmas.LeftBooks.{done_save_leaves_book, failed_change_leaves_old_or_changed, failed_save_leaves_old_or_book}

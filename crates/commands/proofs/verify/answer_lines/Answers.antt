@@ -31,7 +31,7 @@ pub loop-line-preserved : goal.loop-line-preserved
 loop-line-preserved g c =
     let (has_lf, takes, some, counted) = rw c.in-Some.is at c.in_ok-line.ensures.line in
     let answered = rw c.as_slice.ensures.value at c.in_ok-reply.ensures.ok in (
-      rw c.and_reply_passed-all_passed.ensures
+      rw c.is_pass-all_passed.ensures
           (run_comes_past_line (AnswersLine g.S.BookStore.IsStored c.args.name.now c.args.moment) (g.I.Read.remaining c.args.input.now)
           (verify_run_shown g.S.BookStore.facts c.args.held.now (g.O.Write.contents c.args.output.now)) c.loop-line.all_passed
           (g.I.Read.remaining c.loop-line.lines.input.now)

@@ -1,7 +1,7 @@
 -- The log of a hall: it is a front, and clean when no session is open, when the store has failed, and after `S HALT`; and its bytes
 -- and lines are those of the hall's calls.
 use Rattle.std.proofs.Common.{◌≡◌, inl, inr, Bool, true, false, ℕ, List, [], ◌∷◌, ◌++◌, map, refl, sym, ◌∙◌, subst, append-nil}
-use Rattle.std.specs.List.{AllByRecursion, find}
+use Rattle.std.specs.List.{AllByRecursion, AllZip, find}
 use Rattle.std.specs.declared.option.Option.{Option}
 use Rattle.std.specs.declared.option.Option.TheVariants.{None, Some}
 use Rattle.scram_text.specs.SplitLines.{ended_by_lf, IsSplit}
@@ -19,7 +19,7 @@ use Rattle.log_grammar.proofs.lemmas.many_sessions.WithoutLast.{numbered_log_has
 use Rattle.log_grammar.proofs.lemmas.lines.NumberedReadBack.{numbered_line_lacks_lf}
 use Rattle.log_grammar.proofs.lemmas.lines.ReadAndWritten.{writable_lines_are_read, writable_lines_lack_lf}
 use Rattle.log_grammar.proofs.lemmas.many_sessions.HaltAndBusy.{visit_halt_leads_to_halted}
-use Rattle.sasl_desk.specs.OpenSessions.{is_of}
+use Rattle.sasl_desk.specs.OpenSessions.{has_number}
 use Rattle.sasl_desk.specs.Halls.{HallFields, hall_lines, hall_bytes, IsStoredAfter, IsHallAfter, phase_after_halt, phase_of_number}
 use Rattle.sasl_desk.specs.Runs.{Call}
 use Rattle.sasl_desk.specs.declared.hall.open_session.OpenSession.{OpenSession}
@@ -57,19 +57,16 @@ failed_store_lets_end IsStored accounts (c ∷ calls) places book store stored f
 -- a hall that has answered these calls
 module _ {S : Type 0} {facts : S → StoreFacts} {IsStored : List ℕ → Type 0} {start : BookFields} {calls : List (Numbered Call)}
     {hall : HallFields S} (s : IsHallAfter facts IsStored start calls hall) where
+  -- the lines of a hall's log are read from its texts
+  hall_lines_are_read : AllZip IsNumberedLine (map numbered_text (hall_lines calls)) (hall_lines calls)
+  hall_lines_are_read = writable_lines_are_read IsNumberedLine numbered_text (hall_lines calls) s.writable
+
   -- the law: the log of a hall is a front: a clean log may begin with it, also while sessions are open
   pub log_is_a_front : IsLogFront (accounts_in start) (hall_bytes calls)
   log_is_a_front = (
     log_line_text header_two ∷ map numbered_text (hall_lines calls),
     hall_log_is_split calls s.writable,
-    inr (
-      refl,
-      hall_lines calls,
-      s.places,
-      s.told,
-      writable_lines_are_read IsNumberedLine numbered_text (hall_lines calls) s.writable,
-      s.begins,
-    ),
+    inr (refl, hall_lines calls, s.places, s.told, hall_lines_are_read, s.begins),
   )
 
   -- the log of a hall is clean if the places of its sessions let it end
@@ -77,15 +74,7 @@ module _ {S : Type 0} {facts : S → StoreFacts} {IsStored : List ℕ → Type 0
   ended_hall_log_is_clean ends = (
     log_line_text header_two ∷ map numbered_text (hall_lines calls),
     hall_log_is_split calls s.writable,
-    inr (
-      refl,
-      hall_lines calls,
-      s.places,
-      s.told,
-      writable_lines_are_read IsNumberedLine numbered_text (hall_lines calls) s.writable,
-      s.begins,
-      ends,
-    ),
+    inr (refl, hall_lines calls, s.places, s.told, hall_lines_are_read, s.begins, ends),
   )
 
   -- the law: the log of a hall is clean when no session is open
@@ -93,7 +82,7 @@ module _ {S : Type 0} {facts : S → StoreFacts} {IsStored : List ℕ → Type 0
   log_is_clean_closed none =
       ended_hall_log_is_clean
       (inl (λ n. number_without_open_session_is_between s n
-      (number_without_phase_has_no_open_session hall.is_halted (find (is_of n) hall.open_sessions) (none n))))
+      (number_without_phase_has_no_open_session hall.is_halted (find (has_number n) hall.open_sessions) (none n))))
 
   -- the law: the log of a hall is clean when the store has failed
   pub log_is_clean_failed : (facts hall.keeper.store).failed ≡ true → IsClean (accounts_in start) (hall_bytes calls)

@@ -6,7 +6,7 @@ use Rattle.scram_text.proofs.lemmas.ListEnds.{appended_lists_keep_all}
 use Rattle.log_grammar.specs.Places.{Place, between, halted, open_at}
 use Rattle.log_grammar.specs.Demands.{Accounts}
 use Rattle.log_grammar.specs.Numbered.{Numbered, of_number}
-use Rattle.sasl_desk.specs.OpenSessions.{is_of}
+use Rattle.sasl_desk.specs.OpenSessions.{has_number}
 use Rattle.sasl_desk.specs.Halls.{IsOpenSessionAt}
 use Rattle.sasl_desk.specs.Runs.{Call, server_nonce_of}
 use Rattle.sasl_desk.specs.Sessions.{IsSessionAt}
@@ -64,8 +64,8 @@ module _ (n : ℕ) (server_nonce : List ℕ) (others : List OpenSession) where
   turn_adds_what_is_still_open (Halted session) = length-append others (open_session_of n session server_nonce ∷ [])
 
   -- if none of the others has this number, the open sessions of the number are as many as the session takes open_sessions
-  pub own_sessions_count : (left : AfterTurn) → count_by (is_of n) others ≡ 0
-      → count_by (is_of n) (open_sessions_after n server_nonce left others) ≡ still_open left
+  pub own_sessions_count : (left : AfterTurn) → count_by (has_number n) others ≡ 0
+      → count_by (has_number n) (open_sessions_after n server_nonce left others) ≡ still_open left
   unfolding still_open
   own_sessions_count (Going session) none = last_open_session_counts_one n (open_session_of n session server_nonce) others refl none
   own_sessions_count Closed none = none
@@ -73,7 +73,7 @@ module _ (n : ℕ) (server_nonce : List ℕ) (others : List OpenSession) where
 
   -- the open sessions of another number are as many as among the others
   pub other_counts_stay : (m : ℕ) (left : AfterTurn) → (n ≡ m → ⊥)
-      → count_by (is_of m) (open_sessions_after n server_nonce left others) ≡ count_by (is_of m) others
+      → count_by (has_number m) (open_sessions_after n server_nonce left others) ≡ count_by (has_number m) others
   other_counts_stay m (Going session) other = other_last_session_is_not_counted m (open_session_of n session server_nonce) others other
   other_counts_stay m Closed other = refl
   other_counts_stay m (Halted session) other = other_last_session_is_not_counted m (open_session_of n session server_nonce) others other

@@ -5,7 +5,7 @@ use Rattle.std.specs.List.{AllByRecursion}
 use Rattle.std.proofs.lemmas.Bool.{eq-eqb}
 use Rattle.std.proofs.lemmas.Bool.Decides.{eqb_tells}
 use Rattle.sasl_log.proofs.lemmas.ListCounts.{passing_counts_one, failing_counts_none, first_adds_its_count}
-use Rattle.sasl_desk.specs.OpenSessions.{is_of}
+use Rattle.sasl_desk.specs.OpenSessions.{has_number}
 use Rattle.sasl_desk.specs.declared.hall.open_session.OpenSession.{OpenSession}
 use Rattle.sasl_desk.specs.declared.session.Session.{Session}
 use Rattle.sasl_desk.proofs.lemmas.Lists.{last_counts_as_first}
@@ -16,44 +16,44 @@ open_session_of number session server_nonce = record { number = number; session 
 
 -- an open session of a number adds one to the open sessions of that number
 pub own_open_session_counts : (n : ℕ) (open_session : OpenSession) (open_sessions : List OpenSession) → open_session.number ≡ n
-    → count_by (is_of n) (open_session ∷ open_sessions) ≡ 1 + count_by (is_of n) open_sessions
+    → count_by (has_number n) (open_session ∷ open_sessions) ≡ 1 + count_by (has_number n) open_sessions
 own_open_session_counts n open_session open_sessions same =
-    first_adds_its_count (is_of n) open_session open_sessions ∙ ap (λ (k : ℕ). k + count_by (is_of n) open_sessions)
-    (passing_counts_one (is_of n) open_session (eq-eqb open_session.number n same))
+    first_adds_its_count (has_number n) open_session open_sessions ∙ ap (λ (k : ℕ). k + count_by (has_number n) open_sessions)
+    (passing_counts_one (has_number n) open_session (eq-eqb open_session.number n same))
 
 -- an open session of another number does not count among those of this one
 pub other_open_session_is_not_counted : (n : ℕ) (open_session : OpenSession) (open_sessions : List OpenSession)
     → (open_session.number ≡ n → ⊥)
-    → count_by (is_of n) (open_session ∷ open_sessions) ≡ count_by (is_of n) open_sessions
+    → count_by (has_number n) (open_session ∷ open_sessions) ≡ count_by (has_number n) open_sessions
 other_open_session_is_not_counted n open_session open_sessions other = elim (eqb_tells open_session.number n) [
   | inl same ↦ absurd (other same.1)
   | inr differ ↦
-      omega (arith, failing_counts_none (is_of n) open_session differ.0, first_adds_its_count (is_of n) open_session open_sessions)
+      omega (arith, failing_counts_none (has_number n) open_session differ.0, first_adds_its_count (has_number n) open_session open_sessions)
 ]
 
 -- an open session at the end of a list is the only one of its number if no open session before it has this number
 pub last_open_session_counts_one : (n : ℕ) (open_session : OpenSession) (open_sessions : List OpenSession) → open_session.number ≡ n
-    → count_by (is_of n) open_sessions ≡ 0
-    → count_by (is_of n) (open_sessions ++ open_session ∷ []) ≡ 1
+    → count_by (has_number n) open_sessions ≡ 0
+    → count_by (has_number n) (open_sessions ++ open_session ∷ []) ≡ 1
 last_open_session_counts_one n open_session open_sessions same none =
     omega (
       arith,
       none,
       last_counts_as_first
-          (is_of n) open_sessions open_session,
+          (has_number n) open_sessions open_session,
       own_open_session_counts n open_session open_sessions same,
     )
 
 -- an open session of another number at the end of a list does not count among those of this one
 pub other_last_session_is_not_counted : (n : ℕ) (open_session : OpenSession) (open_sessions : List OpenSession)
     → (open_session.number ≡ n → ⊥)
-    → count_by (is_of n) (open_sessions ++ open_session ∷ []) ≡ count_by (is_of n) open_sessions
+    → count_by (has_number n) (open_sessions ++ open_session ∷ []) ≡ count_by (has_number n) open_sessions
 other_last_session_is_not_counted n open_session open_sessions other =
-    last_counts_as_first (is_of n) open_sessions open_session ∙ other_open_session_is_not_counted n open_session open_sessions other
+    last_counts_as_first (has_number n) open_sessions open_session ∙ other_open_session_is_not_counted n open_session open_sessions other
 
 -- if a number has an open session, what is true of each open session is true of one with this number
 pub some_open_session_has_number : (P : OpenSession → Type 0) (n : ℕ) (open_sessions : List OpenSession) → AllByRecursion P open_sessions
-    → (count_by (is_of n) open_sessions ≡ 0 → ⊥)
+    → (count_by (has_number n) open_sessions ≡ 0 → ⊥)
     → (open_session : OpenSession) × P open_session × (open_session.number ≡ n)
 some_open_session_has_number P n [] all some = absurd (some refl)
 some_open_session_has_number P n (open_session ∷ open_sessions) all some = elim (eqb_tells open_session.number n) [
@@ -63,7 +63,7 @@ some_open_session_has_number P n (open_session ∷ open_sessions) all some = eli
 ]
 
 -- no open session is of a number that has none
-pub open_sessions_are_of_others : (n : ℕ) (open_sessions : List OpenSession) → count_by (is_of n) open_sessions ≡ 0
+pub open_sessions_are_of_others : (n : ℕ) (open_sessions : List OpenSession) → count_by (has_number n) open_sessions ≡ 0
     → AllByRecursion (λ open_session. open_session.number ≡ n → ⊥) open_sessions
 open_sessions_are_of_others n [] none = tt
 open_sessions_are_of_others n (open_session ∷ open_sessions) none = elim (eqb_tells open_session.number n) [

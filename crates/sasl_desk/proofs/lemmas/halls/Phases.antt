@@ -13,7 +13,7 @@ use Rattle.log_grammar.specs.Places.{Place, before_all, between, offered, waits_
 use Rattle.log_grammar.specs.Demands.{Accounts}
 use Rattle.log_grammar.specs.Numbered.{Numbered, of_number}
 use Rattle.sasl_desk.specs.Desks.{session_phase}
-use Rattle.sasl_desk.specs.OpenSessions.{is_of}
+use Rattle.sasl_desk.specs.OpenSessions.{has_number}
 use Rattle.sasl_desk.specs.Halls.{HallFields, IsSessionRun, IsOpenSessionAt, IsHallAfter, phase_after_halt, phase_of_number, phase_unless_over, IsPhaseOf, IsPhaseOrNoneOf}
 use Rattle.sasl_desk.specs.Runs.{Call, IsAtRest}
 use Rattle.sasl_desk.specs.Sessions.{IsSessionAt}
@@ -87,33 +87,33 @@ working_session_is_not_halted (Some open_session) is =
 module _ {S : Type 0} {facts : S → StoreFacts} {IsStored : List ℕ → Type 0} {start : BookFields} {calls : List (Numbered Call)}
     {hall : HallFields S} (s : IsHallAfter facts IsStored start calls hall) (n : ℕ) where
   -- a number without an open session is between sessions
-  pub number_without_open_session_is_between : find (is_of n) hall.open_sessions ≡ None → s.places n ≡ between
+  pub number_without_open_session_is_between : find (has_number n) hall.open_sessions ≡ None → s.places n ≡ between
   number_without_open_session_is_between none = elim (cases_Bool (is_closed (s.places n))) [
     | inl is ↦ resting_closed_is_between (s.places n) is (session_run_rests (accounts_in start) (of_number n calls) (s.places n)
         (s.session_runs n))
     | inr is_open ↦ absurd (omega (
       arith,
-      none_is_counted_if_none_found (is_of n) hall.open_sessions none,
+      none_is_counted_if_none_found (has_number n) hall.open_sessions none,
       s.open_sessions n,
       open_place_counts_one (s.places n) is_open,
     ))
   ]
 
   -- a number with an open session is not between sessions
-  number_with_open_session_is_not_between : (open_session : OpenSession) → find (is_of n) hall.open_sessions ≡ Some open_session
+  number_with_open_session_is_not_between : (open_session : OpenSession) → find (has_number n) hall.open_sessions ≡ Some open_session
       → s.places n ≡ between → ⊥
   number_with_open_session_is_not_between open_session some at =
-      found_is_counted (is_of n) hall.open_sessions open_session some
+      found_is_counted (has_number n) hall.open_sessions open_session some
       (s.open_sessions n ∙ closed_place_counts_none (s.places n) (rw at refl))
 
   -- the phase of the number's open session, or none if it has none, is that of its place
   open_session_phase_fits_place : (is_halted : Bool) → is_halted ≡ hall.is_halted → (open_session : Option OpenSession)
-      → find (is_of n) hall.open_sessions ≡ open_session
+      → find (has_number n) hall.open_sessions ≡ open_session
       → IsPhaseOrNoneOf (s.places n) (phase_after_halt is_halted open_session)
   open_session_phase_fits_place is_halted same None none = number_without_open_session_is_between none
   open_session_phase_fits_place true same (Some open_session) some = (number_with_open_session_is_not_between open_session some, tt)
   open_session_phase_fits_place false same (Some open_session) some =
-      let found = found_has_property (IsOpenSessionAt (accounts_in start) calls s.places) (is_of n) hall.open_sessions open_session
+      let found = found_has_property (IsOpenSessionAt (accounts_in start) calls s.places) (has_number n) hall.open_sessions open_session
       (s.standing (sym same)) some in
       let number = eqb-true open_session.number n found.1 in (
         number_with_open_session_is_not_between open_session some,
@@ -123,13 +123,13 @@ module _ {S : Type 0} {facts : S → StoreFacts} {IsStored : List ℕ → Type 0
 
   -- the law: the phase of the number's session is that of its place, and there is none if and only if no session of it is open
   pub phases_are_those_of_places : IsPhaseOrNoneOf (s.places n) (phase_of_number hall n)
-  phases_are_those_of_places = open_session_phase_fits_place hall.is_halted refl (find (is_of n) hall.open_sessions) refl
+  phases_are_those_of_places = open_session_phase_fits_place hall.is_halted refl (find (has_number n) hall.open_sessions) refl
 
   -- while the hall works, a phase that fits the session's place is the one in which the session is kept
   fitting_phase_is_kept : hall.is_halted ≡ false → (p : Phase) → IsPhaseOf (s.places n) p → (p ≡ phase.Halted → ⊥)
       → phase_of_number hall n ≡ phase_unless_over p
   fitting_phase_is_kept working p is apart =
-      let open_session = find (is_of n) hall.open_sessions in
+      let open_session = find (has_number n) hall.open_sessions in
       kept_phase_fits_place (s.places n) (phase_of_number hall n) phases_are_those_of_places
       (λ halted. working_session_is_not_halted open_session
       (subst (λ (b : Bool). phase_after_halt b open_session ≡ Some phase.Halted) working halted))

@@ -7,6 +7,7 @@ use Rattle.account_book.specs.{BookFields}
 use Rattle.account_book.specs.SavedBooks.{needs_save}
 use Rattle.account_book.specs.Store.{StoreFacts}
 use Rattle.account_book.specs.AccountAttempt.{account_attempt_of}
+use Rattle.account_book.specs.Tokens.{IsBookAfterAttempts}
 use Rattle.book_keeper.specs.Keeper.{IsCodeJudged}
 use Rattle.book_keeper.specs.declared.keeper.Keeper.{Keeper}
 use Rattle.book_keeper.specs.declared.keeper.CodeJudged.{CodeJudged}
@@ -20,7 +21,6 @@ use Rattle.log_grammar.specs.Versions.{max_open_sessions}
 use Rattle.log_grammar.proofs.lemmas.lines.LackLf.{reply_is_writable}
 use Rattle.log_grammar.proofs.lemmas.lines.Written.{halt_is_writable}
 use Rattle.sasl_log.proofs.lemmas.steps.Tokens.{book_reply_is_due}
-use Rattle.sasl_desk.specs.Desks.{IsBookAfterAttempts}
 use Rattle.sasl_desk.specs.Events.{ClientEvent}
 use Rattle.sasl_desk.specs.Halls.{hall_of, hall_lines, IsHallAfter}
 use Rattle.sasl_desk.specs.Runs.{hears, Call, call_of, server_nonce_of}

@@ -6,6 +6,7 @@ use Rattle.scram_text.proofs.lemmas.ListEnds.{appended_lists_keep_all}
 use Rattle.account_book.specs.{BookFields}
 use Rattle.account_book.specs.Store.{StoreFacts}
 use Rattle.account_book.specs.AccountAttempt.{AccountAttempt}
+use Rattle.account_book.specs.Tokens.{IsBookAfterAttempts}
 use Rattle.book_keeper.specs.declared.keeper.Keeper.{Keeper}
 use Rattle.log_grammar.specs.Books.{accounts_in}
 use Rattle.log_grammar.specs.Lines.{LogLine}
@@ -18,9 +19,9 @@ use Rattle.log_grammar.specs.state_machine.NumberedSteps.{put}
 use Rattle.log_grammar.proofs.lemmas.many_sessions.OpenCounts.{open_number_is_in_range}
 use Rattle.log_grammar.proofs.lemmas.many_sessions.LinesOfNumber.{one_and_others_cover_each, put_sets_own, put_keeps_others, given_in-append}
 use Rattle.log_grammar.proofs.lemmas.many_sessions.LinesOfNumber.{closed_in-append}
-use Rattle.sasl_desk.specs.Desks.{IsStoredAt, IsBookAfterAttempts}
+use Rattle.sasl_desk.specs.Desks.{IsStoredAt}
 use Rattle.sasl_desk.specs.Events.{ClientEvent}
-use Rattle.sasl_desk.specs.OpenSessions.{is_of}
+use Rattle.sasl_desk.specs.OpenSessions.{has_number}
 use Rattle.sasl_desk.specs.Halls.{hall_of, hall_lines, IsHallAfter}
 use Rattle.sasl_desk.specs.Runs.{hears, Call, call_of, server_nonce_of, IsTurnTaken}
 use Rattle.sasl_desk.specs.Sessions.{CanBeWritten}
@@ -96,7 +97,7 @@ module _ {S : Type 0} {facts : S → StoreFacts} {IsStored : List ℕ → Type 0
       let range = open_number_is_in_range max_open_sessions (demands accounts) (hall_lines calls) s.places s.told s.begins n is_open in
       let number : IsSessionNumber n = (range.0, omega (arith, range.1, s.given, s.last_number)) in
       let counted = own_open_session_counts n open_session others refl in
-      let alone : count_by (is_of n) others ≡ 0 = omega (arith, counted, s.open_sessions n, open_place_counts_one (s.places n) is_open) in
+      let alone : count_by (has_number n) others ≡ 0 = omega (arith, counted, s.open_sessions n, open_place_counts_one (s.places n) is_open) in
       let none = turn_gives_no_number n lines step.turns in
       let all_begun = given_in-append (hall_lines calls) (map (numbered n) lines) in
       let all_closed = closed_in-append (hall_lines calls) (map (numbered n) lines) in
@@ -115,7 +116,7 @@ module _ {S : Type 0} {facts : S → StoreFacts} {IsStored : List ℕ → Type 0
           given = omega (arith, s.given, none, all_begun);
           last_number = s.last_number;
           open_sessions = one_and_others_cover_each
-              (λ (m : ℕ). count_by (is_of m) (open_sessions_after n server_nonce left others) ≡ open_at (places m)) n
+              (λ (m : ℕ). count_by (has_number m) (open_sessions_after n server_nonce left others) ≡ open_at (places m)) n
               (own_sessions_count n server_nonce others left alone ∙ sym (still_open_counts_open accounts (places n) _ left leaves))
               (λ m other. other_counts_stay n server_nonce others m left other ∙ sym
               (other_open_session_is_not_counted m open_session others other)

@@ -5,6 +5,7 @@ use Rattle.std.proofs.lemmas.List.Sorted.{length_permutation}
 use Rattle.std.proofs.lemmas.Bool.{cases_Bool, false≢true, true≢false}
 use Rattle.account_book.specs.{BookFields}
 use Rattle.account_book.specs.Store.{StoreFacts}
+use Rattle.account_book.specs.SavedBooks.{HoldsBook}
 use Rattle.book_keeper.specs.declared.keeper.Keeper.{Keeper}
 use Rattle.log_grammar.specs.Books.{accounts_in}
 use Rattle.log_grammar.specs.Lines.{LogLine, said, busy, halt}
@@ -16,9 +17,8 @@ use Rattle.log_grammar.specs.Versions.{max_open_sessions}
 use Rattle.log_grammar.proofs.lemmas.many_sessions.WithoutLast.{numbered_log_has_last_transition}
 use Rattle.log_grammar.proofs.lemmas.many_sessions.HaltAndBusy.{visit_halt_leads_to_halted, visit_busy_leads_to_over}
 use Rattle.sasl_log.proofs.lemmas.ListCounts.{permutation_keeps_all, permutation_keeps_count}
-use Rattle.sasl_desk.specs.Desks.{HoldsBook}
 use Rattle.sasl_desk.specs.DueLines.{is_client_turn}
-use Rattle.sasl_desk.specs.OpenSessions.{is_of}
+use Rattle.sasl_desk.specs.OpenSessions.{has_number}
 use Rattle.sasl_desk.specs.Halls.{HallFields, hall_of, hall_lines, IsSessionRun, IsOpenSessionAt, IsStoredAfter, IsHallAfter}
 use Rattle.sasl_desk.specs.Runs.{Call, IsRun}
 use Rattle.sasl_desk.specs.declared.hall.open_session.OpenSession.{OpenSession}
@@ -127,7 +127,7 @@ module _ {S : Type 0} {facts : S → StoreFacts} {IsStored : List ℕ → Type 0
     writable = s.writable;
     given = s.given;
     last_number = s.last_number;
-    open_sessions = λ n. permutation_keeps_count (is_of n) open_sessions others same ∙ s.open_sessions n;
+    open_sessions = λ n. permutation_keeps_count (has_number n) open_sessions others same ∙ s.open_sessions n;
     counted = omega (arith, length_permutation open_sessions others same, s.counted);
     standing = λ working. permutation_keeps_all (IsOpenSessionAt (accounts_in start) calls s.places) open_sessions others same
         (s.standing working);

@@ -4,13 +4,12 @@ use Rattle.std.proofs.lemmas.Grind.{reverse_onto}
 use Rattle.std.proofs.lemmas.List.{reverse-append, reverse-reverse}
 use Rattle.account_book.specs.{BookFields}
 use Rattle.account_book.specs.AccountAttempt.{AccountAttempt}
-use Rattle.account_book.specs.Tokens.{IsBookAttempt}
+use Rattle.account_book.specs.Tokens.{IsBookAttempt, IsBookAfterAttempts}
+use Rattle.account_book.specs.Spent.{spent_by_all, AreSpent, spent_by}
 use Rattle.log_grammar.specs.Books.{accounts_in}
 use Rattle.sasl_log.specs.inner.Tokens.{IsBookAfter}
 use Rattle.sasl_log.proofs.lemmas.audits.AuditedLineByLine.{book_follows_no_replies}
 use Rattle.sasl_log.proofs.lemmas.steps.Tokens.{book_follows_attempt}
-use Rattle.sasl_desk.specs.Desks.{IsBookAfterAttempts, spent_by_all}
-use Rattle.sasl_desk.specs.Spent.{AreSpent, spent_by}
 use Rattle.sasl_desk.proofs.lemmas.runs.Spent.{spent_stays_spent}
 
 module _ (start : BookFields) where

@@ -3,9 +3,9 @@ use Rattle.std.proofs.Common.{◌≡◌, inl, inr, ℕ, List, [], ◌∷◌, ◌
 use Rattle.account_book.specs.{BookFields}
 use Rattle.account_book.specs.Store.{StoreFacts}
 use Rattle.account_book.specs.AccountAttempt.{AccountAttempt}
+use Rattle.account_book.specs.Spent.{AreDifferent, IsCounterSpent, AreSpent, spent_by, spent_by_all}
 use Rattle.log_grammar.proofs.lemmas.ListEnds.{back_keeps_all}
-use Rattle.sasl_desk.specs.Spent.{AreDifferent, IsCounterSpent, AreSpent, spent_by}
-use Rattle.sasl_desk.specs.Desks.{MayLeave, spent_by_all}
+use Rattle.sasl_desk.specs.Desks.{MayLeave}
 use Rattle.sasl_desk.specs.Changes.{RunOf, IsRunOf, Change, desk_ran, hall_ran, judged, unlocked, added}
 use Rattle.sasl_desk.specs.Changes.{IsChange, AreChanges, spent_by_change, spent_by_changes}
 use Rattle.sasl_desk.proofs.lemmas.runs.Spent.{spent_stays_spent}

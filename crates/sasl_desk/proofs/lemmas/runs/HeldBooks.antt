@@ -3,15 +3,15 @@ use Rattle.std.proofs.Common.{◌≡◌, inl, inr, ◌⊎◌, Bool, true, false,
 use Rattle.std.proofs.lemmas.Bool.{false≢true}
 use Rattle.otp_core.specs.Attempt.{CodeTexts}
 use Rattle.account_book.specs.{BookFields, IsBookText}
-use Rattle.account_book.specs.SavedBooks.{SavesBook}
+use Rattle.account_book.specs.SavedBooks.{SavesBook, HoldsBook}
 use Rattle.account_book.specs.Store.{StoreFacts}
 use Rattle.account_book.specs.AccountAttempt.{account_attempt_of}
-use Rattle.book_keeper.specs.Keeper.{IsSavedIfChanged, IsCodeJudged}
+use Rattle.book_keeper.specs.Keeper.{IsSavedIfDue, IsCodeJudged}
 use Rattle.book_keeper.specs.declared.keeper.CodeJudged.TheVariants.{NotSaved}
 use Rattle.log_grammar.specs.Lines.{said, halt}
 use Rattle.log_grammar.specs.Places.{Place, waits_code, halted}
 use Rattle.log_grammar.specs.Demands.{Accounts}
-use Rattle.sasl_desk.specs.Desks.{HoldsBook, IsLostAfter, IsStoredAt}
+use Rattle.sasl_desk.specs.Desks.{IsLostAfter, IsStoredAt}
 use Rattle.sasl_desk.specs.DueLines.{is_client_turn}
 use Rattle.sasl_desk.specs.Events.{ClientEvent}
 use Rattle.sasl_desk.specs.Runs.{hears, Call, call_of, IsRun}
@@ -28,8 +28,8 @@ module _ (IsStored : List ℕ → Type 0) where
   }
 
   -- after a reply the store holds the text of the book, if it held that of the book before it
-  pub kept_store_holds_book : (has_changed : Bool) (old new : BookFields) (was now : StoreFacts)
-      → IsSavedIfChanged IsStored has_changed old was new now → HoldsBook IsStored old was → HoldsBook IsStored new now
+  pub kept_store_holds_book : (is_due : Bool) (old new : BookFields) (was now : StoreFacts)
+      → IsSavedIfDue IsStored is_due old was new now → HoldsBook IsStored old was → HoldsBook IsStored new now
   kept_store_holds_book true old new was now kept held = saved_store_holds_book new was now kept
   kept_store_holds_book false old new was now (same, unasked) held =
       subst (λ (b : BookFields). HoldsBook IsStored b now) (sym same)

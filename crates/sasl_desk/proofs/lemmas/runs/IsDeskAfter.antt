@@ -5,9 +5,10 @@ use Rattle.std.specs.declared.option.Option.TheVariants.{None, Some}
 use Rattle.otp_core.specs.Attempt.{CodeTexts}
 use Rattle.scram_text.proofs.lemmas.ListEnds.{appended_lists_keep_all}
 use Rattle.account_book.specs.{BookFields}
-use Rattle.account_book.specs.SavedBooks.{needs_save, SavesBook}
+use Rattle.account_book.specs.SavedBooks.{needs_save, SavesBook, HoldsBook}
 use Rattle.account_book.specs.Store.{StoreFacts}
 use Rattle.account_book.specs.AccountAttempt.{AccountAttempt, account_attempt_of}
+use Rattle.account_book.specs.Tokens.{IsBookAfterAttempts}
 use Rattle.book_keeper.specs.Keeper.{IsCodeJudged}
 use Rattle.book_keeper.specs.declared.keeper.Keeper.{Keeper}
 use Rattle.book_keeper.specs.declared.keeper.CodeJudged.{CodeJudged}
@@ -26,7 +27,7 @@ use Rattle.sasl_desk.specs.Events.{ClientEvent}
 use Rattle.sasl_desk.specs.inner.SessionTurns.{IsLeftAt, IsDueCode, turn_lines}
 use Rattle.sasl_desk.specs.Runs.{greets, hears, Call, call_of, run_lines, server_nonce_of}
 use Rattle.sasl_desk.specs.inner.TurnResults.{after_turn_of, judged_lines, after_judged, SessionAnswers, IsTurnOf}
-use Rattle.sasl_desk.specs.Desks.{IsStateAt, HoldsBook, IsStoredAt, IsBookAfterAttempts, IsDeskAfter, desk_of, state_after}
+use Rattle.sasl_desk.specs.Desks.{IsStateAt, IsStoredAt, IsDeskAfter, desk_of, state_after}
 use Rattle.sasl_desk.specs.declared.desk.Desk.{Desk}
 use Rattle.sasl_desk.specs.declared.desk.state.State.TheVariants.{Closed, Open, Halted}
 use Rattle.sasl_desk.specs.declared.session.Session.{Session}

@@ -17,13 +17,13 @@ use Rattle.otp_core.proofs.lemmas.Used.{candidates_are_new}
 use Rattle.account_book.specs.{BookFields}
 use Rattle.account_book.specs.Tokens.{token_at}
 use Rattle.account_book.specs.AccountAttempt.{AccountAttempt, account_attempt_of}
+use Rattle.account_book.specs.Spent.{IsBelow, IsCounterSpent, AreSpent, used_by_reply, of_account, SpentStaysSpent}
 use Rattle.log_grammar.specs.Books.{accounts_in}
 use Rattle.log_grammar.specs.Demands.{attempts_of, IsReplyDueBy}
 use Rattle.log_grammar.proofs.lemmas.ListEnds.{front_keeps_all, back_keeps_all}
 use Rattle.sasl_log.specs.inner.Tokens.{LeadsTo, IsBookAfter}
 use Rattle.sasl_log.proofs.lemmas.audits.AuditedLineByLine.{book_follows_no_replies}
 use Rattle.sasl_log.proofs.lemmas.steps.Tokens.{book_reply_is_due, book_follows_attempt}
-use Rattle.sasl_desk.specs.Spent.{IsBelow, IsCounterSpent, AreSpent, used_by_reply, of_account, SpentStaysSpent}
 use Rattle.sasl_desk.proofs.lemmas.Lists.{each_follows}
 
 -- attempts that lead from a token lead to a token after them

@@ -2,18 +2,18 @@
 -- file of a hall is `halls/Stores.antt`; what it shares with a desk is here.
 use Rattle.std.proofs.Common.{inl, inr, ℕ, List, ◌++◌, reverse, refl, sym, subst}
 use Rattle.account_book.specs.{BookFields, IsBookText}
-use Rattle.account_book.specs.SavedBooks.{HasStoredText}
-use Rattle.account_book.specs.Store.{StoreFacts}
+use Rattle.account_book.specs.SavedBooks.{HasStoredText, HoldsBook}
+use Rattle.account_book.specs.Store.{StoreFacts, MayHold, MayHoldWithinSave}
 use Rattle.account_book.specs.AccountAttempt.{AccountAttempt}
-use Rattle.account_book.specs.Tokens.{IsBookAttempt}
+use Rattle.account_book.specs.Tokens.{IsBookAttempt, IsBookAfterAttempts}
+use Rattle.account_book.specs.Spent.{AreSpent, spent_by_all}
 use Rattle.log_grammar.specs.Books.{accounts_in}
 use Rattle.log_grammar.specs.Lines.{log_bytes}
 use Rattle.log_grammar.specs.Places.{Place, halted}
 use Rattle.log_grammar.specs.Demands.{Accounts}
 use Rattle.sasl_desk.specs.Runs.{Call, run_lines}
 use Rattle.sasl_desk.specs.Saved.{IsToldSaved, IsLogSaved, IsTextOfSpent, AreToldCountersSaved}
-use Rattle.sasl_desk.specs.Spent.{AreSpent}
-use Rattle.sasl_desk.specs.Desks.{MayHold, MayHoldWithinSave, HoldsBook, IsLostAfter, IsStoredAt, IsBookAfterAttempts, spent_by_all}
+use Rattle.sasl_desk.specs.Desks.{IsLostAfter, IsStoredAt}
 use Rattle.sasl_desk.specs.Desks.{IsDeskAfter, IsTextLeft, MayLeave}
 use Rattle.sasl_desk.specs.Changes.{IsDeskRunLeaving}
 use Rattle.sasl_desk.specs.declared.desk.Desk.{Desk}

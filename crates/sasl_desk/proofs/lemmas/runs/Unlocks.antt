@@ -21,9 +21,9 @@ use Rattle.otp_core.proofs.lemmas.Used.{candidates_are_new}
 use Rattle.account_book.specs.{AccountFields, BookFields}
 use Rattle.account_book.specs.Accounts.{account_at, with_account, with_changed, IsAdded}
 use Rattle.account_book.specs.Tokens.{token_at, with_token, IsUnlocked}
+use Rattle.account_book.specs.Spent.{IsBelow, IsCounterSpent, AreSpent}
 use Rattle.account_book.proofs.lemmas.Maps.{added_is_apart}
 use Rattle.account_book.proofs.lemmas.Tokens.{tokens_are_apart}
-use Rattle.sasl_desk.specs.Spent.{IsBelow, IsCounterSpent, AreSpent}
 use Rattle.sasl_desk.proofs.lemmas.Lists.{each_follows}
 
 -- a counter is below each that can pass after a history

@@ -29,21 +29,9 @@ pub bare_refusal_is_due : (accounts : Accounts) (server_nonce : List ℕ) (at : 
 bare_refusal_is_due accounts server_nonce leaving away =
     record { next = between; path = (over, (refl, refl), (between, refl, refl)); left = refl; challenge = tt; plain = (tt, (tt, tt)) }
 bare_refusal_is_due accounts server_nonce (asks_bare mechanism) away =
-    record {
-      next = between;
-      path = (over, ((away, refl), refl), (between, refl, refl));
-      left = refl;
-      challenge = tt;
-      plain = (tt, (tt, tt));
-    }
+    record { next = between; path = (over, ((away, refl), refl), (between, refl, refl)); left = refl; challenge = tt; plain = (tt, (tt, tt)) }
 bare_refusal_is_due accounts server_nonce (got_first mechanism first) away =
-    record {
-      next = between;
-      path = (over, ((away, refl), refl), (between, refl, refl));
-      left = refl;
-      challenge = tt;
-      plain = (tt, (tt, tt));
-    }
+    record { next = between; path = (over, ((away, refl), refl), (between, refl, refl)); left = refl; challenge = tt; plain = (tt, (tt, tt)) }
 bare_refusal_is_due accounts server_nonce at away = absurd away
 
 -- nothing but `E` is due after a client that has gone away

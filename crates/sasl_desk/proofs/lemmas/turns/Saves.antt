@@ -8,6 +8,7 @@ use Rattle.account_book.specs.{BookFields, IsBookText}
 use Rattle.account_book.specs.Store.{StoreFacts}
 use Rattle.account_book.specs.AccountAttempt.{AccountAttempt, account_attempt_of}
 use Rattle.account_book.specs.Tokens.{IsBookAttempt}
+use Rattle.account_book.specs.SavedBooks.{HoldsBook}
 use Rattle.book_keeper.specs.Keeper.{IsCodeJudged}
 use Rattle.book_keeper.specs.declared.keeper.Keeper.{Keeper}
 use Rattle.book_keeper.specs.declared.keeper.CodeJudged.{CodeJudged}
@@ -15,7 +16,6 @@ use Rattle.book_keeper.specs.declared.keeper.CodeJudged.TheVariants.{Replied, No
 use Rattle.log_grammar.specs.Lines.{LogLine, said, replies, halt}
 use Rattle.log_grammar.specs.Places.{Place, waits_code}
 use Rattle.log_grammar.specs.Demands.{Accounts}
-use Rattle.sasl_desk.specs.Desks.{HoldsBook}
 use Rattle.sasl_desk.specs.Events.{ClientEvent}
 use Rattle.sasl_desk.specs.Runs.{hears}
 use Rattle.sasl_desk.specs.SavedCalls.{is_saving, IsAttemptOf, CountsSaves, AsksToSaveAttempt, IsQuiet, LeavesFailedStore}

@@ -1,18 +1,15 @@
-use Rattle.std.proofs.Common.{◌≡◌, ◌∙◌, ap, sym, subst, IfSome, Some, None}
-use Rattle.book_format.specs.Account.{IsAccount}
+use Rattle.std.proofs.Common.{◌≡◌, ◌∙◌, ap, sym, subst, Some, None}
 use Rattle.book_format.specs.Book.{AreAccounts}
-use Rattle.account_book.proofs.lemmas.Ranges.{token_keeps_ranges, set_value_keeps_ranges, found_account_is_in_range}
+use Rattle.account_book.proofs.lemmas.Ranges.{token_keeps_ranges, change_keeps_ranges}
 use Rattle.account_book.proofs.lemmas.Tokens.{attempt_without_token, attempt_on_token}
 use Rattle.account_book.proofs.book.Book.judge.Goals as goal
 
 pub invariant_of-self-inside-in_err-token : goal.invariant_of-self-inside-in_err-token
 invariant_of-self-inside-in_err-token c =
-    let account = subst IsAccount (sym c.account.view_is)
-    (subst (λ o. IfSome o IsAccount) (sym c.in_ok-account.ensures.value) (found_account_is_in_range _ _ c.self-inside.invariant.accounts)) in
     record {
       count = c.self-inside.invariant.count;
-      accounts = subst AreAccounts (sym (c.get_mut.follows.holds _).0)
-          (set_value_keeps_ranges _ _ _ c.self-inside.invariant.accounts account);
+      accounts = subst AreAccounts (sym (c.get_mut.follows.holds _).0) (change_keeps_ranges _ _ _ _ c.self-inside.invariant.accounts
+          (sym c.in_ok-account.ensures.value ∙ ap Some (sym c.account.view_is)) (λ is. is));
     }
 
 pub returns-in_err-token : goal.returns-in_err-token
@@ -24,12 +21,10 @@ returns-in_err-token c =
 
 pub invariant_of-self-inside-2 : goal.invariant_of-self-inside-2
 invariant_of-self-inside-2 c =
-    let account = subst IsAccount (sym c.account.view_is)
-    (subst (λ o. IfSome o IsAccount) (sym c.in_ok-account.ensures.value) (found_account_is_in_range _ _ c.self-inside.invariant.accounts)) in
     record {
       count = c.self-inside.invariant.count;
-      accounts = subst AreAccounts (sym (c.get_mut.follows.holds _).0)
-          (set_value_keeps_ranges _ _ _ c.self-inside.invariant.accounts (token_keeps_ranges _ _ account));
+      accounts = subst AreAccounts (sym (c.get_mut.follows.holds _).0) (change_keeps_ranges _ _ _ _ c.self-inside.invariant.accounts
+          (sym c.in_ok-account.ensures.value ∙ ap Some (sym c.account.view_is)) (token_keeps_ranges _ _));
     }
 
 pub returns : goal.returns

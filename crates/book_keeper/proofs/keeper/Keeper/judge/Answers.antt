@@ -1,7 +1,6 @@
 use Rattle.std.proofs.Common.{rules, ◌≡◌, ◌≢◌, sym, ◌∙◌}
-use Rattle.std.specs.declared.option.Option.TheVariants.{Some}
 use Rattle.otp_core.specs.declared.token.reply.Reply.TheVariants.{Locked}
-use Rattle.book_keeper.proofs.lemmas.Judged.{locked_attempt_is_judged, reply_but_locked_needs_save, token_attempt_is_judged}
+use Rattle.book_keeper.proofs.lemmas.Judged.{locked_attempt_is_judged, saving_reply_is_due}
 use Rattle.book_keeper.proofs.keeper.Keeper.judge.Goals as goal
 
 pub returns-then-eq-clause-ok : goal.returns-then-eq-clause-ok
@@ -15,34 +14,22 @@ returns-then-eq-clause-ok g c =
 
 pub returns-in-Err-NotSaved-clause-ok : goal.returns-in-Err-NotSaved-clause-ok
 returns-in-Err-NotSaved-clause-ok g c =
-    let lost = c.in-Err-NotSaved.ensures.err in (
+    let lost = c.in-Err-NotSaved.ensures.err in
+    let apart : c.judge-reply.result ≢ Locked = search rules in (
       c.in-Err-NotSaved.ensures.undone,
       (
         lost.0,
-        (
-          Some c.judge-reply.result,
-          (let apart : c.judge-reply.result ≢ Locked = search rules in reply_but_locked_needs_save c.judge-reply.result apart),
-          token_attempt_is_judged _ _ c.args.name.now c.in-Some.before c.judge-reply.new.self c.args.moment _ c.judge-reply.result
-              c.law_of_moments.ensures
-              (sym c.token.ensures ∙ c.in-Some.is)
-              (rw c.copy-next.ensures at c.judge-reply.ensures)
-              lost.1,
-        ),
+        saving_reply_is_due _ _ c.args.name.now c.in-Some.before c.judge-reply.new.self c.args.moment _ c.judge-reply.result
+            c.law_of_moments.ensures (sym c.token.ensures ∙ c.in-Some.is) (rw c.copy-next.ensures at c.judge-reply.ensures) apart lost.1,
         rw c.in-Err-NotSaved.field-0-is at lost.2,
       ),
     )
 
 pub returns-in-Err-NoMemory-clause-no_memory : goal.returns-in-Err-NoMemory-clause-no_memory
 returns-in-Err-NoMemory-clause-no_memory g c =
-    let lost = c.in-Err-NoMemory.ensures.err in (
+    let lost = c.in-Err-NoMemory.ensures.err in
+    let apart : c.judge-reply.result ≢ Locked = search rules in (
       lost.0,
-      (
-        Some c.judge-reply.result,
-        (let apart : c.judge-reply.result ≢ Locked = search rules in reply_but_locked_needs_save c.judge-reply.result apart),
-        token_attempt_is_judged _ _ c.args.name.now c.in-Some.before c.judge-reply.new.self c.args.moment _ c.judge-reply.result
-            c.law_of_moments.ensures
-            (sym c.token.ensures ∙ c.in-Some.is)
-            (rw c.copy-next.ensures at c.judge-reply.ensures)
-            lost.1,
-      ),
+      saving_reply_is_due _ _ c.args.name.now c.in-Some.before c.judge-reply.new.self c.args.moment _ c.judge-reply.result
+          c.law_of_moments.ensures (sym c.token.ensures ∙ c.in-Some.is) (rw c.copy-next.ensures at c.judge-reply.ensures) apart lost.1,
     )

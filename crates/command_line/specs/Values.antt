@@ -1,20 +1,16 @@
--- What can be wrong with the words of a command and with the first line of its input.
-use Rattle.std.specs.Prelude.{ℕ, ◌≡◌, ◌≢◌, ◌⊎◌, List, [], ◌∷◌, length, Option, Some, Ok}
+-- The texts that are no value of an option.
+use Rattle.std.specs.Prelude.{ℕ, ◌≡◌, ◌≢◌, List, length, Ok}
 use Rattle.std.specs.Fmt.{decimal}
 use Rattle.hex.specs.Hex.{decode_of}
-use Rattle.clap.specs.declared.parser.matches.ArgMatches.{ArgMatches}
+use Rattle.mac_core.specs.Mechanism.{name_of}
+use Rattle.mac_core.specs.declared.mechanism.Mechanism.{Mechanism}
 use Rattle.otp_core.specs.Hash.{hash_name}
 use Rattle.otp_core.specs.Ranges.{IsCounter, IsStepLength, IsDigitCount, IsMoment, IsSecretLength}
 use Rattle.otp_core.specs.declared.hash.OtpHash.{OtpHash}
-use Rattle.scram_text.specs.Class.{IsNoncePart, IsPassword, IsPlainName, IsSalt}
+use Rattle.scram_text.specs.Class.{IsNoncePart, IsPlainName, IsSalt}
 use Rattle.scram_text.specs.Parts.{IsCount}
-use Rattle.account_book.specs.{name_of, Mechanism}
-use Rattle.command_line.specs.declared.fault.Fault.{Fault}
-use Rattle.command_line.specs.declared.fault.Fault.TheVariants.{BadValue, BadPassword}
 use Rattle.command_line.specs.declared.option_name.OptionName.{OptionName}
 use Rattle.command_line.specs.declared.option_name.OptionName.TheVariants as option
-use Rattle.command_words.specs.Values.{value_of, given_value}
-use Rattle.command_io.specs.Input.{IsFirstLine}
 
 -- an option refuses this text; a path may be any text
 abbrev pub Refuses : OptionName → (text : List ℕ) → Type 0
@@ -33,18 +29,3 @@ Refuses option.As text = IsPlainName text → ⊥
 Refuses option.ClientNonce text = IsNoncePart text → ⊥
 Refuses option.ServerNonce text = IsNoncePart text → ⊥
 Refuses other text = ⊥
-
--- one of these options refuses the value that the words give, and the fault names it
-abbrev pub HasBadValue : List OptionName → ArgMatches → Fault → Type 0
-HasBadValue [] words fault = ⊥
-HasBadValue (name ∷ others) words fault =
-    ((fault ≡ BadValue name) × Refuses name (given_value words name)) ⊎ HasBadValue others words fault
-
--- the words give a value for this option, which refuses it
-abbrev pub GivesBadValue : OptionName → ArgMatches → Fault → Type 0
-GivesBadValue name words fault =
-    (fault ≡ BadValue name) × ((text : List ℕ) × (value_of words name ≡ Some text) × Refuses name text)
-
--- the first line of the input is not a password
-abbrev pub HasBadPassword : (input : Option (List ℕ)) → Fault → Type 0
-HasBadPassword input fault = (fault ≡ BadPassword) × ((line : List ℕ) × IsFirstLine input line × (IsPassword line → ⊥))

@@ -1,5 +1,5 @@
 -- Counters of accounts that are spent: no code passes with one of them again, whatever is attempted later.
-use Rattle.std.specs.Prelude.{ℕ, ◌≡◌, ◌≢◌, ◌<◌, List, [], ◌∷◌, ◌++◌, map, Option}
+use Rattle.std.specs.Prelude.{ℕ, ◌≡◌, ◌≢◌, ◌<◌, List, [], ◌∷◌, ◌++◌, map, flat_map, Option}
 use Rattle.std.specs.List.{AllByRecursion}
 use Rattle.std.specs.declared.option.Option.TheVariants.{None, Some}
 use Rattle.otp_core.specs.Attempt.{Attempt, CodeTexts, used_in_reply}
@@ -8,7 +8,7 @@ use Rattle.otp_core.specs.Window.{CanPass}
 use Rattle.otp_core.specs.History.{IsLegal}
 use Rattle.otp_core.specs.declared.token.reply.Reply.{Reply}
 use Rattle.otp_core.specs.declared.token.kinds.TokenFields.{TokenFields}
-use Rattle.account_book.specs.{BookFields}
+use Rattle.book_format.specs.Book.{BookFields}
 use Rattle.account_book.specs.Tokens.{token_at, IsBookAttempt}
 use Rattle.account_book.specs.AccountAttempt.{AccountAttempt}
 
@@ -45,6 +45,10 @@ of_account name counters = map (λ counter. (name, counter)) counters
 -- the counters that a reply uses, each with its account
 abbrev pub spent_by : AccountAttempt → List (List ℕ × ℕ)
 spent_by attempt = of_account attempt.account (used_by_reply attempt.sent attempt.reply)
+
+-- the counters that the replies of these attempts use, with their accounts, in the order of the attempts
+abbrev pub spent_by_all : List AccountAttempt → List (List ℕ × ℕ)
+spent_by_all attempts = flat_map spent_by attempts
 
 -- what was spent stays spent, and the counters that a reply uses are different ones and are then spent as well. So over any number
 -- of replies, in any number of runs that each continue with the book of the one before, no counter of an account passes twice.
