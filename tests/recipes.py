@@ -360,7 +360,7 @@ def a_locked_token(folder: str) -> None:
     """A token that is locked takes the next code again once the recipe has run, and no code that was spent before."""
     enrolled(folder)
     does(folder, blocks("Give a user one-time codes")[-1])
-    [unlock] = blocks("Free a locked token")
+    [unlock] = blocks("Unlock a token")
     limit = book_of(folder)["accounts"][FOB]["token"]["limit"]
     wrong = ["000000"] * limit
     found = ran(folder, verify(FOB, CODES[0], *wrong, CODES[1]))[:2]
