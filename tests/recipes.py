@@ -36,7 +36,7 @@ from suite import (
     BOOK_OF_USER, CODES, ROOT, code, document, each, hotp, is_awaited, is_locked, is_root, nobody, program_on_path, read_book, seen, totp,
     verify_words,
 )
-from tool_runs import TOOLS, book_of, does, ran, start, with_tools
+from tool_runs import TOOLS, book_of, code_of_now, does, ran, start, token_of_now, with_tools
 
 DOCUMENT = document("docs/OPERATING.md")
 UNITS = TOOLS.parent / "docs" / "SYSTEMD.md"
@@ -46,6 +46,9 @@ PLACE = "/var/lib/scramotp"
 NAME = "user@example.org"
 FOB = "fob@example.org"
 RENAMED = "button@example.org"
+
+# A text that is nested too deeply for Python.
+TOO_DEEP = b"x = " + b"[" * 100000
 
 # Prints nothing if the block before it has forgotten the password.
 FORGOTTEN = 'printf %s "$password"\n'
@@ -100,12 +103,12 @@ BOOKS_OF_LOGS = {"sha1": "hotp.toml", "sha256": "sha256.toml", "twice": "hotp.to
 MECHANISMS = ["sha1", "sha256"]
 
 
-def has_keys_of(account: dict[str, Any], password: bytes, count: int | None = None) -> None:
-    """Checks that an account has the keys of this password for both mechanisms, with this count if one is given."""
+def has_keys_of(account: dict[str, Any], password: bytes, count: int) -> None:
+    """Checks that an account has the keys of this password and this count for both mechanisms."""
     for mechanism in MECHANISMS:
         keys = account[mechanism]
-        due = keys_of(mechanism, password, bytes.fromhex(keys["salt"]), count or keys["count"])
-        equal((keys["stored"], keys["server"]), due, f"the {mechanism} keys of", password)
+        due = count, *keys_of(mechanism, password, bytes.fromhex(keys["salt"]), count)
+        equal((keys["count"], keys["stored"], keys["server"]), due, f"the {mechanism} keys of", password)
 
 
 def states(folder: str, book: dict[str, Any], about: str) -> None:
@@ -218,6 +221,52 @@ def an_edit_of_anothers_book(folder: str) -> None:
     equal(set(os.listdir(folder)), {"bin", "book.toml", "tools"}, "the files in the folder")
 
 
+def an_edit_in_a_folder_of_others(folder: str) -> None:
+    """A folder that its group or all users can write is refused, unless it has the sticky bit. The book stays as it was."""
+    book = with_tools(folder, BOOK_OF_USER)
+    fault = f"edit-book: {os.path.realpath(book)} is in a folder that others can write\n"
+    for trial, (mode, is_refused) in each([(0o720, True), (0o702, True), (0o1777, False), (0o755, False)]):
+        with trial:
+            os.chmod(folder, mode)
+            before = seen(book)
+            found = ran(folder, "tools/edit-book book.toml cat")
+            equal(found, (int(is_refused), "", fault if is_refused else ""), f"an edit in a folder of the mode {mode:o}")
+            equal(seen(book) == before, is_refused, f"whether the book in a folder of the mode {mode:o} stays")
+
+
+def an_edit_that_cannot_lock(folder: str) -> None:
+    """A lock that can't be taken at all is not told as a book in use. Nor is a book that its owner may not read: as root, nobody's here."""
+    book = with_tools(folder, BOOK_OF_USER)
+    real = os.path.realpath(book)
+    stand_in = Path(program_on_path(folder)["PATH"].partition(":")[0], "flock")
+    stand_in.write_text("#!/bin/sh\nexit 127\n")
+    stand_in.chmod(0o755)
+    found = ran(folder, "tools/edit-book book.toml cat")
+    equal(found, (1, "", f"edit-book: {real} is unchanged, because it could not be locked\n"), "an edit without flock")
+    stand_in.unlink()
+    shutil.copy(TOOLS / "edit-book", folder)
+    if ROOT:
+        for path in folder, book:
+            os.chown(path, nobody().pw_uid, nobody().pw_gid)
+    book.chmod(0)
+    found = ran(folder, f"{'runuser -u nobody -- ' * ROOT}./edit-book book.toml cat")
+    equal(found, (1, "", f"edit-book: {real} cannot be read\n"), "an edit of a book that can't be read")
+
+
+def a_process_that_an_edit_leaves(folder: str) -> None:
+    """A process that a command or an editor leaves does not keep the lock of the book."""
+    book = with_tools(folder, BOOK_OF_USER)
+    Path(folder, "leaver").write_text("sleep 600 <&- >&- 2>&- &\necho $! >left\nexit 1\n")
+    for trial, (command, editor, what) in each([(" sh leaver", "", "sh"), ("", "sh leaver", "the editor")]):
+        with trial:
+            answer = ran(folder, f"tools/edit-book book.toml{command}", EDITOR=editor)
+            is_kept = is_locked(book)
+            os.kill(int(Path(folder, "left").read_text()), signal.SIGKILL)
+            fault = f"edit-book: {os.path.realpath(book)} is unchanged, because {what} failed\n"
+            equal(answer, (1, "", fault), "an edit that leaves a process")
+            holds(not is_kept, "a process that this has left keeps the lock", what)
+
+
 def an_edit_that_is_stopped(folder: str) -> None:
     """An edit whose processes are terminated leaves the book as it was, and no file next to it."""
     book = with_tools(folder, BOOK_OF_USER)
@@ -292,8 +341,7 @@ def an_edit_gives_up(folder: str) -> None:
 def sets_no_token(folder: str, block: str, why: str) -> None:
     """A block of the section on codes sets no token, and says why. The book stays as it was, and the token's text is removed."""
     before = book_of(folder)
-    _, output, faults = ran(folder, block)
-    equal((output, faults), ("", f"no token is set: {why}\n"), "a token that is not set")
+    equal(ran(folder, block), (0, "", f"no token is set: {why}\n"), "a token that is not set")
     states(folder, before, f"what the book states: {why}")
     holds(not Path(folder, "token.toml").exists(), "the token's text is left", why)
 
@@ -310,7 +358,8 @@ def a_token(folder: str) -> None:
     holds(not Path(folder, "token.toml").exists(), "the token's text is left")
     moment = 1234567890
     does(folder, verify(NAME, code_at(secret, moment), moment=moment), printed=f"PASS {moment} {moment // 30}\n")
-    equal(ran(folder, verify("other", "000000"))[2], "scramotp: no token\n", "the fault of a code for an account without a token")
+    none = (1, "", "scramotp: no token\n")
+    equal(ran(folder, verify("other", "000000")), none, "the answer to a code for an account without a token")
     before = book_of(folder)
     mistyped = set_token.replace("user", "usr")
     sets_no_token(folder, set_token, "there is one already")
@@ -318,7 +367,7 @@ def a_token(folder: str) -> None:
     does(folder, drop_token)
     del before["accounts"][NAME]["token"]
     states(folder, before, "what the book states after the token is dropped")
-    equal(ran(folder, verify(NAME, "000000"))[2], "scramotp: no token\n", "the fault of a code after the token is dropped")
+    equal(ran(folder, verify(NAME, "000000")), none, "the answer to a code after the token is dropped")
     status, output, faults = ran(folder, set_token)
     equal((status, faults), (0, ""), "the token is set again", output)
     holds(base64.b32decode(output.strip()) != secret, "the secret of the second token is that of the first", output)
@@ -347,12 +396,14 @@ def a_fob_that_ran_ahead(folder: str) -> None:
     """Two codes in a row pass although the first by itself is too far ahead, and the token goes on after them."""
     enrolled(folder)
     does(folder, blocks("Give a user one-time codes")[-1])
-    equal(ran(folder, verify(FOB, code(8)))[:2], (1, "FAIL 5\n"), "the answer to a code that is too far ahead")
+    equal(ran(folder, verify(FOB, code(8))), (1, "FAIL 5\n", ""), "the answer to a code that is too far ahead")
     [sync] = blocks("Resynchronise a HOTP fob")
     status, output, faults = ran(folder, sync)
     equal((status, faults), (0, ""), "the status and the faults of two codes in a row", output)
     holds(re.fullmatch(r"PASS \d+ 9\n", output), "the pair does not pass", output, faults)
-    equal(ran(folder, sync)[0], 1, "the status of a pair that has passed before")
+    status, output, faults = ran(folder, sync)
+    equal((status, faults), (1, ""), "the status and the faults of a pair that has passed before", output)
+    holds(re.fullmatch(r"FAIL \d+\n", output), "the pair passes again", output)
     does(folder, verify(FOB, code(10)), printed="PASS 5 10\n")
 
 
@@ -363,10 +414,11 @@ def a_locked_token(folder: str) -> None:
     [unlock] = blocks("Unlock a token")
     limit = book_of(folder)["accounts"][FOB]["token"]["limit"]
     wrong = ["000000"] * limit
-    found = ran(folder, verify(FOB, CODES[0], *wrong, CODES[1]))[:2]
-    equal(found, (1, "PASS 5 0\n" + "FAIL 5\n" * limit + "LOCKED 5\n"), "the answers to codes until the token is locked")
+    found = ran(folder, verify(FOB, CODES[0], *wrong, CODES[1]))
+    equal(found, (1, "PASS 5 0\n" + "FAIL 5\n" * limit + "LOCKED 5\n", ""), "the answers to codes until the token is locked")
     does(folder, unlock, printed=f"unlocked {FOB}\n")
-    equal(ran(folder, verify(FOB, CODES[0], CODES[1]))[:2], (1, "FAIL 5\nPASS 5 1\n"), "the answers to codes after the token is freed")
+    found = ran(folder, verify(FOB, CODES[0], CODES[1]))
+    equal(found, (1, "FAIL 5\nPASS 5 1\n", ""), "the answers to codes after the token is freed")
 
 
 def an_account(folder: str) -> None:
@@ -376,8 +428,7 @@ def an_account(folder: str) -> None:
     does(folder, add, "pencil\n", f"enrolled {NAME}\n")
     before = book_of(folder)
     has_keys_of(before["accounts"][NAME], b"pencil", 4096)
-    _, output, faults = ran(folder, add, "another one\n")
-    equal((output, faults), ("", "scramotp: name is taken\n"), "a name that is taken")
+    equal(ran(folder, add, "another one\n"), (1, "", "scramotp: name is taken\n"), "a name that is taken")
     states(folder, before, "what the book states after a name that is taken")
     other = add.replace(NAME, "other")
     holds(other != add, "the block does not add this name", NAME, add)
@@ -425,7 +476,7 @@ def a_password_of_one_mechanism(folder: str) -> None:
             [change] = blocks("Change a password")
             does(folder, change, "another one\n")
             after = book_of(folder)
-            has_keys_of(after["accounts"][NAME], b"another one")
+            has_keys_of(after["accounts"][NAME], b"another one", 4096)
             equal(without_keys(after, NAME), without_keys(before, NAME), f"what else the book states, after only {kept} keys")
 
 
@@ -438,8 +489,10 @@ def a_first_password(folder: str) -> None:
     [change] = blocks("Change a password")
     first, mistyped = change.replace(NAME, FOB), change.replace(NAME, "fab@example.org")
     holds(change not in (first, mistyped), "the block has no name that can be replaced", NAME, change)
-    equal(ran(folder, mistyped, "another one\n")[1:], ("", "scramotp: no such account\n"), "a name that has no account")
+    equal(ran(folder, mistyped, "another one\n"), (1, "", "scramotp: no such account\n"), "a name that has no account")
     states(folder, before, "what the book states after a name that has no account")
+    missing = ran(folder, f"tools/set-password none.toml {NAME}", "another one\n")
+    equal(missing, (3, "", "scramotp: cannot read none.toml\n"), "a book that is not there")
     left = Path(folder, "left")
     left.mkdir()
     does(folder, first + FORGOTTEN, "another one\n", TMPDIR=str(left))
@@ -448,6 +501,23 @@ def a_first_password(folder: str) -> None:
     has_keys_of(after["accounts"][FOB], b"another one", 4096)
     equal(without_keys(after, FOB), before, "what else the book states")
     does(folder, verify(FOB, CODES[1]), printed="PASS 5 1\n")
+
+
+def a_password_of_any_name(folder: str) -> None:
+    """Names that a shell or TOML could take for something else get their passwords. Here the tool is called by a link, and there are files
+    whose names the headers of the keys would match as patterns."""
+    with_tools(folder, "").unlink()
+    Path(folder, "link").symlink_to("tools/set-password")
+    for letter in "acs":
+        Path(folder, letter).touch()
+    names = ["a b", "*", "-x", 'a"b\\c']
+    for name in names:
+        does(folder, f"scramotp enrol --book book.toml --name={shlex.quote(name)} --count 2", "pencil\n", f"enrolled {name}\n")
+    for trial, name in each(names):
+        with trial:
+            does(folder, f"./link book.toml {shlex.quote(name)} --count 3", f"new {name}\n")
+            has_keys_of(book_of(folder)["accounts"][name], f"new {name}".encode(), 3)
+    equal(set(book_of(folder)["accounts"]), set(names), "the accounts")
 
 
 def a_password_that_is_refused(folder: str) -> None:
@@ -467,8 +537,9 @@ def a_password_that_is_refused(folder: str) -> None:
             stand_in = Path(commands, command)
             stand_in.write_text("#!/bin/sh\nexit 2\n")
             stand_in.chmod(0o755)
-            status, output, _ = ran(folder, change, "another one\n")
-            equal((status, output), (1 if command == "awk" else 2, ""), command)
+            failed = f"edit-book: {os.path.realpath(book)} is unchanged, because sh failed\n"
+            answer = ran(folder, change, "another one\n")
+            equal(answer, (1, "", failed) if command == "awk" else (2, "", ""), command)
             equal(book.read_bytes(), before, command)
             stand_in.unlink()
     book.write_bytes(before.replace(f'[accounts."{NAME}".sha1]'.encode(), f"[accounts . '{NAME}' . sha1]".encode()))
@@ -501,7 +572,8 @@ def one_mechanism(folder: str) -> None:
             ended, log, faults = ran(folder, login, "pencil\n")
             equal((ended, faults), (status, ""), log)
             holds(re.search(rf"^S CONT :r=.*,s=.{{24}},i=4096\nC RESP .*\n{answer}$", log, re.M), "another answer is due", answer, log)
-    equal(ran(folder, drop)[0], 1, "the status of the block for an account without these keys")
+    failed = f"edit-book: {os.path.realpath(Path(folder, 'book.toml'))} is unchanged, because tools/drop-tables failed\n"
+    equal(ran(folder, drop), (1, "", failed), "the answer of the block for an account without these keys")
     states(folder, before, "what the book states after nothing was dropped")
 
 
@@ -523,7 +595,8 @@ def a_removed_account(folder: str) -> None:
     does(folder, "tools/edit-book book.toml cat - keys.toml")
     does(folder, remove)
     states(folder, before, "what the book states after an account with keys of one mechanism is removed")
-    equal(ran(folder, remove)[0], 1, "the status of the block for a name without an account")
+    failed = f"edit-book: {os.path.realpath(Path(folder, 'book.toml'))} is unchanged, because tools/drop-tables failed\n"
+    equal(ran(folder, remove), (1, "", failed), "the answer of the block for a name without an account")
     states(folder, before, "what the book states after nothing was removed")
 
 
@@ -541,19 +614,21 @@ def a_renamed_account(folder: str) -> None:
     accounts = before["accounts"]
     accounts[RENAMED] = accounts.pop(FOB)
     states(folder, before, "what the book states after the account is renamed")
-    equal(ran(folder, verify(RENAMED, CODES[0], CODES[1]))[:2], (1, "FAIL 5\nPASS 5 1\n"), "the answer to codes under the new name")
-    equal(ran(folder, verify(FOB, CODES[2]))[2], "scramotp: no such account\n", "the fault of a code under the old name")
+    equal(ran(folder, verify(RENAMED, CODES[0], CODES[1])), (1, "FAIL 5\nPASS 5 1\n", ""), "the answer to codes under the new name")
+    equal(ran(folder, verify(FOB, CODES[2])), (1, "", "scramotp: no such account\n"), "the answer to a code under the old name")
     before = book_of(folder)
     does(folder, rename)
     states(folder, before, "what the book states when no account has the old name")
     taken = rename.replace("fob@example\\.org", "user@example\\.org")
     holds(taken != rename, "the block does not name the account to rename", rename)
-    status, _, faults = ran(folder, taken.replace(RENAMED, "other@example.org"))
-    equal((status, faults), (0, ""), "an account that does not exist is renamed")
+    taken = taken.replace(RENAMED, "other@example.org")
+    does(folder, taken)
     does(folder, f"scramotp enrol --book book.toml --name {NAME}", "pencil\n", f"enrolled {NAME}\n")
     before = book_of(folder)
-    status, _, faults = ran(folder, taken.replace(RENAMED, "other@example.org"))
-    holds(status == 1 and "is unchanged" in faults, "a new name that is taken is not refused", status, faults)
+    status, output, faults = ran(folder, taken)
+    equal((status, output), (1, ""), "a new name that is taken", faults)
+    due = r"scramotp: bad book: 60\nedit-book: .* is unchanged; look into .*\n"
+    holds(re.fullmatch(due, faults), "a new name that is taken: other faults than", due, faults)
     states(folder, before, "what the book states when the new name is taken")
 
 
@@ -570,9 +645,9 @@ def what_accounts_have(folder: str) -> None:
     status, output, faults = ran(folder, tell)
     equal((status, set(output.splitlines()), faults), (0, started | told, ""), "what accounts have before any code")
     does(folder, verify("counts", CODES[0]), printed="PASS 5 0\n")
-    equal(ran(folder, verify("counts", "000000", "000000"))[:2], (1, "FAIL 5\nFAIL 5\n"), "the answer to codes that lock the token")
+    equal(ran(folder, verify("counts", "000000", "000000")), (1, "FAIL 5\nFAIL 5\n", ""), "the answer to codes that lock the token")
     does(folder, verify("timed", "94287082", moment=59), printed="PASS 59 1\n")  # RFC 6238, appendix B
-    equal(ran(folder, verify("timed", "00000000", moment=59))[:2], (1, "FAIL 59\n"), "the answer to a code that fails")
+    equal(ran(folder, verify("timed", "00000000", moment=59)), (1, "FAIL 59\n", ""), "the answer to a code that fails")
     told = {"counts: hotp token (next 1, locked)", "timed: totp token (last 1, 1 failures)"}
     with open(Path(folder, "book.toml"), "rb") as held:
         fcntl.flock(held, fcntl.LOCK_EX)
@@ -602,12 +677,14 @@ def texts(mechanism: str, count: int, salt: str, stored: str, server: str) -> tu
 
 
 def a_book_that_a_tool_cannot_read(folder: str) -> None:
-    """A tool that only reads a book says why it can't: there is no file, it is not TOML or not a book, or lacks the account or the keys."""
+    """A tool that only reads a book says why it can't: there is no file, it is not TOML or not a book, or lacks the account or the keys.
+    So it does if the text is nested too deeply for it."""
     with_tools(folder, BOOK_OF_USER)
     texts_of_faults = [
         (None, r"\[Errno 2\] No such file or directory: 'faulty\.toml'"),
         (b"x = \n", "not TOML: .*"),
         (b"x = '\xff'\n", "not TOML: .*"),
+        (TOO_DEEP, "not TOML: .*"),
         (b"accounts = 1\n", "not an account book: find-key says what is wrong"),
         (b"decoy_count = 4096\n[accounts.user]\nsha256 = 1\ntoken = 1\n", "not an account book: find-key says what is wrong"),
     ]
@@ -622,6 +699,25 @@ def a_book_that_a_tool_cannot_read(folder: str) -> None:
     equal(found, (1, "", "find-key: [Errno 2] No such file or directory: 'none.toml'\n"), "a book that is not there")
     for name, fault in [("none", "no such account"), ("user", "the account has no keys for SCRAM-SHA-256")]:
         equal(ran(folder, f"tools/to-verifier book.toml {name}"), (1, "", f"to-verifier: {fault}\n"), name)
+
+
+def names_that_a_tool_prints(folder: str) -> None:
+    """A name that is not printable is quoted. A tool that prints a line for each account ends without a word, by the signal PIPE, if its
+    reader ends first."""
+    with_tools(folder, 'decoy_count = 1\n[accounts."\\u001b[31m".sha1]\ncount = 3\nsalt = ""\n')
+    names = [f"{number:099}" for number in range(2000)]
+    tables = "".join(f'[accounts.{name}.sha1]\ncount = 2\nsalt = ""\n' for name in names)
+    Path(folder, "many.toml").write_text(f"decoy_count = 1\n{tables}")
+    for trial, (tool, quoted, line) in each([
+        ("list-accounts", r"'\x1b[31m: sha1 keys'", f"{names[0]}: sha1 keys"),
+        ("list-unlike-decoys", r"'\x1b[31m: sha1 has the count 3, decoys have 1'", f"{names[0]}: sha1 has the count 2, decoys have 1"),
+        ("find-key", r"'\x1b[31m', sha1: 'stored' is missing", "the document: 'format' is missing"),
+    ]):
+        with trial:
+            status, output, faults = ran(folder, f"tools/{tool} book.toml")
+            equal((status, quoted in output.splitlines(), faults), (0, True, ""), tool, output)
+            cut = f'tools/{tool} many.toml | head -n 1; echo "${{PIPESTATUS[0]}}"'
+            does(folder, cut, printed=f"{line}\n{128 + signal.SIGPIPE}\n")
 
 
 def keys_of_dovecot(folder: str) -> None:
@@ -659,8 +755,9 @@ def a_verifier_there_and_back(folder: str) -> None:
     before = book_of(folder)
     for trial, text in each(["", "md5c0ffee", both[0].replace("256", "512"), both[0].replace("==", "=")]):
         with trial:
-            _, _, faults = ran(folder, into.replace(NAME, "new"), text + "\n")
-            holds("not a verifier" in faults, "a text that is no verifier is taken for one", text, faults)
+            fault = "from-verifier: not a verifier of PostgreSQL or Dovecot\n"
+            equal(ran(folder, "tools/from-verifier new", text + "\n"), (1, "", fault), "a text that is no verifier", text)
+            equal(ran(folder, into.replace(NAME, "new"), text + "\n"), (0, "", fault), "the block for a text that is no verifier", text)
             states(folder, before, f"what the book states after {text!r} was given as a verifier")
 
 
@@ -669,33 +766,44 @@ def a_code_in_a_script(folder: str) -> None:
     tokens = [hotp(look_ahead=0, limit=2, name=name) for name in ["user", "-x"]]
     with_tools(folder, BOOK_OF_USER + "".join(tokens) + "\n[accounts.bare]\n")
 
-    def lets_in(text: str, name: str = "user", book: str = "book.toml") -> int:
-        return ran(folder, f"tools/check-code {book} {name}", text)[0]
+    def judges(text: str, status: int, what: str, name: str = "user", book: str = "book.toml", fault: str = "") -> None:
+        due = (status, "", fault and f"scramotp: {fault}\n")
+        equal(ran(folder, f"tools/check-code {book} {name}", text), due, f"the answer {what}")
 
     for trial, text in each(["", "\n", "\r\n", " \n"]):
         with trial:
-            equal(lets_in(text), 1, text)
+            judges(text, 1, f"to {text!r}")
     token = book_of(folder)["accounts"]["user"]["token"]
     equal((token["next"], token["failures"]), (0, 0), "the next counter and the failures after blank lines")
     for trial, (text, status) in each([(CODES[0] + "\r\n", 0), (CODES[1][:3] + " " + CODES[1][3:], 0), (CODES[1], 1), (CODES[2], 0)]):
         with trial:
-            equal(lets_in(text), status, text)
-    equal(lets_in(f"000000\n{CODES[3]}\n"), 1, "the status for a second line")
-    equal(lets_in("PASS 1 1\n"), 1, "the status for a reply instead of a code")
-    equal(lets_in(CODES[3]), 1, "the status for a code at a locked token")
+            judges(text, status, f"to {text!r}")
+    judges(f"000000\n{CODES[3]}\n", 1, "for a second line")
+    judges("PASS 1 1\n", 1, "to a reply instead of a code")
+    judges(CODES[3], 1, "to a code at a locked token")
     does(folder, "scramotp unlock --book book.toml --name user", printed="unlocked user\n")
-    equal(lets_in(CODES[3]), 0, "the status for a code after the token is unlocked")
-    equal([lets_in(CODES[0], "-x"), lets_in(CODES[0], "-x")], [0, 1], "the statuses for a code that is sent twice")
-    equal(lets_in(f"SYNC {CODES[1]} {CODES[2]}", "-x"), 1, "the status for two codes in a row")
-    equal(lets_in(CODES[4], "bare"), 1, "the status for an account without a token")
-    equal(lets_in(CODES[4], "nobody"), 1, "the status for a name without an account")
-    equal(lets_in(CODES[4], book="none"), 1, "the status if there is no book")
+    judges(CODES[3], 0, "to a code after the token is unlocked")
+    for status, what in [(0, "to a code that is sent for the first time"), (1, "to a code that is sent again")]:
+        judges(CODES[0], status, what, "-x")
+    judges(f"SYNC {CODES[1]} {CODES[2]}", 1, "to two codes in a row", "-x")
+    judges(CODES[4], 1, "for an account without a token", "bare", fault="no token")
+    judges(CODES[4], 1, "for a name without an account", "nobody", fault="no such account")
+    judges(CODES[4], 1, "if there is no book", book="none", fault="cannot read none")
     silent = Path(folder, "silent", "scramotp")
     silent.parent.mkdir()
     silent.write_text("#!/bin/sh\n")
     silent.chmod(0o755)
-    status, _, _ = ran(folder, 'PATH="$PWD/silent:$PATH" tools/check-code book.toml user', CODES[4])
-    equal(status, 1, "the status if the program prints nothing")
+    found = ran(folder, 'PATH="$PWD/silent:$PATH" tools/check-code book.toml user', CODES[4])
+    equal(found, (1, "", ""), "the answer if the program prints nothing")
+
+
+def a_code_of_this_moment(folder: str) -> None:
+    """`check-code` has a code judged by the moment of now: a code of now passes. One of ten steps ago or of 20 steps later does not."""
+    with_tools(folder, BOOK_OF_USER + token_of_now())
+    for trial, (steps, status) in each([(-10, 1), (20, 1), (0, 0)]):
+        with trial:
+            found = ran(folder, "tools/check-code book.toml user", f"{code_of_now(steps)}\n")
+            equal(found, (status, "", ""), f"the answer to a code of {steps} steps after now")
 
 
 def a_code_of_a_service(folder: str) -> None:
@@ -718,16 +826,15 @@ def a_code_of_a_service(folder: str) -> None:
 def keys_at_fault(folder: str) -> None:
     """Something is printed for each book that is refused with 62, and nothing for a book that is read."""
     [script] = blocks("`bad book: 62`")
-    with_tools(folder, BOOK_OF_USER.replace("4096", '"4096"').replace("format = 1", "format = 1\nx = 1"))
+    with_tools(folder, BOOK_OF_USER.replace("4096", '"4096"').replace("format = 1", "format = 1\nx = 1\nz = 1\ny = 1"))
     for trial, (header, number) in each([("user@example.org", 60), ("example.org", 62), ('"user@example.org"', None)]):
         with trial:
             Path(folder, "named.toml").write_text(BOOK_OF_USER + f"\n[accounts.{header}]\n")
             fault = f"scramotp: bad book: {number}\n" if number else "scramotp: no token\n"
             equal(ran(folder, "scramotp unlock --book named.toml --name user"), (1, "", fault), header)
-    wrong = {"the document: 'x' is unknown", "the document: 'decoy_count' has the wrong type"}
-    status, output, faults = ran(folder, script)
-    equal((status, set(output.splitlines()), faults), (0, wrong, ""), output)
-    for trial, (number, text) in each(enumerate([b"x = \n", b"x = '\xff'\n"])):
+    wrong = ["'x' is unknown", "'z' is unknown", "'y' is unknown", "'decoy_count' has the wrong type"]
+    does(folder, script, printed="".join(f"the document: {line}\n" for line in wrong))
+    for trial, (number, text) in each(enumerate([b"x = \n", b"x = '\xff'\n", TOO_DEEP])):
         with trial:
             Path(folder, f"none{number}.toml").write_bytes(text)
             status, output, faults = ran(folder, f"tools/find-key none{number}.toml")
@@ -839,11 +946,7 @@ def units(folder: str) -> None:
         [command] = re.findall(r"^ExecStart=(.*)$", unit, re.M)
         answers.append(suite.ran(shlex.split(command), env=program_on_path(folder, **where)))
     equal(answers, [(0, "enrolled user\n", ""), (0, "clean sessions=1 accepted=1 codes=0\n", "")], "the answers of the two commands")
-    account = read_book(state / "book.toml")["accounts"]["user"]
-    for name in ("sha1", "sha256"):
-        keys = account[name]
-        due = keys_of(name, b"pencil", bytes.fromhex(keys["salt"]), keys["count"])
-        equal((keys["stored"], keys["server"]), due, f"the keys of the account that the unit made: {name}")
+    has_keys_of(read_book(state / "book.toml")["accounts"]["user"], b"pencil", 4096)
 
 
 def put_logs(folder: str, logs: list[str]) -> list[str]:
@@ -977,6 +1080,9 @@ TESTS = [
     an_edit_that_fails,
     an_edit_that_cannot_be_saved,
     an_edit_of_anothers_book,
+    an_edit_in_a_folder_of_others,
+    an_edit_that_cannot_lock,
+    a_process_that_an_edit_leaves,
     an_edit_that_is_stopped,
     an_edit_waits,
     a_run_waits,
@@ -990,6 +1096,7 @@ TESTS = [
     a_password,
     a_password_of_one_mechanism,
     a_first_password,
+    a_password_of_any_name,
     a_password_that_is_refused,
     one_mechanism,
     a_removed_account,
@@ -997,9 +1104,11 @@ TESTS = [
     what_accounts_have,
     decoys,
     a_book_that_a_tool_cannot_read,
+    names_that_a_tool_prints,
     keys_of_dovecot,
     a_verifier_there_and_back,
     a_code_in_a_script,
+    a_code_of_this_moment,
     a_code_of_a_service,
     keys_at_fault,
     a_backup,

@@ -1,19 +1,22 @@
 #!/usr/bin/env python3
-"""Connects clients to `tools/serve-hall`, which lets them into a hall, and audits the log that it leaves.
+"""Connects clients to `tools/serve-hall`, which runs a hall for them, and audits the log that it leaves.
 
 Usage: serve_hall.py PROGRAM [TEST ..]
 
 The tool is started as in the block of docs/OPERATING.md. What the clients send and have to receive is computed with Python's hashlib and
-hmac. The tool goes on if a client is gone before it is greeted, is the 65th, sends no whole line, does not read what it is sent, or sends
-16 MB without the end of a line. If its hall is killed, it ends at the next event, and says why. It ends with status 0 at INT and at TERM,
-and with status 1 and a fault if a code can't be saved, or if the log can't be written. No hall begins if the log or the socket is there
-already, as after a run that was killed.
+hmac. A code is judged by the moment at which it comes. The tool goes on if a client is gone before it is greeted, is the 65th, sends no
+whole line, does not read what it is sent, or sends 16 MB without the end of a line. If its hall is killed, it ends at the next event, and
+says why. It ends with status 0 at INT and at TERM, and with status 1 and a fault if a code can't be saved, or if the log can't be written.
+No hall begins if the log or the socket is there already, as after a run that was killed. If the hall does not begin, or a signal comes
+before it has, nothing is left. Nobody else can read the log and the copy of the book.
 """
 import os
 import re
 import resource
 import signal
 import socket
+import stat
+import sys
 import time
 from concurrent.futures import ThreadPoolExecutor
 from pathlib import Path
@@ -25,7 +28,7 @@ from clients import Account
 from expected import MECHS
 from processes import LIMIT, LIMIT_OF_LINES, Running, until
 from suite import BOOK_OF_USER, blocks_of, each, seen
-from tool_runs import TOOLS, book_of, does, ran, start, with_tools
+from tool_runs import TOOLS, book_of, code_of_now, does, ran, start, token_of_now, with_tools
 
 # What `line_of` returns for a client that waits in vain.
 NOTHING = "nothing in time"
@@ -49,19 +52,20 @@ def line_of(client: socket.socket) -> str:
     return text[:-1].decode()
 
 
+def connects(client: socket.socket, folder: str | Path) -> bool:
+    """Connects a client to the program that serves in this folder, unless none does."""
+    try:
+        client.connect(str(Path(folder, "hall.sock")))
+    except (FileNotFoundError, ConnectionRefusedError):
+        return False
+    return True
+
+
 def connected(folder: str | Path) -> socket.socket:
     """A client connected to the program that serves in this folder; waits until that listens."""
     client = socket.socket(socket.AF_UNIX)
     client.settimeout(LIMIT_OF_LINES)
-
-    def is_connected() -> bool:
-        try:
-            client.connect(str(Path(folder, "hall.sock")))
-        except (FileNotFoundError, ConnectionRefusedError):
-            return False
-        return True
-
-    until(is_connected, "a client should be able to connect to", folder)
+    until(lambda: connects(client, folder), "a client should be able to connect to", folder)
     return client
 
 
@@ -102,13 +106,12 @@ def serving_hall(folder: str | Path, book: str, tool: str = "tools/serve-hall") 
     return start(folder, START.replace("tools/serve-hall", tool))
 
 
-def stops(serving: Running) -> None:
-    """Suspends the program until SIGCONT."""
-    serving.process.send_signal(signal.SIGSTOP)
-    os.waitid(os.P_PID, serving.process.pid, os.WSTOPPED)
+def children(serving: Running) -> list[str]:
+    """The processes that the program has started, and that have not ended."""
+    return Path(f"/proc/{serving.process.pid}/task/{serving.process.pid}/children").read_text().split()
 
 
-def serves_until(serving: Running, number: int, folder: str, answer: str) -> None:
+def serves_until(serving: Running, number: int, folder: str | Path, answer: str) -> None:
     """The program ends well at this signal. The audit of its log, by the book that it began with, has this answer."""
     serving.process.send_signal(number)
     serving.ends(0)
@@ -122,9 +125,8 @@ def a_hall_of_your_own(folder: str) -> None:
     serving = serving_hall(folder, clients.book([account]))
     good, long, other, away = [greeted(folder) for _ in range(4)]
     away.close()
-    stops(serving)
-    connected(folder).close()
-    serving.process.send_signal(signal.SIGCONT)
+    with serving.stopped():
+        connected(folder).close()
     begins_login(good, account)
     long.sendall(b"x" * 7000 + b"\n")
     equal([line_of(long), line_of(long)], ["NO :", ""], "a line that is too long")
@@ -132,10 +134,29 @@ def a_hall_of_your_own(folder: str) -> None:
     equal([line_of(other), line_of(other)], ["NO :", ""], "another mechanism")
     logs_in(good, account)
     answers(good, f"CODE {account.code(0)}", r"PASS \d+ 0")
+    equal(stat.S_IMODE(os.stat(Path(folder, "hall.sock")).st_mode), 0o700, "the mode of the socket")
     serves_until(serving, signal.SIGINT, folder, "clean sessions=5 accepted=1 codes=1")
     equal(line_of(good), "", "the client is told no more")
-    equal([Path(folder, name).stat().st_mode & 0o777 for name in ["hall.log", "hall.log.toml"]], [0o600, 0o600], "the mode of the log")
+    holds(not Path(folder, "hall.sock").exists(), "the socket is left")
     equal(book_of(folder)["accounts"]["user"]["token"]["next"], 1, "the counter is used")
+
+
+def a_code_of_this_moment(folder: str) -> None:
+    """A code is judged by the moment at which it comes: one of now passes, and one of ten steps ago does not. Both answers have it."""
+    account = clients.Account("user", "SCRAM-SHA-256")
+    book, _, _ = clients.book([account]).partition('\n[accounts."user".token]\n')
+    serving = serving_hall(folder, book + token_of_now())
+    client = greeted(folder)
+    begins_login(client, account)
+    logs_in(client, account)
+    for steps, answer in [(-10, r"FAIL (\d+)"), (0, r"PASS (\d+) \d+")]:
+        before = int(time.time())
+        client.sendall(f"CODE {code_of_now(steps)}\n".encode())
+        told = line_of(client)
+        found = re.fullmatch(answer, told)
+        holds(found, "another answer is due to a code of so many steps after now", steps, answer, told)
+        holds(before <= int(found[1]) <= time.time(), "the answer has another moment than that of its code", told, before)
+    serves_until(serving, signal.SIGINT, folder, "clean sessions=1 accepted=1 codes=1")
 
 
 def a_full_hall(folder: str) -> None:
@@ -169,11 +190,10 @@ def a_hall_that_halts(folder: str) -> None:
             begins_login(client, account)
             logs_in(client, account)
             Path(place, "book.toml.new").mkdir()
-            stops(serving)
-            client.sendall(f"CODE {account.code(0)}\n".encode())
-            if is_gone:
-                client.close()
-            serving.process.send_signal(signal.SIGCONT)
+            with serving.stopped():
+                client.sendall(f"CODE {account.code(0)}\n".encode())
+                if is_gone:
+                    client.close()
             if not is_gone:
                 equal([line_of(client), line_of(client)], ["HALT", ""], "the code's client")
             equal(line_of(other), "", "another client")
@@ -201,7 +221,7 @@ def a_hall_that_is_killed(folder: str) -> None:
     """If the hall ends while nothing happens, the program ends at the next event, and says why."""
     serving = serving_hall(folder, BOOK_OF_USER)
     client = greeted(folder)
-    [hall] = Path(f"/proc/{serving.process.pid}/task/{serving.process.pid}/children").read_text().split()
+    [hall] = children(serving)
     os.kill(int(hall), signal.SIGKILL)
     until(lambda: Path(f"/proc/{hall}/stat").read_text().rpartition(") ")[2].startswith("Z"), "the hall should end")
     equal(line_of(connected(folder)), "", "a client that comes then")
@@ -295,7 +315,11 @@ def begins_no_hall(folder: str, name: str) -> None:
     """The tool says that this file is there already, and leaves everything as it was."""
     book = Path(folder, "book.toml")
     before = seen(book), {*os.listdir(folder), "bin"}
-    equal(ran(folder, SERVE), (1, "", f"serve-hall: {name} already exists\n"), name)
+    run = start(folder, START)
+    with socket.socket(socket.AF_UNIX) as client:
+        until(lambda: run.process.poll() is not None or connects(client, folder), "the tool should end")
+    holds(run.process.poll() is not None, f"a hall begins, although {name} is there")
+    run.ends(1, "", f"serve-hall: {name} already exists\n")
     equal((seen(book), set(os.listdir(folder))), before, name)
 
 
@@ -322,16 +346,90 @@ def a_socket_that_is_left(folder: str) -> None:
     serves_until(serving, signal.SIGINT, folder, "clean sessions=1 accepted=0 codes=0")
 
 
+def copies_that_are_there(folder: str) -> None:
+    """If the copy of the book has the name of an older file or a link, that is removed. Whatever the umask is, only the user can read the
+    log and the copy. The socket has the mode that the umask leaves."""
+    for trial, is_link in each([False, True]):
+        with trial:
+            place = Path(folder, str(is_link))
+            place.mkdir()
+            with_tools(place, BOOK_OF_USER)
+            other, copy = Path(place, "other"), Path(place, "hall.log.toml")
+            for path in [other] if is_link else [other, copy]:
+                path.write_text("another\n")
+                path.chmod(0o644)
+            if is_link:
+                copy.symlink_to("other")
+            serving = start(place, START.replace("umask 077", "umask 007"))
+            greeted(place).close()
+            modes = {name: stat.S_IMODE(os.lstat(Path(place, name)).st_mode) for name in ["hall.sock", "hall.log", "hall.log.toml"]}
+            equal(modes, {"hall.sock": 0o770, "hall.log": 0o600, "hall.log.toml": 0o600}, "the modes of the files")
+            equal(other.read_text(), "another\n", "the file to which the link led")
+            serves_until(serving, signal.SIGINT, place, "clean sessions=1 accepted=0 codes=0")
+
+
+def a_socket_that_is_replaced(folder: str) -> None:
+    """If the socket is gone at the end of the tool, nothing is said of it. A file that has its name by then stays."""
+    for trial, is_replaced in each([False, True]):
+        with trial:
+            place = Path(folder, str(is_replaced))
+            place.mkdir()
+            serving = serving_hall(place, BOOK_OF_USER)
+            greeted(place).close()
+            file = Path(place, "hall.sock")
+            file.unlink()
+            if is_replaced:
+                file.write_text("another\n")
+            serves_until(serving, signal.SIGTERM, place, "clean sessions=1 accepted=0 codes=0")
+            equal(file.exists(), is_replaced, "whether a file has the socket's name at the end")
+
+
+def leaves_nothing(folder: str) -> None:
+    """Checks that neither the socket nor the log nor the copy of the book is left to prevent the next start."""
+    equal([name for name in os.listdir(folder) if name.startswith("hall")], [], "what is left")
+
+
+def a_stop_before_the_hall_begins(folder: str) -> None:
+    """If a signal comes before the hall has begun, as while that waits for the book, the tool says so, ends the hall, and leaves nothing.
+    Here a stand-in for the program begins no log."""
+    with_tools(folder, BOOK_OF_USER)
+    waiting = Path(folder, "waiting", "scramotp")
+    waiting.parent.mkdir()
+    waiting.write_text("#!/bin/sh\ncat\necho the hall goes on >&2\n")
+    waiting.chmod(0o755)
+    for trial, number in each([signal.SIGINT, signal.SIGTERM]):
+        with trial:
+            serving = start(folder, START.replace("exec tools/", 'exec env PATH="$PWD/waiting:$PATH" tools/'))
+            until(lambda: serving.process.poll() is not None or children(serving), "the tool should start the hall")
+            serving.process.send_signal(number)
+            serving.ends(1, "", "serve-hall: stopped before the hall began\n")
+            leaves_nothing(folder)
+
+
 def a_hall_that_does_not_begin(folder: str) -> None:
-    """If the hall does not begin, no log and no socket are left to prevent the next start."""
+    """If the hall does not begin, the tool says so, and leaves nothing: the book is bad, the copy can't be made, or there is no program."""
     with_tools(folder, "no book\n")
     equal(ran(folder, SERVE), (1, "", "scramotp: bad book: 60\nserve-hall: the hall did not start\n"), "a bad book")
-    equal([name for name in os.listdir(folder) if name.startswith("hall")], [], "what is left")
+    leaves_nothing(folder)
+    with_tools(folder, BOOK_OF_USER)
+    copy = Path(folder, "hall.log.toml")
+    copy.mkdir()
+    equal(ran(folder, SERVE), (1, "", "serve-hall: [Errno 21] Is a directory: 'hall.log.toml'\n"), "a folder in the place of the copy")
+    copy.rmdir()
+    leaves_nothing(folder)
+    # A folder for the PATH that has only Python
+    python = Path(folder, "only", "python3")
+    python.parent.mkdir()
+    python.symlink_to(sys.executable)
+    missing = ran(folder, START.replace("exec tools/", "exec env PATH=only tools/"))
+    equal(missing, (1, "", "serve-hall: [Errno 2] No such file or directory: 'scramotp'\n"), "no program")
+    leaves_nothing(folder)
 
 
 suite.run_all(
     [
         a_hall_of_your_own,
+        a_code_of_this_moment,
         a_full_hall,
         a_hall_that_halts,
         a_log_that_cannot_be_written,
@@ -341,6 +439,9 @@ suite.run_all(
         a_client_that_ends_no_line,
         a_log_that_is_there,
         a_socket_that_is_left,
+        copies_that_are_there,
+        a_socket_that_is_replaced,
+        a_stop_before_the_hall_begins,
         a_hall_that_does_not_begin,
     ]
 )

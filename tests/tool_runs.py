@@ -1,12 +1,14 @@
 """What the scripts that run the tools share: the folder tools/, and runs of shell blocks, with the program on the PATH, in a folder that
-has a link to it and an account book."""
+has a link to it and an account book. Also a TOTP token and its codes for this moment."""
+import time
 from pathlib import Path
 from typing import Any
 
+import expected
 import processes
 from checks import equal
 from processes import Answer, Running
-from suite import program_on_path, read_book
+from suite import SECRET, program_on_path, read_book, totp
 
 TOOLS = Path(__file__).resolve().parent.parent / "tools"
 
@@ -38,3 +40,13 @@ def with_tools(folder: str | Path, text: str) -> Path:
 
 def book_of(folder: str) -> dict[str, Any]:
     return read_book(Path(folder, "book.toml"))
+
+
+def token_of_now() -> str:
+    """A TOTP token for `user`. Its steps are hours, so that a code of this moment passes however slow the machine is."""
+    return totp(limit=9).replace("step = 30", "step = 3600").replace("back = 0", "back = 1")
+
+
+def code_of_now(steps: int = 0) -> str:
+    """The code of that token for the step of this moment, or for one so many steps later."""
+    return expected.code(bytes.fromhex(SECRET), int(time.time()) // 3600 + steps, digits=8)
