@@ -4,15 +4,17 @@ DESTDIR ?=
 # The oldest processors that the program is built for: x86-64, x86-64-v2 or x86-64-v3.
 CPU ?= x86-64-v2
 JOBS ?= $(shell nproc)
-# The gate tries about one of so many wrong bodies: SHARE=1 tries all, as before a release.
+# make test tries about one in SHARE of the wrong bodies. SHARE=1 tries all, as before a release.
 SHARE ?= 3
 PROGRAM = crates/scramotp/out/scramotp
 # The kit with which all was last proved, as rt version prints it; README.md and docs/PROMISES.md name it too.
 KIT = rattle-kit-13f logic dac8208d650f15bf
 # What the program stands on.
-LIBRARIES = mac_core otp_core scram_text scram_ends book_format account_book book_keeper book_file command_line command_words log_grammar sasl_log sasl_desk command_io account_commands commands
+LIBRARIES = mac_core otp_core scram_text scram_ends book_format account_book book_keeper book_file command_line command_words \
+	log_grammar sasl_log sasl_desk command_io account_commands commands
 # What is installed beside it.
-TOOLS = $(addprefix tools/,check-code drop-tables edit-book find-key from-verifier list-accounts list-unlike-decoys serve-hall set-password to-verifier)
+TOOLS = $(addprefix tools/,check-code drop-tables edit-book find-key from-verifier list-accounts list-unlike-decoys serve-hall \
+	set-password to-verifier)
 SOURCES = crates.txt HANDLES $(shell find crates \( -name out -prune \) -o \( -name '*.rt' -o -name '*.antt' \) -print)
 # Succeeds where the program is built and newer than its sources.
 IS_FRESH = test -x $(PROGRAM) && test -z "$$(find $(SOURCES) -newer $(PROGRAM))"
@@ -30,8 +32,8 @@ help:
 	@echo 'make libraries  proves the libraries, for a server of your own'
 	@echo 'make install    copies the built program to $$(DESTDIR)$$(PREFIX)/bin,'
 	@echo '                and its tools to $$(DESTDIR)$$(PREFIX)/share/scramotp'
-	@echo 'make test       the gate: proves all, sees that wrong bodies are refused, builds the program and runs all tests;'
-	@echo '                SHARE=1 tries all wrong bodies, and not about a third'
+	@echo 'make test       the gate: proves all, checks that proofs refuse wrong bodies, builds the program and runs all tests;'
+	@echo '                SHARE=1 tries all wrong bodies, instead of about a third'
 	@echo 'make coverage   measures how much of the built program the tests run; needs objdump and readelf too'
 	@echo 'make fuzz       gives the built program random input, for some minutes'
 	@echo 'make bench      compares speeds with OpenSSL, with Python, and with oathtool'
@@ -72,7 +74,8 @@ $(PROGRAM): $(SOURCES)
 	@$(MAKE) --no-print-directory libraries
 	@echo "$$(date +%T) scramotp"
 	@mkdir -p $(@D) && cd crates/scramotp && \
-		{ rt run --jobs $(JOBS) $(addprefix --cpu=,$(filter-out x86-64-v2,$(CPU))) -- --version 2>out/build.log || { cat out/build.log; exit 1; }; }
+		{ rt run --jobs $(JOBS) $(addprefix --cpu=,$(filter-out x86-64-v2,$(CPU))) -- --version 2>out/build.log || \
+			{ cat out/build.log; exit 1; }; }
 	@echo $(CPU) >$(@D)/built_for
 	@touch $@
 

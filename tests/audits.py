@@ -18,9 +18,9 @@ import time
 
 import suite
 from audit_cases import TABLE, cases
-from checks import equal
+from checks import equal, holds
 from expected import AUDITS, SESSION_LEFT, base64_of, login_keys, proved
-from processes import Running, until
+from processes import LIMIT_OF_LINES, Running, until
 from suite import MOST_BYTES, PROGRAM, SALT, audit_says, each, prints
 
 KEYS = AUDITS / "keys.toml"
@@ -97,10 +97,12 @@ def logs_from_pipes(folder: str) -> None:
     running.ends(1, "line 2: mechs\n")
     fifo = pathlib.Path(folder, "fifo")
     os.mkfifo(fifo)
-    writer = threading.Thread(target=fifo.write_bytes, args=(LOGIN.read_bytes(),))
+    # It waits until the audit opens the FIFO, and does not hold up the script's end if that never comes.
+    writer = threading.Thread(target=fifo.write_bytes, args=(LOGIN.read_bytes(),), daemon=True)
     writer.start()
     audit_says(KEYS, fifo, CLEAN, "a FIFO")
-    writer.join()
+    writer.join(LIMIT_OF_LINES)
+    holds(not writer.is_alive(), "the FIFO's writer goes on after the audit")
 
 
 def shown_at(terminal: int) -> bytes:
@@ -134,8 +136,9 @@ def progress_on_a_terminal(folder: str) -> None:
     """If standard error is a terminal, a run of two seconds shows its progress there, and clears it at the end."""
     shown, _ = audit_at_a_terminal(2.2)
     counts = f"\r7 lines, {len(HEADER + SESSION_LEFT * 2)} bytes".encode()
-    # They are shown once more if a second ends before the end of the log is read.
-    equal(shown.replace(counts * 2, counts), counts + b"\r\x1b[K", "what is shown at the terminal")
+    # They are shown again at the end of each second that comes before the end of the log is read.
+    once = re.sub(b"(?:%b)+" % re.escape(counts), counts, shown)
+    equal(once, counts + b"\r\x1b[K", "what is shown at the terminal", shown)
 
 
 def no_progress_of_a_short_run(folder: str) -> None:

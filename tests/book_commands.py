@@ -193,7 +193,7 @@ def no_file(folder: str) -> None:
 
 
 def unreadable(folder: str) -> None:
-    """A book that may not be read, and a book in a folder that may not be read."""
+    """A book that may not be read is refused and left as it was, and so is a book in a folder that may not be read."""
     os.chmod(folder, 0o755)
     book = put(os.path.join(folder, "book"))
     for trial, ((path, mode), command) in each(itertools.product([(book, 0o000), (folder, 0o311)], GOOD)):

@@ -201,6 +201,10 @@ def swapped(folder: str) -> None:
     here = BookFolder(held, BOOK)
     other, away = held / "other", held / "away"
 
+    def files() -> dict[str, tuple]:
+        """What is seen of each file in the folder of the book, and in one that was moved away."""
+        return {str(path): seen(path) for path in pathlib.Path(folder).glob("*/*")}
+
     def move() -> None:
         here.book.rename(away)
 
@@ -230,10 +234,9 @@ def swapped(folder: str) -> None:
             other.chmod(0o644)
             run = waiting_verify(here.book)
             turn()
-            before = {name: seen(held / name) for name in os.listdir(held)}
+            before = files()
             run.ends(3, "", fault_text(f"cannot write {here.book}"), FIRST_CODE)
-            after = {name: seen(held / name) for name in os.listdir(held)}
-            equal(after, before, "the files after", turn.__name__)
+            equal(files(), before, "the files after", turn.__name__)
 
 
 def keys_before_the_lock(folder: str) -> None:
@@ -351,8 +354,8 @@ def shown_texts(folder: str) -> None:
     os.close(lock)
     for trial, words in each([["a\n\x1b[2J"], ["verify", "--\x1b[2J\n"], ["verify", "--book", "x", "\x1b[2J\nscramotp: no token"]]):
         with trial:
-            status, _, faults = ran([PROGRAM, *words])
-            equal(status, 2, words, faults)
+            status, output, faults = ran([PROGRAM, *words])
+            equal((status, output), (2, ""), words, faults)
             holds("\\x1b[2J" in faults, "the word is not shown", words, faults)
             holds("\x1b" not in faults, "a control character is shown", words, faults)
             holds("\nscramotp" not in faults, "the word starts a line", words, faults)

@@ -19,7 +19,6 @@ jump watched further in a run in which it has gone one way 20000 times. Needs `c
 program for x86-64 that has its names.
 """
 import argparse
-import asyncio
 import bisect
 import collections
 import os
@@ -274,7 +273,10 @@ def main() -> int:
         program = stand_in(os.path.abspath(given.program), notes.path, Path(folder))
         # For refused_io.py, which asks what the program takes from the C library.
         os.environ["MEASURED"] = os.path.abspath(given.program)
-        done = asyncio.run(run.all_ran(str(program), scripts))
+        try:
+            done = run.results(str(program), scripts)
+        except KeyboardInterrupt:
+            return 130
         notes.read()
     report(notes)
     if given.missed:

@@ -4,31 +4,17 @@ test is left out; that code which they show is in the sources; and that sizes ar
 
 Usage: documents.py [CHECK ..]
 
-With names, only these of the functions below are used. By default all are.
-
-Each link between pages leads to a page and a section in it. Each path between backquotes is in the repository, and each source file or edit
-that is named is there. Each block of code, definitions, proofs or an edit that a page shows stands in one as it is, or in the head of a
-library. The sources have each signature in docs/EMBEDDING.md. Each name that a page of promises has between backquotes is in the sources.
-Each name without a space in a page for maintainers, in docs/FAULTS.md, docs/SECURITY.md or docs/TESTING.md is in the sources or in a
-script. A name that a page gives together with a file, as in `name` of `file.rt` or `file.rt` (`name`, `other`), is in that file. So is each
-law of docs/LOG_PROMISES.md in one of the files that are named before its table. Each function in the first column of a table of promises
-exists, and is of the type or the module that is named before it. run.py runs each script in this folder that takes a program, and
-docs/TESTING.md names each script. A script that runs a list of tests uses all of its functions. The functions of Python files here and in
-tools/ have the types of their arguments and results. The sizes in docs/PROMISES.md and README.md are about those of the sources, and
-docs/TESTING.md says how many rows the tables of vectors and of faulty books have. docs/PROMISES.md says how many lines of definitions there
-are to be read for a promise. docs/ARCHITECTURE.md says about how large each library is. The kit that the Makefile names is that in
-docs/PROMISES.md and README.md. No source has a word by which something is taken unproved. No contract of a public function cites a
-definition of specs/inner. docs/MUTATIONS.md says how many edits each crate has, how many tests of scripts there are, and for how many of
-these a bug is planted. tests/data/planted.csv has a row for each edit that a test has to refuse, with what the test says then. Each wrong
-body in must-fail/ and edits/ applies. docs/TIMES.md names each library. No line of a page has over 140 columns, outside tables and code
-blocks. Each fault has a line, and the status is then 1.
+A check is a function below that finds faults, and says there which. CHECKS lists them all. With names, only these checks are made, and
+by default all. Each fault has a line, and the status is then 1.
 """
 import ast
 import csv
+import functools
 import re
 import sys
-from collections.abc import Iterable, Iterator
+from collections.abc import Callable, Iterable, Iterator
 from pathlib import Path
+from typing import NamedTuple
 
 import run
 from edit_sources import TOP, Unusable, edits_of, planted_edits, planted_rows, read_edit, read_planted
@@ -37,6 +23,8 @@ PAGES = [TOP / "README.md", TOP / "CONTRIBUTING.md", TOP / "CHANGELOG.md", *sort
 PROMISES = ["PROMISES.md", "LOG_PROMISES.md", "COMMAND_PROMISES.md", "CONTRACTS.md"]
 MAINTAINERS = ["ARCHITECTURE.md", "DECISIONS.md", "EMBEDDING.md", "MUTATIONS.md", "PROVING.md", "FAULTS.md", "TESTING.md", "TIMES.md"]
 MAINTAINERS += ["WORDS.md", "PROVING_NOTES.md", "SECURITY.md"]
+# The files besides pages whose lines may have no more columns than theirs.
+NARROW = [file for pattern in ["tests/*.py", "tests/*.c", "bench/*.py", "tools/*", "Makefile"] for file in sorted(TOP.glob(pattern))]
 
 # The kit with which everything was proved: its name, and the checksum of its logic.
 KIT = re.search(r"^KIT = (.+)$", (TOP / "Makefile").read_text(encoding="utf-8"), re.MULTILINE).group(1)
@@ -50,6 +38,9 @@ NOT_OF_THE_SOURCES = {"IsX", "unsafe", "extern", "axiom", "doc", *KIT.split()}
 # some names, and a command of the system.
 NOT_OF_THE_REPOSITORY = {"shrink_to_fit", "wrapping_abs", "getxattr", "O_NOFOLLOW", "O_NONBLOCK", "read_", "read_until", "as_mut_slice"}
 NOT_OF_THE_REPOSITORY |= {"i32", "self-test", "df"}
+# What is no name there. Source files have a check of their own, and the others name no single thing that exists: commands, and paths in any
+# crate, of build results or of several files.
+SKIPPED = r"\.(rt|antt)$| |NAME|/out/|\*"
 
 # What docs/PROMISES.md says that no source has: raw pointers, a C function, whose contract is trusted, and a statement without proof.
 UNPROVED = re.compile(r"\b(?:unsafe|extern|axiom)\b")
@@ -109,6 +100,7 @@ def texts_of(files: Iterable[Path]) -> dict[str, str]:
     return {str(file.relative_to(TOP)): file.read_text(encoding="utf-8") for file in files}
 
 
+@functools.cache
 def sources() -> dict[str, str]:
     """The text of each source file of all crates, by its path from the repository's top."""
     return texts_of(file for file in sorted(TOP.glob("crates/**/*")) if file.suffix in (".rt", ".antt") and "out" not in file.parts)
@@ -201,17 +193,33 @@ def misplaced_laws(page: Path, texts: dict[str, str]) -> Iterator[str]:
         yield from (f"{page.name}: {law} in {' '.join(named)}" for law in told if law not in has)
 
 
-def missing_functions(page: Path, texts: dict[str, str]) -> Iterator[str]:
+class Owners(NamedTuple):
+    """What a source has: the names of its functions, and the words in the heads of its `impl`s and the name of its module."""
+
+    functions: set[str]
+    types: set[str]
+
+
+def owners() -> list[Owners]:
+    """What each source has."""
+    found = []
+    for path, text in sources().items():
+        heads = " ".join(re.findall(r"\bimpl\b[^{]*", text))
+        module = path.rpartition("/")[2].removesuffix(".rt")
+        found.append(Owners({*re.findall(r"\bfn (\w+)", text)}, {module, *re.findall(r"\w+", heads)}))
+    return found
+
+
+def missing_functions(page: Path, sources_have: list[Owners]) -> Iterator[str]:
     """The functions in the column *Function* of a page's tables that no source has, or, after the name of a type or a module as
     in `Type::function`, none that has an `impl` of this type or is this module."""
     for table in re.findall(r"^\| Function \|.*\n((?:\|.*\n)+)", page.read_text(encoding="utf-8"), re.M):
         for cell in re.findall(r"^\| (.*?) \|", table, re.M):
-            has = list(texts.values())
+            has = sources_have
             for of, name in re.findall(r"`(?:(\w+)::)?([a-z_]\w*)`", cell):
                 if of:
-                    is_there = re.compile(rf"\bimpl\b[^{{]*\b{of}\b")
-                    has = [text for path, text in texts.items() if path.endswith(f"/{of}.rt") or is_there.search(text)]
-                if not any(re.search(rf"\bfn {name}\b", text) for text in has):
+                    has = [it for it in sources_have if of in it.types]
+                if not any(name in it.functions for it in has):
                     yield f"{page.name}: {name} in {cell}"
 
 
@@ -276,7 +284,8 @@ def tests_of_scripts() -> Iterator[tuple[str, str]]:
 
 def libraries() -> list[str]:
     """The names of the libraries on which the program stands, as the Makefile lists them."""
-    return re.search(r"^LIBRARIES = (.+)$", (TOP / "Makefile").read_text(encoding="utf-8"), re.MULTILINE).group(1).split()
+    listed = re.search(r"^LIBRARIES = ((?:.*\\\n)*.*)$", (TOP / "Makefile").read_text(encoding="utf-8"), re.MULTILINE)
+    return listed[1].replace("\\\n", " ").split()
 
 
 def test_functions() -> int:
@@ -368,7 +377,8 @@ def stale_readings() -> Iterator[str]:
                 crate = word[0]
         sizes += [definitions_under(files)] + [of_library] * bool(of_library)
         named += files
-    [of_all] = re.findall(r"(\d+) of some \d+ lines of definitions", " ".join((TOP / "README.md").read_text(encoding="utf-8").split())) or [0]
+    read_me = " ".join((TOP / "README.md").read_text(encoding="utf-8").split())
+    [of_all] = re.findall(r"(\d+) of some \d+ lines of definitions", read_me) or [0]
     together = definitions_under(named)
     for number, size in zip([*(told.groups() if told else [0] * 7), of_all], [*sizes, together, together], strict=True):
         if abs(int(number) - size) > size // 50:
@@ -442,11 +452,12 @@ def untimed_crates() -> Iterator[str]:
     yield from (name for name in libraries() if f"`{name}`" not in told)
 
 
-def wide_lines(page: Path) -> Iterator[str]:
-    """The lines of a page that have over 140 columns, outside its tables and code blocks."""
-    for number, line in prose(page):
-        if len(line) > 140 and not line.startswith("|"):
-            yield f"{page.name}:{number}"
+def wide_lines(file: Path) -> Iterator[str]:
+    """The lines that have over 140 columns: of a page outside its tables and code blocks, and of any other file all."""
+    is_page = file.suffix == ".md"
+    for number, line in prose(file) if is_page else enumerate(file.read_text(encoding="utf-8").splitlines(), 1):
+        if len(line) > 140 and not (is_page and line.startswith("|")):
+            yield f"{file.name}:{number}"
 
 
 def miscounted_edits() -> Iterator[str]:
@@ -473,61 +484,79 @@ def stale_edits() -> Iterator[str]:
                 yield f"{path.relative_to(TOP)}: {fault}"
 
 
-def checks() -> Iterator[tuple[str, str, list[str]]]:
-    """Each check of the documents or of the lists of tests: its kind of fault, its function's name, and the faults."""
-    texts = sources()
-    paths = list(texts)
-    known = words_of(re.sub(COMMENT, "", "\n".join(texts.values()))) | NOT_OF_THE_SOURCES
-    edits = texts_of([*TOP.glob("crates/*/*/*.edit"), *TOP.glob("tests/planted/*.edit")])
-    scripts = texts_of(TOP.glob("tests/*.py"))
-    known_to_maintainers = known | words_of_scripts() | NOT_OF_THE_REPOSITORY
-    promises = [TOP / "docs" / name for name in PROMISES]
-    maintainers = [TOP / "docs" / name for name in MAINTAINERS]
-    # Source files have a kind of their own. The others name no single thing that exists: commands, and paths in any crate, of build
-    # results or of several files.
-    skipped = r"\.(rt|antt)$| |NAME|/out/|\*"
-    for kind, pages, find, *given in [
-        ("no such link", PAGES, broken_links),
-        ("no such path", PAGES, missing_paths),
-        ("more than 140 columns", PAGES, wide_lines),
-        ("no source shows this block", PAGES, missing_blocks, texts | edits | heads_of(texts)),
-        ("no crate has this file", PAGES, unknown_files, [*paths, *edits]),
-        ("the file beside this name does not have it", PAGES, misplaced_names, texts | scripts),
-        ("no source has this name", promises, unknown_names, paths, known),
-        ("nothing has this name", maintainers, unknown_names, paths, known_to_maintainers, skipped),
-        ("no file before its table has this law", [TOP / "docs" / "LOG_PROMISES.md"], misplaced_laws, texts),
-        ("no source has this function, or not for the type before it", promises, missing_functions, texts),
-    ]:
-        yield kind, find.__name__, [fault for page in pages for fault in find(page, *given)]
-    for kind, find in [
-        ("a stale size", stale_sizes),
-        ("the lines of definitions to be read, in docs/PROMISES.md", stale_readings),
-        ("the table of sizes in docs/ARCHITECTURE.md should have", stale_crates),
-        ("no public function has this signature of docs/EMBEDDING.md", unknown_signatures),
-        ("the kit of the Makefile is missing", pages_of_another_kit),
-        ("docs/PROMISES.md says that no source has this word", taken_unproved),
-        ("docs/TIMES.md gives no time of this library", untimed_crates),
-        ("run.py does not run this script, or docs/TESTING.md does not name it", untold_tests),
-        ("its script never uses this function", unused_functions),
-        ("this function has an argument without its type, or does not give that of its result", untyped_functions),
-        ("a public contract cites specs/inner", cited_inner),
-        ("a wrong body does not apply", stale_edits),
-        ("planted.csv and the folders planted/ do not fit", stale_bugs),
-        ("the table of edits in docs/MUTATIONS.md", miscounted_edits),
-    ]:
-        yield kind, find.__name__, [*find()]
+def known() -> set[str]:
+    """The names that a page of promises may have."""
+    return words_of(re.sub(COMMENT, "", "\n".join(sources().values()))) | NOT_OF_THE_SOURCES
+
+
+def known_to_maintainers() -> set[str]:
+    """The names that a page for maintainers may have."""
+    return known() | words_of_scripts() | NOT_OF_THE_REPOSITORY
+
+
+def edits() -> dict[str, str]:
+    """The text of each edit, by its path from the repository's top."""
+    return texts_of([*TOP.glob("crates/*/*/*.edit"), *TOP.glob("tests/planted/*.edit")])
+
+
+def in_docs(names: list[str]) -> list[Path]:
+    return [TOP / "docs" / name for name in names]
+
+
+class Check(NamedTuple):
+    """A check: its kind of fault; the function that finds the faults, in each of these pages or, if there is none, in all; and a function
+    that returns what that is given besides a page."""
+
+    kind: str
+    find: Callable[..., Iterator[str]]
+    pages: list[Path] = []
+    given: Callable[[], tuple] = tuple
+
+    def faults(self) -> list[str]:
+        """Makes the check, and returns the faults."""
+        given = self.given()
+        return [fault for page in self.pages for fault in self.find(page, *given)] if self.pages else [*self.find()]
+
+
+CHECKS = [
+    Check("no such link", broken_links, PAGES),
+    Check("no such path", missing_paths, PAGES),
+    Check("more than 140 columns", wide_lines, PAGES + NARROW),
+    Check("no source shows this block", missing_blocks, PAGES, lambda: (sources() | edits() | heads_of(sources()),)),
+    Check("no crate has this file", unknown_files, PAGES, lambda: ([*sources(), *edits()],)),
+    Check("the file beside this name does not have it", misplaced_names, PAGES, lambda: (sources() | texts_of(TOP.glob("tests/*.py")),)),
+    Check("no source has this name", unknown_names, in_docs(PROMISES), lambda: ([*sources()], known())),
+    Check("nothing has this name", unknown_names, in_docs(MAINTAINERS), lambda: ([*sources()], known_to_maintainers(), SKIPPED)),
+    Check("no file before its table has this law", misplaced_laws, in_docs(["LOG_PROMISES.md"]), lambda: (sources(),)),
+    Check("no source has this function, or not for the type before it", missing_functions, in_docs(PROMISES), lambda: (owners(),)),
+    Check("a stale size", stale_sizes),
+    Check("the lines of definitions to be read, in docs/PROMISES.md", stale_readings),
+    Check("the table of sizes in docs/ARCHITECTURE.md should have", stale_crates),
+    Check("no public function has this signature of docs/EMBEDDING.md", unknown_signatures),
+    Check("the kit of the Makefile is missing", pages_of_another_kit),
+    Check("docs/PROMISES.md says that no source has this word", taken_unproved),
+    Check("docs/TIMES.md gives no time of this library", untimed_crates),
+    Check("run.py does not run this script, or docs/TESTING.md does not name it", untold_tests),
+    Check("its script never uses this function", unused_functions),
+    Check("this function has an argument without its type, or does not give that of its result", untyped_functions),
+    Check("a public contract cites specs/inner", cited_inner),
+    Check("a wrong body does not apply", stale_edits),
+    Check("planted.csv and the folders planted/ do not fit", stale_bugs),
+    Check("the table of edits in docs/MUTATIONS.md", miscounted_edits),
+]
 
 
 def main() -> int:
-    """Prints the faults, and how many checks pass and fail. Returns the exit status."""
-    names, made = sys.argv[1:], list(checks())
-    if strangers := set(names) - {name for _, name, _ in made}:
+    """Makes the checks, or those of these names. Prints the faults, and how many checks pass and fail. Returns the exit status."""
+    names, failed = sys.argv[1:], 0
+    if strangers := set(names) - {it.find.__name__ for it in CHECKS}:
         sys.exit(f"documents.py: no check {', '.join(sorted(strangers))}")
-    chosen = [(kind, faults) for kind, name, faults in made if not names or name in names]
-    for kind, faults in chosen:
+    chosen = [it for it in CHECKS if not names or it.find.__name__ in names]
+    for it in chosen:
+        faults = it.faults()
+        failed += faults != []
         for fault in faults:
-            print(f"documents.py: {kind}: {fault}", file=sys.stderr)
-    failed = sum(faults != [] for _, faults in chosen)
+            print(f"documents.py: {it.kind}: {fault}", file=sys.stderr)
     print(f"documents.py: {len(chosen) - failed} passed, {failed} failed", file=sys.stderr)
     return 1 if failed else 0
 

@@ -199,7 +199,8 @@ def let_in(lines: list[str], needs_code: bool) -> list[tuple[str, tuple[str, str
 
 
 def who_has_logged_in(folder: str) -> None:
-    """The code of docs/SERVING.md lets a client in at OK, or, if it needs a code, only at a PASS after it, and by the names that it gave."""
+    """The code of docs/SERVING.md lets a client in at OK, or, if it needs a code, only at a PASS after it, and by the names that it
+    gave."""
     lines = [line.removeprefix(SHOWN)[2:] for line in TRANSCRIPT.splitlines() if line.startswith(f"{SHOWN}1 ")]
     [accepted] = [line for line in lines if line.startswith("S OK ")]
     equal(let_in(lines, False), [(accepted, ("user", "user"))], "without a code")

@@ -173,7 +173,7 @@ def a_log(folder: pathlib.Path, chosen: random.Random) -> Iterator[str | bytes]:
         equal(run(words), (status, answer), "the answer for the upgraded log")
         yield "an upgraded log"
     if status == 0:
-        holds(re.fullmatch(rb"clean sessions=\d+ accepted=\d+ codes=\d+\n", answer), "the counts of a clean log", answer)
+        holds(is_clean((status, answer)), "the counts of a clean log", answer)
         yield "a clean log"
         return
     line = int(re.match(rb"line (\d+): ", answer)[1])
@@ -182,8 +182,13 @@ def a_log(folder: pathlib.Path, chosen: random.Random) -> Iterator[str | bytes]:
     log.write_bytes(before)
     front = run(words)
     cut_there = (1, b"line %d: cut\n" % line)
-    holds(front == cut_there or front[0] == 0 and line > 1, "the lines before", answer, front)
+    holds(front == cut_there or is_clean(front) and line > 1, "the lines before", answer, front)
     yield "the lines before a fault"
+
+
+def is_clean(answer: tuple[int, bytes]) -> bool:
+    """Whether an audit answers that a log is clean."""
+    return answer[0] == 0 and re.fullmatch(rb"clean sessions=\d+ accepted=\d+ codes=\d+\n", answer[1]) is not None
 
 
 def lines_of(text: bytes) -> list[bytes]:
@@ -290,8 +295,8 @@ def a_line(chosen: random.Random, token: dict[str, Any], moment: int) -> bytes:
     at = min(max(0, chosen.choice(edges) + chosen.choice([-1, 0, 0, 0, 1])), MOST_COUNTER)
     first, second = code_of(token, at), code_of(token, at + 1)
     pair = b"SYNC %s %s" % (first, second)
-    no_code = [b"", b" ", first + b"\r", b" " + first, first[1:], first + b"0", b"SYNC " + first, b"SYNC %s  %s" % (first, second), pair + b" "]
-    no_code += [b"SYNC %s %s" % (second, first), b"0" * 17, b"x" * 300, b"\xff\0", b"CODE " + first]
+    no_code = [b"", b" ", first + b"\r", b" " + first, first[1:], first + b"0", b"SYNC " + first, b"SYNC %s  %s" % (first, second)]
+    no_code += [pair + b" ", b"SYNC %s %s" % (second, first), b"0" * 17, b"x" * 300, b"\xff\0", b"CODE " + first]
     return chosen.choice([first, first, first, first, pair, pair, chosen.choice(no_code)])
 
 
@@ -381,7 +386,8 @@ def a_hall(folder: pathlib.Path, chosen: random.Random) -> Iterator[str | bytes]
 
     status, printed, answer = heard(events)
     lines = printed.splitlines()
-    holds(answer in [(0, answer[1]), (1, b"line %d: cut\n" % (len(lines) + 1))], "the log does not begin a clean one", answer)
+    is_cut = answer == (1, b"line %d: cut\n" % (len(lines) + 1))
+    holds(is_clean(answer) or is_cut, "the log does not begin a clean one", answer)
     begun = [line.split()[0] for line in lines if b" S MECHS " in line]
     ended = {line.split()[0] for line in lines if line.endswith(b" E")}
     # Each event has one line of its own in the log: a client's, or the first of a session.
@@ -389,7 +395,8 @@ def a_hall(folder: pathlib.Path, chosen: random.Random) -> Iterator[str | bytes]
     are_all = (status, taken) == (0, len(events)) or status == 1 and taken < len(events)
     holds(are_all, "the log does not have a line for each event that was heard", status, taken, len(events))
     status, more, answer = heard(events[:taken] + [b"gone %s 9" % number for number in begun if number not in ended])
-    holds(status == 0 and more.startswith(printed) and answer[0] == 0, "the log is not clean once the sessions have ended", status, answer)
+    is_well = status == 0 and more.startswith(printed) and is_clean(answer)
+    holds(is_well, "the log is not clean once the sessions have ended", status, answer)
     if b" S OK " in more:
         yield "a login in a hall"
     if b" S PASS " in more:
@@ -421,32 +428,32 @@ def tried(kind: Callable, **one_in: int) -> None:
 
 
 def books(_: str) -> None:
-    """Books that are a few edits from good or faulty ones."""
+    """A book that is a few edits from a good or a faulty one is refused and left, or read as tomllib reads it."""
     tried(a_book, a_book_that_is_read=30)
 
 
 def recorded_logs(_: str) -> None:
-    """Logs that are a few edits from recorded ones."""
+    """A log that is a few edits from a recorded one is clean before the line at fault, and has the same answer once it is upgraded."""
     tried(a_log, an_upgraded_log=25, a_clean_log=100, the_lines_before_a_fault=2)
 
 
 def codes(_: str) -> None:
-    """Words of `code`."""
+    """Words of `code` are refused, or the code is the one that Python computes."""
     tried(words_of_code, a_code_of_a_counter=25, a_code_of_a_moment=40)
 
 
 def keys(_: str) -> None:
-    """Words and passwords of `keys`."""
+    """Words and passwords of `keys` are refused, or the keys are those that Python computes."""
     tried(words_of_keys, the_keys_of_a_password=10)
 
 
 def lines(_: str) -> None:
-    """Lines of `verify`."""
+    """Lines of `verify` have the replies that are due, leave the token that is due, and no counter passes twice."""
     tried(lines_of_verify, a_counter_that_passes=6, a_pair_that_passes=12, a_step_that_passes=8, a_locked_token=5)
 
 
 def halls(_: str) -> None:
-    """Events of halls."""
+    """Events of a hall lead to a log that begins a clean one, with a line for each event that was heard."""
     tried(a_hall, a_login_in_a_hall=2, a_code_in_a_hall=4)
 
 

@@ -68,7 +68,7 @@ def sixty_four(folder: str) -> None:
 
 
 def bounds(folder: str) -> None:
-    """The longest nonce, and the first and the last moment."""
+    """The longest nonce is taken, and so are the first and the last moment."""
     here = Hall(folder)
     for trial, own in each(["z" * 256, "!", "~", "open"]):
         with trial:
@@ -174,9 +174,9 @@ def all_orders(folder: str) -> None:
         with trial:
             here.put(text)
             events, log = dealt(begun + order + (0, 2), visits)
-            here.prints(events, 0, log)
-            equal([of_session(log, number) for number in [1, 2, 3]], [alone[which] for which in begun], begun, order, log)
-            here.audited(log, clean(3, 2, 2))
+            printed = here.prints(events, 0, log)
+            equal([of_session(printed, number) for number in [1, 2, 3]], [alone[which] for which in begun], begun, order, printed)
+            here.audited(printed, clean(3, 2, 2))
 
 
 def shuffled(_: str) -> None:

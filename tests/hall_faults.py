@@ -3,9 +3,9 @@
 
 Usage: hall_faults.py PROGRAM [TEST ..]
 
-Input lines that are not events, or that name a session which is not open: the log so far stands, and the saved book agrees with it. A book
-that can't be saved while sessions are open, which halts the hall; files that are not books, and books that another run holds; and an input or
-an output that fails.
+Input lines that are not events, or that name a session which is not open: the log so far stands, and the saved book agrees with it. A
+book that can't be saved while sessions are open, which halts the hall; files that are not books, and books that another run holds; and an
+input or an output that fails.
 """
 import resource
 import socket

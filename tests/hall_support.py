@@ -20,9 +20,9 @@ class Hall(suite.BookFolder):
         super().__init__(folder, text)
         self.words = [PROGRAM, "hall", "--book", self.book]
 
-    def prints(self, text: str | bytes, status: int, log: str, fault: str = "") -> None:
-        """Runs a hall, and compares its status, log and fault."""
-        super().prints(self.words, text, status, log, fault)
+    def prints(self, text: str | bytes, status: int, log: str, fault: str = "") -> str:
+        """Runs a hall, and compares its status, log and fault. Returns the log that was printed."""
+        return super().prints(self.words, text, status, log, fault)
 
     def refuses(self, text: str, status: int, fault: str) -> None:
         """As `prints`, for a hall that prints nothing; it has to write no file either."""
@@ -31,10 +31,9 @@ class Hall(suite.BookFolder):
         equal(self.seen(), seen, f"the book and its folder after {text[:200]!r}")
 
     def hears(self, *visit: Turn) -> str:
-        """Gives a hall these turns of one client, without another, and compares the log. Returns the log."""
+        """Gives a hall these turns of one client, without another, and compares the log. Returns the log that was printed."""
         events, log = dealt([0] * len(visit), [visit])
-        self.prints(events, 0, log)
-        return log
+        return self.prints(events, 0, log)
 
     def start(self, **more: Any) -> Running:
         """Starts a hall, which waits for input."""

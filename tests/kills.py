@@ -52,8 +52,8 @@ class Kills:
         self.passed, self.passed_in_killed, self.landed = set(), 0, set()
 
     def run(self, number: int, status: int) -> int:
-        """Makes a run, which ends with this status, and is killed before its call of CHANGES with this number, unless that is 0. Returns how
-        many such calls it made."""
+        """Makes a run, which ends with this status, and is killed before its call of CHANGES with this number, unless that is 0. Returns
+        how many such calls it made."""
         what, here = f"a run that is to be killed before its call {number}", self.here
         here.before = here.book.read_text()
         answer, count, call = ended(here, self.started, number)
@@ -73,8 +73,8 @@ class Kills:
 
 
 def kill_before_any_call(here: BookFolder, started: Callable[..., Running], count: int, status: int, is_log: bool = True) -> None:
-    """Makes `count` runs, or RUNS of the environment, one after another, over the book in a folder, after one that ends with this status and
-    lets a code pass. They are killed before their calls of CHANGES, which are spread evenly over those of the first run, and come in a
+    """Makes `count` runs, or RUNS of the environment, one after another, over the book in a folder, after one that ends with this status
+    and lets a code pass. They are killed before their calls of CHANGES, which are spread evenly over those of the first run, and come in a
     random order. No run reports a fault, and its output, if that is a log, is the beginning of a clean one. The book can be read after each
     run, the counters that were reported as passed are spent in it, and none passes twice. Runs are killed before a save has put the new
     text in place, right after that, and after a code has passed."""
@@ -88,4 +88,5 @@ def kill_before_any_call(here: BookFolder, started: Callable[..., Running], coun
     for what, due in [("before", BEFORE), ("right after", AFTER)]:
         holds(due & kills.landed, f"no run was killed {what} a new text was put in place", kills.landed)
     holds(kills.passed_in_killed, "no code passes in a run that is killed", calls, count)
-    print(f"kills.py: {count} runs are killed, before {min(count, calls)} of {calls} calls; {kills.passed_in_killed} codes have passed in them")
+    killed = f"{count} runs are killed, before {min(count, calls)} of {calls} calls"
+    print(f"kills.py: {killed}; {kills.passed_in_killed} codes have passed in them")

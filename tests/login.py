@@ -44,10 +44,11 @@ class Login(suite.BookFolder):
         """Checks that the socket's file is gone."""
         holds(not os.path.lexists(self.socket), "the socket is left")
 
-    def prints(self, words: list, text: str | bytes, status: int, log: str, fault: str = "") -> None:
-        """Runs a login, compares its status, log and fault, and checks that the socket's file is gone."""
-        super().prints(words, text, status, log, fault)
+    def prints(self, words: list, text: str | bytes, status: int, log: str, fault: str = "") -> str:
+        """Runs a login, compares its status, log and fault, and checks that the socket's file is gone. Returns the log that was printed."""
+        printed = super().prints(words, text, status, log, fault)
         self.has_no_socket()
+        return printed
 
     def refuses(self, words: list, text: str | bytes, status: int, fault: str) -> None:
         """As `prints`, for a login that prints nothing; it has to leave the book unwritten."""

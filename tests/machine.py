@@ -29,8 +29,8 @@ import shims
 import suite
 from checks import equal, holds
 from command_table import (
-    BOOK, LIMIT_100, Command, audited, book_of, command_of, commands, is_done, is_front, is_kept, left, login_log, new_book, prepare,
-    printed_begins_clean, run, with_account,
+    BOOK, LIMIT_100, Command, audited, book_of, command_of, commands, is_done, is_front, is_kept, left, login_log, new_book, parsed_book,
+    prepare, printed_begins_clean, run, with_account, with_token,
 )
 from expected import GONE, numbered
 from processes import Answer, Running, whole
@@ -346,11 +346,12 @@ def stopped_at_random(folder: str) -> None:
             prepare(here.folder, command)
             run_of_command = whole(command.in_folder(here.folder), command.text)
             while run_of_command.process.poll() is None:
-                with run_of_command.stopped():
-                    stops += 1
+                with run_of_command.stopped() as is_stopped:
+                    stops += is_stopped
                 time.sleep(random.uniform(0, 0.0005))
             run_of_command.ends(0, command.printed)
             holds(is_done(here.folder, command), name, "the book, and what else is left", book_of(here.folder), left(here.folder))
+    holds(stops, "no run was stopped before its end")
     print(f"machine.py: {len(named()) * STOPPED} runs stopped {stops} times")
 
 
@@ -366,12 +367,15 @@ def together(here: Machine, started: list[Command]) -> list[Answer]:
 
 def twenty_at_once(folder: str) -> None:
     """Twenty runs of each command over one book: an account is added once, a code passes once, whoever sends it, and all other runs
-    are answered as if they came later. A command that only reads a book or a log is answered as if it ran by itself."""
-    here = Machine(folder)
+    are answered as if they came later. A command that only reads a book or a log is answered as if it ran by itself. The book states what
+    follows from that, and nothing else."""
+    here, before = Machine(folder), parsed_book(LIMIT_100)
     one_code = {**{command.name: command for command in commands(1)}, "new": new_book()}
     late = {"enrol": (1, "", "scramotp: name is taken\n"), "verify": (1, "FAIL 5\n", "")}
     late |= {"new": late["enrol"], "login": (1, login_log(1).replace("PASS 5 0", "FAIL 5"), "")}
     late |= {"hall": (0, numbered(late["login"][1]), "")}
+    after = {"enrol": with_account(before), "new": with_account(None), "unlock": with_token(before, failures=0)}
+    after |= dict.fromkeys(["verify", "login", "hall"], with_token(before, next=1, failures=19))
     for trial, (name, command) in each(one_code.items()):
         with trial:
             prepare(here.folder, command)
@@ -381,11 +385,7 @@ def twenty_at_once(folder: str) -> None:
             answers = collections.Counter(together(here, [command] * 20))
             equal(answers, collections.Counter([first] + [late.get(name, first)] * 19), name)
             equal(left(here.folder), set(), name, "the files that are left")
-            token = (book_of(here.folder)["accounts"].get("user") or {}).get("token", {})
-            codes = name in ("verify", "login", "hall")
-            want = (1, 19) if codes else (0, 0 if name == "unlock" else 2)
-            is_due = name == "new" or (token["next"], token["failures"]) == want
-            holds(is_due, name, "the next counter and the failures are not", want, token)
+            equal(book_of(here.folder), after.get(name, before), name, "what the book states")
     print(f"machine.py: 20 runs at once of each of {len(one_code)} commands")
 
 

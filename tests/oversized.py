@@ -10,8 +10,9 @@ KiB more than the first thousand, and an audit of a million lines takes at most 
 import array
 import fcntl
 import itertools
+import os
 import pathlib
-import subprocess
+import select
 import tempfile
 import termios
 import time
@@ -25,7 +26,7 @@ from clients import Account, dealt, escaped, gone, logged_in, opened, said
 from command_table import BOOK, command_of, commands, left, login_log, prepare
 from expected import AUDITS, SESSION_LEFT, base64_of
 from hall_support import Hall, clean
-from processes import LIMIT, LIMIT_OF_LINES, ran, sleeps
+from processes import LIMIT, LIMIT_OF_LINES, Answer, Running, ran, sleeps
 from suite import MOST_BYTES, PROGRAM, BookFolder, each, login_words
 
 # A hall's log of RFC 5802's login, without its end, and the events that lead to it.
@@ -169,46 +170,47 @@ def lengths_of_files(folder: str) -> None:
     print_count("books and passwords", 6)
 
 
-class Fed:
-    """A run that is fed as fast as it reads; its output so far, and its peak memory, can be seen."""
+class Fed(Running):
+    """A run that is fed as fast as it reads; its output goes to a file, and its peak memory can be seen."""
 
     def __init__(self, words: list) -> None:
-        self.output = tempfile.TemporaryFile()
-        self.run = subprocess.Popen(words, stdin=subprocess.PIPE, stdout=self.output, stderr=subprocess.PIPE)
+        self.file = tempfile.TemporaryFile()
+        super().__init__(words, stdout=self.file)
+        self.given = b"(what it was fed)"
+        # So that `feed` waits no longer than it says.
+        os.set_blocking(self.process.stdin.fileno(), False)
 
     def feed(self, parts: Iterable[bytes]) -> bool:
-        """Feeds all of these, or as many as the run reads. Returns whether it read them all."""
-        try:
-            for part in parts:
-                self.run.stdin.write(part)
-            self.run.stdin.flush()
-        except BrokenPipeError:
-            return False
+        """Feeds all of these, or as many as the run reads. Returns whether it read them all, which may take LIMIT seconds."""
+        to, parts, deadline = self.process.stdin.fileno(), iter(parts), time.monotonic() + LIMIT
+        while block := memoryview(b"".join(itertools.islice(parts, 256))):
+            while block:
+                left = deadline - time.monotonic()
+                is_read = left > 0 and select.select([], [to], [], left)[1]
+                holds(is_read, f"after {LIMIT} seconds the run has neither read all nor ended")
+                try:
+                    block = block[os.write(to, block):]
+                except BrokenPipeError:
+                    return False
         return True
 
     def most_memory(self) -> int:
         """The run's peak memory in KiB, once it has read all that it was fed and waits for more."""
         left = array.array("i", [1])
         until = time.monotonic() + LIMIT_OF_LINES
-        while left[0] > 0 or not sleeps(self.run.pid):
+        while left[0] > 0 or not sleeps(self.process.pid):
             holds(time.monotonic() < until, "what was fed is not read")
             time.sleep(0.005)
-            fcntl.ioctl(self.run.stdin.fileno(), termios.FIONREAD, left)
-        status = pathlib.Path(f"/proc/{self.run.pid}/status").read_text()
+            fcntl.ioctl(self.process.stdin.fileno(), termios.FIONREAD, left)
+        status = pathlib.Path(f"/proc/{self.process.pid}/status").read_text()
         return int(status.split("VmHWM:")[1].split()[0])
 
-    def end(self) -> tuple[int, str, str]:
-        """Ends the input. Returns the status, the output and the faults."""
-        try:
-            self.run.stdin.close()
-        except BrokenPipeError:
-            pass
-        faults = self.run.stderr.read().decode()
-        self.run.stderr.close()
-        status = self.run.wait(LIMIT)
-        self.output.seek(0)
-        with self.output:
-            return status, self.output.read().decode(), faults
+    def end(self, text: str | bytes = b"") -> Answer:
+        """As `Running.end`, with the output that is in the file."""
+        answer = super().end(text)
+        self.file.seek(0)
+        with self.file:
+            return answer._replace(output=self.file.read().decode())
 
 
 # With so many sessions of three lines and its first line, a log has a million lines.

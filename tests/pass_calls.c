@@ -1,6 +1,6 @@
 /* Loaded by planted.py before the C library and before any other file here, for a bug of the program that can be planted in a call of the
-   C library, without a build. Each bug is an edit of this file in planted/. As it stands, each call is made as it is by what is loaded after
-   this file, which may be a file that makes it go wrong. */
+   C library, without a build. Each bug is an edit of this file in planted/. As it stands, each call is made as it is by what is loaded
+   after this file, which may be a file that makes it go wrong. */
 #define _GNU_SOURCE
 #include <dlfcn.h>
 #include <errno.h>

@@ -17,23 +17,27 @@ in the form that `rt help` describes:
   how it calls the C library. The test is in a script, and is run on the programs that `make build` and `make bench` made. Nothing is built.
 
 The script works in temporary copies of the repository, whose sources must not change meanwhile. Without an edit, each test has to pass. A
-bug whose test says that this machine can't test all of it is not tried, if the test passes with it.
+test may say that this machine can't test all of it. If it passes with the bug then, the bug counts as not tested.
 
 The program of `rt try` checks its use of memory and is slow, so a script that kills runs or makes input at random makes fewer of them
 here, as RUNS and COUNT say. It can't run together with those C files, so for a bug of a crate no test that loads one of them is named. It
 can with note_files.c, which makes no call go wrong.
 """
 import argparse
+import contextlib
 import os
 import re
 import shutil
+import signal
 import subprocess
 import sys
 import tempfile
 import threading
 import time
+from collections.abc import Iterator
 from concurrent.futures import ThreadPoolExecutor
 from pathlib import Path
+from typing import Any
 
 from edit_sources import TOP, PlantedRow, Unusable, planted_rows, read_planted, root_of
 from limits import limit
@@ -52,6 +56,8 @@ COPIED += ["README.md", "CHANGELOG.md", "CONTRIBUTING.md"]
 SHOWN = 3000
 # The most seconds that a command may take.
 LIMIT = limit(1800)
+# The commands that run, each of which leads a group of its own.
+RUNNING: set[subprocess.Popen] = set()
 # How many runs a script kills, and how many inputs of a kind it tries.
 FEWER = {"RUNS": "60", "COUNT": "300", "SEED": "1"}
 # A run of the program that lasts long enough to copy the program, which `rt try` removes at its end.
@@ -63,13 +69,32 @@ class NotJudged(Exception):
 
 
 class NotTested(Exception):
-    """What a test that passes does not test on this machine."""
+    """What a test that passes can't test on this machine."""
+
+
+@contextlib.contextmanager
+def started(words: list[str], folder: Path, **ways: Any) -> Iterator[subprocess.Popen]:
+    """Starts a command in this folder. At the end of the context, it is ended, and what it has started and left in its group."""
+    with subprocess.Popen(words, cwd=folder, start_new_session=True, **ways) as run:
+        RUNNING.add(run)
+        try:
+            yield run
+        finally:
+            RUNNING.remove(run)
+            end_group(run)
+
+
+def end_group(run: subprocess.Popen) -> None:
+    """Ends all processes in the group of a command."""
+    with contextlib.suppress(ProcessLookupError):
+        os.killpg(run.pid, signal.SIGKILL)
 
 
 def ran(words: list[str], folder: Path, **more: str) -> str:
     """Runs a command without input, with these variables in its environment, and returns all its output."""
     ways = {"stdin": subprocess.DEVNULL, "stdout": subprocess.PIPE, "stderr": subprocess.STDOUT, "env": {**os.environ, **FEWER, **more}}
-    return subprocess.run(words, cwd=folder, text=True, errors="replace", timeout=LIMIT, **ways).stdout
+    with started(words, folder, text=True, errors="replace", **ways) as run:
+        return run.communicate(timeout=LIMIT)[0]
 
 
 class Room:
@@ -142,14 +167,16 @@ class Room:
         """Makes the program without proofs: copies it while `rt try` runs it, in a folder that has its output too."""
         with tempfile.TemporaryDirectory(prefix="planted-") as folder, tempfile.TemporaryFile("w+", errors="replace") as said:
             ways = {"stdin": subprocess.PIPE, "stdout": said, "stderr": said, "env": {**os.environ, "TMPDIR": folder}}
-            with subprocess.Popen(["rt", "try", "--", *LONG_RUN], cwd=self.top / "crates/scramotp", **ways) as run:
+            deadline = time.monotonic() + LIMIT
+            with started(["rt", "try", "--", *LONG_RUN], self.top / "crates/scramotp", **ways) as run:
                 run.stdin.write(b"pencil\n")
                 run.stdin.close()
-                while run.poll() is None and not to.exists():
+                while run.poll() is None and not to.exists() and time.monotonic() < deadline:
                     time.sleep(1)
                     for output in Path(folder).glob("*/*/stdout"):
                         shutil.copy(output.with_name("program"), to)
                 run.terminate()
+                run.wait(LIMIT)
             said.seek(0)
             if not to.exists():
                 raise NotJudged(said.read()[-1000:])
@@ -172,12 +199,16 @@ class Trial:
         return self.own.room
 
     def passes_without(self, row: PlantedRow) -> bool:
-        """Whether the row's test passes without a bug. A test of several rows is run once, unless they are tried at the same time."""
+        """Whether the row's test passes without a bug, even if this machine can't test all of it. A test of several rows is run once,
+        unless they are tried at the same time."""
         key = (row.by, row.test, row.of == "tests")
         with self.lock:
             known = self.passed.get(key)
         if known is None:
-            known = self.room().failure(row) is None
+            try:
+                known = self.room().failure(row) is None
+            except NotTested:
+                known = True
             with self.lock:
                 self.passed[key] = known
         return known
@@ -219,9 +250,16 @@ def main() -> int:
     words.add_argument("bugs", metavar="BUG", nargs="*", help="the name of an edit; by default, all bugs are tried")
     given = words.parse_args()
     rows = rows_of(given.bugs, given.unbuilt)
+    # TERM ends the tests as Ctrl-C does.
+    signal.signal(signal.SIGTERM, signal.default_int_handler)
     with tempfile.TemporaryDirectory(prefix="planted-") as folder, ThreadPoolExecutor(given.jobs) as pool:
         trial = Trial(Path(folder))
-        became = [*pool.map(trial.judged, rows)]
+        try:
+            became = [*pool.map(trial.judged, rows)]
+        finally:
+            # Their threads wait for them. None runs any more, unless this was interrupted.
+            for run in [*RUNNING]:
+                end_group(run)
     refused, untested = became.count("refused"), became.count("not tested")
     failed = len(rows) - refused - untested
     print(f"{refused} refused, {failed} not" + (f", {untested} not tested" if untested else ""))

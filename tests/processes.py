@@ -40,12 +40,43 @@ def last() -> str:
 
 
 def forget_runs() -> None:
-    """Stops the runs that still go on, and forgets all."""
+    """Ends the runs that still go on, and what they have started, and forgets all."""
     for process in _started:
-        process.kill()
-        process.wait()
+        _end_all(process)
     _started.clear()
     _last.clear()
+
+
+def _children(parents: set[int]) -> set[int]:
+    """The processes whose parent is one of these."""
+    found = set()
+    for process in map(int, filter(str.isdecimal, os.listdir("/proc"))):
+        # One that ends meanwhile is not counted.
+        with contextlib.suppress(OSError):
+            if int(_stat(process)[1]) in parents:
+                found.add(process)
+    return found
+
+
+def _end_all(process: subprocess.Popen) -> None:
+    """Kills a run, unless it has ended, and all that it has started. First each of these is stopped, so that it starts no other. One whose
+    parent has ended is not found. All stay in the group of the script, by which run.py and planted.py end what a script leaves."""
+    if process.poll() is not None:
+        return
+    found, more = set(), {process.pid}
+    while more:
+        _signal(more, signal.SIGSTOP)
+        found |= more
+        more = _children(found) - found
+    _signal(found, signal.SIGKILL)
+    process.wait()
+
+
+def _signal(processes: set[int], number: int) -> None:
+    """Sends processes a signal, unless they have ended."""
+    for process in processes:
+        with contextlib.suppress(ProcessLookupError):
+            os.kill(process, number)
 
 
 def _command(words: list) -> str:
@@ -73,12 +104,14 @@ def _encoded(text: str | bytes) -> bytes:
 
 def ran(words: list, data: str | bytes = b"", **how: Any) -> Answer:
     """Runs a command with this input, unless another is given as `stdin`. Returns its answer."""
-    given = {} if "stdin" in how else {"input": _encoded(data)}
-    try:
-        done = subprocess.run(words, **{"stdout": subprocess.PIPE, "stderr": subprocess.PIPE, "timeout": LIMIT, **given, **how})
-    except subprocess.TimeoutExpired:
-        _fail_late(words, data)
-    return _remember(words, data, Answer(done.returncode, *((it or b"").decode() for it in (done.stdout, done.stderr))))
+    with subprocess.Popen(words, **{**PIPES, **how}) as process:
+        try:
+            printed = process.communicate(None if "stdin" in how else _encoded(data), timeout=LIMIT)
+        except subprocess.TimeoutExpired:
+            _fail_late(words, data)
+        finally:
+            _end_all(process)
+    return _remember(words, data, Answer(process.returncode, *((it or b"").decode() for it in printed)))
 
 
 class Running:
@@ -140,12 +173,13 @@ class Running:
         self.goes_on()
 
     @contextlib.contextmanager
-    def stopped(self) -> Iterator[None]:
-        """Stops the run by STOP, unless it has ended, and lets it go on by CONT at the end of the context."""
+    def stopped(self) -> Iterator[bool]:
+        """Stops the run by STOP, unless it has ended, and lets it go on by CONT at the end of the context. Gives whether it was stopped."""
+        found = None
         if self.process.poll() is None:
             os.kill(self.process.pid, signal.SIGSTOP)
-            os.waitid(os.P_PID, self.process.pid, os.WSTOPPED | os.WEXITED | os.WNOWAIT)
-        yield
+            found = os.waitid(os.P_PID, self.process.pid, os.WSTOPPED | os.WEXITED | os.WNOWAIT)
+        yield found is not None and found.si_code == os.CLD_STOPPED
         self.process.send_signal(signal.SIGCONT)
 
     def end(self, text: str | bytes = b"") -> Answer:
@@ -176,8 +210,8 @@ def whole(words: list, text: str | bytes, **how: Any) -> Running:
 
 
 def until(is_so: Callable[[], bool], *about: Any) -> None:
-    """Waits at least LIMIT_OF_LINES seconds for this to be true, and otherwise fails with what the caller says about it: what is awaited, as
-    in "the run should hold"."""
+    """Waits at least LIMIT_OF_LINES seconds for this to be true, and otherwise fails with what the caller says about it: what is
+    awaited, as in "the run should hold"."""
     deadline, is_late = time.monotonic() + LIMIT_OF_LINES, False
     while not is_so():
         if is_late:

@@ -34,7 +34,8 @@ HARMLESS = {
     # A file is closed after its last sync. A stream that can't be asked is no terminal. A wait can only end early.
     "close", "isatty", "nanosleep",
 }
-# The calls that note_files.c does not note: they change no byte, length or name of a plain file, make none durable, and tell nobody anything.
+# The calls that note_files.c does not note: they change no byte, length or name of a plain file, make none durable, and tell nobody
+# anything.
 NOT_NOTED = {"read", "recv", "flock", "fchmod", "fchown", "lseek", "realpath", "statx", "ioctl", "clock_gettime", "malloc", "realloc"}
 NOT_NOTED |= {*SOCKETS.split(",")}
 # The calls whose failure is not told, by their command or as those of any, and why: the command does all its work without them.

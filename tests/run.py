@@ -4,8 +4,8 @@
 Usage: run.py PROGRAM [SCRIPT ..]
 
 A script is one in this folder that takes the program's path. It has no input, and is stopped after half an hour. Its output is shown
-once it has ended or was stopped, and processes that it left running are ended. The last line says which scripts failed, and what the
-scripts say that this machine can't test. The status is 1 if a script failed.
+once it has ended or was stopped, and processes that it left running in its group are ended. The last line says which scripts failed,
+and what the scripts say that this machine can't test. The status is 1 if a script failed.
 """
 import asyncio
 import contextlib
@@ -91,20 +91,24 @@ async def ran(test: str, program: str, slots: asyncio.Semaphore) -> tuple[bool, 
 
 async def all_ran(program: str, tests: list[str]) -> list[tuple[bool, list[str]]]:
     """Runs these tests, as many at once as JOBS in the environment says or as there are processors. Returns for each what `ran` does."""
-    slots = asyncio.Semaphore(int(os.environ.get("JOBS") or len(os.sched_getaffinity(0))))
+    slots = asyncio.Semaphore(max(1, int(os.environ.get("JOBS") or len(os.sched_getaffinity(0)))))
     async with asyncio.TaskGroup() as group:
         tasks = [group.create_task(ran(test, program, slots)) for test in tests]
     return [task.result() for task in tasks]
+
+
+def results(program: str, tests: list[str]) -> list[tuple[bool, list[str]]]:
+    """Runs these tests, and returns what `all_ran` does. Ctrl-C ends them, and so does TERM."""
+    signal.signal(signal.SIGTERM, signal.default_int_handler)
+    return asyncio.run(all_ran(os.path.abspath(program), tests))
 
 
 def main() -> int:
     if len(sys.argv) < 2:
         sys.exit(f"usage: {os.path.basename(sys.argv[0])} PROGRAM [SCRIPT ..]")
     program, tests = sys.argv[1], sys.argv[2:] or TESTS
-    # TERM ends the tests as Ctrl-C does.
-    signal.signal(signal.SIGTERM, signal.default_int_handler)
     try:
-        done = asyncio.run(all_ran(os.path.abspath(program), tests))
+        done = results(program, tests)
     except KeyboardInterrupt:
         return 130
     failed = [test for test, (passed, _) in zip(tests, done) if not passed]

@@ -13,7 +13,7 @@ import re
 import processes
 import suite
 from checks import equal, holds
-from suite import document, each, program_on_path
+from suite import blocks_of, document, each, program_on_path
 
 TITLE = "Quick start"
 SHOWN = "#>"
@@ -21,12 +21,6 @@ PASSWORD = "pencil\n"
 
 # Parts of commands that a story has to have, so that a test of half of it can't pass.
 NEEDED = ["mkdir -m 0700 ", "read -rsp ", "enrol ", "<<'END'", "base32", "verify ", "unlock ", "login ", "audit "]
-
-
-def blocks(text: str, title: str) -> list[str]:
-    """The shell blocks in the section with this title."""
-    section = re.search(rf"^## {re.escape(title)}\n(.*?)(?=^## |\Z)", text, re.M | re.S)
-    return re.findall(r"^```sh\n(.*?)^```$", section.group(1), re.M | re.S) if section else []
 
 
 def steps(block: str) -> list[tuple[str, list[str], int]]:
@@ -65,8 +59,8 @@ def ran(folder: str, story: list[tuple[str, list[str], int]]) -> list[tuple[str,
 
 def quick_start(folder: str) -> None:
     """Each command of the story prints what the document shows, and ends with that status."""
-    text = document("README.md").read_text(encoding="utf-8")
-    story = [step for block in blocks(text, TITLE) for step in steps(block)]
+    shown = [block for title, language, block in blocks_of(document("README.md")) if (title, language) == (TITLE, "sh")]
+    story = [step for block in shown for step in steps(block)]
     equal([word for word in NEEDED if not any(word in command for command, _, _ in story)], [], "what the story lacks")
     answers = ran(folder, story)
     for trial, ((command, printed, status), (output, ended)) in each(zip(story, answers)):

@@ -193,9 +193,12 @@ def is_awaited(path: str | pathlib.Path) -> bool:
     return any(" -> " in it and it.split()[-3].endswith(f":{os.stat(path).st_ino}") for it in locks)
 
 
-def prints(words: list, data: str | bytes, status: int, output: str = "", fault: str = "", *about: Any) -> None:
-    """Runs a command with this input, and compares its status, its output and its fault, which is given without its prefix."""
-    equal(ran(words, data), (status, output, fault_text(fault)), *about)
+def prints(words: list, data: str | bytes, status: int, output: str = "", fault: str = "", *about: Any) -> str:
+    """Runs a command with this input, and compares its status, its output and its fault, which is given without its prefix. Returns what
+    was printed."""
+    answer = ran(words, data)
+    equal(answer, (status, output, fault_text(fault)), *about)
+    return answer.output
 
 
 def verify_words(book: str | pathlib.Path, moment: str = "5", name: str = "user") -> list:
@@ -210,9 +213,9 @@ def login_words(book: str | pathlib.Path, socket: str | pathlib.Path, *more: str
 
 def begins_clean(book: str | pathlib.Path, log: str) -> bool:
     """Whether no line of a log, which may be cut, is at fault by the book that it began with."""
-    _, output, faults = ran([PROGRAM, "audit", "--book", book, "--log", "/dev/stdin"], log)
-    cut = f"line {log.count(chr(10)) + 1}: cut\n"
-    return faults == "" and (output.startswith("clean ") or output == cut)
+    answer = ran([PROGRAM, "audit", "--book", book, "--log", "/dev/stdin"], log)
+    is_clean = re.fullmatch(r"clean sessions=\d+ accepted=\d+ codes=\d+\n", answer.output) and (answer.status, answer.faults) == (0, "")
+    return bool(is_clean) or answer == (1, f"line {log.count(chr(10)) + 1}: cut\n", "")
 
 
 def audit_says(book: str | pathlib.Path, log: str | pathlib.Path, answer: str, *about: Any, text: str | bytes = "") -> None:
@@ -234,9 +237,9 @@ class BookFolder:
         self.before = "".join(texts)
         self.book.write_text(self.before)
 
-    def prints(self, words: list, text: str | bytes, status: int, log: str, fault: str = "") -> None:
-        """Runs the program on this input, and compares its status, log and fault."""
-        prints(words, text, status, log, fault)
+    def prints(self, words: list, text: str | bytes, status: int, log: str, fault: str = "") -> str:
+        """Runs the program on this input, and compares its status, log and fault. Returns the log that was printed."""
+        return prints(words, text, status, log, fault)
 
     def verifies(self, text: str, status: int, printed: str, fault: str = "", moment: str = "5") -> None:
         """Gives `verify` these lines at a moment, and compares its status, output and fault."""

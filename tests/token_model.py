@@ -1,5 +1,6 @@
-"""What a token replies to codes, and its keys after each reply, computed in Python and not by the program: by RFC 4226, sections 7.2 to 7.4,
-RFC 6238, sections 4 to 6, and the section of docs/FORMATS.md on the keys of a token. A token is a table of a book, as tomllib reads it."""
+"""What a token replies to codes, and its keys after each reply, computed in Python and not by the program: by RFC 4226, sections 7.2 to
+7.4, RFC 6238, sections 4 to 6, and the section of docs/FORMATS.md on the keys of a token. A token is a table of a book, as tomllib reads
+it."""
 import re
 from typing import Any
 
