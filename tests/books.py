@@ -271,8 +271,8 @@ def made_at_once(folder: str) -> None:
     start_enrol(here.book, "first", 1).ends(0, "enrolled first\n")
     duration = time.monotonic() - began
     for turn in range(400):
-        # On a busy machine a run may end before it is killed, so more turns may be needed.
-        if turn >= 40 and killed > 8:
+        # Few turns meet the moment at which another run makes the book. On a busy machine a run may end before it is killed.
+        if turn >= 200 and killed > 8:
             break
         here.book.unlink()
         runs = [start_enrol(here.book, f"user{number}", 1) for number in range(6)]
