@@ -27,14 +27,14 @@ decoy_salt_len = 16
 -- the salt of a decoy: the first bytes of HMAC-SHA-256 with the book's decoy key over the mechanism's name, a NUL and the
 -- name. So a name without keys has one salt for each mechanism, as an account has.
 abbrev pub decoy_salt : BookFields → Mechanism → List ℕ → List ℕ
-decoy_salt book m name = take decoy_salt_len (hmac_by ScramSha256 book.decoy_key (name_of m ++ byte "\0" ∷ name))
+decoy_salt book mechanism name = take decoy_salt_len (hmac_by ScramSha256 book.decoy_key (name_of mechanism ++ byte "\0" ∷ name))
 
 -- a decoy, with the book's count for decoys and no keys
 abbrev pub decoy_entry : BookFields → Mechanism → List ℕ → Entry
-decoy_entry book m name = record { salt = decoy_salt book m name; count = book.decoy_count; keys = None; act_as = [] }
+decoy_entry book mechanism name = record { salt = decoy_salt book mechanism name; count = book.decoy_count; keys = None; act_as = [] }
 
 -- what a server keeps of a name for a mechanism: the account if it has keys for it, else a decoy
 abbrev pub entry_in : BookFields → Mechanism → List ℕ → Entry
-entry_in book m name =
-    unwrap_or (option_and_then (λ account. option_map (keys_entry account.act_as) (mech_keys m account)) (account_at book name))
-    (decoy_entry book m name)
+entry_in book mechanism name =
+    unwrap_or (option_and_then (λ account. option_map (keys_entry account.act_as) (mech_keys mechanism account)) (account_at book name))
+    (decoy_entry book mechanism name)

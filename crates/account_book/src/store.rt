@@ -16,7 +16,7 @@ pub struct StoreFault;
 /// begun.
 ///
 /// `IsStored` is what else is true of a text that was saved. Each type of store defines it: for a store in a file, that the text
-/// was written to a file; for a store in memory, nothing more.
+/// was written to a file, if the file's contents are known; for a store in memory, nothing more.
 ///
 /// No contract says what is left if the process stops in the middle of a save. A store that outlives its process should then hold
 /// the old text or the new one, and never another.

@@ -31,7 +31,7 @@ default_count = 4096
 abbrev pub new_book : (decoy_key : List ℕ) → BookFields
 new_book decoy_key = record { decoy_key = decoy_key; decoy_count = default_count; accounts = [] }
 
--- the book was read from a file
+-- the book was read from a file, if what the file has is known
 abbrev pub IsOfFile : {File : Type 0} → (bytes_of : File → Option (List ℕ)) → BookFields → Type 0
 IsOfFile bytes_of book = (text : List ℕ) × IsReadBook bytes_of text book
 
@@ -53,7 +53,7 @@ abbrev pub IsThisOrReadBook : {File : Type 0} → (bytes_of : File → Option (L
 IsThisOrReadBook bytes_of this book = (book ≡ this) ⊎ IsOfFile bytes_of book
 
 -- an account with the keys of a password is added to a book, which is this one or was read from a file since, and a text of the
--- resulting book is written to a file
+-- resulting book is written to a file; what files have is known only where `IsOfFile` and `IsSavedText` say so
 pub record SavesAccount {File : Type 0} (bytes_of written_to : File → Option (List ℕ)) (this : BookFields) (account : NewAccount)
     (salts : Salts) : Type 0 where
   pub first : BookFields

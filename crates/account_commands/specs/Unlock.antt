@@ -15,7 +15,7 @@ use Rattle.command_words.specs.Values.{given_value, HasBadValue}
 use Rattle.command_io.specs.HeldBook.{IsReadBook, IsTokenUnlocked, CannotOpenBook, IsTokenFault}
 
 -- a book is read from a file, the token of the name that the words give is unlocked, and a text of the resulting book is written to
--- a file; and the name is printed
+-- a file, as far as the contents of these files are known; and the name is printed
 pub record UnlocksAsked {File : Type 0} (bytes_of written_to : File → Option (List ℕ)) (words : ArgMatches) (old new : Option (List ℕ))
     : Type 0 where
   pub name_range : IsPlainName (given_value words option.Name)

@@ -48,11 +48,9 @@ fn print_keys<I: BufRead, O: Write>(
     output: &mut O,
 ) -> Result<(), Fault>
     requires { 1 ≤ count }
-
     // The first line is a password, and its keys are printed.
     ensures ok { OnOk result ((password : List ℕ) × IsFirstLine (I.remaining input.old) password × IsPassword password
         × Appends (O.contents output.old) (O.contents output.new) (printed_keys mechanism password salt.now count)) }
-
     // A stream failed, memory ran out, or the first line is not a password.
     ensures err { IfErr result (λ fault. (fault ≡ Fault.CannotReadInput) ⊎ ((fault ≡ Fault.CannotWriteOutput)
         ⊎ ((fault ≡ Fault.NoMemory) ⊎ HasBadPassword (I.remaining input.old) fault))) }

@@ -13,7 +13,7 @@ ghost use Rattle.book_format.specs.inner.Values.{table_of};
 
 mod accounts;
 mod field;
-mod mech;
+mod keys;
 mod token;
 
 use crate::account::{Account, SHA256_KEY_LEN};

@@ -54,6 +54,7 @@ impl<'a, S: BookStore> HeldBook<'a, S> {
         ensures unsaved { IfErr result (λ failed. failed.1 ≢ Fault.NoMemory → FailsToSave (S.facts store) book (S.facts failed.0)) }
         ensures unasked { IfErr result (λ failed. failed.1 ≡ Fault.NoMemory → failed.0 ≡ store) }
     {
+        // The path is copied first, here and below: no memory is then needed once the store has been asked.
         let Ok(file) = String::from_str(alloc, path) else {
             return Err((store, Fault::NoMemory));
         };

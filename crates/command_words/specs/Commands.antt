@@ -52,36 +52,44 @@ with_default name default = record (one_value name) { defaults = default ∷ [] 
 abbrev pub command : (name : List ℕ) → List Rule → Shape
 command name options = record (new_shape name) { rules = options }
 
--- the options of each command, in the order of its help
+-- the options of `keys`; as in those below, in the order of its help
 abbrev pub keys_options : List Rule
 keys_options = required_value Mechanism ∷ required_value Salt ∷ required_value Count ∷ []
 
+-- the options of `enrol`
 abbrev pub enrol_options : List Rule
 enrol_options = required_value Book ∷ required_value Name ∷ with_default Count (codes "4096")
     ∷ with_default Random (codes "/dev/urandom") ∷ []
 
+-- the options of `code`
 abbrev pub code_options : List Rule
 code_options = required_value Secret ∷ with_default Digits (codes "6") ∷ one_value Counter
     ∷ one_value Moment ∷ with_default Hash (codes "sha1") ∷ with_default T0 (codes "0")
     ∷ with_default Step (codes "30") ∷ []
 
+-- the options of `verify`
 abbrev pub verify_options : List Rule
 verify_options = required_value Book ∷ required_value Name ∷ required_value Moment ∷ []
 
+-- the options of `unlock`
 abbrev pub unlock_options : List Rule
 unlock_options = required_value Book ∷ required_value Name ∷ []
 
+-- the options of `login`
 abbrev pub login_options : List Rule
 login_options = required_value Book ∷ required_value Name ∷ one_value Mechanism ∷ one_value As
     ∷ required_value Socket ∷ with_default Random (codes "/dev/urandom") ∷ one_value ClientNonce
     ∷ one_value ServerNonce ∷ one_value Moment ∷ []
 
+-- the options of `hall`
 abbrev pub hall_options : List Rule
 hall_options = required_value Book ∷ []
 
+-- the options of `audit`
 abbrev pub audit_options : List Rule
 audit_options = required_value Book ∷ required_value Log ∷ []
 
+-- the options of `upgrade`
 abbrev pub upgrade_options : List Rule
 upgrade_options = required_value Log ∷ []
 

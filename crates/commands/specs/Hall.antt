@@ -50,7 +50,7 @@ pub record SaysEvent (line : List ℕ) (event : InputEvent) : Type 0 where
   pub spelled : line ≡ event_text event
   pub ranges : IsEventInRange event
 
--- after these calls of a hall the event is that of a session that is not open: it has not begun, or it is over
+-- after these calls of a hall the event is that of a session that is not open: it has not begun, or it has ended
 abbrev pub IsOfClosedSessionAfter : Accounts → List (Numbered Call) → InputEvent → Type 0
 IsOfClosedSessionAfter accounts calls (opens server_nonce) = ⊥
 IsOfClosedSessionAfter accounts calls (does_at session event moment) = IsSessionRun accounts (of_number session calls) between

@@ -4,7 +4,7 @@
 use Rattle.std.specs.Prelude.{ℕ, ◌≡◌, ◌↔◌, Bool, true, false, ◌||◌, List}
 use Rattle.otp_core.specs.Attempt.{CodeTexts, one_text, two_texts}
 use Rattle.log_grammar.specs.Lines.{LogLine, heard, bad, gone, ClientLine, auth, auth_with, resp, abort, code, sync}
-use Rattle.log_grammar.specs.Places.{Place, offered, asks_bare, waits_first, got_first, waits_final, got_final, waits_code, got_code, leaving, over}
+use Rattle.log_grammar.specs.Places.{Place, offered, asks_bare, waits_first, got_first, waits_final, got_final, waits_code, got_code, leaving, ending}
 use Rattle.log_grammar.specs.Demands.{Accounts, demands}
 use Rattle.log_grammar.specs.state_machine.Steps.{IsTransition}
 
@@ -62,7 +62,7 @@ place_after_line place (sync first second) = place_after_codes place (two_texts 
 abbrev pub place_after_record : Place → LogLine → Place
 place_after_record place (heard line) = place_after_line place line
 place_after_record place bad = leaving
-place_after_record place gone = over
+place_after_record place gone = ending
 place_after_record place line = place
 
 -- a line of the client may stand if and only if it is due, and leads to the place after it

@@ -107,10 +107,10 @@ phase_after_halt false (Some open_session) = Some (session_phase open_session.se
 abbrev pub phase_of_number : {S : Type 0} → HallFields S → ℕ → Option Phase
 phase_of_number hall number = phase_after_halt hall.is_halted (find (has_number number) hall.open_sessions)
 
--- what `Hall::phase` returns of a session in this phase: none if the session is over
-abbrev pub phase_unless_over : Phase → Option Phase
-phase_unless_over phase.Closed = None
-phase_unless_over phase = Some phase
+-- what `Hall::phase` returns of a session in this phase: none if the session has ended
+abbrev pub phase_unless_ended : Phase → Option Phase
+phase_unless_ended phase.Closed = None
+phase_unless_ended phase = Some phase
 
 -- two halls have the same book, store and open sessions, in any order, have given the same numbers, and have both halted or neither
 pub record IsSameHall {S : Type 0} (old new : HallFields S) : Type 0 where
@@ -159,9 +159,9 @@ module _ {S : Type 0} (facts : S → StoreFacts) (IsStored : List ℕ → Type 0
     -- the hall has answered one more call, and the phase that is returned is that of the place where the session then stands
     pub stands : (start : BookFields) (calls : List (Numbered Call)) → IsHallAfter start calls old
         → (after : IsHallAfter start (numbered number (call_of request lines) ∷ calls) new) × IsPhaseOf (after.places number) phase_after
-    -- unless the hall has halted, `Hall::phase` then returns the same phase, or none if the session is over
+    -- unless the hall has halted, `Hall::phase` then returns the same phase, or none if the session has ended
     pub kept : (start : BookFields) (calls : List (Numbered Call)) → IsHallAfter start calls old
-        → new.is_halted ≡ false → phase_of_number new number ≡ phase_unless_over phase_after
+        → new.is_halted ≡ false → phase_of_number new number ≡ phase_unless_ended phase_after
     -- the phase that is returned is Halted if and only if the hall has halted
     pub shows_halt : (phase_after ≡ phase.Halted) ↔ (new.is_halted ≡ true)
     -- the store was asked for one save for each line that needs one, and was given a text of the book with the attempt of this call

@@ -1,9 +1,9 @@
 //! A server of SCRAM logins and codes, over any store, source and sink. A *desk* serves one client after another, and a *hall* up to
 //! 64 at a time. Each keeps one book and writes one log.
 //!
-//! `Keeper` holds the book and the store of its text: it judges codes, and saves each change before the reply is sent. `Desk` is a
-//! keeper and at most one open session, and `Hall` a keeper and up to 64. Each call appends the lines of the log to a vector that it
-//! is given. `serve` reads the lines of one client, hands them to a desk, and writes its answers.
+//! `book_keeper::Keeper` holds the book and the store of its text: it judges codes, and saves each change before the reply is sent.
+//! `Desk` is a keeper and at most one open session, and `Hall` a keeper and up to 64. Each call appends the lines of the log to a
+//! vector that it is given. `serve` reads the lines of one client, hands them to a desk, and writes its answers.
 //!
 //! A server calls `greet` when a client comes, and `client` for each thing that the client does. After each call it first writes
 //! what was appended to the log, and then sends what was appended to the wire: `log_then_send` does both, and `serve` all of this.

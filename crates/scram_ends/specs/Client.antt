@@ -98,21 +98,21 @@ IfBack (Err (Spent fault)) fact = Unit {0}
 
 -- the faults of a server-final message, in the order in which they are judged. Text is not among them: it is the fault of a text
 -- that is not a server-final message.
-abbrev pub last_faults_in_order : List ClientFault
-last_faults_in_order = Mandatory ∷ ServerRefused ∷ WrongSignature ∷ []
+abbrev pub server_final_faults_in_order : List ClientFault
+server_final_faults_in_order = Mandatory ∷ ServerRefused ∷ WrongSignature ∷ []
 
 -- what each of these rows asks of the parts of server-final, for a client that expects this signature: no mandatory extension; a
 -- verifier, and no `e=`; this signature as the verifier. Any other fault is not a row: nothing would meet it.
-abbrev pub AsksOfLast : ClientFault → (signature : List ℕ) → ServerFinalParts → Type 0
-AsksOfLast Mandatory signature last = server_final_mandatory last ≡ false
-AsksOfLast ServerRefused signature last = (sent : List ℕ) × (last.verifier_or_error ≡ verifier sent)
-AsksOfLast WrongSignature signature last = last.verifier_or_error ≡ verifier signature
-AsksOfLast other signature last = ⊥
+abbrev pub AsksOfServerFinal : ClientFault → (signature : List ℕ) → ServerFinalParts → Type 0
+AsksOfServerFinal Mandatory signature last = server_final_mandatory last ≡ false
+AsksOfServerFinal ServerRefused signature last = (sent : List ℕ) × (last.verifier_or_error ≡ verifier sent)
+AsksOfServerFinal WrongSignature signature last = last.verifier_or_error ≡ verifier signature
+AsksOfServerFinal other signature last = ⊥
 
 -- why a client that expects this signature does not accept the server as authentic: Text, if the text is not a server-final message,
 -- with its first fault; else the first row that its parts do not meet
-abbrev pub IsLastFault : (signature server_final : List ℕ) → ClientFault → Type 0
-IsLastFault signature server_final (Text fault) = ((last : ServerFinalParts) → IsServerFinal server_final last → ⊥)
+abbrev pub IsNotAuthenticFault : (signature server_final : List ℕ) → ClientFault → Type 0
+IsNotAuthenticFault signature server_final (Text fault) = ((last : ServerFinalParts) → IsServerFinal server_final last → ⊥)
     × IsServerFinalFault server_final fault
-IsLastFault signature server_final fault = (last : ServerFinalParts) × IsServerFinal server_final last
-    × IsFirstUnmet (λ row. AsksOfLast row signature last) last_faults_in_order fault
+IsNotAuthenticFault signature server_final fault = (last : ServerFinalParts) × IsServerFinal server_final last
+    × IsFirstUnmet (λ row. AsksOfServerFinal row signature last) server_final_faults_in_order fault

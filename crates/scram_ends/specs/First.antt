@@ -21,16 +21,16 @@ pub record IsChallengeTo (entry : Entry) (client_first server_nonce server_first
 
 -- the faults of a client-first message, in the order in which they are judged. Text is not among them: it is the fault of a text
 -- that is not a client-first message.
-abbrev pub first_faults_in_order : List FirstFault
-first_faults_in_order = Mandatory ∷ BindingAsked ∷ OutsideProfile ∷ []
+abbrev pub client_first_faults_in_order : List FirstFault
+client_first_faults_in_order = Mandatory ∷ BindingAsked ∷ OutsideProfile ∷ []
 
 -- what each of these rows asks of the parts of client-first: no mandatory extension; a flag that asks for no channel binding; plain
 -- names. Text is not a row: nothing would meet it.
-abbrev pub AsksOfFirst : FirstFault → ClientFirstParts → Type 0
-AsksOfFirst (Text fault) first = ⊥
-AsksOfFirst Mandatory first = client_first_mandatory first ≡ false
-AsksOfFirst BindingAsked first = IsUnbound first.flag
-AsksOfFirst OutsideProfile first =
+abbrev pub AsksOfClientFirst : FirstFault → ClientFirstParts → Type 0
+AsksOfClientFirst (Text fault) first = ⊥
+AsksOfClientFirst Mandatory first = client_first_mandatory first ≡ false
+AsksOfClientFirst BindingAsked first = IsUnbound first.flag
+AsksOfClientFirst OutsideProfile first =
     (name : List ℕ) × (authzid : Option (List ℕ)) × IsNameOf name first.name × IsAuthzidOf authzid first.authzid
 
 -- why a server does not take up a login: Text, if the text is not a client-first message, with its first fault; else the first row
@@ -39,7 +39,7 @@ abbrev pub IsRefusedWith : (client_first : List ℕ) → FirstFault → Type 0
 IsRefusedWith client_first (Text fault) = ((first : ClientFirstParts) → IsClientFirst client_first first → ⊥)
     × IsClientFirstFault client_first fault
 IsRefusedWith client_first fault = (first : ClientFirstParts) × IsClientFirst client_first first
-    × IsFirstUnmet (λ row. AsksOfFirst row first) first_faults_in_order fault
+    × IsFirstUnmet (λ row. AsksOfClientFirst row first) client_first_faults_in_order fault
 
 -- why two recorded texts open no login of this entry: First, if a server does not take up the first text; NotThisChallenge, if it
 -- does and the second text is not a challenge to it

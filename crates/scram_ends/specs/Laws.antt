@@ -9,7 +9,7 @@ use Rattle.scram_ends.specs.Stages.{Challenged, Answered, challenged_login}
 use Rattle.scram_ends.specs.Opening.{Opening, IsOpening, IsTakenUp, IsAllowed}
 use Rattle.scram_ends.specs.Verdict.{Due, accept, IsDue, due_text}
 use Rattle.scram_ends.specs.Login.{IsAuthentic, IsValidLogin}
-use Rattle.scram_ends.specs.First.{IsChallengeTo, IsRefusedWith, AsksOfFirst, first_faults_in_order}
+use Rattle.scram_ends.specs.First.{IsChallengeTo, IsRefusedWith, AsksOfClientFirst, client_first_faults_in_order}
 use Rattle.scram_ends.specs.declared.first.FirstFault.{FirstFault}
 use Rattle.scram_ends.specs.Honest.{IsHonest, honest_signature}
 
@@ -32,7 +32,7 @@ RefusedIsNotTakenUp = (client_first : List ℕ) (fault : FirstFault) (first : Cl
 abbrev pub TakenUpMeetsEveryRow : Type 0
 TakenUpMeetsEveryRow = (first : ClientFirstParts)
     → ((name : List ℕ) × (authzid : Option (List ℕ)) × IsTakenUp first name authzid)
-    ↔ AllByRecursion (λ row. AsksOfFirst row first) first_faults_in_order
+    ↔ AllByRecursion (λ row. AsksOfClientFirst row first) client_first_faults_in_order
 
 -- a login is valid if and only if acceptance is due to its client-final message and its server-final message has the signature due
 -- as its verifier

@@ -15,7 +15,7 @@ ghost use Rattle.book_format.specs.declared.fault.BookWhy.TheVariants.{NoMemory}
 use crate::account::{Account, MechKeys, SHA1_KEY_LEN, SHA256_KEY_LEN};
 use crate::fault::{BookFault, BookWhy};
 use crate::read::field::{at, check_keys, table_of};
-use crate::read::mech::mech_of;
+use crate::read::keys::keys_of;
 use crate::read::token::token_of;
 use otp_core::Token;
 use scram_text::PlainName;
@@ -101,13 +101,13 @@ fn account_of(alloc: Global, value: &Value) -> Result<Account, BookWhy>
     })
 }
 
-// What is kept for a mechanism, or None if its key is missing. Errors: those of `mech_of`.
+// What is kept for a mechanism, or None if its key is missing. Errors: those of `keys_of`.
 fn keys_if_any(len: usize, table: &Table, key: &str) -> Result<Option<MechKeys>, BookWhy>
     requires { len ≤ max_tag_len }
     ensures { result ≡ read_some key.now (table_in (keys_table len) (keys_reading len)) (table_view table.now) }
 {
     match at(table, key) {
-        Some(value) => Ok(Some(mech_of(len, value)?)),
+        Some(value) => Ok(Some(keys_of(len, value)?)),
         None => Ok(None),
     }
 }

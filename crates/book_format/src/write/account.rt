@@ -49,7 +49,7 @@ fn put_keys(
         → ForSome keys.now (WritesItself (table_type (tables.keys_table len)))) }
 {
     match keys {
-        Some(keys) => put(alloc, table, key, mech_value(alloc, keys)?),
+        Some(keys) => put(alloc, table, key, keys_value(alloc, keys)?),
         None => Ok(()),
     }
 }
@@ -68,7 +68,7 @@ fn put_token(alloc: Global, table: &mut Table, token: &Option<Token>) -> Result<
 
 // The TOML value of what is kept for a mechanism.
 #[tactic(auto, unfolding(crate::specs::Rows::written_table))]
-fn mech_value(alloc: Global, keys: &MechKeys) -> Result<Value, AllocError>
+fn keys_value(alloc: Global, keys: &MechKeys) -> Result<Value, AllocError>
     ensures tree { IfOk result (λ v. view v ≡ (table_type tables.sha1_keys_table).write keys.now) }
     ensures itself { OnOk result ((len : ℕ) → AreKeys len keys.now → WritesItself (table_type (tables.keys_table len)) keys.now) }
 {

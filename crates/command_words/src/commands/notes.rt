@@ -56,7 +56,7 @@ pub(crate) const VERIFY_NOTES: &str =
   LOCKED MOMENT        the token is locked, so nothing passes until `scramotp unlock`
 
 PASS and FAIL are printed after the book has been saved. LOCKED saves nothing. The run holds the
-book until the input ends. Other runs wait for it, up to 30 seconds.
+book until it ends. Other runs wait for the book, up to 30 seconds.
 
 Exit status 0 means that every attempt passed, and is also the status if there was none. So do not
 let anyone in because of the status: look for PASS.
@@ -130,8 +130,8 @@ only what the server sends, and ends the login unless the server proves that it 
 keys.
 
 Prints the server's log. What a code changes in the book is saved before the reply is printed, and
-each reply is printed before the client receives it. The run holds the book until the input ends.
-Other runs wait for it, up to 30 seconds.
+each reply is printed before the client receives it. The run holds the book until it ends. Other
+runs wait for the book, up to 30 seconds.
 
 Exit status 0 means that the login was accepted and every code passed.
 
@@ -160,8 +160,8 @@ session that is not open, is a bad event: it ends the run with exit status 1.
 
 Prints the log, in version 2. All lines for an event are printed before the next event is read. Send
 the client of session N the rest of each line that begins with `N S `. What a code changes in the
-book is saved before the reply is printed. The run holds the book until the input ends. Other runs
-wait for it, up to 30 seconds.
+book is saved before the reply is printed. The run holds the book until it ends. Other runs wait for
+the book, up to 30 seconds.
 
 The run ends with the fault `cannot read input` once its events have more than 16777216 bytes in
 all. So begin a new run in good time.

@@ -21,7 +21,7 @@ use Rattle.commands.specs.declared.login.client_end.User.{User}
 use Rattle.commands.specs.declared.login.client_end.Next.{Next}
 use Rattle.commands.specs.declared.login.client_end.Next.TheVariants.{Says, LoggedIn, Leaves}
 use Rattle.commands.specs.declared.login.client_end.Stage.{Stage}
-use Rattle.commands.specs.declared.login.client_end.Stage.TheVariants.{Silent, Begun, Proved, Over}
+use Rattle.commands.specs.declared.login.client_end.Stage.TheVariants.{Silent, Begun, Proved, Ended}
 
 -- the mechanism that was asked for, or else the best one offered, is the one to choose
 pub asked_or_best_is_chosen : (asked best : Option Mechanism) (names : List ℕ) (mechanism : Mechanism)
@@ -96,7 +96,7 @@ undue_line_makes_client_leave user Silent received none = λ names mechanism is 
 undue_line_makes_client_leave user (Begun one) received none =
     λ login started server_first challenge is answerable. none (cont server_first) is tt
 undue_line_makes_client_leave user (Proved two) received none = λ login expecting message is authentic. none (accepts message) is tt
-undue_line_makes_client_leave user Over received none = tt
+undue_line_makes_client_leave user Ended received none = tt
 
 -- a client has to leave if what it received is not a line of the server
 pub no_line_makes_client_leave : (user : User) (stage : Stage) (received : List ℕ)

@@ -12,7 +12,7 @@ use Rattle.commands.specs.declared.login.client_end.User.{User}
 use Rattle.commands.specs.declared.login.client_end.Next.{Next}
 use Rattle.commands.specs.declared.login.client_end.Next.TheVariants.{Says, LoggedIn, Leaves}
 use Rattle.commands.specs.declared.login.client_end.Stage.{Stage}
-use Rattle.commands.specs.declared.login.client_end.Stage.TheVariants.{Silent, Begun, Proved, Over}
+use Rattle.commands.specs.declared.login.client_end.Stage.TheVariants.{Silent, Begun, Proved, Ended}
 use Rattle.commands.specs.ClientEnd.{said_line, IsLoginStartedBy, OffersNone, HasNoChallenge, DoesNotAccept, IsLoggedIn, IsNotLoggedIn}
 
 -- the fact is true of what the client says, if it says anything
@@ -56,7 +56,7 @@ MaySay client (Begun one) received said new =
     (server_first : List ℕ) × IsLine received (from_server (cont server_first))
     × ((login : Started) → StandsForStarted one login → AnswersChallenge login client.password server_first said new)
 MaySay client (Proved two) received said new = ⊥
-MaySay client Over received said new = ⊥
+MaySay client Ended received said new = ⊥
 
 -- the client has sent its proof, and the line accepts it with the signature that the client expects: the server has the
 -- account's keys (RFC 5802, section 5)
@@ -72,7 +72,7 @@ HasToLeave user Silent received = OffersNone user.mechanism received
 HasToLeave user (Begun client) received = (login : Started) → StandsForStarted client login → HasNoChallenge login received
 HasToLeave user (Proved client) received =
     (login : Answered) (expecting : StandsForAnswered client login) → DoesNotAccept expecting.signature received
-HasToLeave user Over received = Unit {0}
+HasToLeave user Ended received = Unit {0}
 
 -- how a login ends: whether the client is logged in
 abbrev pub EndsLogin : User → (nonce password : List ℕ) → (old : Talked) → (is_in : Bool) → (new : Talked) → Type 0

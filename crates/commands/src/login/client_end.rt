@@ -56,7 +56,7 @@ enum Stage {
     Proved(ClientTwo),
 
     // It has logged in, or ended the login.
-    Over,
+    Ended,
 }
 
 /// A client that logs a user in.
@@ -96,7 +96,7 @@ impl ClientEnd {
         let Ok(Line::FromServer(received)) = read_line(line) else {
             return Ok(Next::Leaves);
         };
-        match (mem::replace(&mut self.stage, Stage::Over), received) {
+        match (mem::replace(&mut self.stage, Stage::Ended), received) {
             (Stage::Silent, ServerLine::Mechs(names)) => self.send_first(alloc, names),
             (Stage::Begun(client), ServerLine::Cont(message)) => {
                 let challenge = message.bytes(alloc).map_err(|_| Fault::NoMemory)?;

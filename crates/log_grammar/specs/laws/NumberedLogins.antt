@@ -2,7 +2,7 @@
 use Rattle.std.specs.Prelude.{ℕ, ◌≡◌, ◌≢◌, ◌↔◌, List, [], ◌∷◌, ◌++◌}
 use Rattle.account_book.specs.AccountAttempt.{AccountAttempt}
 use Rattle.log_grammar.specs.Lines.{LogLine, said, accepts, refuses}
-use Rattle.log_grammar.specs.Places.{Place, waits_code, over}
+use Rattle.log_grammar.specs.Places.{Place, waits_code, ending}
 use Rattle.log_grammar.specs.Demands.{Accounts, demands}
 use Rattle.log_grammar.specs.Numbered.{Numbered, numbered, of_number, IsNumberedLogUpTo}
 use Rattle.log_grammar.specs.state_machine.NumberedSteps.{FollowsLast}
@@ -45,7 +45,7 @@ pub record IsNumberedRefused (limit : ℕ) (accounts : Accounts) (log : List (Nu
   pub places : ℕ → Place
   pub after : ComesAfter limit accounts log places told n (said (refuses text)) next
   pub due : IsRefusalDueAt accounts (places n) text
-  pub is_next : next n ≡ over
+  pub is_next : next n ≡ ending
 
 -- `S NO` may stand under a number if and only if it is the refusal that is due
 abbrev pub EachNumberedRefusalIsDue : Type 0

@@ -11,7 +11,7 @@ use Rattle.log_grammar.specs.Words.{offered_names}
 use Rattle.log_grammar.specs.Lines.{LogLine, said, heard, mechs, cont, refuses, replies, halt, auth, code_line}
 use Rattle.log_grammar.specs.laws.LastLines.{EndsWith}
 use Rattle.log_grammar.specs.Places.{Place, between, offered, asks_bare, waits_first, got_first, waits_final, got_final, waits_code, got_code}
-use Rattle.log_grammar.specs.Places.{leaving, over, halted}
+use Rattle.log_grammar.specs.Places.{leaving, ending, halted}
 use Rattle.log_grammar.specs.Demands.{Accounts, NamesMechanism, IsChallenged, IsVerdictDue, HasDueReply, demands, IsUnoffered, IsNotTakenUp}
 use Rattle.log_grammar.specs.Begins.{Begins}
 use Rattle.log_grammar.specs.laws.Logins.{IsNoLogin, IsSentBy, EndWithThreeMessages}
@@ -78,7 +78,7 @@ IsRefusalDueAt accounts place text = ⊥
 abbrev pub EachRefusalIsDue : Type 0
 EachRefusalIsDue = (accounts : Accounts) (log : List LogLine) (text : List ℕ) (next : Place) (told : List AccountAttempt)
     → Begins (demands accounts) (log ++ said (refuses text) ∷ []) next told
-    ↔ ((place : Place) × Begins (demands accounts) log place told × IsRefusalDueAt accounts place text × (next ≡ over))
+    ↔ ((place : Place) × Begins (demands accounts) log place told × IsRefusalDueAt accounts place text × (next ≡ ending))
 
 -- the reply that is due to a code, or to two in a row, after the earlier replies to its account
 pub record IsReplied (accounts : Accounts) (log : List LogLine) (moment : ℕ) (reply : Option Reply) (next : Place)

@@ -1,6 +1,6 @@
 //! Answers that need neither a book nor memory.
 ghost use Rattle.std.specs.Prelude.{◌≡◌, ℕ, List, []};
-ghost use Rattle.log_grammar.specs.Places.{Place, asks_bare, over};
+ghost use Rattle.log_grammar.specs.Places.{Place, asks_bare, ending};
 ghost use Rattle.log_grammar.specs.Demands.{Accounts};
 ghost use Rattle.sasl_desk.specs.Sessions.{CanBeWritten};
 ghost use Rattle.sasl_desk.specs.inner.SessionTurns.{lines_of_answer, verdict_answer, IsBareNoDue, IsAnswer};
@@ -11,7 +11,7 @@ use mac_core::Mechanism;
 use scram_ends::Verdict;
 use scram_text::PlainName;
 
-/// A bare `S NO`, one with an empty message, after which the session is over.
+/// A bare `S NO`, one with an empty message, after which only `E` is due.
 pub(crate) fn bare_no() -> Answer
     ensures due { (accounts : Accounts) (server_nonce : List ℕ) (place : Place) → IsBareNoDue place
         → IsAnswer accounts server_nonce place result [] }
@@ -23,9 +23,9 @@ pub(crate) fn bare_no() -> Answer
     }
 }
 
-/// The answer to a client that has gone away: nothing is sent, and the session is over.
+/// The answer to a client that has gone away: nothing is sent, and only `E` is due.
 pub(crate) fn silence() -> Answer
-    ensures due { (accounts : Accounts) (server_nonce : List ℕ) → IsAnswer accounts server_nonce over result [] }
+    ensures due { (accounts : Accounts) (server_nonce : List ℕ) → IsAnswer accounts server_nonce ending result [] }
     ensures lines { CanBeWritten (lines_of_answer result []) }
 {
     Answer {

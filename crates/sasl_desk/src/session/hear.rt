@@ -25,7 +25,7 @@ use sasl_log::ClientLine;
 use scram_text::{NoncePart, PlainName};
 use std::alloc::{Allocator, Global};
 
-/// The client has gone away: that is recorded, and the session is over.
+/// The client has gone away: that is recorded, and the session ends.
 pub(crate) fn gone_turn<'a>() -> Turn<'a>
     ensures turn { (accounts : Accounts) (server_nonce : List ℕ) (place : Place) (event : ClientEvent) → IsRecord event place gone
         → IsTurnOnEvent accounts server_nonce event place result [] }
@@ -67,7 +67,7 @@ fn answered_line<'a>(line: ClientLine<'a>, answer: Answer) -> Turn<'a>
     }
 }
 
-// The client gives up: it is sent a bare `S NO`, and the session is over.
+// The client gives up: it is sent a bare `S NO`, and the session ends.
 fn abort_turn<'a>() -> Turn<'a>
     ensures line { (accounts : Accounts) (server_nonce : List ℕ) (place : Place) → is_client_turn place ≡ true
         → IsTurnOnLine accounts server_nonce abort place result [] }

@@ -4,7 +4,7 @@ use crate::session::Session;
 /// What a desk, or a session of a hall, waits for.
 #[derive(Clone, Copy, Debug, PartialEq, Eq)]
 pub enum Phase {
-    /// The session is over; at a desk none is open, and the next client can be greeted.
+    /// The session has ended; at a desk none is open, and the next client can be greeted.
     Closed,
 
     /// The mechanisms were offered: AUTH is due.

@@ -13,7 +13,7 @@ use Rattle.scram_text.proofs.lemmas.ServerFirst.{has_one_server_first}
 use Rattle.scram_ends.specs.Entry.{Entry}
 use Rattle.scram_ends.specs.Laws.{RefusedIsNotTakenUp, TakenUpMeetsEveryRow}
 use Rattle.scram_ends.specs.Opening.{IsNameOf, IsAuthzidOf, IsTakenUp, Opening, IsOpening}
-use Rattle.scram_ends.specs.First.{first_faults_in_order, AsksOfFirst}
+use Rattle.scram_ends.specs.First.{client_first_faults_in_order, AsksOfClientFirst}
 use Rattle.scram_ends.specs.declared.first.FirstFault.TheVariants.{Text}
 
 -- a saslname spells at most one plain name
@@ -58,12 +58,12 @@ one_opening e client_first server_first o other is also =
 
 -- parts with which a server takes up a login meet every row
 taken_up_meets_rows : (first : ClientFirstParts) (name : List ℕ) (authzid : Option (List ℕ))
-    → IsTakenUp first name authzid → AllByRecursion (λ row. AsksOfFirst row first) first_faults_in_order
+    → IsTakenUp first name authzid → AllByRecursion (λ row. AsksOfClientFirst row first) client_first_faults_in_order
 taken_up_meets_rows first name authzid taken =
     (taken.not_mandatory, (taken.unbound, ((name, authzid, taken.is_name, taken.is_authzid), tt)))
 
 -- parts that meet every row are taken up, with the names that the last row gives
-met_rows_are_taken_up : (first : ClientFirstParts) → AllByRecursion (λ row. AsksOfFirst row first) first_faults_in_order
+met_rows_are_taken_up : (first : ClientFirstParts) → AllByRecursion (λ row. AsksOfClientFirst row first) client_first_faults_in_order
     → (name : List ℕ) × (authzid : Option (List ℕ)) × IsTakenUp first name authzid
 met_rows_are_taken_up first (not_mandatory, (unbound, ((name, authzid, is_name, is_authzid), rest))) =
     (name, authzid, record { not_mandatory = not_mandatory; unbound = unbound; is_name = is_name; is_authzid = is_authzid })
@@ -76,6 +76,7 @@ taken_up_meets_every_row first = (λ (name, authzid, taken). taken_up_meets_rows
 pub refused_is_not_taken_up : RefusedIsNotTakenUp
 refused_is_not_taken_up text (Text fault) p name authzid refused is taken = refused.0 p is
 refused_is_not_taken_up text fault p name authzid refused is taken =
-    met_rows_have_no_first_unmet (λ row. AsksOfFirst row p) first_faults_in_order fault (taken_up_meets_rows p name authzid taken)
-    (subst (λ (q : ClientFirstParts). IsFirstUnmet (λ row. AsksOfFirst row q) first_faults_in_order fault)
+    met_rows_have_no_first_unmet (λ row. AsksOfClientFirst row p) client_first_faults_in_order fault
+    (taken_up_meets_rows p name authzid taken)
+    (subst (λ (q : ClientFirstParts). IsFirstUnmet (λ row. AsksOfClientFirst row q) client_first_faults_in_order fault)
     (has_one_client_first text refused.0 p refused.1 is) refused.2)

@@ -2,7 +2,7 @@
 ghost use Rattle.std.specs.Prelude.{◌≡◌, ◌↔◌, IsTrue, IfErr, OnOk, IsOk};
 ghost use Rattle.scram_ends.specs.Stages.{Answered};
 ghost use Rattle.scram_ends.specs.Login.{IsAuthentic};
-ghost use Rattle.scram_ends.specs.Client.{StandsForAnswered, IsLastFault};
+ghost use Rattle.scram_ends.specs.Client.{StandsForAnswered, IsNotAuthenticFault};
 
 use crate::client::{Authenticated, ClientFault, ClientTwo};
 use mac_core::Tag;
@@ -25,7 +25,7 @@ impl ClientTwo {
         ensures every { (l : Answered) (x : StandsForAnswered self l)
             → IsAuthentic server_final.now x.signature → IsOk result }
         ensures err { IfErr result (λ fault. (l : Answered) (x : StandsForAnswered self l)
-            → IsLastFault x.signature server_final.now fault) }
+            → IsNotAuthenticFault x.signature server_final.now fault) }
     {
         let parts = read_server_final(server_final)?;
         if parts.mandatory {

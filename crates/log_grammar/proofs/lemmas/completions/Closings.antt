@@ -4,7 +4,7 @@ use Rattle.otp_core.specs.Attempt.{CodeTexts}
 use Rattle.scram_ends.specs.Verdict.{Due, accept, refuse, due_text}
 use Rattle.log_grammar.specs.Lines.{LogLine, said, gone, ended, cont, accepts, refuses, IsLogLineWritable}
 use Rattle.log_grammar.specs.Places.{Place, before_all, between, offered, asks_bare, waits_first, got_first, waits_final, got_final, waits_code}
-use Rattle.log_grammar.specs.Places.{got_code, leaving, over, halted}
+use Rattle.log_grammar.specs.Places.{got_code, leaving, ending, halted}
 use Rattle.log_grammar.specs.Demands.{Accounts, IsVerdictDue, demands}
 use Rattle.log_grammar.specs.laws.FitAccounts.{AllCanBeChallenged}
 use Rattle.log_grammar.specs.state_machine.Steps.{IsTransition, told_at}
@@ -55,23 +55,24 @@ module _ (message : List ℕ) where
 abbrev pub IsClosable : Accounts → Place → Type 0
 IsClosable accounts place = (lines : List LogLine) × Closes accounts place lines
 
--- a session that is over can be closed, by its `E`
-over_is_closable : (accounts : Accounts) → IsClosable accounts over
-over_is_closable accounts = (ended ∷ [], (end_is_plain, refl, between, refl, refl))
+-- a session of which only `E` is due can be closed, by that
+ending_is_closable : (accounts : Accounts) → IsClosable accounts ending
+ending_is_closable accounts = (ended ∷ [], (end_is_plain, refl, between, refl, refl))
 
 -- a session can be closed by a refusal and `E` if the server may refuse
 refused_place_is_closable : (accounts : Accounts) (place : Place) (text : List ℕ) → IsLogLineWritable (said (refuses text))
     → told_at place (said (refuses text)) ≡ []
-    → IsTransition (demands accounts) place (said (refuses text)) over → IsClosable accounts place
+    → IsTransition (demands accounts) place (said (refuses text)) ending → IsClosable accounts place
 refused_place_is_closable accounts place text writable quiet goes =
-    let end = over_is_closable accounts in
-    (said (refuses text) ∷ end.0, (refusal_is_plain text writable, quiet, over, goes, end.1))
+    let end = ending_is_closable accounts in
+    (said (refuses text) ∷ end.0, (refusal_is_plain text writable, quiet, ending, goes, end.1))
 
 -- a session can be closed when it is the client's turn, since the client may go away
-client_turn_is_closable : (accounts : Accounts) (place : Place) → told_at place gone ≡ [] → IsTransition (demands accounts) place gone over
+client_turn_is_closable : (accounts : Accounts) (place : Place) → told_at place gone ≡ []
+    → IsTransition (demands accounts) place gone ending
     → IsClosable accounts place
 client_turn_is_closable accounts place quiet goes =
-    let end = over_is_closable accounts in (gone ∷ end.0, (gone_is_plain, quiet, over, goes, end.1))
+    let end = ending_is_closable accounts in (gone ∷ end.0, (gone_is_plain, quiet, ending, goes, end.1))
 
 -- a session can be closed after a mechanism was asked for without a message
 asks_bare_is_closable : (accounts : Accounts) (m : List ℕ) → IsClosable accounts (asks_bare m)
@@ -133,5 +134,5 @@ place_has_exit accounts fit (waits_code account) opened = inl (client_turn_is_cl
 place_has_exit accounts fit (got_code account sent) opened = inr (inr (inl (account, sent, refl)))
 place_has_exit accounts fit leaving opened =
     inl (refused_place_is_closable accounts leaving [] bare_refusal_is_writable refl (refl, refl))
-place_has_exit accounts fit over opened = inl (over_is_closable accounts)
+place_has_exit accounts fit ending opened = inl (ending_is_closable accounts)
 place_has_exit accounts fit halted opened = inr (inr (inr refl))

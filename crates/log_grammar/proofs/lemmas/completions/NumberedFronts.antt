@@ -7,7 +7,7 @@ use Rattle.scram_text.proofs.lemmas.SplitLines.{joined_lines_are_split}
 use Rattle.scram_text.proofs.lemmas.ListEnds.{nonempty_has_last}
 use Rattle.account_book.specs.AccountAttempt.{AccountAttempt}
 use Rattle.log_grammar.specs.Lines.{LogLine, said, ended, busy}
-use Rattle.log_grammar.specs.Places.{Place, between, over, is_closed}
+use Rattle.log_grammar.specs.Places.{Place, between, ending, is_closed}
 use Rattle.log_grammar.specs.Demands.{Accounts, demands, HaveDueReplies}
 use Rattle.log_grammar.specs.laws.FitAccounts.{AllCanBeChallenged}
 use Rattle.log_grammar.specs.state_machine.Steps.{IsTransition, told_at}
@@ -21,7 +21,7 @@ use Rattle.log_grammar.proofs.lemmas.completions.OpenSessions.{IsNumberedComplet
 use Rattle.log_grammar.proofs.lemmas.completions.OpenSessions.{shorter_numbered_log_is_completable, Free, log_is_free_after, OpenInRange}
 use Rattle.log_grammar.proofs.lemmas.completions.OpenSessions.{closing_all_completes_log}
 use Rattle.log_grammar.proofs.lemmas.many_sessions.WithoutLast.{numbered_log_has_last_transition}
-use Rattle.log_grammar.proofs.lemmas.many_sessions.HaltAndBusy.{visit_halt_leads_to_halted, visit_busy_leads_to_over}
+use Rattle.log_grammar.proofs.lemmas.many_sessions.HaltAndBusy.{visit_halt_leads_to_halted, visit_busy_leads_to_ending}
 use Rattle.log_grammar.proofs.lemmas.many_sessions.HaltAndBusy.{line_is_halt_or_busy_or_followed}
 use Rattle.log_grammar.proofs.lemmas.many_sessions.Ends.{ungiven_number_is_between}
 use Rattle.log_grammar.proofs.lemmas.many_sessions.LogSteps.{given_visit_has_first_line, numbered_log_goes_on, empty_log_is_spelled}
@@ -78,7 +78,7 @@ module _ (limit : ℕ) (accounts : Accounts) (fit : AllCanBeChallenged accounts)
   -- a log whose last line is BUSY can be completed, beginning with the `E` of that number
   busy_log_is_completable : (front : List (Numbered LogLine)) (last : Numbered LogLine) (places : ℕ → Place) (told : List AccountAttempt)
       → IsNumberedLogUpTo limit (demands accounts) (front ++ last ∷ []) places told → OpenInRange places → last.value ≡ said busy
-      → places last.number ≡ over → IsNumberedCompletable limit accounts (front ++ last ∷ [])
+      → places last.number ≡ ending → IsNumberedCompletable limit accounts (front ++ last ∷ [])
   busy_log_is_completable front last places told s ranged is at =
       let log = front ++ last ∷ [] in
       let n = last.number in
@@ -111,7 +111,7 @@ module _ (limit : ℕ) (accounts : Accounts) (fit : AllCanBeChallenged accounts)
             (inr (n, visit_halt_leads_to_halted (demands accounts) (b.before n) last.value (places n) is b.goes.goes))
         | inr (inl is) ↦
             busy_log_is_completable front last places told s ranged is
-            (visit_busy_leads_to_over (demands accounts) (b.before n) last.value (places n) is b.goes.goes)
+            (visit_busy_leads_to_ending (demands accounts) (b.before n) last.value (places n) is b.goes.goes)
         | inr (inr follow) ↦
             free_log_is_completable (front ++ last ∷ []) places told s
             (log_is_free_after front n last.value (follow n)) ranged

@@ -1,7 +1,7 @@
 -- Where HALT and BUSY lead, and that any line may follow a line other than these two.
 use Rattle.std.proofs.Common.{◌≡◌, ◌⊎◌, inl, inr, ℕ, refl, sym, ◌∙◌, subst}
 use Rattle.log_grammar.specs.Lines.{LogLine, said, halt, busy}
-use Rattle.log_grammar.specs.Places.{Place, before_all, got_code, over, halted}
+use Rattle.log_grammar.specs.Places.{Place, before_all, got_code, ending, halted}
 use Rattle.log_grammar.specs.Demands.{Demands}
 use Rattle.log_grammar.specs.state_machine.Steps.{IsTransition}
 use Rattle.log_grammar.specs.Numbered.{MayFollow}
@@ -25,11 +25,11 @@ visit_halt_leads_to_halted d place line next is (inl h) =
 visit_halt_leads_to_halted d place line next is (inr b) = let wrong = sym is ∙ b.1 in absurd (cc wrong)
 
 -- BUSY leads a number to the place where its `E` is due
-pub visit_busy_leads_to_over : (d : Demands) (place : Place) (line : LogLine) (next : Place) → line ≡ said busy
-    → IsVisitTransition d place line next → next ≡ over
-visit_busy_leads_to_over d place line next is (inl h) =
+pub visit_busy_leads_to_ending : (d : Demands) (place : Place) (line : LogLine) (next : Place) → line ≡ said busy
+    → IsVisitTransition d place line next → next ≡ ending
+visit_busy_leads_to_ending d place line next is (inl h) =
     absurd (busy_stands_in_no_session d place next (subst (λ (l : LogLine). IsTransition d place l next) is h))
-visit_busy_leads_to_over d place line next is (inr b) = b.2
+visit_busy_leads_to_ending d place line next is (inr b) = b.2
 
 -- a line is HALT, or it is BUSY, or any line may follow it
 pub line_is_halt_or_busy_or_followed : (line : LogLine) → (line ≡ said halt) ⊎ ((line ≡ said busy)

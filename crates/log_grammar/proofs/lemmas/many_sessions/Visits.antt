@@ -3,7 +3,7 @@ use Rattle.std.proofs.Common.{◌≡◌, ◌⊎◌, inl, inr, ℕ, true, false, 
 use Rattle.std.specs.declared.option.Option.{Option}
 use Rattle.std.specs.declared.option.Option.TheVariants.{None, Some}
 use Rattle.log_grammar.specs.Lines.{LogLine, said, ended, mechs, busy}
-use Rattle.log_grammar.specs.Places.{Place, between, over}
+use Rattle.log_grammar.specs.Places.{Place, between, ending}
 use Rattle.log_grammar.specs.Demands.{Demands}
 use Rattle.log_grammar.specs.Sessions.{AfterMechs, no_login, session}
 use Rattle.log_grammar.specs.state_machine.Steps.{IsTransition, told_at}
@@ -26,8 +26,8 @@ mechs_begins_visit d (said (mechs names)) next h =
 mechs_begins_visit d line next h = absurd h
 
 -- the lines of a number that was turned away continue with its `E`
-turned_away_visit_goes_on : (d : Demands) (line : LogLine) (next : Place) → IsTransition d over line next
-    → Grown d visit_part (Some (turned_away false)) line next (told_at over line)
+turned_away_visit_goes_on : (d : Demands) (line : LogLine) (next : Place) → IsTransition d ending line next
+    → Grown d visit_part (Some (turned_away false)) line next (told_at ending line)
 turned_away_visit_goes_on d ended next h = record { tree = Some (turned_away true); lines = refl; at = sym h; told_are = refl; good = tt }
 turned_away_visit_goes_on d line next h = absurd h
 

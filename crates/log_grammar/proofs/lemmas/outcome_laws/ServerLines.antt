@@ -10,7 +10,7 @@ use Rattle.scram_ends.specs.declared.verdict.Refusal.{Refusal}
 use Rattle.scram_ends.proofs.lemmas.Verdicts.{at_most_one_verdict_is_due, accepts_exactly_valid}
 use Rattle.account_book.specs.AccountAttempt.{AccountAttempt}
 use Rattle.log_grammar.specs.Lines.{LogLine, said, mechs, cont, refuses, replies, halt}
-use Rattle.log_grammar.specs.Places.{Place, between, offered, asks_bare, got_first, got_final, got_code, leaving, over, halted}
+use Rattle.log_grammar.specs.Places.{Place, between, offered, asks_bare, got_first, got_final, got_code, leaving, ending, halted}
 use Rattle.log_grammar.specs.Demands.{Accounts, IsVerdictDue, demands, HaveDueReplies}
 use Rattle.log_grammar.specs.state_machine.Steps.{IsTransition, told_at}
 use Rattle.log_grammar.specs.state_machine.NumberedSteps.{IsVisitTransition}
@@ -122,7 +122,7 @@ refused_login_is_invalid accounts mechanism name client_first server_first clien
 
 -- a refusal that is due at a place may stand there
 pub due_refusal_may_stand : (accounts : Accounts) (text : List ℕ) (at : Place) → IsRefusalDueAt accounts at text
-    → IsTransition (demands accounts) at (said (refuses text)) over
+    → IsTransition (demands accounts) at (said (refuses text)) ending
 due_refusal_may_stand accounts text (asks_bare m) due = ((due.0, due.1), refl)
 due_refusal_may_stand accounts text (got_first m first) due = ((due.0, due.1), refl)
 due_refusal_may_stand accounts text (got_final m name first challenge last) due = (due.0, refl)
@@ -146,7 +146,7 @@ module _ (accounts : Accounts) {Leads : List LogLine → Place → Type 0} (l : 
 
   -- `S NO` may stand only if it is the refusal that is due at its place
   pub refusal_is_due : (lines : List LogLine) (text : List ℕ) (at next : Place) → Leads lines at
-      → IsVisitTransition (demands accounts) at (said (refuses text)) next → IsRefusalDueAt accounts at text × (next ≡ over)
+      → IsVisitTransition (demands accounts) at (said (refuses text)) next → IsRefusalDueAt accounts at text × (next ≡ ending)
   refusal_is_due lines text at next leads (inr busy) = absurd (cc busy.1)
   refusal_is_due lines text (asks_bare m) next leads (inl goes) = ((goes.0.0, goes.0.1), goes.1)
   refusal_is_due lines text (got_first m first) next leads (inl goes) = ((goes.0.0, goes.0.1), goes.1)

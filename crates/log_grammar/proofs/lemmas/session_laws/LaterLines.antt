@@ -7,7 +7,7 @@ use Rattle.account_book.specs.AccountAttempt.{AccountAttempt, account_attempt_of
 use Rattle.log_grammar.specs.Lines.{LogLine, header_one, header_two, said, heard, bad, gone, ended, mechs, cont, accepts, refuses, replies, halt, busy}
 use Rattle.log_grammar.specs.Lines.{auth, auth_with, resp, abort, code_line}
 use Rattle.log_grammar.specs.Places.{Place, MayEnd, between, offered, asks_bare, waits_first, got_first, waits_final, got_final, waits_code, got_code}
-use Rattle.log_grammar.specs.Places.{leaving, over, halted}
+use Rattle.log_grammar.specs.Places.{leaving, ending, halted}
 use Rattle.log_grammar.specs.Demands.{Demands}
 use Rattle.log_grammar.specs.Sessions.{Part, closing, refusal, Farewell, parting, Quit, quitting, AfterOk, after_ok, AfterFinal, after_final}
 use Rattle.log_grammar.specs.Sessions.{AfterChallenge, after_challenge, AfterFirst, after_first, AfterEmpty, after_empty, AfterAuth, after_auth}
@@ -57,7 +57,7 @@ module _ (IsAccount : List ℕ → Type 0) (Holds : List LogLine → Place → L
   -- what holds from the last line of a session on holds of its end
   closing_holds : (closed : Bool) → HoldsOf Holds (closing closed)
   closing_holds true = each.last_end
-  closing_holds false = each.no_line over (λ none. none) tt
+  closing_holds false = each.no_line ending (λ none. none) tt
 
   -- what holds from the last line of a session on holds of a refusal
   pub refusal_holds : (IsDemanded : Demands → Type 0) (text : List ℕ) (closed : Bool) → HoldsOf Holds (refusal IsDemanded text closed)

@@ -3,7 +3,7 @@ use Rattle.std.proofs.Common.{◌≡◌, ℕ, List, [], ◌∷◌, ◌++◌, ref
 use Rattle.std.specs.Prelude.{codes}
 use Rattle.scram_text.specs.SplitLines.{ended_by_lf}
 use Rattle.log_grammar.specs.Lines.{LogLine, said, heard, ended, refuses, abort}
-use Rattle.log_grammar.specs.Places.{Place, between, offered, asks_bare, got_first, leaving, over}
+use Rattle.log_grammar.specs.Places.{Place, between, offered, asks_bare, got_first, leaving, ending}
 use Rattle.log_grammar.specs.Demands.{Accounts, demands}
 use Rattle.log_grammar.specs.state_machine.Steps.{IsTransition, told_at}
 use Rattle.log_grammar.specs.Versions.{IsClean}
@@ -21,10 +21,10 @@ module _ (accounts : Accounts) where
 
   -- a log that ends with `S NO` and `E` is clean if the server may refuse
   refused_session_is_clean : (texts : List (List ℕ)) (lines : List LogLine) (place : Place) → LinesWereRead accounts texts lines place []
-      → IsTransition (demands accounts) place (said (refuses [])) over → told_at place (said (refuses [])) ≡ []
+      → IsTransition (demands accounts) place (said (refuses [])) ending → told_at place (said (refuses [])) ≡ []
       → IsClean accounts (ended_by_lf ((texts ++ codes "S NO :" ∷ []) ++ codes "E" ∷ []))
   refused_session_is_clean texts lines place l goes no_farewell =
-      read_texts_are_clean (next_line_was_read accounts _ _ over [] (codes "E") ended between
+      read_texts_are_clean (next_line_was_read accounts _ _ ending [] (codes "E") ended between
       (refusal_was_read accounts texts lines place l goes no_farewell) end_is_writable refl tt) tt
 
   -- a log of one session in which `S NO` answers `C ABORT` is clean
@@ -38,7 +38,7 @@ module _ (accounts : Accounts) where
   -- a log of one session in which the client goes away after `S MECHS` is clean
   pub gone_is_clean : IsClean accounts (one_session (codes "C GONE" ∷ codes "E" ∷ []))
   gone_is_clean =
-      read_texts_are_clean (next_line_was_read accounts _ _ over [] (codes "E") ended between
+      read_texts_are_clean (next_line_was_read accounts _ _ ending [] (codes "E") ended between
       (gone_was_read accounts)
       end_is_writable refl tt) tt
 
@@ -56,13 +56,13 @@ module _ (accounts : Accounts) where
   -- a log of one session in which the client goes away after the empty challenge is clean
   pub invited_is_clean : IsClean accounts (one_session (codes "C AUTH SCRAM-SHA-1" ∷ codes "S CONT :" ∷ codes "C GONE" ∷ codes "E" ∷ []))
   invited_is_clean =
-      read_texts_are_clean (next_line_was_read accounts _ _ over [] (codes "E") ended between
+      read_texts_are_clean (next_line_was_read accounts _ _ ending [] (codes "E") ended between
       (invited_gone_was_read accounts) end_is_writable refl tt) tt
 
   -- a log of two sessions, one after the other, is clean
   pub two_sessions_are_clean : IsClean accounts (one_session (codes "C GONE" ∷ codes "E" ∷ offer_text ∷ codes "C ABORT" ∷ bare_no))
   two_sessions_are_clean =
-      let left = next_line_was_read accounts _ _ over [] (codes "E") ended between (gone_was_read accounts) end_is_writable refl tt in
+      let left = next_line_was_read accounts _ _ ending [] (codes "E") ended between (gone_was_read accounts) end_is_writable refl tt in
       let again = next_line_was_read accounts _ _ between [] offer_text _ offered left offer_is_writable (refl, refl) tt in
       refused_session_is_clean _ _ leaving (next_line_was_read accounts _ _ offered [] (codes "C ABORT") (heard abort) leaving again
       abort_is_writable refl tt)

@@ -5,7 +5,7 @@ use Rattle.scram_text.specs.SplitLines.{ended_by_lf}
 use Rattle.scram_text.proofs.lemmas.SplitLines.{whole_lines_are_split}
 use Rattle.account_book.specs.AccountAttempt.{AccountAttempt}
 use Rattle.log_grammar.specs.Lines.{LogLine}
-use Rattle.log_grammar.specs.Places.{Place, MayEnd, before_all, offered, asks_bare, waits_first, got_first, leaving, over}
+use Rattle.log_grammar.specs.Places.{Place, MayEnd, before_all, offered, asks_bare, waits_first, got_first, leaving, ending}
 use Rattle.log_grammar.specs.Demands.{Accounts}
 use Rattle.log_grammar.specs.Versions.{IsWhy}
 use Rattle.log_grammar.specs.Why.{is_cut}
@@ -32,7 +32,7 @@ module _ (accounts : Accounts) where
 
   -- a log of one session that stops after `C GONE`, before `E`, is cut: line 4 is at fault
   pub gone_is_cut : IsWhy accounts (one_session (codes "C GONE" ∷ [])) 4 is_cut
-  gone_is_cut = unended_lines_are_cut _ _ over [] (gone_was_read accounts) (λ h. h)
+  gone_is_cut = unended_lines_are_cut _ _ ending [] (gone_was_read accounts) (λ h. h)
 
   -- a log of one session that stops after `C AUTH` of a mechanism that is offered is cut: line 4 is at fault
   pub auth_is_cut : IsWhy accounts (one_session (codes "C AUTH SCRAM-SHA-1" ∷ [])) 4 is_cut
@@ -49,7 +49,7 @@ module _ (accounts : Accounts) where
   -- a log of one session that stops after the `S NO` to `C ABORT`, before `E`, is cut: line 5 is at fault
   pub aborted_refusal_is_cut : IsWhy accounts (one_session (codes "C ABORT" ∷ codes "S NO :" ∷ [])) 5 is_cut
   aborted_refusal_is_cut =
-      unended_lines_are_cut _ _ over [] (refusal_was_read accounts _ _ leaving (abort_was_read accounts) (refl, refl) refl) (λ h. h)
+      unended_lines_are_cut _ _ ending [] (refusal_was_read accounts _ _ leaving (abort_was_read accounts) (refl, refl) refl) (λ h. h)
 
   -- a log of one session that stops after `C BAD`, before `S NO`, is cut: line 4 is at fault
   pub bad_is_cut : IsWhy accounts (one_session (codes "C BAD" ∷ [])) 4 is_cut
@@ -58,7 +58,7 @@ module _ (accounts : Accounts) where
   -- a log of one session that stops after the `S NO` to `C BAD`, before `E`, is cut: line 5 is at fault
   pub bad_refusal_is_cut : IsWhy accounts (one_session (codes "C BAD" ∷ codes "S NO :" ∷ [])) 5 is_cut
   bad_refusal_is_cut =
-      unended_lines_are_cut _ _ over [] (refusal_was_read accounts _ _ leaving (bad_was_read accounts) (refl, refl) refl) (λ h. h)
+      unended_lines_are_cut _ _ ending [] (refusal_was_read accounts _ _ leaving (bad_was_read accounts) (refl, refl) refl) (λ h. h)
 
   -- a log of one session that stops after `C AUTH` of a mechanism that is not offered is cut: line 4 is at fault
   pub not_offered_is_cut : IsWhy accounts (one_session (codes "C AUTH PLAIN" ∷ [])) 4 is_cut
@@ -67,7 +67,7 @@ module _ (accounts : Accounts) where
   -- a log of one session that stops after the `S NO` to a mechanism not offered, before `E`, is cut: line 5 is at fault
   pub not_offered_refusal_is_cut : IsWhy accounts (one_session (codes "C AUTH PLAIN" ∷ codes "S NO :" ∷ [])) 5 is_cut
   not_offered_refusal_is_cut =
-      unended_lines_are_cut _ _ over []
+      unended_lines_are_cut _ _ ending []
       (refusal_was_read accounts _ _ (asks_bare (codes "PLAIN")) (plain_auth_was_read accounts) ((plain_is_not_offered, refl), refl) refl)
       (λ h. h)
 
@@ -78,10 +78,10 @@ module _ (accounts : Accounts) where
   -- a log of one session that stops after the `S NO` to an empty message, before `E`, is cut: line 5 is at fault
   pub empty_first_refusal_is_cut : IsWhy accounts (one_session (codes "C AUTH SCRAM-SHA-1 :" ∷ codes "S NO :" ∷ [])) 5 is_cut
   empty_first_refusal_is_cut =
-      unended_lines_are_cut _ _ over []
+      unended_lines_are_cut _ _ ending []
       (refusal_was_read accounts _ _ (got_first (codes "SCRAM-SHA-1") []) (empty_first_was_read accounts)
       ((λ name l. empty_is_no_client_first l.first l.is_first.spelled, refl), refl) refl) (λ h. h)
 
   -- a log of one session that stops after the client has gone away at the empty challenge is cut: line 6 is at fault
   pub invited_gone_is_cut : IsWhy accounts (one_session (codes "C AUTH SCRAM-SHA-1" ∷ codes "S CONT :" ∷ codes "C GONE" ∷ [])) 6 is_cut
-  invited_gone_is_cut = unended_lines_are_cut _ _ over [] (invited_gone_was_read accounts) (λ h. h)
+  invited_gone_is_cut = unended_lines_are_cut _ _ ending [] (invited_gone_was_read accounts) (λ h. h)

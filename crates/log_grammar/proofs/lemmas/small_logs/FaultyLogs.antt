@@ -6,7 +6,7 @@ use Rattle.mac_core.specs.declared.mechanism.Mechanism.TheVariants.{ScramSha1}
 use Rattle.scram_text.specs.SplitLines.{ended_by_lf}
 use Rattle.scram_text.proofs.lemmas.SplitLines.{whole_lines_are_split}
 use Rattle.log_grammar.specs.Lines.{LogLine, header_one, said, heard, mechs, cont, accepts, refuses, halt, abort}
-use Rattle.log_grammar.specs.Places.{Place, between, offered, asks_bare, got_first, leaving, over}
+use Rattle.log_grammar.specs.Places.{Place, between, offered, asks_bare, got_first, leaving, ending}
 use Rattle.log_grammar.specs.Words.{offered_names}
 use Rattle.log_grammar.specs.Demands.{Accounts, demands}
 use Rattle.log_grammar.specs.Begins.{Begins}
@@ -80,8 +80,8 @@ module _ (accounts : Accounts) where
   end_is_missing =
       let l = gone_was_read accounts in
       last_line_is_at_fault accounts (header_one_text ∷ offer_text ∷ codes "C GONE"
-      ∷ []) header_one _ over [] offer_text _ out_of_order l offer_is_writable refl (λ f. f.goes)
-      (inl (class_is_not_due accounts _ over _ l.begins (λ is. cc is), refl))
+      ∷ []) header_one _ ending [] offer_text _ out_of_order l offer_is_writable refl (λ f. f.goes)
+      (inl (class_is_not_due accounts _ ending _ l.begins (λ is. cc is), refl))
 
   -- `S MECHS` with only SCRAM-SHA-1 names other mechanisms than those offered: line 2 is at fault
   pub other_offer_is_at_fault : IsWhy accounts (ended_by_lf (header_one_text ∷ codes "S MECHS SCRAM-SHA-1" ∷ [])) 2 other_mechs

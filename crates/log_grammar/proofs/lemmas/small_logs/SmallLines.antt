@@ -8,7 +8,7 @@ use Rattle.scram_text.specs.Messages.{ClientFirstParts, gs2_header, client_first
 use Rattle.scram_text.specs.Parts.{authzid_text}
 use Rattle.account_book.specs.AccountAttempt.{AccountAttempt}
 use Rattle.log_grammar.specs.Lines.{LogLine, header_one, said, heard, bad, gone, mechs, cont, accepts, refuses, auth, auth_with, abort, IsLogLine}
-use Rattle.log_grammar.specs.Places.{Place, before_all, between, offered, asks_bare, waits_first, got_first, leaving, over}
+use Rattle.log_grammar.specs.Places.{Place, before_all, between, offered, asks_bare, waits_first, got_first, leaving, ending}
 use Rattle.log_grammar.specs.Words.{offered_names}
 use Rattle.log_grammar.specs.Demands.{Accounts, NamesMechanism, demands, HaveDueReplies}
 use Rattle.log_grammar.specs.state_machine.Steps.{IsTransition, told_at}
@@ -96,10 +96,10 @@ module _ (accounts : Accounts) where
       (header_one ∷ said (mechs offered_names) ∷ []) offered []
   offer_was_read = next_line_was_read accounts _ _ between [] offer_text _ offered (header_was_read) offer_is_writable (refl, refl) tt
 
-  -- after `C GONE` the session is over
+  -- after `C GONE` only `E` is due
   pub gone_was_read : LinesWereRead accounts (header_one_text ∷ offer_text ∷ codes "C GONE" ∷ [])
-      (header_one ∷ said (mechs offered_names) ∷ gone ∷ []) over []
-  gone_was_read = next_line_was_read accounts _ _ offered [] (codes "C GONE") gone over (offer_was_read) gone_is_writable refl tt
+      (header_one ∷ said (mechs offered_names) ∷ gone ∷ []) ending []
+  gone_was_read = next_line_was_read accounts _ _ offered [] (codes "C GONE") gone ending (offer_was_read) gone_is_writable refl tt
 
   -- `C ABORT` leads to the place where a refusal is due
   pub abort_was_read : LinesWereRead accounts (header_one_text ∷ offer_text ∷ codes "C ABORT" ∷ [])
@@ -144,22 +144,22 @@ module _ (accounts : Accounts) where
       (waits_first (codes "SCRAM-SHA-1"))
       (auth_was_read) bare_cont_is_writable (((ScramSha1, refl), refl), refl) tt
 
-  -- after the empty challenge and then `C GONE` the session is over
+  -- after the empty challenge and then `C GONE` only `E` is due
   pub invited_gone_was_read : LinesWereRead accounts
       (header_one_text ∷ offer_text ∷ codes "C AUTH SCRAM-SHA-1" ∷ codes "S CONT :" ∷ codes "C GONE" ∷ [])
-      (header_one ∷ said (mechs offered_names) ∷ heard (auth (codes "SCRAM-SHA-1")) ∷ said (cont []) ∷ gone ∷ []) over []
+      (header_one ∷ said (mechs offered_names) ∷ heard (auth (codes "SCRAM-SHA-1")) ∷ said (cont []) ∷ gone ∷ []) ending []
   invited_gone_was_read =
-      next_line_was_read accounts _ _ (waits_first (codes "SCRAM-SHA-1")) [] (codes "C GONE") gone over (empty_challenge_was_read)
+      next_line_was_read accounts _ _ (waits_first (codes "SCRAM-SHA-1")) [] (codes "C GONE") gone ending (empty_challenge_was_read)
       gone_is_writable refl tt
 
-  -- `S NO` leads from a place where the server may refuse to the place where the session is over
+  -- `S NO` leads from a place where the server may refuse to the place where only `E` is due
   pub refusal_was_read : (texts : List (List ℕ)) (lines : List LogLine) (place : Place) → LinesWereRead accounts texts lines place []
-      → IsTransition (demands accounts) place (said (refuses [])) over → told_at place (said (refuses [])) ≡ []
-      → LinesWereRead accounts (texts ++ codes "S NO :" ∷ []) (lines ++ said (refuses []) ∷ []) over []
+      → IsTransition (demands accounts) place (said (refuses [])) ending → told_at place (said (refuses [])) ≡ []
+      → LinesWereRead accounts (texts ++ codes "S NO :" ∷ []) (lines ++ said (refuses []) ∷ []) ending []
   refusal_was_read texts lines place l goes no_farewell =
       let due = subst (λ (t : List AccountAttempt). HaveDueReplies (demands accounts) [] t) (sym no_farewell) tt in
       let refusal =
-      next_line_was_read accounts texts lines place [] (codes "S NO :") (said (refuses [])) over l bare_refusal_is_writable goes due in
-      subst (λ (t : List AccountAttempt). LinesWereRead accounts (texts ++ codes "S NO :" ∷ []) (lines ++ said (refuses []) ∷ []) over t)
+      next_line_was_read accounts texts lines place [] (codes "S NO :") (said (refuses [])) ending l bare_refusal_is_writable goes due in
+      subst (λ (t : List AccountAttempt). LinesWereRead accounts (texts ++ codes "S NO :" ∷ []) (lines ++ said (refuses []) ∷ []) ending t)
       no_farewell
       refusal

@@ -3,7 +3,7 @@ use Rattle.std.proofs.Common.{◌≡◌, ◌∙◌, ◌≤◌, inl, inr, ℕ, su
 use Rattle.std.specs.List.{AllByRecursion}
 use Rattle.account_book.specs.AccountAttempt.{AccountAttempt}
 use Rattle.log_grammar.specs.Lines.{LogLine, said, heard, gone, ended, refuses, abort}
-use Rattle.log_grammar.specs.Places.{Place, between, offered, leaving, over}
+use Rattle.log_grammar.specs.Places.{Place, between, offered, leaving, ending}
 use Rattle.log_grammar.specs.Demands.{Accounts, Demands, demands, HaveDueReplies}
 use Rattle.log_grammar.specs.state_machine.Steps.{told_at}
 use Rattle.log_grammar.specs.Numbered.{Numbered, numbered, MayBeNumbered, MayFollow, IsNumberedLogUpTo}
@@ -55,7 +55,8 @@ far_number_is_between (x ∷ before) n small =
 -- the places to which the lines of two sessions lead, and those of a third that is turned away, with the latest first
 abbrev places_of_all : List (Numbered Place)
 places_of_all =
-    numbered 2 between ∷ numbered 2 over ∷ numbered 1 between ∷ numbered 2 leaving ∷ numbered 3 between ∷ numbered 3 over ∷ numbered 1 over
+    numbered 2 between ∷ numbered 2 ending ∷ numbered 1 between ∷ numbered 2 leaving ∷ numbered 3 between ∷ numbered 3 ending
+    ∷ numbered 1 ending
     ∷ numbered 2 offered ∷ numbered 1 offered ∷ []
 
 -- the numbers of the lines of two sessions, and of the third that is turned away, are at most three
@@ -89,10 +90,10 @@ module _ (accounts : Accounts) where
       let s1 = first_line_begins_log d 1 (offer 1).value offered (refl, omega arith) (inl (refl, refl)) in
       let p2 : ℕ → Place = put 2 offered p1 in
       let s2 = quiet_line_goes_on 2 d ([]) (offer 1) p1 2 (offer 2).value offered s1 (refl, omega arith) tt (inl (refl, refl)) refl in
-      let p3 : ℕ → Place = put 1 over p2 in
-      let s3 = quiet_line_goes_on 2 d (offer 1 ∷ []) (offer 2) p2 1 gone over s2 tt tt (inl refl) refl in
-      let p4 : ℕ → Place = put 3 over p3 in
-      let s4 = quiet_line_goes_on 2 d (offer 1 ∷ offer 2 ∷ []) (numbered 1 gone) p3 3 (turns_away 3).value over s3 (refl, refl) tt
+      let p3 : ℕ → Place = put 1 ending p2 in
+      let s3 = quiet_line_goes_on 2 d (offer 1 ∷ []) (offer 2) p2 1 gone ending s2 tt tt (inl refl) refl in
+      let p4 : ℕ → Place = put 3 ending p3 in
+      let s4 = quiet_line_goes_on 2 d (offer 1 ∷ offer 2 ∷ []) (numbered 1 gone) p3 3 (turns_away 3).value ending s3 (refl, refl) tt
       (inr (refl, refl, refl)) refl in
       let p5 : ℕ → Place = put 3 between p4 in
       let s5 = quiet_line_goes_on 2 d (offer 1 ∷ offer 2 ∷ numbered 1 gone ∷ []) (turns_away 3) p4 3 ended between s4 tt (refl, refl)
@@ -105,10 +106,10 @@ module _ (accounts : Accounts) where
       let p7 : ℕ → Place = put 1 between p6 in
       let s7 = quiet_line_goes_on 2 d (offer 1 ∷ offer 2 ∷ numbered 1 gone ∷ turns_away 3 ∷ numbered 3 ended ∷ [])
       (numbered 2 (heard abort)) p6 1 ended between s6 tt tt (inl refl) refl in
-      let p8 : ℕ → Place = put 2 over p7 in
+      let p8 : ℕ → Place = put 2 ending p7 in
       let s8 = quiet_line_goes_on 2 d (offer 1 ∷ offer 2 ∷ numbered 1 gone ∷ turns_away 3 ∷ numbered 3 ended ∷ numbered 2
       (heard abort) ∷ [])
-      (numbered 1 ended) p7 2 (said (refuses [])) over s7 tt tt (inl (refl, refl)) refl in
+      (numbered 1 ended) p7 2 (said (refuses [])) ending s7 tt tt (inl (refl, refl)) refl in
       let p9 : ℕ → Place = put 2 between p8 in
       let s9 = quiet_line_goes_on 2 d (offer 1 ∷ offer 2 ∷ numbered 1 gone ∷ turns_away 3 ∷ numbered 3 ended ∷ numbered 2 (heard abort)
       ∷ numbered 1 ended

@@ -5,7 +5,7 @@ use Rattle.std.specs.List.{AllByRecursion}
 use Rattle.account_book.specs.AccountAttempt.{AccountAttempt, account_attempt_of}
 use Rattle.log_grammar.specs.Lines.{LogLine, header_one, said, heard, bad, gone, cont, accepts, replies, resp, auth, auth_with, mechs, abort, code_line}
 use Rattle.log_grammar.specs.Places.{Place, before_all, between, offered, asks_bare, waits_first, got_first, waits_final, got_final, waits_code}
-use Rattle.log_grammar.specs.Places.{got_code, leaving, over, halted}
+use Rattle.log_grammar.specs.Places.{got_code, leaving, ending, halted}
 use Rattle.log_grammar.specs.Demands.{Demands, no_demands, HaveDueReplies}
 use Rattle.log_grammar.specs.Sessions.{Part, next_line, due_line, line_with_reply, closing, refusal, Farewell, parting, Quit, quitting, AfterOk}
 use Rattle.log_grammar.specs.Sessions.{after_ok, AfterFinal, after_final, AfterChallenge, after_challenge, AfterFirst, after_first, AfterEmpty}
@@ -29,7 +29,7 @@ accountless_place (got_final m account first challenge last) = got_final m [] fi
 accountless_place (waits_code account) = waits_code []
 accountless_place (got_code account sent) = got_code [] sent
 accountless_place leaving = leaving
-accountless_place over = over
+accountless_place ending = ending
 accountless_place halted = halted
 
 -- what follows a client-first message, with no account named

@@ -3,7 +3,7 @@
 use Rattle.std.proofs.Common.{◌≡◌, ℕ, List, [], ◌∷◌, ◌++◌, sym, ◌∙◌, ap, subst, refl}
 use Rattle.account_book.specs.AccountAttempt.{AccountAttempt}
 use Rattle.log_grammar.specs.Lines.{LogLine, heard, bad, gone, abort}
-use Rattle.log_grammar.specs.Places.{Place, offered, waits_first, waits_final, waits_code, leaving, over}
+use Rattle.log_grammar.specs.Places.{Place, offered, waits_first, waits_final, waits_code, leaving, ending}
 use Rattle.log_grammar.specs.Demands.{Demands}
 use Rattle.log_grammar.specs.state_machine.Steps.{IsTransition, told_at}
 use Rattle.log_grammar.specs.Begins.{Begins}
@@ -17,7 +17,7 @@ OneAccount d = (m first account other text : List ℕ) → d.challenged m accoun
 
 -- a line by which a client ends its session leads from a place only to where such a line leads from any place
 quit_has_one_next : (d : Demands) (at : Place) → IsClientsTurn at → (q : Place) → (IsTransition d at (heard abort) q → leaving ≡ q)
-    × (IsTransition d at bad q → leaving ≡ q) × (IsTransition d at gone q → over ≡ q)
+    × (IsTransition d at bad q → leaving ≡ q) × (IsTransition d at gone q → ending ≡ q)
 quit_has_one_next d offered turn q = (λ k. sym k, λ k. sym k, λ k. sym k)
 quit_has_one_next d (waits_first m) turn q = (λ k. sym k, λ k. sym k, λ k. sym k)
 quit_has_one_next d (waits_final m account first challenge) turn q = (λ k. sym k, λ k. sym k, λ k. sym k)

@@ -7,7 +7,7 @@ use Rattle.account_book.specs.AccountAttempt.{AccountAttempt, account_attempt_of
 use Rattle.log_grammar.specs.Lines.{LogLine, header_one, said, heard, bad, gone, ended, mechs, cont, accepts, refuses, replies, halt, auth, auth_with}
 use Rattle.log_grammar.specs.Lines.{resp, abort, code, sync}
 use Rattle.log_grammar.specs.Places.{Place, before_all, between, offered, asks_bare, waits_first, got_first, waits_final, got_final, waits_code}
-use Rattle.log_grammar.specs.Places.{got_code, leaving, over, halted}
+use Rattle.log_grammar.specs.Places.{got_code, leaving, ending, halted}
 use Rattle.log_grammar.specs.Words.{offered_names}
 use Rattle.log_grammar.specs.Demands.{Accounts, IsVerdictDue, attempts_of, HasDueReply, demands, HaveDueReplies}
 use Rattle.log_grammar.specs.state_machine.Steps.{IsTransition, told_at}
@@ -126,7 +126,7 @@ module _ (accounts : Accounts) (told : List AccountAttempt) where
   offered_gives_standing (heard (auth_with m first)) = inl (record { next = got_first m first; goes = refl; due = tt })
   offered_gives_standing (heard abort) = inl (record { next = leaving; goes = refl; due = tt })
   offered_gives_standing bad = inl (record { next = leaving; goes = refl; due = tt })
-  offered_gives_standing gone = inl (record { next = over; goes = refl; due = tt })
+  offered_gives_standing gone = inl (record { next = ending; goes = refl; due = tt })
   -- (for the prover: docs/PROVING.md, "A last clause over a variable")
   offered_gives_standing (said halt) = inr (inl (other_class_is_not_due_at_turn _ _ (λ e. cc e) (λ e. cc e) (λ e. cc e) (λ e. cc e)))
   offered_gives_standing line = inr (inl (other_class_is_not_due_at_turn _ _ (λ e. cc e) (λ e. cc e) (λ e. cc e) (λ e. cc e)))
@@ -135,7 +135,7 @@ module _ (accounts : Accounts) (told : List AccountAttempt) where
   asks_bare_gives_standing : (m : List ℕ) (line : LogLine) → Standing accounts (asks_bare m) told line
   asks_bare_gives_standing m (said (refuses text)) =
       demand_gives_standing accounts (asks_bare m) told (said (refuses text)) _ refl (some_why_after_auth accounts m)
-      (λ is. record { next = over; goes = (is, refl); due = tt }) (λ f. f.goes.0)
+      (λ is. record { next = ending; goes = (is, refl); due = tt }) (λ f. f.goes.0)
       (decided_both _ _ (decided_none (decided_offered m)) (decided_same_text text []))
   asks_bare_gives_standing m (said (cont text)) =
       demand_gives_standing accounts (asks_bare m) told (said (cont text)) _ refl (some_why_after_auth accounts m)
@@ -151,7 +151,7 @@ module _ (accounts : Accounts) (told : List AccountAttempt) where
   waits_first_gives_standing m (heard (resp first)) = inl (record { next = got_first m first; goes = refl; due = tt })
   waits_first_gives_standing m (heard abort) = inl (record { next = leaving; goes = refl; due = tt })
   waits_first_gives_standing m bad = inl (record { next = leaving; goes = refl; due = tt })
-  waits_first_gives_standing m gone = inl (record { next = over; goes = refl; due = tt })
+  waits_first_gives_standing m gone = inl (record { next = ending; goes = refl; due = tt })
   waits_first_gives_standing m (said halt) = inr (inl (other_class_is_not_due_at_turn _ _ (λ e. cc e) (λ e. cc e) (λ e. cc e) (λ e. cc e)))
   waits_first_gives_standing m line = inr (inl (other_class_is_not_due_at_turn _ _ (λ e. cc e) (λ e. cc e) (λ e. cc e) (λ e. cc e)))
 
@@ -162,7 +162,7 @@ module _ (accounts : Accounts) (told : List AccountAttempt) where
       inl (record { next = got_final m account first challenge last; goes = refl; due = tt })
   waits_final_gives_standing m account first challenge (heard abort) = inl (record { next = leaving; goes = refl; due = tt })
   waits_final_gives_standing m account first challenge bad = inl (record { next = leaving; goes = refl; due = tt })
-  waits_final_gives_standing m account first challenge gone = inl (record { next = over; goes = refl; due = tt })
+  waits_final_gives_standing m account first challenge gone = inl (record { next = ending; goes = refl; due = tt })
   waits_final_gives_standing m account first challenge (said halt) =
       inr (inl (other_class_is_not_due_at_turn _ _ (λ e. cc e) (λ e. cc e) (λ e. cc e) (λ e. cc e)))
   waits_final_gives_standing m account first challenge line =
@@ -175,7 +175,7 @@ module _ (accounts : Accounts) (told : List AccountAttempt) where
       inl (record { next = got_code account (two_texts first second); goes = refl; due = tt })
   waits_code_gives_standing account (heard abort) = inl (record { next = leaving; goes = refl; due = tt })
   waits_code_gives_standing account bad = inl (record { next = leaving; goes = refl; due = tt })
-  waits_code_gives_standing account gone = inl (record { next = over; goes = refl; due = tt })
+  waits_code_gives_standing account gone = inl (record { next = ending; goes = refl; due = tt })
   waits_code_gives_standing account (said halt) =
       inr (inl (other_class_is_not_due_for_codes _ (λ e. cc e) (λ e. cc e) (λ e. cc e) (λ e. cc e) (λ e. cc e)))
   waits_code_gives_standing account line =
@@ -185,7 +185,7 @@ module _ (accounts : Accounts) (told : List AccountAttempt) where
   leaving_gives_standing : (line : LogLine) → Standing accounts leaving told line
   leaving_gives_standing (said (refuses text)) =
       demand_gives_standing accounts leaving told (said (refuses text)) (text ≡ []) refl (other_outcome (refused_with []), refl)
-      (λ is. record { next = over; goes = (is, refl); due = tt }) (λ f. f.goes.0) (decided_same_text text [])
+      (λ is. record { next = ending; goes = (is, refl); due = tt }) (λ f. f.goes.0) (decided_same_text text [])
   leaving_gives_standing (said (cont text)) =
       stuck_line_fails accounts leaving told (said (cont text)) refl (other_outcome (refused_with []), refl) (λ f. f.goes)
   leaving_gives_standing (said (accepts text)) =
@@ -194,18 +194,18 @@ module _ (accounts : Accounts) (told : List AccountAttempt) where
   leaving_gives_standing line = inr (inl (λ is. cc is))
 
   -- when `E` is due, a line stands in one of the three ways
-  over_gives_standing : (line : LogLine) → Standing accounts over told line
-  over_gives_standing ended = inl (record { next = between; goes = refl; due = tt })
-  over_gives_standing (said halt) = inr (inl (λ is. cc is))
-  over_gives_standing (heard abort) = inr (inl (λ is. cc is))
-  over_gives_standing line = inr (inl (λ is. cc is))
+  ending_gives_standing : (line : LogLine) → Standing accounts ending told line
+  ending_gives_standing ended = inl (record { next = between; goes = refl; due = tt })
+  ending_gives_standing (said halt) = inr (inl (λ is. cc is))
+  ending_gives_standing (heard abort) = inr (inl (λ is. cc is))
+  ending_gives_standing line = inr (inl (λ is. cc is))
 
 module _ (accounts : Accounts) (told : List AccountAttempt) where
   -- after a client-first message, a line stands in one of the three ways
   got_first_gives_standing : (m first : List ℕ) (line : LogLine) → Standing accounts (got_first m first) told line
   got_first_gives_standing m first (said (refuses text)) =
       demand_gives_standing accounts (got_first m first) told (said (refuses text)) _ refl (some_why_after_first accounts m first)
-      (λ is. record { next = over; goes = (is, refl); due = tt }) (λ f. f.goes.0)
+      (λ is. record { next = ending; goes = (is, refl); due = tt }) (λ f. f.goes.0)
       (decided_both _ _ (decided_none (decided_first_message m first))
       (decided_same_text text []))
   got_first_gives_standing m first (said (cont text)) =
@@ -225,7 +225,7 @@ module _ (accounts : Accounts) (told : List AccountAttempt) where
   got_final_gives_standing m account first challenge last (due, is) (said (refuses text)) =
       demand_gives_standing accounts (got_final m account first challenge last) told (said (refuses text)) _ refl
       (other_outcome (outcome_of due), (due, is, refl))
-      (λ denied. record { next = over; goes = (denied, refl); due = tt }) (λ f. f.goes.0)
+      (λ denied. record { next = ending; goes = (denied, refl); due = tt }) (λ f. f.goes.0)
       (decided_denied accounts m account first challenge last text due is)
   got_final_gives_standing m account first challenge last (due, is) (said (accepts text)) =
       demand_gives_standing accounts (got_final m account first challenge last) told (said (accepts text)) _ refl
@@ -269,5 +269,5 @@ line_has_standing accounts (got_final m account first challenge last) told line 
 line_has_standing accounts (waits_code account) told line opened = waits_code_gives_standing accounts told account line
 line_has_standing accounts (got_code account sent) told line opened = got_code_gives_standing accounts told account sent line
 line_has_standing accounts leaving told line opened = leaving_gives_standing accounts told line
-line_has_standing accounts over told line opened = over_gives_standing accounts told line
+line_has_standing accounts ending told line opened = ending_gives_standing accounts told line
 line_has_standing accounts halted told line opened = inr (inl (λ none. none))

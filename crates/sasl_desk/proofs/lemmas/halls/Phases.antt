@@ -14,7 +14,7 @@ use Rattle.log_grammar.specs.Demands.{Accounts}
 use Rattle.log_grammar.specs.Numbered.{Numbered, of_number}
 use Rattle.sasl_desk.specs.Desks.{session_phase}
 use Rattle.sasl_desk.specs.OpenSessions.{has_number}
-use Rattle.sasl_desk.specs.Halls.{HallFields, IsSessionRun, IsOpenSessionAt, IsHallAfter, phase_after_halt, phase_of_number, phase_unless_over, IsPhaseOf, IsPhaseOrNoneOf}
+use Rattle.sasl_desk.specs.Halls.{HallFields, IsSessionRun, IsOpenSessionAt, IsHallAfter, phase_after_halt, phase_of_number, phase_unless_ended, IsPhaseOf, IsPhaseOrNoneOf}
 use Rattle.sasl_desk.specs.Runs.{Call, IsAtRest}
 use Rattle.sasl_desk.specs.Sessions.{IsSessionAt}
 use Rattle.sasl_desk.specs.declared.hall.open_session.OpenSession.{OpenSession}
@@ -67,7 +67,7 @@ fitting_phase_is_one at phase.Halted is apart = absurd (apart refl)
 
 -- a session that is kept, and not in the phase Halted, is in the phase that fits its place; none is kept between sessions
 kept_phase_fits_place : (at : Place) (kept : Option Phase) → IsPhaseOrNoneOf at kept → (kept ≡ Some phase.Halted → ⊥)
-    → kept ≡ phase_unless_over (phase_at at)
+    → kept ≡ phase_unless_ended (phase_at at)
 unfolding phase_at
 kept_phase_fits_place at None is apart = rw is refl
 kept_phase_fits_place at (Some phase.Closed) (within, is) apart = absurd (within is)
@@ -127,19 +127,19 @@ module _ {S : Type 0} {facts : S → StoreFacts} {IsStored : List ℕ → Type 0
 
   -- while the hall works, a phase that fits the session's place is the one in which the session is kept
   fitting_phase_is_kept : hall.is_halted ≡ false → (p : Phase) → IsPhaseOf (s.places n) p → (p ≡ phase.Halted → ⊥)
-      → phase_of_number hall n ≡ phase_unless_over p
+      → phase_of_number hall n ≡ phase_unless_ended p
   fitting_phase_is_kept working p is apart =
       let open_session = find (has_number n) hall.open_sessions in
       kept_phase_fits_place (s.places n) (phase_of_number hall n) phases_are_those_of_places
       (λ halted. working_session_is_not_halted open_session
       (subst (λ (b : Bool). phase_after_halt b open_session ≡ Some phase.Halted) working halted))
-      ∙ ap phase_unless_over (fitting_phase_is_one (s.places n) p is apart)
+      ∙ ap phase_unless_ended (fitting_phase_is_one (s.places n) p is apart)
 
 -- the phase that a call returns is the one in which its session is kept, while the hall works
 pub returned_phase_is_kept : {S : Type 0} {facts : S → StoreFacts} {IsStored : List ℕ → Type 0} {start : BookFields}
     {calls : List (Numbered Call)} {new : HallFields S} (n : ℕ) (answered : Phase)
     → ((answered ≡ phase.Halted) ↔ (new.is_halted ≡ true))
     → ((after : IsHallAfter facts IsStored start calls new) × IsPhaseOf (after.places n) answered)
-    → new.is_halted ≡ false → phase_of_number new n ≡ phase_unless_over answered
+    → new.is_halted ≡ false → phase_of_number new n ≡ phase_unless_ended answered
 returned_phase_is_kept n answered shows_halt (after, is) working =
     fitting_phase_is_kept after n working answered is (λ halted. absurd (cc (shows_halt.0 halted, working)))

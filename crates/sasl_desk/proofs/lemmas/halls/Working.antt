@@ -9,13 +9,13 @@ use Rattle.account_book.specs.SavedBooks.{HoldsBook}
 use Rattle.book_keeper.specs.declared.keeper.Keeper.{Keeper}
 use Rattle.log_grammar.specs.Books.{accounts_in}
 use Rattle.log_grammar.specs.Lines.{LogLine, said, busy, halt}
-use Rattle.log_grammar.specs.Places.{Place, before_all, between, over, halted, is_closed, open_at}
+use Rattle.log_grammar.specs.Places.{Place, before_all, between, ending, halted, is_closed, open_at}
 use Rattle.log_grammar.specs.Demands.{Accounts, Demands, demands}
 use Rattle.log_grammar.specs.Numbered.{Numbered, of_number, MayFollow, IsNumberedLogUpTo}
 use Rattle.log_grammar.specs.state_machine.NumberedSteps.{IsVisitTransition, FollowsLast}
 use Rattle.log_grammar.specs.Versions.{max_open_sessions}
 use Rattle.log_grammar.proofs.lemmas.many_sessions.WithoutLast.{numbered_log_has_last_transition}
-use Rattle.log_grammar.proofs.lemmas.many_sessions.HaltAndBusy.{visit_halt_leads_to_halted, visit_busy_leads_to_over}
+use Rattle.log_grammar.proofs.lemmas.many_sessions.HaltAndBusy.{visit_halt_leads_to_halted, visit_busy_leads_to_ending}
 use Rattle.sasl_log.proofs.lemmas.ListCounts.{permutation_keeps_all, permutation_keeps_count}
 use Rattle.sasl_desk.specs.DueLines.{is_client_turn}
 use Rattle.sasl_desk.specs.OpenSessions.{has_number}
@@ -66,7 +66,7 @@ any_line_may_follow : (d : Demands) (at next : Place) (n m : ℕ) (line more : L
 any_line_may_follow d at next n m (said halt) more goes rests =
     open_place_out_of_turn_is_neither halted next refl refl (visit_halt_leads_to_halted d at (said halt) next refl goes) rests
 any_line_may_follow d at next n m (said busy) more goes rests =
-    absurd (open_place_out_of_turn_is_neither over next refl refl (visit_busy_leads_to_over d at (said busy) next refl goes) rests)
+    absurd (open_place_out_of_turn_is_neither ending next refl refl (visit_busy_leads_to_ending d at (said busy) next refl goes) rests)
 any_line_may_follow d at next n m line more goes rests = tt
 
 -- after calls of which none halted, the store holds the book

@@ -6,7 +6,7 @@ use Rattle.scram_ends.specs.Login.{IsAuthentic}
 use Rattle.scram_ends.specs.Verdict.{accept, refuse, due_text}
 use Rattle.scram_ends.specs.declared.verdict.Refusal.{Refusal}
 use Rattle.log_grammar.specs.Lines.{LogLine, header_one, header_two, said, heard, bad, gone, ended, mechs, cont, accepts, refuses}
-use Rattle.log_grammar.specs.Places.{Place, between, offered, asks_bare, waits_first, got_first, waits_final, got_final, waits_code, leaving, over}
+use Rattle.log_grammar.specs.Places.{Place, between, offered, asks_bare, waits_first, got_first, waits_final, got_final, waits_code, leaving, ending}
 use Rattle.log_grammar.specs.Demands.{Accounts, Demands, NamesMechanism, IsTakenUpFor, IsChallenged, IsVerdictDue, demands}
 use Rattle.log_grammar.specs.state_machine.Steps.{IsTransition}
 use Rattle.sasl_desk.specs.Runs.{IsAtRest, IsAnswerLine}
@@ -17,7 +17,7 @@ use Rattle.sasl_desk.proofs.lemmas.runs.Acceptances.{has_acceptance}
 -- at this place the server has something to say, other than a reply
 abbrev pub IsAnswerDue : Place → Type 0
 IsAnswerDue leaving = Unit {0}
-IsAnswerDue over = Unit {0}
+IsAnswerDue ending = Unit {0}
 IsAnswerDue (asks_bare mechanism) = Unit {0}
 IsAnswerDue (got_first mechanism first) = Unit {0}
 IsAnswerDue (got_final mechanism account first challenge last) = Unit {0}
@@ -33,13 +33,13 @@ module _ (d : Demands) where
   between_path_is_empty (line ∷ lines) next (middle, goes, path) all = absurd goes
 
   -- a path of lines of an answer that leads from where `E` is due is `E` alone
-  pub over_path_is_end : (lines : List LogLine) (next : Place) → IsPath d over lines next → AllByRecursion IsAnswerLine lines
+  pub ending_path_is_end : (lines : List LogLine) (next : Place) → IsPath d ending lines next → AllByRecursion IsAnswerLine lines
       → IsAtRest next → (lines ≡ ended ∷ []) × (next ≡ between)
-  over_path_is_end [] next path all rests = absurd (subst IsAtRest path rests).1
-  over_path_is_end (ended ∷ lines) next (middle, goes, path) all rests =
+  ending_path_is_end [] next path all rests = absurd (subst IsAtRest path rests).1
+  ending_path_is_end (ended ∷ lines) next (middle, goes, path) all rests =
       let rest = between_path_is_empty lines next (subst (λ (p : Place). IsPath d p lines next) goes path) all.1 in
       (ap (λ (l : List LogLine). ended ∷ l) rest.0, rest.1)
-  over_path_is_end (line ∷ lines) next (middle, goes, path) all rests = absurd goes
+  ending_path_is_end (line ∷ lines) next (middle, goes, path) all rests = absurd goes
 
   -- no line of an answer may stand at a client's turn
   no_answer_stands_at_client_turn : (at next : Place) (line : LogLine) → is_client_turn at ≡ true → IsAnswerLine line
@@ -66,14 +66,14 @@ module _ (d : Demands) where
   client_turn_path_is_empty at (line ∷ lines) next turn (middle, goes, path) all =
       absurd (no_answer_stands_at_client_turn at middle line turn all.0 goes)
 
--- the lines are a refusal with this text, after which the session is over
+-- the lines are a refusal with this text, after which only `E` is due
 abbrev pub IsRefusal : (text : List ℕ) → List LogLine → Place → Type 0
 IsRefusal text lines next = (lines ≡ said (refuses text) ∷ ended ∷ []) × (next ≡ between)
 
 -- the lines are an answer that may stand at this place, if one is due there, and lead to the next. Of other places nothing is said.
 abbrev pub HasShapeAt : Accounts → Place → List LogLine → Place → Type 0
 HasShapeAt accounts leaving lines next = IsRefusal [] lines next
-HasShapeAt accounts over lines next = (lines ≡ ended ∷ []) × (next ≡ between)
+HasShapeAt accounts ending lines next = (lines ≡ ended ∷ []) × (next ≡ between)
 HasShapeAt accounts (asks_bare mechanism) lines next =
     (((m : Mechanism) → NamesMechanism mechanism m → ⊥) × IsRefusal [] lines next)
     ⊎ (((m : Mechanism) × NamesMechanism mechanism m) × ((lines ≡ said (cont []) ∷ []) × (next ≡ waits_first mechanism)))
@@ -93,10 +93,10 @@ HasShapeAt accounts at lines next = Unit {0}
 module _ (d : Demands) (lines : List LogLine) (next middle : Place) (path : IsPath d middle lines next)
     (all : AllByRecursion IsAnswerLine lines) where
   -- an answer that begins with a refusal is that refusal
-  refusal_is_whole_answer : (text due : List ℕ) → text ≡ due → middle ≡ over → IsAtRest next
+  refusal_is_whole_answer : (text due : List ℕ) → text ≡ due → middle ≡ ending → IsAtRest next
       → IsRefusal due (said (refuses text) ∷ lines) next
   refusal_is_whole_answer text due same at rests =
-      let rest = over_path_is_end d lines next (subst (λ (p : Place). IsPath d p lines next) at path) all rests in (
+      let rest = ending_path_is_end d lines next (subst (λ (p : Place). IsPath d p lines next) at path) all rests in (
         ap (λ (t : List ℕ). said (refuses t) ∷ lines) same ∙ ap (λ (l : List LogLine). said (refuses due) ∷ l) rest.0,
         rest.1,
       )
@@ -123,7 +123,7 @@ module _ (accounts : Accounts) where
   answer_has_shape leaving (said (refuses text) ∷ lines) next (middle, goes, path) all rests =
       refusal_is_whole_answer (demands accounts) lines next middle path all.1 text [] goes.0 goes.1 rests
   answer_has_shape leaving (line ∷ lines) next (middle, goes, path) all rests = absurd goes
-  answer_has_shape over lines next path all rests = over_path_is_end (demands accounts) lines next path all rests
+  answer_has_shape ending lines next path all rests = ending_path_is_end (demands accounts) lines next path all rests
   answer_has_shape (asks_bare m) [] next path all rests = absurd (subst IsAtRest path rests).1
   answer_has_shape (asks_bare m) (said (refuses text) ∷ lines) next (middle, goes, path) all rests =
       inl (goes.0.0, refusal_is_whole_answer (demands accounts) lines next middle path all.1 text [] goes.0.1 goes.1 rests)
@@ -170,7 +170,7 @@ module _ (accounts : Accounts) where
       → (has_acceptance lines ≡ true) ⊎ ((account : List ℕ) → next ≡ waits_code account → ⊥)
   unfolding has_acceptance
   acceptance_or_no_code leaving lines next due a = inr (ended_session_awaits_no_code next a.1)
-  acceptance_or_no_code over lines next due a = inr (ended_session_awaits_no_code next a.1)
+  acceptance_or_no_code ending lines next due a = inr (ended_session_awaits_no_code next a.1)
   acceptance_or_no_code (asks_bare m) lines next due (inl a) = inr (ended_session_awaits_no_code next a.1.1)
   acceptance_or_no_code (asks_bare m) lines next due (inr (named, (is_lines, at))) =
       inr (λ account is. let wrong : waits_first m ≡ waits_code account = sym at ∙ is in cc wrong)

@@ -11,7 +11,7 @@ use Rattle.scram_ends.specs.First.{IsChallengeTo}
 use Rattle.scram_ends.specs.Login.{IsAuthentic}
 use Rattle.scram_ends.specs.Verdict.{Due, accept, refuse, due_text, final_due}
 use Rattle.log_grammar.specs.Lines.{LogLine, said, ended, cont, accepts, refuses}
-use Rattle.log_grammar.specs.Places.{Place, offered, asks_bare, got_first, waits_final, got_final, waits_code, leaving, over}
+use Rattle.log_grammar.specs.Places.{Place, offered, asks_bare, got_first, waits_final, got_final, waits_code, leaving, ending}
 use Rattle.log_grammar.specs.Demands.{Accounts, demands}
 use Rattle.log_grammar.proofs.lemmas.demands.Challenges.{one_name, challenged_first_is_of_name}
 use Rattle.log_grammar.proofs.lemmas.kinds.OneWhy.{one_mechanism, one_due_verdict}
@@ -65,7 +65,7 @@ module _ (accounts : Accounts) (server_nonce : List ℕ) (lines others : List Lo
   one_due_answer : (at : Place) → IsAnswerDue at → HasShapeAt accounts at lines next → HasShapeAt accounts at others also
       → (lines ≡ others) × (next ≡ also)
   one_due_answer leaving due a b = (a.0 ∙ sym b.0, a.1 ∙ sym b.1)
-  one_due_answer over due a b = (a.0 ∙ sym b.0, a.1 ∙ sym b.1)
+  one_due_answer ending due a b = (a.0 ∙ sym b.0, a.1 ∙ sym b.1)
   one_due_answer (asks_bare m) due (inl a) (inl b) = (a.1.0 ∙ sym b.1.0, a.1.1 ∙ sym b.1.1)
   one_due_answer (asks_bare m) due (inl a) (inr b) = absurd (a.0 b.0.0 b.0.1)
   one_due_answer (asks_bare m) due (inr a) (inl b) = absurd (b.0 a.0.0 a.0.1)

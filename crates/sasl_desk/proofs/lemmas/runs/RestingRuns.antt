@@ -1,7 +1,7 @@
 -- After each call, and so after a run, the server has nothing left to say.
 use Rattle.std.proofs.Common.{ℕ, List, [], ◌∷◌, refl}
 use Rattle.log_grammar.specs.Lines.{LogLine}
-use Rattle.log_grammar.specs.Places.{Place, over}
+use Rattle.log_grammar.specs.Places.{Place, ending}
 use Rattle.log_grammar.specs.Demands.{Accounts}
 use Rattle.sasl_desk.specs.Runs.{Request, greets, hears, Call, IsAtRest, IsAnsweredBy, IsRun, server_nonce_of}
 
@@ -9,7 +9,7 @@ use Rattle.sasl_desk.specs.Runs.{Request, greets, hears, Call, IsAtRest, IsAnswe
 answered_call_rests : (accounts : Accounts) (server_nonce : List ℕ) (request : Request) (place at : Place) (lines : List LogLine)
     → IsAnsweredBy accounts server_nonce request place lines at
     → IsAtRest at
-answered_call_rests accounts server_nonce (greets new) place at lines greeting = rw greeting.waits (over, refl)
+answered_call_rests accounts server_nonce (greets new) place at lines greeting = rw greeting.waits (ending, refl)
 answered_call_rests accounts server_nonce (hears event moment) place at lines turn = turn.rests
 
 -- after a run, nothing is left to be said at the place

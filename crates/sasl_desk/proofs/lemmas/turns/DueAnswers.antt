@@ -15,7 +15,7 @@ use Rattle.scram_ends.specs.declared.server.ServerWait.{ServerWait}
 use Rattle.scram_ends.specs.declared.first.FirstFault.{FirstFault}
 use Rattle.scram_ends.specs.declared.verdict.Verdict.{Verdict}
 use Rattle.scram_ends.proofs.lemmas.Opening.{refused_is_not_taken_up}
-use Rattle.log_grammar.specs.Places.{Place, between, asks_bare, waits_first, got_first, waits_final, got_final, waits_code, leaving, over}
+use Rattle.log_grammar.specs.Places.{Place, between, asks_bare, waits_first, got_first, waits_final, got_final, waits_code, leaving, ending}
 use Rattle.log_grammar.specs.Demands.{Accounts, NamesMechanism, IsTakenUpFor}
 use Rattle.sasl_log.proofs.lemmas.steps.Logins.{stands_for_equal_login, login_is_challenged}
 use Rattle.sasl_desk.specs.ChallengedLogin.{challenged_login_of}
@@ -27,16 +27,28 @@ use Rattle.sasl_desk.specs.declared.session.event.Saying.TheVariants.{Nothing, C
 pub bare_refusal_is_due : (accounts : Accounts) (server_nonce : List ℕ) (at : Place) → IsBareNoDue at
     → IsAnswer accounts server_nonce at (answer_of Refuses None) []
 bare_refusal_is_due accounts server_nonce leaving away =
-    record { next = between; path = (over, (refl, refl), (between, refl, refl)); left = refl; challenge = tt; plain = (tt, (tt, tt)) }
+    record { next = between; path = (ending, (refl, refl), (between, refl, refl)); left = refl; challenge = tt; plain = (tt, (tt, tt)) }
 bare_refusal_is_due accounts server_nonce (asks_bare mechanism) away =
-    record { next = between; path = (over, ((away, refl), refl), (between, refl, refl)); left = refl; challenge = tt; plain = (tt, (tt, tt)) }
+    record {
+      next = between;
+      path = (ending, ((away, refl), refl), (between, refl, refl));
+      left = refl;
+      challenge = tt;
+      plain = (tt, (tt, tt));
+    }
 bare_refusal_is_due accounts server_nonce (got_first mechanism first) away =
-    record { next = between; path = (over, ((away, refl), refl), (between, refl, refl)); left = refl; challenge = tt; plain = (tt, (tt, tt)) }
+    record {
+      next = between;
+      path = (ending, ((away, refl), refl), (between, refl, refl));
+      left = refl;
+      challenge = tt;
+      plain = (tt, (tt, tt));
+    }
 bare_refusal_is_due accounts server_nonce at away = absurd away
 
 -- nothing but `E` is due after a client that has gone away
 pub end_is_due_after_departure : (accounts : Accounts) (server_nonce : List ℕ)
-    → IsAnswer accounts server_nonce over (answer_of Nothing None) []
+    → IsAnswer accounts server_nonce ending (answer_of Nothing None) []
 end_is_due_after_departure accounts server_nonce = record {
   next = between;
   path = (between, refl, refl);
@@ -136,7 +148,7 @@ module _ (accounts : Accounts) (server_nonce : List ℕ) (m : Mechanism) (name c
   }
   either_verdict_is_due (refuse why) due is = record {
     next = between;
-    path = (over, ((why, (m, refl, due), refl), refl), (between, refl, refl));
+    path = (ending, ((why, (m, refl, due), refl), refl), (between, refl, refl));
     left = refl;
     challenge = tt;
     plain = (tt, (tt, tt));

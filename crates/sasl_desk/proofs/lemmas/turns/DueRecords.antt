@@ -1,7 +1,7 @@
 -- What is recorded of a client may stand if and only if it is due.
 use Rattle.std.proofs.Common.{◌≡◌, true, refl, sym, subst}
 use Rattle.log_grammar.specs.Lines.{heard, bad, gone, ClientLine, auth, auth_with, resp, abort, code, sync}
-use Rattle.log_grammar.specs.Places.{Place, offered, waits_first, waits_final, waits_code, leaving, over}
+use Rattle.log_grammar.specs.Places.{Place, offered, waits_first, waits_final, waits_code, leaving, ending}
 use Rattle.log_grammar.specs.Demands.{Demands, demands, no_demands}
 use Rattle.log_grammar.specs.state_machine.Steps.{IsTransition}
 use Rattle.sasl_desk.specs.Sessions.{MayBeHeard}
@@ -58,18 +58,18 @@ heard_line_is_due at line (next, goes) = (standing_client_line_is_due no_demands
 
 -- `C BAD` and `C GONE` may stand when it is the client's turn
 pub bad_and_gone_may_stand : (d : Demands) (at : Place) → is_client_turn at ≡ true
-    → IsTransition d at bad leaving × IsTransition d at gone over
+    → IsTransition d at bad leaving × IsTransition d at gone ending
 bad_and_gone_may_stand d offered turn = (refl, refl)
 bad_and_gone_may_stand d (waits_first mechanism) turn = (refl, refl)
 bad_and_gone_may_stand d (waits_final mechanism account first challenge) turn = (refl, refl)
 bad_and_gone_may_stand d (waits_code account) turn = (refl, refl)
 bad_and_gone_may_stand d at turn = absurd (cc turn)
 
--- `C BAD` and `C GONE` stand only when it is the client's turn; the one leads to where a bare `S NO` is due, the other to where the
--- session is over
+-- `C BAD` and `C GONE` stand only when it is the client's turn; the one leads to where a bare `S NO` is due, the other to where
+-- only `E` is due
 pub bad_and_gone_stand_in_turn : (d : Demands) (at next : Place)
     → (IsTransition d at bad next → (is_client_turn at ≡ true) × (next ≡ leaving))
-    × (IsTransition d at gone next → (is_client_turn at ≡ true) × (next ≡ over))
+    × (IsTransition d at gone next → (is_client_turn at ≡ true) × (next ≡ ending))
 bad_and_gone_stand_in_turn d offered next = (λ goes. (refl, goes), λ goes. (refl, goes))
 bad_and_gone_stand_in_turn d (waits_first mechanism) next = (λ goes. (refl, goes), λ goes. (refl, goes))
 bad_and_gone_stand_in_turn d (waits_final mechanism account first challenge) next = (λ goes. (refl, goes), λ goes. (refl, goes))

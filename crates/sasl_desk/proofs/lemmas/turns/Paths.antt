@@ -8,7 +8,7 @@ use Rattle.otp_core.specs.Attempt.{CodeTexts}
 use Rattle.otp_core.specs.declared.token.reply.Reply.{Reply}
 use Rattle.account_book.specs.AccountAttempt.{AccountAttempt, account_attempt_of}
 use Rattle.log_grammar.specs.Lines.{LogLine, said, heard, bad, gone, replies, code_line}
-use Rattle.log_grammar.specs.Places.{Place, got_code, between, offered, waits_first, waits_final, waits_code, over, halted}
+use Rattle.log_grammar.specs.Places.{Place, got_code, between, offered, waits_first, waits_final, waits_code, ending, halted}
 use Rattle.log_grammar.specs.Demands.{Accounts, Demands, demands, HaveDueReplies, HasDueReply}
 use Rattle.log_grammar.specs.state_machine.Steps.{IsTransition, told_at}
 use Rattle.log_grammar.specs.Begins.{Begins}
@@ -37,13 +37,13 @@ session_has_client_turn accounts at (WaitCode name) is = rw is refl
 pub client_turn_rests : (at : Place) → is_client_turn at ≡ true → IsAtRest at
 client_turn_rests between turn = tt
 client_turn_rests halted turn = tt
-client_turn_rests offered turn = (over, refl)
-client_turn_rests (waits_first mechanism) turn = (over, refl)
-client_turn_rests (waits_final mechanism account first challenge) turn = (over, refl)
-client_turn_rests (waits_code account) turn = (over, refl)
+client_turn_rests offered turn = (ending, refl)
+client_turn_rests (waits_first mechanism) turn = (ending, refl)
+client_turn_rests (waits_final mechanism account first challenge) turn = (ending, refl)
+client_turn_rests (waits_code account) turn = (ending, refl)
 client_turn_rests at turn = absurd (cc turn)
 
--- where a session is left, whether it goes on or is over, nothing is left to be said
+-- where a session is left, whether it goes on or has ended, nothing is left to be said
 pub left_session_rests : (accounts : Accounts) (at : Place) (session : Option Session) → IsLeftAt accounts at session → IsAtRest at
 left_session_rests accounts at None is = rw is tt
 left_session_rests accounts at (Some session) is = client_turn_rests at (session_has_client_turn accounts at session is)

@@ -5,7 +5,7 @@ use Rattle.otp_core.specs.Attempt.{CodeTexts}
 use Rattle.otp_core.specs.declared.token.reply.Reply.{Reply}
 use Rattle.book_keeper.specs.declared.keeper.CodeJudged.TheVariants.{Replied, NotSaved}
 use Rattle.log_grammar.specs.Lines.{said, heard, replies, halt, code_line}
-use Rattle.log_grammar.specs.Places.{Place, waits_code, got_code, over, halted}
+use Rattle.log_grammar.specs.Places.{Place, waits_code, got_code, ending, halted}
 use Rattle.log_grammar.specs.Demands.{Accounts, demands}
 use Rattle.log_grammar.proofs.lemmas.state_machine.Shortening.{code_may_stand}
 use Rattle.sasl_desk.specs.Events.{ClientEvent}
@@ -48,7 +48,7 @@ module _ (accounts : Accounts) (server_nonce : List ℕ) (event : ClientEvent) (
     answers = (tt, tt);
     path = subst (λ (p : Place). IsPath (demands accounts) p (judged_lines moment sent (Replied reply)) (waits_code name)) (sym due.place)
         (got_code name sent, code_may_stand name sent, (waits_code name, refl, refl));
-    rests = (over, refl);
+    rests = (ending, refl);
     challenge = tt;
     plain = (tt, tt);
     moments = (refl, tt);

@@ -1,7 +1,7 @@
 use Rattle.std.proofs.Common.{length, sym, ◌∙◌, subst, ap, refl, inl, inr, arith}
 use Rattle.scram_text.proofs.lemmas.FirstUnmet.{found_is_first}
 use Rattle.scram_ends.specs.Opening.{IsUnbound}
-use Rattle.scram_ends.specs.First.{first_faults_in_order, AsksOfFirst}
+use Rattle.scram_ends.specs.First.{client_first_faults_in_order, AsksOfClientFirst}
 use Rattle.scram_ends.specs.declared.first.FirstFault.TheVariants.{OutsideProfile}
 use Rattle.scram_ends.proofs.lemmas.client_messages.Lengths.{unbound_header_is_short}
 use Rattle.scram_ends.proofs.first.take_up.Goals as goal
@@ -12,7 +12,7 @@ returns-in_default-clause-err c =
     let shows = found.2 in (
       found.0,
       found.1,
-      found_is_first (λ row. AsksOfFirst row found.0) first_faults_in_order OutsideProfile (inr (
+      found_is_first (λ row. AsksOfClientFirst row found.0) client_first_faults_in_order OutsideProfile (inr (
         sym shows.mandatory ∙ c.if-message.false,
         inr (
           subst IsUnbound shows.flag c.if-not-is_unbound.ensures.unbound,

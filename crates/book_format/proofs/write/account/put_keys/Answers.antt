@@ -23,7 +23,7 @@ keys_write_themselves m o is itself len fits k there =
     same : (m k : MechKeys) (o : Option MechKeys) → o ≡ Some m → o ≡ Some k → m ≡ k
     same m k o one two = cc (one, two)
 
-pub returns-in_ok-mech_value-in-Some-clause-itself : goal.returns-in_ok-mech_value-in-Some-clause-itself
-returns-in_ok-mech_value-in-Some-clause-itself c =
+pub returns-in_ok-keys_value-in-Some-clause-itself : goal.returns-in_ok-keys_value-in-Some-clause-itself
+returns-in_ok-keys_value-in-Some-clause-itself c =
     fact_holds_on_ok _ c.put.result (keys_write_themselves c.in-Some.keys c.args.keys.now c.in-Some.is
-    c.in_ok-mech_value-in-Some.ensures.itself)
+    c.in_ok-keys_value-in-Some.ensures.itself)

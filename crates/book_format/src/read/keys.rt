@@ -17,7 +17,7 @@ use toml::Value;
 /// for the first key at fault, in the order of the keys at the head of this file: `Key` if it is missing or its value has the wrong
 /// type, else `Salt`, `Count` or `KeyLength` if the value is out of its range.
 #[tactic(auto, unfolding(crate::specs::inner::Rows::table_in, crate::specs::inner::Rows::read_table))]
-pub(crate) fn mech_of(len: usize, value: &Value) -> Result<MechKeys, BookWhy>
+pub(crate) fn keys_of(len: usize, value: &Value) -> Result<MechKeys, BookWhy>
     requires { len ≤ max_tag_len }
     ensures { result ≡ table_in (keys_table len) (keys_reading len) (view value.now) }
 {

@@ -1,7 +1,7 @@
 use Rattle.std.proofs.Common.{subst}
 use Rattle.book_format.proofs.lemmas.ValueTypes.{ComesBack}
 use Rattle.book_format.proofs.lemmas.WritesItself.{mech_writes_itself}
-use Rattle.book_format.proofs.write.account.mech_value.Goals as goal
+use Rattle.book_format.proofs.write.account.keys_value.Goals as goal
 
 pub returns-clause-itself : goal.returns-clause-itself
 returns-clause-itself c = λ len fits.
