@@ -20,7 +20,7 @@ import suite
 from audit_cases import TABLE, cases
 from checks import equal, holds
 from expected import AUDITS, SESSION_LEFT, base64_of, login_keys, proved
-from processes import LIMIT_OF_LINES, Running, until
+from processes import LIMIT_OF_LINES, Running, Terminal, until
 from suite import MOST_BYTES, PROGRAM, SALT, audit_says, each, prints
 
 KEYS = AUDITS / "keys.toml"
@@ -105,40 +105,28 @@ def logs_from_pipes(folder: str) -> None:
     holds(not writer.is_alive(), "the FIFO's writer goes on after the audit")
 
 
-def shown_at(terminal: int) -> bytes:
-    """The bytes shown at a terminal, up to an exclamation mark."""
-    shown = b""
-    while not shown.endswith(b"!"):
-        shown += os.read(terminal, 4096)
-    return shown
-
-
-def audit_at_a_terminal(wait: float) -> tuple[bytes, float]:
+def audit_at_a_terminal(wait: float) -> tuple[str, float]:
     """Runs an audit whose standard error is a terminal, and which waits `wait` seconds for more of its log. Returns what it shows at
     the terminal, and how many seconds it took."""
-    terminal, end = os.openpty()
     words = [PROGRAM, "audit", "--book", KEYS, "--log", "/dev/stdin"]
-    began = time.monotonic()
-    running = Running(words, HEADER + SESSION_LEFT, stderr=end)
-    # The program counts its two seconds from the start of its reading, and sleeps once it has read what is there.
-    running.waits()
-    time.sleep(wait)
-    running.ends(0, "clean sessions=2 accepted=0 codes=0\n", text=SESSION_LEFT)
-    seconds = time.monotonic() - began
-    os.write(end, b"!")
-    shown = shown_at(terminal)
-    os.close(end)
-    os.close(terminal)
-    return shown.removesuffix(b"!"), seconds
+    with Terminal() as terminal:
+        began = time.monotonic()
+        running = Running(words, HEADER + SESSION_LEFT, stderr=terminal.end)
+        # The program counts its two seconds from the start of its reading, and sleeps once it has read what is there.
+        running.waits()
+        time.sleep(wait)
+        running.ends(0, "clean sessions=2 accepted=0 codes=0\n", text=SESSION_LEFT)
+        seconds = time.monotonic() - began
+        return terminal.all_shown(), seconds
 
 
 def progress_on_a_terminal(folder: str) -> None:
     """If standard error is a terminal, a run of two seconds shows its progress there, and clears it at the end."""
     shown, _ = audit_at_a_terminal(2.2)
-    counts = f"\r7 lines, {len(HEADER + SESSION_LEFT * 2)} bytes".encode()
+    counts = f"\r7 lines, {len(HEADER + SESSION_LEFT * 2)} bytes"
     # They are shown again at the end of each second that comes before the end of the log is read.
-    once = re.sub(b"(?:%b)+" % re.escape(counts), counts, shown)
-    equal(once, counts + b"\r\x1b[K", "what is shown at the terminal", shown)
+    once = re.sub(f"(?:{re.escape(counts)})+", counts, shown)
+    equal(once, counts + "\r\x1b[K", "what is shown at the terminal", shown)
 
 
 def no_progress_of_a_short_run(folder: str) -> None:
@@ -146,7 +134,7 @@ def no_progress_of_a_short_run(folder: str) -> None:
     # A busy machine may delay even a short run, which is then tried again.
     runs = (audit_at_a_terminal(0) for _ in range(20))
     shown = next((shown for shown, seconds in runs if seconds < 1.5), None)
-    equal(shown, b"", "what is shown at the terminal in a short run, of which one takes less than 1.5 seconds")
+    equal(shown, "", "what is shown at the terminal in a short run, of which one takes less than 1.5 seconds")
 
 
 def long_logs(folder: str) -> None:

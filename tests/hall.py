@@ -42,11 +42,11 @@ def two_sessions(folder: str) -> None:
     for trial, end in each(["\n", ""]):
         with trial:
             here.put(HOTP_BOOK)
-            here.prints(text + end, 0, log)
+            here.logs(text + end, 0, log)
             here.token_has(repr(end), next=1, failures=0)
     here.audited(log, clean(2, 1, 1))
     here.put(HOTP_BOOK)
-    here.prints("", 0, clients.FIRST_LINE)
+    here.logs("", 0, clients.FIRST_LINE)
     here.audited(clients.FIRST_LINE, clean(0))
     equal(read_book(here.book)["accounts"]["user"]["sha1"], read_book(AUDITS / "hotp.toml")["accounts"]["user"]["sha1"], "the keys")
 
@@ -56,15 +56,15 @@ def sixty_four(folder: str) -> None:
     here = Hall(folder)
     text = "open zz\n" * 64
     log = clients.FIRST_LINE + "".join(f"{number} {MECHS}\n" for number in range(1, 65))
-    here.prints(text, 0, log)
+    here.logs(text, 0, log)
     text, log = text + "open zz\n", log + "65 S BUSY\n65 E\n"
-    here.prints(text, 0, log)
+    here.logs(text, 0, log)
     text += "gone 1 0\nopen zz\nopen zz\n" + "".join(f"gone {number} 0\n" for number in range(2, 65))
     log += f"1 C GONE\n1 E\n66 {MECHS}\n67 S BUSY\n67 E\n" + "".join(f"{number} C GONE\n{number} E\n" for number in range(2, 65))
-    here.prints(text + "gone 66 0\n", 0, log + "66 C GONE\n66 E\n")
+    here.logs(text + "gone 66 0\n", 0, log + "66 C GONE\n66 E\n")
     here.audited(log + "66 C GONE\n66 E\n", clean(65))
-    here.prints(text + "gone 65 0\n", 1, log, "bad event")
-    here.prints(text + "gone 67 0\n", 1, log, "bad event")
+    here.logs(text + "gone 65 0\n", 1, log, "bad event")
+    here.logs(text + "gone 67 0\n", 1, log, "bad event")
 
 
 def bounds(folder: str) -> None:
@@ -94,11 +94,11 @@ def lines_that_are_none(folder: str) -> None:
     for trial, line in each(BAD_LINES):
         with trial:
             log = f"{clients.FIRST_LINE}1 {MECHS}\n2 {MECHS}\n1 C BAD\n1 S NO :\n1 E\n2 C ABORT\n2 S NO :\n2 E\n"
-            here.prints(b"open zz\nopen zz\nline 1 5 " + line + b"\nline 2 5 ABORT", 0, log)
+            here.logs(b"open zz\nopen zz\nline 1 5 " + line + b"\nline 2 5 ABORT", 0, log)
             here.audited(log, clean(2))
     longest = "AUTH PLAIN :" + "x" * 6188
     log = f"{clients.FIRST_LINE}1 {MECHS}\n1 C {longest}\n1 S NO :\n1 E\n"
-    here.prints(f"open zz\nline 1 5 {longest}\n", 0, log)
+    here.logs(f"open zz\nline 1 5 {longest}\n", 0, log)
     here.audited(log, clean(1))
 
 
@@ -118,14 +118,14 @@ def first_messages(folder: str) -> None:
         with trial:
             here.put(HOTP_BOOK)
             log = f"{clients.FIRST_LINE}1 {MECHS}\n1 C AUTH SCRAM-SHA-1 :{first}\n1 S NO :\n1 E\n"
-            here.prints(f"open zz\nline 1 5 AUTH SCRAM-SHA-1 :{first}\n", 0, log)
+            here.logs(f"open zz\nline 1 5 AUTH SCRAM-SHA-1 :{first}\n", 0, log)
             here.audited(log, clean(1))
     for trial, first in each(["n,,n=user,r=fyko,x=1", "y,,n=user,r=fyko,x=1,y=a=b"]):
         with trial:
             here.put(HOTP_BOOK)
             log = f"{clients.FIRST_LINE}1 {MECHS}\n1 C AUTH SCRAM-SHA-1 :{first}\n"
             log += "1 S CONT :r=fykozz,s=QSXCR+Q6sek8bf92,i=4096\n1 C GONE\n1 E\n"
-            here.prints(f"open zz\nline 1 5 AUTH SCRAM-SHA-1 :{first}\ngone 1 5\n", 0, log)
+            here.logs(f"open zz\nline 1 5 AUTH SCRAM-SHA-1 :{first}\ngone 1 5\n", 0, log)
             here.audited(log, clean(1))
 
 
@@ -136,7 +136,7 @@ def codes_of_one_account(folder: str) -> None:
     codes += [("000000", "FAIL 5"), ("969429", "LOCKED 5")]
     visits = [login() + [said(f"CODE {sent}", f"S {reply}"), gone()] for sent, reply in codes]
     text, log = dealt([which for _ in range(5) for which in range(len(visits))], visits)
-    here.prints(text, 0, log)
+    here.logs(text, 0, log)
     here.audited(log, clean(7, 7, 2))
     here.token_has(next=3, failures=3)
 
@@ -164,8 +164,10 @@ def three_visits() -> tuple[list[Account], list[list[Turn]]]:
 
 
 def all_orders(folder: str) -> None:
-    """Whatever the other two do in between, each session has the lines that it has when it runs by itself, and the log is clean."""
+    """Whatever the other two do in between, each session has the lines that it has when it runs by itself, the log is clean, and each
+    account's counters are used that its own codes had."""
     accounts, visits = three_visits()
+    anne, bob, carl = accounts
     here, text, alone = Hall(folder, book(accounts)), book(accounts), []
     for visit in visits:
         here.put(text)
@@ -174,37 +176,41 @@ def all_orders(folder: str) -> None:
         with trial:
             here.put(text)
             events, log = dealt(begun + order + (0, 2), visits)
-            printed = here.prints(events, 0, log)
+            printed = here.logs(events, 0, log)
             equal([of_session(printed, number) for number in [1, 2, 3]], [alone[which] for which in begun], begun, order, printed)
+            here.tokens_are({anne.name: (3, 0), bob.name: (0, 0), carl.name: (2, 0)}, begun, order)
             here.audited(printed, clean(3, 2, 2))
 
 
 def shuffled(_: str) -> None:
-    """64 logins to 64 accounts, each with a code, in random orders: each line of a session belongs to its own login, and the log
-    is clean."""
+    """64 logins to 64 accounts, each with a code, in random orders: each line of a session belongs to its own login, the log is clean, and
+    each code is counted for its own account."""
     accounts = [Account(f"user {number}", list(HASHES)[number % 2]) for number in range(64)]
     # A book is saved 64 times in each order.
     with tempfile.TemporaryDirectory(dir=MEMORY) as folder:
         here, text = Hall(folder, book(accounts)), book(accounts)
         for _ in range(SHUFFLES):
-            order, visits = shuffle_of(accounts)
+            order, visits, tokens = shuffle_of(accounts)
             here.put(text)
             events, log = dealt(order, visits)
-            here.prints(events, 0, log)
+            here.logs(events, 0, log)
+            here.tokens_are(tokens)
             here.audited(log, clean(64, 64, log.count(" S PASS ")))
 
 
-def shuffle_of(accounts: list[Account]) -> tuple[list[int], list[list[Turn]]]:
-    """A login to each account, with a code that passes or fails, and an order of their turns, all at random."""
-    visits = []
+def shuffle_of(accounts: list[Account]) -> tuple[list[int], list[list[Turn]], dict[str, tuple[int, int]]]:
+    """A login to each account, with a code that passes or fails, and an order of their turns, all at random; and what then are the next
+    counter and the failures of each account."""
+    visits, tokens = [], {}
     for account in accounts:
         counter = random.randrange(5)
         reply = f"S PASS 5 {counter}" if counter <= 3 else "S FAIL 5"
+        tokens[account.name] = (counter + 1, 0) if counter <= 3 else (0, 1)
         nonces = [f"{random.getrandbits(64):x}" for _ in range(2)]
         visits.append(logged_in(account, *nonces) + [said(f"CODE {account.code(counter)}", reply), gone()])
     order = [which for which in range(64) for _ in range(5)]
     random.shuffle(order)
-    return order, visits
+    return order, visits, tokens
 
 
 TESTS = [

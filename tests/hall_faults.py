@@ -52,10 +52,10 @@ def bad_events(folder: str) -> None:
     for trial, (line, end) in each((line, end) for line in lines for end in ends if line + end):
         with trial:
             here.put(HOTP_BOOK)
-            here.prints(text.encode() + line + end, 1, log, "bad event")
+            here.logs(text.encode() + line + end, 1, log, "bad event")
             here.token_has(line, next=1)
     here.audited(log, f"line {log.count(chr(10)) + 1}: cut")
-    here.prints(b"\n", 1, clients.FIRST_LINE, "bad event")
+    here.logs(b"\n", 1, clients.FIRST_LINE, "bad event")
 
 
 def full_device(running: Running, _: Any) -> None:
@@ -154,10 +154,10 @@ def long_inputs(folder: str) -> None:
     here = Hall(folder)
     text, log = let_in()
     text += "line 2 5 "
-    here.prints(text + "a" * (MOST_BYTES + 1 - len(text)), 3, log, "cannot read input")
+    here.logs(text + "a" * (MOST_BYTES + 1 - len(text)), 3, log, "cannot read input")
     here.token_has(next=1)
     here.put(HOTP_BOOK)
-    here.prints(text + "a" * (MOST_BYTES - len(text)), 0, log + "2 C BAD\n2 S NO :\n2 E\n")
+    here.logs(text + "a" * (MOST_BYTES - len(text)), 0, log + "2 C BAD\n2 S NO :\n2 E\n")
 
 
 TESTS = [

@@ -40,7 +40,7 @@ def killed_before_any_call(folder: str) -> None:
     here = Hall(folder, book([account]))
     events = clients.dealt([which for _ in range(3) for which in range(OPEN)], visits(account))[0]
     kill_before_any_call(here, lambda at, **how: whole(here.words, events + codes_from(account, at), **how), RUNS, 0)
-    here.prints("", 0, clients.FIRST_LINE)
+    here.logs("", 0, clients.FIRST_LINE)
     here.has_only("book")
 
 

@@ -20,20 +20,20 @@ class Hall(suite.BookFolder):
         super().__init__(folder, text)
         self.words = [PROGRAM, "hall", "--book", self.book]
 
-    def prints(self, text: str | bytes, status: int, log: str, fault: str = "") -> str:
+    def logs(self, text: str | bytes, status: int, log: str, fault: str = "") -> str:
         """Runs a hall, and compares its status, log and fault. Returns the log that was printed."""
-        return super().prints(self.words, text, status, log, fault)
+        return suite.prints(self.words, text, status, log, fault)
 
     def refuses(self, text: str, status: int, fault: str) -> None:
-        """As `prints`, for a hall that prints nothing; it has to write no file either."""
+        """As `logs`, for a hall that prints nothing; it has to write no file either."""
         seen = self.seen()
-        self.prints(text, status, "", fault)
+        self.logs(text, status, "", fault)
         equal(self.seen(), seen, f"the book and its folder after {text[:200]!r}")
 
     def hears(self, *visit: Turn) -> str:
         """Gives a hall these turns of one client, without another, and compares the log. Returns the log that was printed."""
         events, log = dealt([0] * len(visit), [visit])
-        return self.prints(events, 0, log)
+        return self.logs(events, 0, log)
 
     def start(self, **more: Any) -> Running:
         """Starts a hall, which waits for input."""

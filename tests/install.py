@@ -3,8 +3,8 @@
 
 Usage: install.py PROGRAM [TEST ..]
 
-The program and the tools in tools/ are put where DESTDIR and PREFIX say, even if a name has a space, and no other file is. A
-program that is not built, or is older than its sources, is refused. `make run` prints the keys of RFC 5802's example, which are those
+The program, the tools in tools/ and the documents are put where DESTDIR and PREFIX say, even if a name has a space, and no other file is.
+A program that is not built, or is older than its sources, is refused. `make run` prints the keys of RFC 5802's example, which are those
 from Python's hashlib. If the program is not built or is old, it has rt run the sources; here a stand-in for rt takes its place, since rt
 takes over a minute. Needs `make`.
 """
@@ -12,6 +12,7 @@ import os
 import pathlib
 import shutil
 import stat
+from collections.abc import Iterable
 from typing import Any
 
 import suite
@@ -43,11 +44,22 @@ def files_of(folder: pathlib.Path) -> list[pathlib.Path]:
     return [path for path in folder.rglob("*") if not path.is_dir()]
 
 
+def modes_of(paths: Iterable[pathlib.Path]) -> dict[str, str]:
+    """The permissions of these files, in octal."""
+    return {str(path): oct(stat.S_IMODE(path.stat().st_mode)) for path in paths}
+
+
 def installed(folder: str) -> None:
-    """The program and the tools are there, with the right bytes, and no other file is. All users may run them, and only their owner may
-    write them."""
+    """The program, the tools and the documents are there, with the right bytes, and no other file is. All users may run the first two and
+    read all, and only their owner may write them."""
     program = shutil.copy(PROGRAM, folder)
-    tools = {path.name: path.read_bytes() for path in (TOP / "tools").iterdir()}
+    pages = [TOP / name for name in ["README.md", "CHANGELOG.md", "CONTRIBUTING.md", "LICENSE", "bench/README.md"]]
+    files = {pathlib.Path("share/scramotp", path.name): (path.read_bytes(), 0o755) for path in (TOP / "tools").iterdir()}
+    files |= {
+        pathlib.Path("share/doc/scramotp", path.relative_to(TOP)): (path.read_bytes(), 0o644)
+        for path in [*pages, *(TOP / "docs").glob("*.md")]
+    }
+    files[pathlib.Path("bin/scramotp")] = (pathlib.Path(PROGRAM).read_bytes(), 0o755)
     for trial, (name, folders, place) in each([
         ("plain", {"DESTDIR": "{}"}, "usr/local"),
         ("with a space", {"DESTDIR": "{}"}, "usr/local"),
@@ -58,11 +70,10 @@ def installed(folder: str) -> None:
             to = pathlib.Path(folder, name)
             done = made("install", program, **{variable: value.format(to) for variable, value in folders.items()})
             equal((done.status, done.faults), (0, ""), name)
-            due = {to / place / "share" / "scramotp" / tool: text for tool, text in tools.items()}
-            due[to / place / "bin" / "scramotp"] = pathlib.Path(PROGRAM).read_bytes()
+            due = {to / place / path: file for path, file in files.items()}
             equal(sorted(files_of(to)), sorted(due), name)
-            equal({str(path): oct(stat.S_IMODE(path.stat().st_mode)) for path in due}, dict.fromkeys(map(str, due), oct(0o755)), name)
-            equal([path for path, text in due.items() if path.read_bytes() != text], [], name, "where another file is")
+            equal(modes_of(due), {str(path): oct(mode) for path, (_, mode) in due.items()}, name)
+            equal([path for path, (text, _) in due.items() if path.read_bytes() != text], [], name, "where another file is")
 
 
 def refused(folder: str) -> None:

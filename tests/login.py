@@ -44,16 +44,16 @@ class Login(suite.BookFolder):
         """Checks that the socket's file is gone."""
         holds(not os.path.lexists(self.socket), "the socket is left")
 
-    def prints(self, words: list, text: str | bytes, status: int, log: str, fault: str = "") -> str:
+    def logs(self, words: list, text: str | bytes, status: int, log: str, fault: str = "") -> str:
         """Runs a login, compares its status, log and fault, and checks that the socket's file is gone. Returns the log that was printed."""
-        printed = super().prints(words, text, status, log, fault)
+        printed = suite.prints(words, text, status, log, fault)
         self.has_no_socket()
         return printed
 
     def refuses(self, words: list, text: str | bytes, status: int, fault: str) -> None:
-        """As `prints`, for a login that prints nothing; it has to leave the book unwritten."""
+        """As `logs`, for a login that prints nothing; it has to leave the book unwritten."""
         seen = self.seen()
-        self.prints(words, text, status, "", fault)
+        self.logs(words, text, status, "", fault)
         equal(self.seen(), seen, f"the book and its folder after {words}")
 
 
@@ -65,13 +65,13 @@ def with_codes(look_ahead: int = 3, limit: int = 3, sync_ahead: int | None = Non
 def published_logins(folder: str) -> None:
     """The logins of RFC 5802 and RFC 7677, each with exactly the recorded log."""
     here = Login(folder)
-    here.prints(here.words(*SHA1), "pencil", 0, ACCEPTED + GONE)
+    here.logs(here.words(*SHA1), "pencil", 0, ACCEPTED + GONE)
     equal(read_book(here.book), read_book(AUDITS / "keys.toml"), "what the book states")
-    here.prints(here.words(*SHA1), "pencil\n", 0, ACCEPTED + GONE)
+    here.logs(here.words(*SHA1), "pencil\n", 0, ACCEPTED + GONE)
     here.put((AUDITS / "sha256.toml").read_text())
     for trial, more in each([[], ["--mechanism", "SCRAM-SHA-256"]]):
         with trial:
-            here.prints(here.words(*SHA256_NONCES, *more), "pencil\n", 0, (AUDITS / "sha256.log").read_text())
+            here.logs(here.words(*SHA256_NONCES, *more), "pencil\n", 0, (AUDITS / "sha256.log").read_text())
 
 
 def refused_logins(folder: str) -> None:
@@ -119,7 +119,7 @@ def names_to_act_as(folder: str) -> None:
     holds(log.splitlines()[5].startswith("S OK :v="), "the login is not accepted", log)
     here.audited(log, clean(1, 1, 0))
     here.put(KEYS_TOML)
-    here.prints(here.words(*SHA1), "pencil\n", 0, ACCEPTED + GONE)
+    here.logs(here.words(*SHA1), "pencil\n", 0, ACCEPTED + GONE)
     log = here.log_of(here.words(*SHA1, "--as", "user"), "pencil\n", 0)
     holds("\nC AUTH SCRAM-SHA-1 :n,a=user,n=user,r=" in log, "the client does not send the name to act as", log)
 
@@ -131,7 +131,7 @@ def client_faults(folder: str) -> None:
         with trial:
             here.put(with_codes().replace("count = 4096\nstored", f"count = {count}\nstored"))
             log = "".join(ACCEPTED.splitlines(True)[:4]).replace("i=4096", f"i={count}") + GONE
-            here.prints(here.words(*SHA1), "pencil\n755224\n", 1, log)
+            here.logs(here.words(*SHA1), "pencil\n755224\n", 1, log)
             here.audited(log, clean(1, 0, 0))
             here.token_has(f"count {count}", next=0)
     here.put(with_codes().replace('server = "0f', 'server = "0e'))
@@ -161,7 +161,7 @@ def codes(folder: str) -> None:
         with trial:
             here.put(book)
             log = ACCEPTED + "".join(f"{'CS'[n % 2]} {line}\n" for n, line in enumerate(told)) + GONE
-            here.prints(here.words(*SHA1, "--moment", "5"), "\n".join(["pencil", *lines, ""]), status, log)
+            here.logs(here.words(*SHA1, "--moment", "5"), "\n".join(["pencil", *lines, ""]), status, log)
             here.audited(log, clean(1, 1, passed))
 
 
@@ -175,15 +175,15 @@ def lines_that_are_no_code(folder: str) -> None:
         with trial:
             here.put(with_codes(sync_ahead=8))
             log = ACCEPTED + "C BAD\nS NO :\nE\n"
-            here.prints(words, f"pencil\n{line}\n755224\n", 1, log)
+            here.logs(words, f"pencil\n{line}\n755224\n", 1, log)
             here.audited(log, clean(1, 1, 0))
             here.token_has(repr(line[:20]), next=0)
     here.put(with_codes())
-    here.prints(words, b"pencil\n\xff\0\n755224\n", 1, ACCEPTED + "C BAD\nS NO :\nE\n")
+    here.logs(words, b"pencil\n\xff\0\n755224\n", 1, ACCEPTED + "C BAD\nS NO :\nE\n")
     for trial, text in each(["CODE 755224", "ABORT"]):
         with trial:
             log = ACCEPTED + ("C BAD\nS NO :\nE\n" if " " in text else f"C CODE {text}\nS FAIL 5\n{GONE}")
-            here.prints(words, f"pencil\n{text}\n", 1, log)
+            here.logs(words, f"pencil\n{text}\n", 1, log)
 
 
 def replies_at_once(folder: str) -> None:
@@ -316,7 +316,7 @@ def order_of_faults(folder: str) -> None:
     here.refuses(here.words(*more, path=taken), "pencil", 3, f"cannot read {missing}")
     here.refuses(here.words(path=taken), "pencil", 3, "socket fault")
     equal(taken.read_text(), "", "the file at the socket's path")
-    here.prints(here.words(*SHA1, *more), "pencil", 0, ACCEPTED + GONE)
+    here.logs(here.words(*SHA1, *more), "pencil", 0, ACCEPTED + GONE)
 
 
 def short_random_files(folder: str) -> None:
@@ -349,7 +349,7 @@ def sockets_in_the_way(folder: str) -> None:
             path = os.path.join(folder, "x" * (size - len(folder) - 1))
             equal(len(path), size, "the length of the socket's path")
             if is_short:
-                here.prints(here.words(*SHA1, path=path), "pencil\n", 0, ACCEPTED + GONE)
+                here.logs(here.words(*SHA1, path=path), "pencil\n", 0, ACCEPTED + GONE)
             else:
                 here.refuses(here.words(*SHA1, path=path), "pencil\n", 3, "socket fault")
             holds(not os.path.lexists(path), "the socket is left", path)
@@ -362,11 +362,11 @@ def long_inputs(folder: str) -> None:
     here.refuses(words, b"a" * (MOST_BYTES + 1), 3, "cannot read input")
     text = b"pencil\n755224\n"
     log = ACCEPTED + "C CODE 755224\nS PASS 5 0\n"
-    here.prints(words, text + b"a" * (MOST_BYTES + 1 - len(text)), 3, log, "cannot read input")
+    here.logs(words, text + b"a" * (MOST_BYTES + 1 - len(text)), 3, log, "cannot read input")
     here.audited(log, "line 9: cut")
     here.put(with_codes(limit=100))
     log = ACCEPTED + "C CODE 755224\nS PASS 5 0\nC BAD\nS NO :\nE\n"
-    here.prints(words, text + b"a" * (MOST_BYTES - len(text)), 1, log)
+    here.logs(words, text + b"a" * (MOST_BYTES - len(text)), 1, log)
 
 
 TESTS = [

@@ -19,9 +19,9 @@ in the form that `rt help` describes:
 The script works in temporary copies of the repository, whose sources must not change meanwhile. Without an edit, each test has to pass. A
 test may say that this machine can't test all of it. If it passes with the bug then, the bug counts as not tested.
 
-The program of `rt try` checks its use of memory and is slow, so a script that kills runs or makes input at random makes fewer of them
-here, as RUNS and COUNT say. It can't run together with those C files, so for a bug of a crate no test that loads one of them is named. It
-can with note_files.c, which makes no call go wrong.
+The program of `rt try` checks its use of memory and is slow, so a script that kills runs kills fewer of them here, as RUNS says, and one
+that makes input at random makes no more than by default, as COUNT says. That program can't run together with those C files, so for a bug
+of a crate no test that loads one of them is named. It can with note_files.c, which makes no call go wrong.
 """
 import argparse
 import contextlib
@@ -102,6 +102,7 @@ class Room:
 
     def __init__(self, folder: Path) -> None:
         self.top = folder
+        folder.chmod(0o755)
         for name in COPIED:
             if (TOP / name).is_dir():
                 shutil.copytree(TOP / name, folder / name, ignore=shutil.ignore_patterns("out", "__pycache__"))
@@ -158,7 +159,6 @@ class Room:
             raise NotJudged(f"this needs {built}: run make build and make bench")
         if (self.top / CALLS).read_bytes() == (TOP / CALLS).read_bytes():
             return program
-        # The user nobody runs it too, who can't enter the copy of the repository.
         folder.chmod(0o755)
         copied = shutil.copy2(program, folder / f"{program.name}.built")
         return shims.stand_in(copied, shims.compiled("pass_calls", self.top / CALLS, folder), folder / program.name)
@@ -253,6 +253,8 @@ def main() -> int:
     # TERM ends the tests as Ctrl-C does.
     signal.signal(signal.SIGTERM, signal.default_int_handler)
     with tempfile.TemporaryDirectory(prefix="planted-") as folder, ThreadPoolExecutor(given.jobs) as pool:
+        # The user nobody runs programs below it too.
+        os.chmod(folder, 0o755)
         trial = Trial(Path(folder))
         try:
             became = [*pool.map(trial.judged, rows)]

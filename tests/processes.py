@@ -1,5 +1,5 @@
-"""Runs of commands: whole ones, and ones that wait for more input. Also what can be seen of a process from outside. If a test fails, `last`
-says which command was run last, with which input, and what it answered."""
+"""Runs of commands: whole ones, and ones that wait for more input; a terminal for them. Also what can be seen of a process from outside.
+If a test fails, `last` says which command was run last, with which input, and what it answered."""
 import contextlib
 import os
 import select
@@ -60,7 +60,7 @@ def _children(parents: set[int]) -> set[int]:
 
 def _end_all(process: subprocess.Popen) -> None:
     """Kills a run, unless it has ended, and all that it has started. First each of these is stopped, so that it starts no other. One whose
-    parent has ended is not found. All stay in the group of the script, by which run.py and planted.py end what a script leaves."""
+    parent has ended is not found. run.py and planted.py end what is left in the group of a script."""
     if process.poll() is not None:
         return
     found, more = set(), {process.pid}
@@ -200,6 +200,35 @@ class Running:
         """Kills the run, unless it has ended, and returns its answer."""
         self.process.kill()
         return self.end()
+
+
+class Terminal:
+    """A terminal: `end` is the program's side, and `shown` what has been shown so far."""
+
+    def __enter__(self) -> "Terminal":
+        self.side, self.end = os.openpty()
+        self.shown = ""
+        return self
+
+    def __exit__(self, *_: Any) -> None:
+        os.close(self.side)
+        os.close(self.end)
+
+    def type(self, text: str) -> None:
+        os.write(self.side, text.encode())
+
+    def see(self, seconds: float) -> None:
+        """Reads what is shown in this time, up to an exclamation mark."""
+        until = time.monotonic() + seconds
+        while not self.shown.endswith("!") and (left := until - time.monotonic()) > 0:
+            if select.select([self.side], [], [], left)[0]:
+                self.shown += os.read(self.side, 4096).decode()
+
+    def all_shown(self) -> str:
+        """All that has been shown, once the program can show nothing more."""
+        os.write(self.end, b"!")
+        self.see(LIMIT_OF_LINES)
+        return self.shown.removesuffix("!")
 
 
 def whole(words: list, text: str | bytes, **how: Any) -> Running:

@@ -31,11 +31,8 @@ import suite
 from book_cases import cases
 from checks import equal, holds
 from expected import AUDITS, HASHES, VECTORS, base64_of, keys_of, rows_of
-from processes import LIMIT_OF_LINES, sleeps, until, whole
-from suite import (
-    BOOK_OF_USER, CODES, ROOT, code, document, each, hotp, is_awaited, is_locked, is_root, nobody, program_on_path, read_book, seen, totp,
-    verify_words,
-)
+from processes import LIMIT_OF_LINES, until
+from suite import BOOK_OF_USER, CODES, code, document, each, hotp, is_root, nobody, program_on_path, read_book, totp
 from tool_runs import TOOLS, book_of, code_of_now, does, ran, start, token_of_now, with_tools
 
 DOCUMENT = document("docs/OPERATING.md")
@@ -130,212 +127,6 @@ def code_at(secret: bytes, moment: int) -> str:
 def verify(name: str, *codes: str, moment: int = 5) -> str:
     """A block in which `verify` is sent these codes."""
     return f"printf '%s\\n' {' '.join(codes)} | scramotp verify --book book.toml --name {name} --moment {moment}"
-
-
-def an_editor_and_a_command(folder: str) -> None:
-    """An edit by an editor with an option, and one by a command. The file keeps its owner, group and mode."""
-    book = with_tools(folder, BOOK_OF_USER)
-    os.chown(book, -1, 2345 if ROOT else [os.getegid(), *os.getgroups()][-1])
-    before = book.stat()
-    editor = Path(folder, "editor")
-    editor.write_text('#!/bin/sh\nprintf \'\\n[accounts."%s"]\\n\' "$1" >>"$2"\n')
-    editor.chmod(0o755)
-    does(folder, "tools/edit-book book.toml", EDITOR=f"{shlex.quote(str(editor))} 'a b@c'")
-    does(folder, "tools/edit-book book.toml sed s/4096/4097/")
-    equal(book_of(folder)["decoy_count"], 4097, "the count of decoys after an edit by a command")
-    equal(set(book_of(folder)["accounts"]), {"user", "a b@c"}, "the accounts after an edit by an editor")
-    after = book.stat()
-    kept = (before.st_uid, before.st_gid, before.st_mode)
-    equal((after.st_uid, after.st_gid, after.st_mode), kept, "the owner, the group and the mode after the edits")
-    equal(set(os.listdir(folder)), {"bin", "book.toml", "editor", "tools"}, "the files in the folder after the edits")
-
-
-def an_edit_that_fails(folder: str) -> None:
-    """A text that is no book, and a command or an editor that fails, leave the book as it was."""
-    book = with_tools(folder, BOOK_OF_USER)
-    real = os.path.realpath(book)
-    status, output, faults = ran(folder, "tools/edit-book book.toml sed s/format/former/")
-    found = re.fullmatch(rf"scramotp: bad book: 61\nedit-book: {real} is unchanged; look into (.*)\n", faults)
-    equal((status, output), (1, ""), faults)
-    holds(found, "the faults of an edit whose text is no book", faults)
-    equal(Path(found[1]).read_text(), BOOK_OF_USER.replace("format", "former"), "the text that the fault names")
-    os.remove(found[1])
-    found = ran(folder, "tools/edit-book book.toml false")
-    equal(found, (1, "", f"edit-book: {real} is unchanged, because false failed\n"), "an edit by a command that fails")
-    found = ran(folder, "tools/edit-book book.toml", EDITOR="false")
-    equal(found, (1, "", f"edit-book: {real} is unchanged, because the editor failed\n"), "an edit by an editor that fails")
-    equal(book.read_text(), BOOK_OF_USER, "the book after edits that fail")
-    equal(set(os.listdir(folder)), {"bin", "book.toml", "tools"}, "the files in the folder after edits that fail")
-
-
-def an_edit_that_cannot_be_saved(folder: str) -> None:
-    """If the new text can't be put in the book's place, the book stays as it was. If only its folder can't be synced, the book is changed.
-    Both are said. That the group can't be given to the new text is no fault. Here stand-ins for the system's commands fail."""
-    book = with_tools(folder, BOOK_OF_USER)
-    commands, edited = Path(program_on_path(folder)["PATH"].partition(":")[0]), BOOK_OF_USER.replace("4096", "4097")
-    kept = "is unchanged, because the new text could not be put in its place"
-    lost = "is changed, but the change may be lost if the machine stops now"
-    for trial, (command, fails, fault, text) in each([
-        ("sync", '[ ! -d "$2" ]', kept, BOOK_OF_USER),
-        ("mv", "true", kept, BOOK_OF_USER),
-        ("sync", '[ -d "$2" ]', lost, edited),
-        ("chgrp", "true", "", edited),
-    ]):
-        with trial:
-            what, refusal = f"{command} fails if {fails}", "echo refused >&2; " if command == "chgrp" else ""
-            book.write_text(BOOK_OF_USER)
-            stand_in = Path(commands, command)
-            stand_in.write_text(f'#!/bin/sh\n{fails} || exec {shutil.which(command)} "$@"\n{refusal}exit 1\n')
-            stand_in.chmod(0o755)
-            said = f"edit-book: {os.path.realpath(book)} {fault}\n" if fault else ""
-            answer = ran(folder, "tools/edit-book book.toml sed s/4096/4097/")
-            stand_in.unlink()
-            equal(answer, (int(fault != ""), "", said), what)
-            equal(book.read_text(), text, what)
-            equal(set(os.listdir(folder)), {"bin", "book.toml", "tools"}, what)
-
-
-def an_edit_of_anothers_book(folder: str) -> None:
-    """Another user's book is refused, and stays as it was. So does root's book in another user's folder, which only root can try."""
-    book = with_tools(folder, BOOK_OF_USER)
-    if ROOT:
-        os.chown(book, nobody().pw_uid, nobody().pw_gid)
-    else:
-        # A file of root's, through a link
-        book.unlink()
-        book.symlink_to("/etc/passwd")
-    before = seen(book)
-    belongs = f"edit-book: {os.path.realpath(book)} belongs to another user: run edit-book as the book's owner\n"
-    for trial, edit in each(["tools/edit-book book.toml sed s/4096/4097/", "EDITOR=false tools/edit-book book.toml"]):
-        with trial:
-            found = ran(folder, edit)
-            equal(found, (1, "", belongs), edit)
-            equal(seen(book), before, edit)
-    if is_root():
-        os.chown(book, 0, 0)
-        os.chown(folder, nobody().pw_uid, nobody().pw_gid)
-        before = seen(book)
-        found = ran(folder, "tools/edit-book book.toml sed s/4096/4097/")
-        equal(found, (1, "", f"edit-book: {os.path.realpath(book)} is in a folder of another user\n"), "an edit in another user's folder")
-        equal(seen(book), before, "the book in another user's folder")
-    equal(set(os.listdir(folder)), {"bin", "book.toml", "tools"}, "the files in the folder")
-
-
-def an_edit_in_a_folder_of_others(folder: str) -> None:
-    """A folder that its group or all users can write is refused, unless it has the sticky bit. The book stays as it was."""
-    book = with_tools(folder, BOOK_OF_USER)
-    fault = f"edit-book: {os.path.realpath(book)} is in a folder that others can write\n"
-    for trial, (mode, is_refused) in each([(0o720, True), (0o702, True), (0o1777, False), (0o755, False)]):
-        with trial:
-            os.chmod(folder, mode)
-            before = seen(book)
-            found = ran(folder, "tools/edit-book book.toml cat")
-            equal(found, (int(is_refused), "", fault if is_refused else ""), f"an edit in a folder of the mode {mode:o}")
-            equal(seen(book) == before, is_refused, f"whether the book in a folder of the mode {mode:o} stays")
-
-
-def an_edit_that_cannot_lock(folder: str) -> None:
-    """A lock that can't be taken at all is not told as a book in use. Nor is a book that its owner may not read: as root, nobody's here."""
-    book = with_tools(folder, BOOK_OF_USER)
-    real = os.path.realpath(book)
-    stand_in = Path(program_on_path(folder)["PATH"].partition(":")[0], "flock")
-    stand_in.write_text("#!/bin/sh\nexit 127\n")
-    stand_in.chmod(0o755)
-    found = ran(folder, "tools/edit-book book.toml cat")
-    equal(found, (1, "", f"edit-book: {real} is unchanged, because it could not be locked\n"), "an edit without flock")
-    stand_in.unlink()
-    shutil.copy(TOOLS / "edit-book", folder)
-    if ROOT:
-        for path in folder, book:
-            os.chown(path, nobody().pw_uid, nobody().pw_gid)
-    book.chmod(0)
-    found = ran(folder, f"{'runuser -u nobody -- ' * ROOT}./edit-book book.toml cat")
-    equal(found, (1, "", f"edit-book: {real} cannot be read\n"), "an edit of a book that can't be read")
-
-
-def a_process_that_an_edit_leaves(folder: str) -> None:
-    """A process that a command or an editor leaves does not keep the lock of the book."""
-    book = with_tools(folder, BOOK_OF_USER)
-    Path(folder, "leaver").write_text("sleep 600 <&- >&- 2>&- &\necho $! >left\nexit 1\n")
-    for trial, (command, editor, what) in each([(" sh leaver", "", "sh"), ("", "sh leaver", "the editor")]):
-        with trial:
-            answer = ran(folder, f"tools/edit-book book.toml{command}", EDITOR=editor)
-            is_kept = is_locked(book)
-            os.kill(int(Path(folder, "left").read_text()), signal.SIGKILL)
-            fault = f"edit-book: {os.path.realpath(book)} is unchanged, because {what} failed\n"
-            equal(answer, (1, "", fault), "an edit that leaves a process")
-            holds(not is_kept, "a process that this has left keeps the lock", what)
-
-
-def an_edit_that_is_stopped(folder: str) -> None:
-    """An edit whose processes are terminated leaves the book as it was, and no file next to it."""
-    book = with_tools(folder, BOOK_OF_USER)
-    edit = start(folder, "exec setsid tools/edit-book book.toml sh -c 'sed s/4096/4097/; exec sleep 600'")
-    until(lambda: any(path.read_text() for path in Path(folder).glob("book.toml.*")), "the edit should write its text")
-    os.killpg(edit.process.pid, signal.SIGTERM)
-    equal(edit.end().status, 1, "the status of an edit that is stopped")
-    equal(book.read_text(), BOOK_OF_USER, "the book")
-    equal(list(Path(folder).glob("book.toml.*")), [], "the files that are left")
-
-
-def has_both_changes(folder: str) -> None:
-    """Checks that the book has what an edit changed, and what a run did."""
-    found = book_of(folder)
-    equal((found["decoy_count"], found["accounts"]["user"]["token"]["next"]), (4097, 1), "the count of decoys and the next counter", found)
-
-
-def an_edit_waits(folder: str) -> None:
-    """An edit that waits for a run then edits the file that the run has put in the book's place."""
-    book = with_tools(folder, BOOK_OF_USER + hotp(look_ahead=3, limit=3))
-    run = start(folder, "exec scramotp verify --book book.toml --name user --moment 5")
-    until(lambda: is_locked(book), "the run should hold the book")
-    edit = start(folder, "tools/edit-book book.toml sed s/4096/4097/")
-    until(lambda: is_awaited(book) or edit.process.poll() is not None, "the edit should wait for the book")
-    edit.goes_on()
-    run.ends(0, "PASS 5 0\n", text=f"{CODES[0]}\n")
-    edit.ends(0)
-    has_both_changes(folder)
-
-
-def a_run_waits(folder: str) -> None:
-    """A run that waits for an edit then uses the file that the edit has put in the book's place."""
-    book = with_tools(folder, BOOK_OF_USER + hotp(look_ahead=3, limit=3))
-    slow = start(folder, "tools/edit-book book.toml sh -c 'sed s/4096/4097/; until [ -e done ]; do sleep 0.1; done'")
-    until(lambda: is_locked(book), "the edit should hold the book")
-    run = whole(verify_words(book), f"{CODES[0]}\n")
-    until(lambda: sleeps(run.process.pid) or run.process.poll() is not None, "the run should wait for the edit")
-    time.sleep(0.5)
-    run.goes_on()
-    Path(folder, "done").touch()
-    run.ends(0, "PASS 5 0\n")
-    slow.ends(0)
-    has_both_changes(folder)
-
-
-def many_at_once(folder: str) -> None:
-    """Edits and runs at the same time lose no change that another has made."""
-    with_tools(folder, BOOK_OF_USER + hotp(look_ahead=9, limit=99))
-    edits = [f"tools/edit-book book.toml sh -c 'cat; echo \"[accounts.a{number}]\"'" for number in range(8)]
-    enrols = [f"scramotp enrol --book book.toml --name b{number} --count 1" for number in range(8)]
-    with ThreadPoolExecutor(17) as pool:
-        found = list(pool.map(lambda block: ran(folder, block, "pencil\n"), [*edits, *enrols, verify("user", *CODES[:6])]))
-    failed = [answer for answer in found if answer.status]
-    accounts, due = book_of(folder)["accounts"], {"user", *(f"{kind}{number}" for kind in "ab" for number in range(8))}
-    lost = due - set(accounts)
-    equal((failed, lost, accounts["user"]["token"]["next"]), ([], set(), 6), "what fails, which accounts are lost, and the next counter")
-
-
-def an_edit_gives_up(folder: str) -> None:
-    """An edit waits for 30 seconds, and then leaves the book as it was."""
-    book = with_tools(folder, BOOK_OF_USER)
-    with open(book, "rb") as file:
-        fcntl.flock(file, fcntl.LOCK_EX)
-        began = time.monotonic()
-        found = ran(folder, "tools/edit-book book.toml sed s/4096/4097/")
-        waited = time.monotonic() - began
-    equal(found, (1, "", f"edit-book: {os.path.realpath(book)} is in use\n"), "an edit of a book that is held")
-    holds(waited > 29, "the edit gives up after seconds", waited)
-    equal(book.read_text(), BOOK_OF_USER, "the book after an edit that gave up")
 
 
 def sets_no_token(folder: str, block: str, why: str) -> None:
@@ -553,6 +344,20 @@ def a_password_that_is_refused(folder: str) -> None:
     does(folder, "scramotp enrol --book book.toml --name third", "pencil\n", "enrolled third\n")
     does(folder, change, "another one\n")
     has_keys_of(book_of(folder)["accounts"][NAME], b"another one", 4096)
+
+
+def an_account_removed_meanwhile(folder: str) -> None:
+    """An account that is removed while its new password is typed gets none, and is not made again."""
+    enrolled(folder)
+    left = Path(folder, "left")
+    left.mkdir()
+    change = start(folder, f"exec tools/set-password book.toml {NAME}", TMPDIR=str(left))
+    until(lambda: list(left.iterdir()), "the tool should wait for the password")
+    book = with_tools(folder, BOOK_OF_USER)
+    unchanged = f"edit-book: {os.path.realpath(book)} is unchanged, because sh failed\n"
+    change.ends(1, "", f"scramotp: no such account\n{unchanged}", text="another one\n")
+    equal(book.read_text(), BOOK_OF_USER, "the book")
+    equal(list(left.iterdir()), [], "the files that are left")
 
 
 def one_mechanism(folder: str) -> None:
@@ -1076,18 +881,6 @@ def every_block(folder: str) -> None:
 
 
 TESTS = [
-    an_editor_and_a_command,
-    an_edit_that_fails,
-    an_edit_that_cannot_be_saved,
-    an_edit_of_anothers_book,
-    an_edit_in_a_folder_of_others,
-    an_edit_that_cannot_lock,
-    a_process_that_an_edit_leaves,
-    an_edit_that_is_stopped,
-    an_edit_waits,
-    a_run_waits,
-    many_at_once,
-    an_edit_gives_up,
     a_token,
     a_hotp_token,
     a_fob_that_ran_ahead,
@@ -1098,6 +891,7 @@ TESTS = [
     a_first_password,
     a_password_of_any_name,
     a_password_that_is_refused,
+    an_account_removed_meanwhile,
     one_mechanism,
     a_removed_account,
     a_renamed_account,

@@ -29,6 +29,7 @@ NOT_TESTED = re.compile(r"^(\S+): not tested: (.*)$", re.M)
 TESTS = [
     "books.py",
     "recipes.py",
+    "edit_book.py",
     "book_commands.py",
     "login_kill.py",
     "hall_kill.py",

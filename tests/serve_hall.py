@@ -4,12 +4,15 @@
 Usage: serve_hall.py PROGRAM [TEST ..]
 
 The tool is started as in the block of docs/OPERATING.md. What the clients send and have to receive is computed with Python's hashlib and
-hmac. A code is judged by the moment at which it comes. The tool goes on if a client is gone before it is greeted, is the 65th, sends no
-whole line, does not read what it is sent, or sends 16 MB without the end of a line. If its hall is killed, it ends at the next event, and
-says why. It ends with status 0 at INT and at TERM, and with status 1 and a fault if a code can't be saved, or if the log can't be written.
-No hall begins if the log or the socket is there already, as after a run that was killed. If the hall does not begin, or a signal comes
-before it has, nothing is left. Nobody else can read the log and the copy of the book.
+hmac. A code is judged by the moment at which it comes. The tool goes on if a client is gone before it is greeted, is the 65th, sends a
+line in pieces or no whole line, does not read what it is sent, or sends 16 MB without the end of a line. If its hall is killed, it ends at
+the next event, and says why. It ends with status 0 at INT and at TERM, and with status 1 and a fault if a code can't be saved, or if the
+log can't be written. No hall begins if the log or the socket is there already, as after a run that was killed, or if the copy of the book
+would take the book's place. If the hall does not begin, or a signal comes before it has, nothing is left. Nobody else can read the log and
+the copy of the book.
 """
+import contextlib
+import fcntl
 import os
 import re
 import resource
@@ -17,6 +20,7 @@ import signal
 import socket
 import stat
 import sys
+import termios
 import time
 from concurrent.futures import ThreadPoolExecutor
 from pathlib import Path
@@ -32,6 +36,8 @@ from tool_runs import TOOLS, book_of, code_of_now, does, ran, start, token_of_no
 
 # What `line_of` returns for a client that waits in vain.
 NOTHING = "nothing in time"
+# The longest line of a client that a log can have whole: a mechanism's name of 20 characters, and a message of 2048 bytes, all escaped.
+LONGEST = f"AUTH {'X' * 20} :{'%25' * 2048}"
 OPERATING = TOOLS.parent / "docs" / "OPERATING.md"
 [SERVE] = [block for title, _, block in blocks_of(OPERATING) if title == "Serve logins with `serve-hall`"]
 # Its commands without the parentheses, and with the tool replacing the shell, so that signals reach it.
@@ -93,9 +99,24 @@ def logs_in(client: socket.socket, account: Account) -> None:
     equal(line_of(client), f"OK :v={it.signature}", "the login")
 
 
+def is_read(client: socket.socket) -> bool:
+    """Whether all that a client has sent was read."""
+    return not any(fcntl.ioctl(client, termios.TIOCOUTQ, bytes(4)))
+
+
+def sends_in_halves(client: socket.socket, line: str) -> None:
+    """The client sends a line in two halves, the second once the first was read."""
+    text = f"{line}\n".encode()
+    half = len(text) // 2
+    client.sendall(text[:half])
+    until(lambda: is_read(client), "the first half of a line should be read", line)
+    client.sendall(text[half:])
+
+
 def answers(client: socket.socket, line: str, answer: str) -> None:
-    """The client sends a line, and receives an answer of this form."""
-    client.sendall(f"{line}\n".encode())
+    """The client sends a line, and receives an answer of this form. If it was cut off, it receives nothing."""
+    with contextlib.suppress(BrokenPipeError):
+        client.sendall(f"{line}\n".encode())
     told = line_of(client)
     holds(re.fullmatch(answer, told), "another answer is due", answer, line, told)
 
@@ -119,30 +140,35 @@ def serves_until(serving: Running, number: int, folder: str | Path, answer: str)
 
 
 def a_hall_of_your_own(folder: str) -> None:
-    """Five clients: one logs in and sends a code, one sends a line that is too long, one asks for another mechanism, one goes away, and
-    one has gone before it is greeted."""
+    """Six clients: one logs in and sends a code, one sends a line that is too long, one sends the longest that a line can be, one asks for
+    another mechanism, one goes away, and one has gone before it is greeted."""
     account = clients.Account("user", "SCRAM-SHA-256")
     serving = serving_hall(folder, clients.book([account]))
-    good, long, other, away = [greeted(folder) for _ in range(4)]
+    good, long, longest, other, away = [greeted(folder) for _ in range(5)]
     away.close()
     with serving.stopped():
         connected(folder).close()
     begins_login(good, account)
     long.sendall(b"x" * 7000 + b"\n")
     equal([line_of(long), line_of(long)], ["NO :", ""], "a line that is too long")
+    longest.sendall(f"{LONGEST}\n".encode())
+    equal([line_of(longest), line_of(longest)], ["NO :", ""], "the longest line, which is for another mechanism")
     other.sendall(b"AUTH PLAIN\n")
     equal([line_of(other), line_of(other)], ["NO :", ""], "another mechanism")
     logs_in(good, account)
     answers(good, f"CODE {account.code(0)}", r"PASS \d+ 0")
     equal(stat.S_IMODE(os.stat(Path(folder, "hall.sock")).st_mode), 0o700, "the mode of the socket")
-    serves_until(serving, signal.SIGINT, folder, "clean sessions=5 accepted=1 codes=1")
+    serves_until(serving, signal.SIGINT, folder, "clean sessions=6 accepted=1 codes=1")
     equal(line_of(good), "", "the client is told no more")
+    lines = Path(folder, "hall.log").read_text().splitlines()
+    equal(lines.count(f"3 C {LONGEST}"), 1, "how often the log has the longest line")
     holds(not Path(folder, "hall.sock").exists(), "the socket is left")
     equal(book_of(folder)["accounts"]["user"]["token"]["next"], 1, "the counter is used")
 
 
 def a_code_of_this_moment(folder: str) -> None:
-    """A code is judged by the moment at which it comes: one of now passes, and one of ten steps ago does not. Both answers have it."""
+    """A code is judged by the moment at which it comes: one of now passes, and one of ten steps ago does not. Both answers have it. Each
+    code comes in two halves."""
     account = clients.Account("user", "SCRAM-SHA-256")
     book, _, _ = clients.book([account]).partition('\n[accounts."user".token]\n')
     serving = serving_hall(folder, book + token_of_now())
@@ -151,7 +177,7 @@ def a_code_of_this_moment(folder: str) -> None:
     logs_in(client, account)
     for steps, answer in [(-10, r"FAIL (\d+)"), (0, r"PASS (\d+) \d+")]:
         before = int(time.time())
-        client.sendall(f"CODE {code_of_now(steps)}\n".encode())
+        sends_in_halves(client, f"CODE {code_of_now(steps)}")
         told = line_of(client)
         found = re.fullmatch(answer, told)
         holds(found, "another answer is due to a code of so many steps after now", steps, answer, told)
@@ -231,19 +257,28 @@ def a_hall_that_is_killed(folder: str) -> None:
 
 
 def a_slow_client(folder: str) -> None:
-    """A client that sends byte after byte but no whole line is cut off; here after three seconds, by a copy of the tool."""
+    """A client that sends byte after byte but no whole line is cut off; here after five seconds, by a copy of the tool. One that sends
+    whole lines is served before and after that."""
+    account = clients.Account("bare", "SCRAM-SHA-256")
+    book, _, _ = clients.book([account]).partition('\n[accounts."bare".token]\n')
     text = (TOOLS / "serve-hall").read_text(encoding="utf-8")
     equal(text.count("\nPATIENCE = 60 "), 1, "the seconds that it waits")
     quick = Path(folder, "quick")
-    quick.write_text(text.replace("\nPATIENCE = 60 ", "\nPATIENCE = 3 "), encoding="utf-8")
+    quick.write_text(text.replace("\nPATIENCE = 60 ", "\nPATIENCE = 5 "), encoding="utf-8")
     quick.chmod(0o755)
-    serving = serving_hall(folder, BOOK_OF_USER, "./quick")
-    greeted(folder).close()
-    began = time.monotonic()
+    serving = serving_hall(folder, book, "./quick")
+    busy = greeted(folder)
+    began = said = time.monotonic()
+    begins_login(busy, account)
+    logs_in(busy, account)
     slow = greeted(folder)
     slow.settimeout(0.02)
 
     def is_cut_off() -> bool:
+        nonlocal said
+        if time.monotonic() > said + 1:
+            answers(busy, "CODE 755224", r"NOCODE \d+")
+            said = time.monotonic()
         try:
             slow.sendall(b"x")
             return slow.recv(1) == b""
@@ -254,8 +289,9 @@ def a_slow_client(folder: str) -> None:
 
     until(is_cut_off, "a client that sends no whole line should be cut off")
     waited = time.monotonic() - began
-    holds(waited >= 3, "the client was cut off before three seconds had passed", waited)
-    serves_until(serving, signal.SIGINT, folder, "clean sessions=2 accepted=0 codes=0")
+    holds(waited >= 5, "the client was cut off before five seconds had passed", waited)
+    answers(busy, "CODE 755224", r"NOCODE \d+")
+    serves_until(serving, signal.SIGINT, folder, "clean sessions=2 accepted=1 codes=0")
 
 
 def a_client_that_does_not_read(folder: str) -> None:
@@ -330,6 +366,18 @@ def a_log_that_is_there(folder: str) -> None:
     log.write_text("another\n")
     begins_no_hall(folder, "hall.log")
     equal(log.read_text(), "another\n", "the log")
+
+
+def a_copy_that_is_the_book(folder: str) -> None:
+    """A log by whose name the copy of the book would take the book's place is refused, and the book stays as it was."""
+    book = with_tools(folder, BOOK_OF_USER)
+    Path(folder, "link").symlink_to("book.toml")
+    before = seen(book), set(os.listdir(folder))
+    for trial, name in each(["book.toml", "link"]):
+        with trial:
+            answer = ran(folder, f"tools/serve-hall {name} hall.sock book")
+            equal(answer, (1, "", "serve-hall: book.toml is the book: choose another name for the log\n"), name)
+            equal((seen(book), set(os.listdir(folder)) - {"bin"}), before, name)
 
 
 def a_socket_that_is_left(folder: str) -> None:
@@ -438,6 +486,7 @@ suite.run_all(
         a_client_that_does_not_read,
         a_client_that_ends_no_line,
         a_log_that_is_there,
+        a_copy_that_is_the_book,
         a_socket_that_is_left,
         copies_that_are_there,
         a_socket_that_is_replaced,

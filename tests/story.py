@@ -12,7 +12,7 @@ import re
 
 import processes
 import suite
-from checks import equal, holds
+from checks import equal
 from suite import blocks_of, document, each, program_on_path
 
 TITLE = "Quick start"

@@ -237,13 +237,14 @@ class BookFolder:
         self.before = "".join(texts)
         self.book.write_text(self.before)
 
-    def prints(self, words: list, text: str | bytes, status: int, log: str, fault: str = "") -> str:
-        """Runs the program on this input, and compares its status, log and fault. Returns the log that was printed."""
-        return prints(words, text, status, log, fault)
-
     def verifies(self, text: str, status: int, printed: str, fault: str = "", moment: str = "5") -> None:
         """Gives `verify` these lines at a moment, and compares its status, output and fault."""
         prints(verify_words(self.book, moment), text, status, printed, fault)
+
+    def tokens_are(self, due: dict[str, tuple[int, int]], *about: Any) -> None:
+        """Compares the next counter and the failures of each account."""
+        tokens = {name: it["token"] for name, it in read_book(self.book)["accounts"].items()}
+        equal({name: (it["next"], it["failures"]) for name, it in tokens.items()}, due, "the tokens of the accounts", *about)
 
     def token(self, name: str = "user") -> dict[str, Any]:
         """The token of an account."""
@@ -282,7 +283,7 @@ class BookFolder:
 
 
 class TakesTooLong(Exception):
-    """A test has taken longer than a test may."""
+    """A test has taken longer than a test may. It ends the test, also where tables stand in tables."""
 
 
 def called(row: Any) -> str:
@@ -309,27 +310,30 @@ class Trial:
         self.bad.append(why if self.bad else why + processes.last())
         processes.forget_runs()
         if isinstance(fault, TakesTooLong):
-            fail_rows(self.bad)
+            raise TakesTooLong(rows_text(self.bad))
         return True
 
 
 def each(rows: Iterable) -> Iterator[tuple[Trial, Any]]:
     """Each row of a table after the context in which it is checked, as in `for trial, row in each(rows):` and then `with trial:`. All rows
-    are checked, and then the test fails if one of them did, and names each that did. The loop may end only at its last row."""
+    are checked, and then the test fails if one of them did, and names each that did. The loop may end only at its last row, as
+    documents.py checks."""
     number, bad = 0, []
     try:
         for number, row in enumerate(rows, 1):
             yield Trial(number, row, bad), row
     except Exception as fault:
         bad.append(f"what comes after row {number}: {type(fault).__name__}: {fault}\n{processes.last()}")
+        if isinstance(fault, TakesTooLong):
+            raise TakesTooLong(rows_text(bad)) from fault
     holds(number, "the table has no rows")
     if bad:
-        fail_rows(bad)
+        fail([], [rows_text(bad)])
 
 
-def fail_rows(bad: list[str]) -> NoReturn:
-    """Fails the test, and says which rows of a table have failed, and why."""
-    fail([], [f"{len(bad)} of its rows fail\n" + "".join(bad).rstrip("\n")])
+def rows_text(bad: list[str]) -> str:
+    """Which rows of a table have failed, and why."""
+    return f"{len(bad)} of its rows fail\n" + "".join(bad).rstrip("\n")
 
 
 def chosen(tests: list[Callable]) -> list[Callable]:
@@ -352,6 +356,8 @@ def run_all(tests: list[Callable]) -> NoReturn:
     each with its last run, and how many pass, and exits, with status 1 if one fails. What a test has started does not outlive it."""
     tests, failed = chosen(tests), 0
     signal.signal(signal.SIGALRM, end_test)
+    # A shell that starts this script in the background has it ignore INT, and what a test starts would then ignore it too.
+    signal.signal(signal.SIGINT, signal.default_int_handler)
     for test in tests:
         with tempfile.TemporaryDirectory() as folder:
             random.seed(f"{SEED} {test.__name__}")

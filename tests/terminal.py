@@ -7,15 +7,13 @@ Standard input and standard error are both a terminal, or one of them is, and st
 RFC 4226, appendix D, the login is that of RFC 5802, section 5, and its keys were computed with Python's hashlib.
 """
 import os
-import select
 import time
 from pathlib import Path
-from typing import Any
 
 import suite
 from checks import equal
 from expected import ACCEPTED, GONE, KEYS_TOML, MECHS
-from processes import LIMIT_OF_LINES, Running
+from processes import LIMIT_OF_LINES, Running, Terminal
 from suite import BOOK_OF_USER, KEYS_OF_PENCIL, PROGRAM, PUBLISHED, SALT, each, hotp
 
 PASSWORD = "Type the password and press Enter; it is shown as you type.\r\n"
@@ -58,35 +56,6 @@ def prepare(folder: str, words: list[str]) -> None:
     else:
         keys = KEYS_TOML if words[0] == "login" else BOOK_OF_USER
         book.write_text(keys + hotp(look_ahead=3, limit=3))
-
-
-class Terminal:
-    """A terminal: `end` is the program's side, and `shown` what has been shown so far."""
-
-    def __enter__(self) -> "Terminal":
-        self.side, self.end = os.openpty()
-        self.shown = ""
-        return self
-
-    def __exit__(self, *_: Any) -> None:
-        os.close(self.side)
-        os.close(self.end)
-
-    def type(self, text: str) -> None:
-        os.write(self.side, text.encode())
-
-    def see(self, seconds: float) -> None:
-        """Reads what is shown in this time, up to an exclamation mark."""
-        until = time.monotonic() + seconds
-        while not self.shown.endswith("!") and (left := until - time.monotonic()) > 0:
-            if select.select([self.side], [], [], left)[0]:
-                self.shown += os.read(self.side, 4096).decode()
-
-    def all_shown(self) -> str:
-        """All that has been shown, once the program can show nothing more."""
-        os.write(self.end, b"!")
-        self.see(LIMIT_OF_LINES)
-        return self.shown.removesuffix("!")
 
 
 def start(words: list[str], **terminals: int) -> Running:
