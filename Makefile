@@ -15,6 +15,8 @@ LIBRARIES = mac_core otp_core scram_text scram_ends book_format account_book boo
 # What is installed beside it.
 TOOLS = $(addprefix tools/,check-code drop-tables edit-book find-key from-verifier list-accounts list-unlike-decoys serve-hall \
 	set-password to-verifier)
+# The documents that are installed, with the folder docs as it is here, so that their links lead to each other.
+DOCUMENTS = README.md CHANGELOG.md CONTRIBUTING.md LICENSE
 SOURCES = crates.txt HANDLES $(shell find crates \( -name out -prune \) -o \( -name '*.rt' -o -name '*.antt' \) -print)
 # Succeeds where the program is built and newer than its sources.
 IS_FRESH = test -x $(PROGRAM) && test -z "$$(find $(SOURCES) -newer $(PROGRAM))"
@@ -31,7 +33,7 @@ help:
 	@echo '                CPU=x86-64-v3 builds it for newer processors'
 	@echo 'make libraries  proves the libraries, for a server of your own'
 	@echo 'make install    copies the built program to $$(DESTDIR)$$(PREFIX)/bin,'
-	@echo '                and its tools to $$(DESTDIR)$$(PREFIX)/share/scramotp'
+	@echo '                its tools to $$(DESTDIR)$$(PREFIX)/share/scramotp, and its documents to share/doc/scramotp there'
 	@echo 'make test       the gate: proves all, checks that proofs refuse wrong bodies, builds the program and runs all tests;'
 	@echo '                SHARE=1 tries all wrong bodies, instead of about a third'
 	@echo 'make coverage   measures how much of the built program the tests run; needs objdump and readelf too'
@@ -85,6 +87,9 @@ install:
 	@$(IS_FRESH) || { echo 'The program is not built, or is older than its sources: run make build first.' >&2; exit 1; }
 	install -D -m 755 $(PROGRAM) "$(DESTDIR)$(PREFIX)/bin/scramotp"
 	install -D -m 755 -t "$(DESTDIR)$(PREFIX)/share/scramotp" $(TOOLS)
+	install -D -m 644 -t "$(DESTDIR)$(PREFIX)/share/doc/scramotp" $(DOCUMENTS)
+	install -D -m 644 -t "$(DESTDIR)$(PREFIX)/share/doc/scramotp/docs" docs/*.md
+	install -D -m 644 -t "$(DESTDIR)$(PREFIX)/share/doc/scramotp/bench" bench/README.md
 
 test: this_kit needed
 	python3 tests/documents.py

@@ -1,11 +1,12 @@
 #!/usr/bin/env python3
-"""Compares the processor time of logins in a hall, 64 at a time, with that of logins at a desk, one after another; and measures the
-memory of a hall whose sessions come and go.
+"""Compares the processor time of logins in a hall, 64 at a time, with that of logins at a desk, one after another; times logins that the
+command `hall` judges; and measures the memory of a hall whose sessions come and go.
 
 Usage: hall.py PROGRAM BENCH
 
-BENCH is the built crate bench. It makes the same calls of both in memory, for the login of RFC 7677's example; the times are the best of
-several turns, without the start. Memory is measured in bench, with logins, and in `hall`, where 63 sessions stay open while others
+BENCH is the built crate bench. It makes the same calls of a desk and of a hall in memory, for the login of RFC 7677's example; the times
+are the best of several turns, without the start. `hall` gets such logins as lines, 64 at a time, all of them at once; its time is wall
+time, and its log is read from a pipe. Memory is measured in bench, with logins, and in `hall`, where 63 sessions stay open while others
 begin and end.
 """
 import os
@@ -16,14 +17,16 @@ import tempfile
 import time
 
 from serve import LOGGED, book
-from timed import check, processor
+from expected import AUDITS, SHA256_NONCES
+from timed import check, processor, wall
 
 # Each of these is a multiple of 64.
 LOGINS = 200_000
 FEW, MANY = 6_400, 1_000_000
 TURNS = 5
-# How many sessions fit into an input of 16777216 bytes.
+# How many sessions, and a multiple of 64 logins, fit into an input of 16777216 bytes.
 SESSIONS = 700_000
+LOGINS_AS_LINES = 48_000
 STAYING = 63
 LINES = 7  # of each login in a log
 
@@ -48,6 +51,28 @@ def rate(bench, kind, size, path):
     none = min(seconds(bench, kind, 0, 0, path) for _ in range(TURNS))
     all_of_them = min(seconds(bench, kind, LOGINS, size, path) for _ in range(TURNS))
     return LOGINS / (all_of_them - none)
+
+
+def logins_as_lines(count):
+    """Input for `hall`: logins of RFC 7677's example, 64 at a time, each of which sends a line in turn."""
+    recorded = (AUDITS / "sha256.log").read_text().splitlines()
+    sent = [line.removeprefix("C ") for line in recorded if line.startswith(("C AUTH ", "C RESP "))]
+    nonce = SHA256_NONCES[SHA256_NONCES.index("--server-nonce") + 1]
+    events = []
+    for first in range(1, count + 1, 64):
+        numbers = range(first, first + 64)
+        events += [f"open {nonce}\n" for _ in numbers]
+        events += [f"line {number} 5 {text}\n" for text in sent for number in numbers]
+        events += [f"gone {number} 5\n" for number in numbers]
+    return "".join(events)
+
+
+def rate_of_program(program, path):
+    """The logins per second of `hall` that are given as lines, all at once."""
+    def seconds_of(count):
+        given = logins_as_lines(count)
+        return min(wall([program, "hall", "--book", path], lambda log: log.count(" S OK ") == count, given) for _ in range(TURNS))
+    return LOGINS_AS_LINES / (seconds_of(LOGINS_AS_LINES) - seconds_of(0))
 
 
 def peak(words, is_due, given=None):
@@ -86,6 +111,7 @@ def main():
         alone = rate(bench, "alone", LOGINS * LOGGED, path)
         together = rate(bench, "together", logged(LOGINS), path)
         print(f"logins a second: {alone:,.0f} at a desk, {together:,.0f} in a hall with 64 open, ratio {together / alone:.2f}")
+        print(f"logins a second: {rate_of_program(program, path):,.0f} by `hall`, given as lines, 64 at a time")
         few, many = (peak([bench, "together", str(count), path], serves(count, logged(count))) for count in (FEW, MANY))
         print(f"peak memory of a hall: {few} KiB for {FEW} logins, {many} KiB for {MANY}, ratio {many / few:.3f}")
         few, many = (of_program(program, path, given, count) for count in (FEW, SESSIONS))
