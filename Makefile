@@ -16,7 +16,7 @@ LIBRARIES = mac_core otp_core scram_text scram_ends book_format account_book boo
 TOOLS = $(addprefix tools/,check-code drop-tables edit-book find-key from-verifier list-accounts list-unlike-decoys serve-hall \
 	set-password to-verifier)
 # The documents that are installed, with the folder docs as it is here, so that their links lead to each other.
-DOCUMENTS = README.md CHANGELOG.md CONTRIBUTING.md LICENSE
+DOCUMENTS = README.md CHANGELOG.md CONTRIBUTING.md LICENSE HANDLES
 SOURCES = crates.txt HANDLES $(shell find crates \( -name out -prune \) -o \( -name '*.rt' -o -name '*.antt' \) -print)
 # Succeeds where the program is built and newer than its sources.
 IS_FRESH = test -x $(PROGRAM) && test -z "$$(find $(SOURCES) -newer $(PROGRAM))"
@@ -97,8 +97,8 @@ test: this_kit needed
 	@rm -f crates/scramotp/out/built_for
 	python3 tests/edits.py --built --share $(SHARE)
 	$(MAKE) build
-	python3 tests/planted.py --unbuilt --jobs $(JOBS)
 	JOBS=$(JOBS) python3 tests/run.py $(PROGRAM)
+	python3 tests/planted.py --unbuilt --jobs $(JOBS)
 
 # Measures what the scripts run of the program, which takes them longer than usual. It judges nothing.
 coverage: needed build

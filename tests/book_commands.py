@@ -308,6 +308,8 @@ def unlocked(folder: str) -> None:
 
 def owner(folder: str) -> None:
     """A book keeps its owner and its group, or it is not saved. Only root can try this."""
+    if not is_root():
+        return
     book = put(os.path.join(folder, "book"))
     os.chown(book, 1234, 4321)
     os.chmod(book, 0o600)
@@ -326,6 +328,8 @@ def owner(folder: str) -> None:
 def shared_book(folder: str) -> None:
     """A member of the group that shares a book of root's can't use it, since a save could not keep its owner. Root can,
     and then the group has no rights to it. Only root can try this."""
+    if not is_root():
+        return
     book = put(os.path.join(folder, "book"))
     for path, mode in [(book, 0o660), (folder, 0o2770)]:
         os.chown(path, 0, 4321)
@@ -338,6 +342,8 @@ def shared_book(folder: str) -> None:
 def group_of_others(folder: str) -> None:
     """A book whose owner is not in its group can be used and saved: the file then has the owner's group, and only
     the owner may read it. Only root can try this."""
+    if not is_root():
+        return
     book = put(os.path.join(folder, "book"))
     os.chown(folder, nobody().pw_uid, nobody().pw_gid)
     for trial, command in each(GOOD):
@@ -363,6 +369,8 @@ def check_refused(book: str, runner: dict[str, Any]) -> None:
 def others_book(folder: str) -> None:
     """Another user's book is not read in a folder that others may write or that belongs to another user. Only root can
     try this."""
+    if not is_root():
+        return
     book = put(os.path.join(folder, "book"))
     os.chown(book, 1234, 4321)
     os.chmod(book, 0o666)
@@ -384,6 +392,8 @@ def others_book(folder: str) -> None:
 def others_next(folder: str) -> None:
     """If another user's file is at the path of the next text and can't be removed, the fault names it. Only root can
     try this."""
+    if not is_root():
+        return
     book, next_text = os.path.join(folder, "book"), put(os.path.join(folder, "book.new"))
     os.chown(put(book), nobody().pw_uid, nobody().pw_gid)
     os.chown(next_text, 1234, 4321)
@@ -500,8 +510,11 @@ TESTS = [
     hard_links,
     closed_next,
     held_by_another,
+    owner,
+    shared_book,
+    group_of_others,
+    others_book,
+    others_next,
 ]
-if is_root():
-    TESTS += [owner, shared_book, group_of_others, others_book, others_next]
 
 suite.run_all(TESTS)

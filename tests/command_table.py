@@ -212,6 +212,6 @@ def printed_begins_clean(folder: str | pathlib.Path, printed: str) -> bool:
 def is_front(command: Command, printed: str) -> bool:
     """Whether what was printed begins the command's whole output; or is the log of a desk or a hall that halted at the last code that it
     judged, or of a desk that could no longer hear its client."""
-    ends = {"login": r"(?:C CODE \d+\nS HALT|C GONE\nE)\n\Z", "hall": r"1 C CODE \d+\n1 S HALT\n\Z"}
+    ends = {"login": r"(?:S HALT|C GONE\nE)\n\Z", "hall": r"1 S HALT\n\Z"}
     front = re.sub(ends[command.name], "", printed) if command.name in ends else printed
     return command.printed.startswith(front)

@@ -24,7 +24,7 @@ from processes import Running, Terminal, sleeps, until, whole
 from suite import (
     BOOK_OF_USER, CODES, ROOT, as_nobody, each, hotp, is_awaited, is_locked, is_root, nobody, program_on_path, seen, verify_words,
 )
-from tool_runs import TOOLS, book_of, does, ran, start, with_tools
+from tool_runs import TOOLS, book_of, does, ran, stand_in, start, with_tools
 
 
 def an_editor_and_a_command(folder: str) -> None:
@@ -34,15 +34,16 @@ def an_editor_and_a_command(folder: str) -> None:
     os.chown(book, -1, 2345 if ROOT else [os.getegid(), *os.getgroups()][-1])
     before = book.stat()
     editor = Path(folder, "editor")
-    editor.write_text('#!/bin/sh\nprintf \'\\n[accounts."%s"]\\n\' "$1" >>"$2"\n')
+    # As many editors do, it puts another file in the place of the one that it is given.
+    editor.write_text('#!/bin/sh\numask 022; cat "$2" >other; printf \'\\n[accounts."%s"]\\n\' "$1" >>other; rm "$2"; mv other "$2"\n')
     editor.chmod(0o755)
-    does(folder, "tools/edit-book book.toml", EDITOR=f"{shlex.quote(str(editor))} 'a b@c'")
-    does(folder, "tools/edit-book book.toml sed s/4096/4097/")
+    for edit, words in [("", {"EDITOR": f"{shlex.quote(str(editor))} 'a b@c'"}), (" sed s/4096/4097/", {})]:
+        does(folder, f"umask 022; tools/edit-book book.toml{edit}", **words)
+        after = book.stat()
+        equal((after.st_uid, after.st_gid), (before.st_uid, before.st_gid), "the owner and the group after an edit", edit)
+        equal(stat.S_IMODE(after.st_mode), 0o600, "the mode after an edit", edit)
     equal(book_of(folder)["decoy_count"], 4097, "the count of decoys after an edit by a command")
     equal(set(book_of(folder)["accounts"]), {"user", "a b@c"}, "the accounts after an edit by an editor")
-    after = book.stat()
-    equal((after.st_uid, after.st_gid), (before.st_uid, before.st_gid), "the owner and the group after the edits")
-    equal(stat.S_IMODE(after.st_mode), 0o600, "the mode after the edits")
     equal(set(os.listdir(folder)), {"bin", "book.toml", "editor", "tools"}, "the files in the folder after the edits")
 
 
@@ -68,7 +69,7 @@ def an_edit_that_cannot_be_saved(folder: str) -> None:
     """If the new text can't be put in the book's place, the book stays as it was. If only its folder can't be synced, the book is changed.
     Both are said. That the group can't be given to the new text is no fault. Here stand-ins for the system's commands fail."""
     book = with_tools(folder, BOOK_OF_USER)
-    commands, edited = Path(program_on_path(folder)["PATH"].partition(":")[0]), BOOK_OF_USER.replace("4096", "4097")
+    edited = BOOK_OF_USER.replace("4096", "4097")
     kept = "is unchanged, because the new text could not be put in its place"
     lost = "is changed, but the change may be lost if the machine stops now"
     for trial, (command, fails, fault, text) in each([
@@ -80,12 +81,10 @@ def an_edit_that_cannot_be_saved(folder: str) -> None:
         with trial:
             what, refusal = f"{command} fails if {fails}", "echo refused >&2; " if command == "chgrp" else ""
             book.write_text(BOOK_OF_USER)
-            stand_in = Path(commands, command)
-            stand_in.write_text(f'#!/bin/sh\n{fails} || exec {shutil.which(command)} "$@"\n{refusal}exit 1\n')
-            stand_in.chmod(0o755)
+            failing = stand_in(folder, command, f'{fails} || exec {shutil.which(command)} "$@"\n{refusal}exit 1')
             said = f"edit-book: {os.path.realpath(book)} {fault}\n" if fault else ""
             answer = ran(folder, "tools/edit-book book.toml sed s/4096/4097/")
-            stand_in.unlink()
+            failing.unlink()
             equal(answer, (int(fault != ""), "", said), what)
             equal(book.read_text(), text, what)
             equal(set(os.listdir(folder)), {"bin", "book.toml", "tools"}, what)
@@ -134,12 +133,10 @@ def an_edit_that_cannot_lock(folder: str) -> None:
     """A lock that can't be taken at all is not told as a book in use. Nor is a book that its owner may not read: as root, nobody's here."""
     book = with_tools(folder, BOOK_OF_USER)
     real = os.path.realpath(book)
-    stand_in = Path(program_on_path(folder)["PATH"].partition(":")[0], "flock")
-    stand_in.write_text("#!/bin/sh\nexit 127\n")
-    stand_in.chmod(0o755)
+    missing = stand_in(folder, "flock", "exit 127")
     found = ran(folder, "tools/edit-book book.toml cat")
     equal(found, (1, "", f"edit-book: {real} is unchanged, because it could not be locked\n"), "an edit without flock")
-    stand_in.unlink()
+    missing.unlink()
     shutil.copy(TOOLS / "edit-book", folder)
     if ROOT:
         for path in folder, book:
@@ -166,7 +163,7 @@ def a_process_that_an_edit_leaves(folder: str) -> None:
 def an_edit_that_is_stopped(folder: str) -> None:
     """An edit whose processes are terminated leaves the book as it was, and no file next to it."""
     book = with_tools(folder, BOOK_OF_USER)
-    edit = start(folder, "exec setsid tools/edit-book book.toml sh -c 'sed s/4096/4097/; exec sleep 600'")
+    edit = start(folder, "exec setsid tools/edit-book book.toml sh -c 'sed s/4096/4097/; exec sleep 130'")
     until(lambda: any(path.read_text() for path in Path(folder).glob("book.toml.*")), "the edit should write its text")
     os.killpg(edit.process.pid, signal.SIGTERM)
     equal(edit.end().status, 1, "the status of an edit that is stopped")
@@ -180,7 +177,7 @@ def an_editor_at_an_interrupt(folder: str) -> None:
     ended = f"edit-book: {os.path.realpath(book)} is unchanged, because the editor failed\n"
     goes_on = "trap 'caught=1' INT; touch waits; until [ $caught ]; do sleep 0.1; done; sed -i s/4096/4097/ $1"
     for trial, (what, status, faults, text) in each([
-        ("touch waits; exec sleep 600", 1, ended, BOOK_OF_USER),
+        ("touch waits; exec sleep 130", 1, ended, BOOK_OF_USER),
         (goes_on, 0, "", BOOK_OF_USER.replace("4096", "4097")),
     ]):
         with trial:
@@ -208,6 +205,23 @@ def a_book_that_may_not_be_written(folder: str) -> None:
         terminal.type("n\n")
         edit.ends(0)
     equal(book_of(folder)["decoy_count"], 4097, "the count of decoys after an edit of a book that may not be written")
+
+
+def a_book_that_is_changed_meanwhile(folder: str) -> None:
+    """If another writes the book without its lock while it is edited, or puts a file in its place, that stays, and so does the new text."""
+    book, other = with_tools(folder, BOOK_OF_USER), BOOK_OF_USER.replace("4096", "5000")
+    Path(folder, "other").write_text(other)
+    for trial, change in each(["cat other >book.toml", "cp other another; mv another book.toml", "touch book.toml"]):
+        with trial:
+            book.write_text(BOOK_OF_USER)
+            status, output, faults = ran(folder, f"tools/edit-book book.toml sh -c 'sed s/4096/4097/; {change}'")
+            due = rf"edit-book: {os.path.realpath(book)} was changed by another meanwhile, and stays so; look into (.*)\n"
+            found = re.fullmatch(due, faults)
+            equal((status, output), (1, ""), change, faults)
+            holds(found, "another fault is due", due, faults)
+            equal(Path(found[1]).read_text(), BOOK_OF_USER.replace("4096", "4097"), change, "the new text")
+            os.remove(found[1])
+            equal(book.read_text(), BOOK_OF_USER if "touch" in change else other, change, "the book")
 
 
 def has_both_changes(folder: str) -> None:
@@ -283,6 +297,7 @@ suite.run_all(
         an_edit_that_is_stopped,
         an_editor_at_an_interrupt,
         a_book_that_may_not_be_written,
+        a_book_that_is_changed_meanwhile,
         an_edit_waits,
         a_run_waits,
         many_at_once,

@@ -88,7 +88,7 @@ def ran(folder: str, commands: str, environment: dict[str, str]) -> tuple[int, l
 def the_book(folder: str) -> None:
     """The book has the form in which a command saves it: a save leaves its text unchanged."""
     held = suite.BookFolder(folder, BOOK)
-    held.prints([PROGRAM, "unlock", "--book", held.book, "--name", "user"], "", 0, "unlocked user\n")
+    suite.prints([PROGRAM, "unlock", "--book", held.book, "--name", "user"], "", 0, "unlocked user\n")
     equal(held.book.read_text(), BOOK, "the saved book")
 
 

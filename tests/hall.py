@@ -1,6 +1,6 @@
 #!/usr/bin/env python3
 """What the built program prints for many sessions over one book, and how it leaves the book. clients.py computes the logs that are
-due, and the program itself audits each log by the book that the hall began with.
+due, and the program itself audits most logs, by the book that the hall began with.
 
 Usage: hall.py PROGRAM [TEST ..]
 

@@ -53,7 +53,7 @@ def installed(folder: str) -> None:
     """The program, the tools and the documents are there, with the right bytes, and no other file is. All users may run the first two and
     read all, and only their owner may write them."""
     program = shutil.copy(PROGRAM, folder)
-    pages = [TOP / name for name in ["README.md", "CHANGELOG.md", "CONTRIBUTING.md", "LICENSE", "bench/README.md"]]
+    pages = [TOP / name for name in ["README.md", "CHANGELOG.md", "CONTRIBUTING.md", "LICENSE", "HANDLES", "bench/README.md"]]
     files = {pathlib.Path("share/scramotp", path.name): (path.read_bytes(), 0o755) for path in (TOP / "tools").iterdir()}
     files |= {
         pathlib.Path("share/doc/scramotp", path.relative_to(TOP)): (path.read_bytes(), 0o644)
@@ -117,6 +117,7 @@ def run_from_sources(folder: str) -> None:
         (old, "echo it is wrong >&2; exit 3", None),
     ]):
         with trial:
+            asked.unlink(missing_ok=True)
             stand_in.write_text(f'#!/bin/sh\necho "$PWD: $1 $2" >{asked}\nshift 2\n{last}\n')
             stand_in.chmod(0o755)
             status, output, faults = done = made("run", program, top, path)

@@ -81,6 +81,7 @@ def kill_before_any_call(here: BookFolder, started: Callable[..., Running], coun
     count, kills = int(os.environ.get("RUNS") or count), Kills(here, started, is_log)
     calls = kills.run(0, status)
     holds(kills.passed, "no code passes in a whole run", calls)
+    holds(count >= calls or "RUNS" in os.environ, "too few runs for a kill before each call", count, calls)
     numbers = [1 + calls * at // count for at in range(count)]
     random.shuffle(numbers)
     for number in numbers:

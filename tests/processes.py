@@ -262,7 +262,7 @@ def sleeps(process: int) -> bool:
 
 def taken(process: int) -> float:
     """The seconds of processor time that a process itself has taken so far, in steps of a hundredth."""
-    return int(_stat(process)[11]) / os.sysconf("SC_CLK_TCK")
+    return sum(map(int, _stat(process)[11:13])) / os.sysconf("SC_CLK_TCK")
 
 
 def processor_time() -> float:

@@ -15,6 +15,7 @@ import base64
 import fcntl
 import fnmatch
 import grp
+import itertools
 import os
 import re
 import shlex
@@ -33,7 +34,7 @@ from checks import equal, holds
 from expected import AUDITS, HASHES, VECTORS, base64_of, keys_of, rows_of
 from processes import LIMIT_OF_LINES, until
 from suite import BOOK_OF_USER, CODES, code, document, each, hotp, is_root, nobody, program_on_path, read_book, totp
-from tool_runs import TOOLS, book_of, code_of_now, does, ran, start, token_of_now, with_tools
+from tool_runs import TOOLS, book_of, code_of_now, does, ran, stand_in, start, token_of_now, with_tools
 
 DOCUMENT = document("docs/OPERATING.md")
 UNITS = TOOLS.parent / "docs" / "SYSTEMD.md"
@@ -301,14 +302,17 @@ def a_password_of_any_name(folder: str) -> None:
     Path(folder, "link").symlink_to("tools/set-password")
     for letter in "acs":
         Path(folder, letter).touch()
-    names = ["a b", "*", "-x", 'a"b\\c']
+    names = ["a b", "*", "-x", 'a"b\\c', "sha1", "sha256", "a.sha1", 'it\'s "odd"']
     for name in names:
         does(folder, f"scramotp enrol --book book.toml --name={shlex.quote(name)} --count 2", "pencil\n", f"enrolled {name}\n")
+    does(folder, "tools/edit-book book.toml sed 's/^act_as = \\[]/act_as = [\"root\"]/'")
     for trial, name in each(names):
         with trial:
+            before = without_keys(book_of(folder), name)
+            equal(before["accounts"][name]["act_as"], ["root"], name, "the names to act as")
             does(folder, f"./link book.toml {shlex.quote(name)} --count 3", f"new {name}\n")
             has_keys_of(book_of(folder)["accounts"][name], f"new {name}".encode(), 3)
-    equal(set(book_of(folder)["accounts"]), set(names), "the accounts")
+            equal(without_keys(book_of(folder), name), before, name, "what else the book states")
 
 
 def a_password_that_is_refused(folder: str) -> None:
@@ -322,28 +326,36 @@ def a_password_that_is_refused(folder: str) -> None:
         with trial:
             equal(ran(folder, change, password), (2, "", "scramotp: bad password\n"), password)
             equal(book.read_bytes(), before, password)
-    commands = Path(program_on_path(folder)["PATH"].partition(":")[0])
     for trial, command in each(["mktemp", "sed", "grep", "awk"]):
         with trial:
-            stand_in = Path(commands, command)
-            stand_in.write_text("#!/bin/sh\nexit 2\n")
-            stand_in.chmod(0o755)
+            failing = stand_in(folder, command, "exit 2")
             failed = f"edit-book: {os.path.realpath(book)} is unchanged, because sh failed\n"
             answer = ran(folder, change, "another one\n")
             equal(answer, (1, "", failed) if command == "awk" else (2, "", ""), command)
             equal(book.read_bytes(), before, command)
-            stand_in.unlink()
+            failing.unlink()
     book.write_bytes(before.replace(f'[accounts."{NAME}".sha1]'.encode(), f"[accounts . '{NAME}' . sha1]".encode()))
     spelled = book.read_bytes()
     holds(spelled != before, "the book does not have the header that is spelled in another way", before)
-    status, output, faults = ran(folder, change, "another one\n")
-    equal((status, output), (1, ""), faults)
-    due = r"scramotp: bad book: 60\nedit-book: .* is unchanged; look into .*\n"
-    holds(re.fullmatch(due, faults), "another header: other faults than", due, faults)
+    odd = f"drop-tables: no command saves a header like this: [accounts . '{NAME}' . sha1]\n{failed}"
+    equal(ran(folder, change, "another one\n"), (1, "", odd), "another header")
     equal(book.read_bytes(), spelled, "the book after another header")
     does(folder, "scramotp enrol --book book.toml --name third", "pencil\n", "enrolled third\n")
     does(folder, change, "another one\n")
     has_keys_of(book_of(folder)["accounts"][NAME], b"another one", 4096)
+
+
+def headers_of_another_form(folder: str) -> None:
+    """`drop-tables` drops nothing for a header that no command writes so, or from a book that has one, which could be the next table's."""
+    book = with_tools(folder, BOOK_OF_USER)
+    odd_headers = [" [accounts.b]", "[accounts.b] # a fob", "[accounts.b]\r", "[accounts . b]", '[accounts."b"]', "[accounts.'b c']"]
+    for trial, header in each(odd_headers):
+        with trial:
+            book.write_bytes(f"{BOOK_OF_USER}{header}\n".encode())
+            odd, kept = f"drop-tables: no command saves a header like this: {header}\n", BOOK_OF_USER.removesuffix("[accounts.user]\n")
+            equal(ran(folder, "tools/drop-tables '[accounts.user]' <book.toml"), (2, kept, odd), header)
+            answer = ran(folder, f"tools/drop-tables '[accounts.user]' {shlex.quote(header)} <book.toml")
+            equal(answer, (2, "", odd), header, "as an argument")
 
 
 def an_account_removed_meanwhile(folder: str) -> None:
@@ -493,17 +505,19 @@ def a_book_that_a_tool_cannot_read(folder: str) -> None:
         (b"accounts = 1\n", "not an account book: find-key says what is wrong"),
         (b"decoy_count = 4096\n[accounts.user]\nsha256 = 1\ntoken = 1\n", "not an account book: find-key says what is wrong"),
     ]
-    for text, fault in texts_of_faults:
-        if text is not None:
-            Path(folder, "faulty.toml").write_bytes(text)
-        for name, words in [("list-accounts", ""), ("list-unlike-decoys", ""), ("to-verifier", " user")]:
+    tools = [("list-accounts", ""), ("list-unlike-decoys", ""), ("to-verifier", " user")]
+    for trial, ((text, fault), (name, words)) in each(itertools.product(texts_of_faults, tools)):
+        with trial:
+            if text is not None:
+                Path(folder, "faulty.toml").write_bytes(text)
             status, output, faults = ran(folder, f"tools/{name} faulty.toml{words}")
             equal((status, output), (1, ""), name, text, faults)
             holds(re.fullmatch(f"{name}: {fault}\n", faults), "another fault is due", fault, faults, name, text)
     found = ran(folder, "tools/find-key none.toml")
     equal(found, (1, "", "find-key: [Errno 2] No such file or directory: 'none.toml'\n"), "a book that is not there")
-    for name, fault in [("none", "no such account"), ("user", "the account has no keys for SCRAM-SHA-256")]:
-        equal(ran(folder, f"tools/to-verifier book.toml {name}"), (1, "", f"to-verifier: {fault}\n"), name)
+    for trial, (name, fault) in each([("none", "no such account"), ("user", "the account has no keys for SCRAM-SHA-256")]):
+        with trial:
+            equal(ran(folder, f"tools/to-verifier book.toml {name}"), (1, "", f"to-verifier: {fault}\n"), name)
 
 
 def names_that_a_tool_prints(folder: str) -> None:
@@ -602,6 +616,17 @@ def a_code_in_a_script(folder: str) -> None:
     equal(found, (1, "", ""), "the answer if the program prints nothing")
 
 
+def a_code_of_a_held_book(folder: str) -> None:
+    """`check-code` waits for a book that another holds, and after 30 seconds lets nobody in, and says why. The code can be used later."""
+    book = with_tools(folder, BOOK_OF_USER + hotp(look_ahead=0, limit=9))
+    before = book.read_text()
+    with open(book, "rb") as file:
+        fcntl.flock(file, fcntl.LOCK_EX)
+        status, output, faults = ran(folder, "tools/check-code book.toml user", f"{CODES[0]}\n")
+    equal((status, output, faults.splitlines()[-1:]), (1, "", ["scramotp: cannot read book.toml"]), faults)
+    equal(book.read_text(), before, "the book")
+
+
 def a_code_of_this_moment(folder: str) -> None:
     """`check-code` has a code judged by the moment of now: a code of now passes. One of ten steps ago or of 20 steps later does not."""
     with_tools(folder, BOOK_OF_USER + token_of_now())
@@ -618,9 +643,7 @@ def a_code_of_a_service(folder: str) -> None:
     page = DOCUMENT.read_text(encoding="utf-8").replace(INSTALLED, str(TOOLS)).replace(f"{PLACE}/book.toml", str(book))
     [allowed] = re.findall(r"^`web ALL=\(scramotp\) NOPASSWD: (.*)`$", page, re.M)
     [call] = re.findall(r"^`(printf .* \| sudo .*)`$", page, re.M)
-    sudo = Path(program_on_path(folder)["PATH"].partition(":")[0], "sudo")
-    sudo.write_text('#!/bin/sh\n[ "$1 $2 $3" = "-n -u scramotp" ] && shift 3 && echo "$@" >asked && exec "$@"\n')
-    sudo.chmod(0o755)
+    stand_in(folder, "sudo", '[ "$1 $2 $3" = "-n -u scramotp" ] && shift 3 && echo "$@" >asked && exec "$@"')
     for trial, (it, status) in each([(CODES[0], 0), (CODES[0], 1), ("000000", 1)]):
         with trial:
             equal(ran(folder, f"code={it} name=user\n{call}"), (status, "", ""), it)
@@ -891,6 +914,7 @@ TESTS = [
     a_first_password,
     a_password_of_any_name,
     a_password_that_is_refused,
+    headers_of_another_form,
     an_account_removed_meanwhile,
     one_mechanism,
     a_removed_account,
@@ -902,6 +926,7 @@ TESTS = [
     keys_of_dovecot,
     a_verifier_there_and_back,
     a_code_in_a_script,
+    a_code_of_a_held_book,
     a_code_of_this_moment,
     a_code_of_a_service,
     keys_at_fault,

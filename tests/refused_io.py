@@ -38,13 +38,14 @@ HARMLESS = {
 # anything.
 NOT_NOTED = {"read", "recv", "flock", "fchmod", "fchown", "lseek", "realpath", "statx", "ioctl", "clock_gettime", "malloc", "realloc"}
 NOT_NOTED |= {*SOCKETS.split(",")}
-# The calls whose failure is not told, by their command or as those of any, and why: the command does all its work without them.
+# The calls whose failure is not told, by their command or as those of any, and by their file; and why: the command does all its work
+# without them.
 NOT_TOLD = {
-    ("any", "lseek"): "only what reads standard input after the command would find it at another place",
-    ("login", "recv"): "its client has left by the last read, and a read that fails then ends the login as the end of its lines does",
-    ("login", "statx"): "login can't tell whether its socket still has its name, and removes what has it",
-    ("login", "unlink"): "the socket is left, and the next login at its path says so",
-    ("new book", "statx"): "enrol can't tell whether the new book's path is a link to nothing, at which no book can be made anyway",
+    ("any", "lseek", "input"): "only what reads standard input after the command would find it at another place",
+    ("login", "recv", "socket"): "its client has left by the last read, and a read that fails ends the login as the end of its lines does",
+    ("login", "statx", "socket"): "login can't tell whether its socket still has its name, and removes what has it",
+    ("login", "unlink", "socket"): "the socket is left, and the next login at its path says so",
+    ("new book", "statx", "book"): "enrol can't tell whether the new book's path is a link to nothing, at which no book can be made anyway",
 }
 # The fault of a refused call, by its file, as docs/FAULTS.md has them ("All other faults"); {} is the folder. That of a log which was
 # opened, and those of the book, are told by `due`.
@@ -144,13 +145,13 @@ def may_be_left(how: str, name: str) -> set[str]:
     return {"open": {"book.new"}, "openat": {"book.new"}}.get(name, set())
 
 
-def failures(here: Turns, command: Command, how: str, calls: str) -> Iterator[tuple[str, str] | None]:
-    """Lets each of these calls of a command fail, and yields None for each failure that is told, and for others their name in NOT_TOLD."""
+def failures(here: Turns, command: Command, how: str, calls: str) -> Iterator[tuple[str, str, str] | None]:
+    """Lets each of these calls of a command fail, and yields None for each failure that is told, and for others their key in NOT_TOLD."""
     for trial, (what, call, answer) in each(here.turns(command, calls, how)):
         with trial:
             name, is_log = call.name, command.name in ("login", "hall")
             kind = "new book" if command.books[0] is None else command.name
-            untold = ("any" if ("any", name) in NOT_TOLD else kind, name)
+            untold = ("any" if ("any", name, call.file) in NOT_TOLD else kind, name, call.file)
             if answer == (0, command.printed, ""):
                 holds(untold in NOT_TOLD or how == "interrupted", what, "it ended well, but NOT_TOLD does not have this call")
             else:

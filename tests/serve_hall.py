@@ -13,6 +13,7 @@ the copy of the book.
 """
 import contextlib
 import fcntl
+import itertools
 import os
 import re
 import resource
@@ -170,8 +171,7 @@ def a_code_of_this_moment(folder: str) -> None:
     """A code is judged by the moment at which it comes: one of now passes, and one of ten steps ago does not. Both answers have it. Each
     code comes in two halves."""
     account = clients.Account("user", "SCRAM-SHA-256")
-    book, _, _ = clients.book([account]).partition('\n[accounts."user".token]\n')
-    serving = serving_hall(folder, book + token_of_now())
+    serving = serving_hall(folder, clients.book([account], have_tokens=False) + token_of_now())
     client = greeted(folder)
     begins_login(client, account)
     logs_in(client, account)
@@ -188,9 +188,7 @@ def a_code_of_this_moment(folder: str) -> None:
 def a_full_hall(folder: str) -> None:
     """When 64 clients are there, the next is turned away, until one leaves. A client without a token can still send codes."""
     account = clients.Account("bare", "SCRAM-SHA-256")
-    book, token, _ = clients.book([account]).partition('\n[accounts."bare".token]\n')
-    holds(token, "the token that is left out")
-    serving = serving_hall(folder, book)
+    serving = serving_hall(folder, clients.book([account], have_tokens=False))
     guests = [greeted(folder) for _ in range(64)]
     away = connected(folder)
     equal([line_of(away), line_of(away)], ["BUSY", ""], "the 65th")
@@ -260,17 +258,16 @@ def a_slow_client(folder: str) -> None:
     """A client that sends byte after byte but no whole line is cut off; here after five seconds, by a copy of the tool. One that sends
     whole lines is served before and after that."""
     account = clients.Account("bare", "SCRAM-SHA-256")
-    book, _, _ = clients.book([account]).partition('\n[accounts."bare".token]\n')
     text = (TOOLS / "serve-hall").read_text(encoding="utf-8")
     equal(text.count("\nPATIENCE = 60 "), 1, "the seconds that it waits")
     quick = Path(folder, "quick")
     quick.write_text(text.replace("\nPATIENCE = 60 ", "\nPATIENCE = 5 "), encoding="utf-8")
     quick.chmod(0o755)
-    serving = serving_hall(folder, book, "./quick")
+    serving = serving_hall(folder, clients.book([account], have_tokens=False), "./quick")
     busy = greeted(folder)
-    began = said = time.monotonic()
     begins_login(busy, account)
     logs_in(busy, account)
+    began = said = time.monotonic()
     slow = greeted(folder)
     slow.settimeout(0.02)
 
@@ -298,8 +295,7 @@ def a_client_that_does_not_read(folder: str) -> None:
     """The session of a client that goes on sending codes, and reads no answer, ends once the machine keeps no more answers for it. The
     tool waits for it at no time: before that and after it, another client is served."""
     account = clients.Account("bare", "SCRAM-SHA-256")
-    book, _, _ = clients.book([account]).partition('\n[accounts."bare".token]\n')
-    serving = serving_hall(folder, book)
+    serving = serving_hall(folder, clients.book([account], have_tokens=False))
     deaf, other = greeted(folder), greeted(folder)
     for client in deaf, other:
         begins_login(client, account)
@@ -360,12 +356,18 @@ def begins_no_hall(folder: str, name: str) -> None:
 
 
 def a_log_that_is_there(folder: str) -> None:
-    """A log that is there already stays as it is."""
+    """A log that is there already, or the copy of its book, stays as it is. So does a link that has one of these names."""
     with_tools(folder, BOOK_OF_USER)
-    log = Path(folder, "hall.log")
-    log.write_text("another\n")
-    begins_no_hall(folder, "hall.log")
-    equal(log.read_text(), "another\n", "the log")
+    for trial, (name, is_link) in each(itertools.product(["hall.log", "hall.log.toml"], [False, True])):
+        with trial:
+            file, other = Path(folder, name), Path(folder, "other")
+            if is_link:
+                file.symlink_to("other")
+            (other if is_link else file).write_text("another\n")
+            begins_no_hall(folder, name)
+            equal(file.read_text(), "another\n", name)
+            file.unlink()
+            other.unlink(missing_ok=True)
 
 
 def a_copy_that_is_the_book(folder: str) -> None:
@@ -376,7 +378,7 @@ def a_copy_that_is_the_book(folder: str) -> None:
     for trial, name in each(["book.toml", "link"]):
         with trial:
             answer = ran(folder, f"tools/serve-hall {name} hall.sock book")
-            equal(answer, (1, "", "serve-hall: book.toml is the book: choose another name for the log\n"), name)
+            equal(answer, (1, "", "serve-hall: book.toml already exists\n"), name)
             equal((seen(book), set(os.listdir(folder)) - {"bin"}), before, name)
 
 
@@ -394,26 +396,14 @@ def a_socket_that_is_left(folder: str) -> None:
     serves_until(serving, signal.SIGINT, folder, "clean sessions=1 accepted=0 codes=0")
 
 
-def copies_that_are_there(folder: str) -> None:
-    """If the copy of the book has the name of an older file or a link, that is removed. Whatever the umask is, only the user can read the
-    log and the copy. The socket has the mode that the umask leaves."""
-    for trial, is_link in each([False, True]):
-        with trial:
-            place = Path(folder, str(is_link))
-            place.mkdir()
-            with_tools(place, BOOK_OF_USER)
-            other, copy = Path(place, "other"), Path(place, "hall.log.toml")
-            for path in [other] if is_link else [other, copy]:
-                path.write_text("another\n")
-                path.chmod(0o644)
-            if is_link:
-                copy.symlink_to("other")
-            serving = start(place, START.replace("umask 077", "umask 007"))
-            greeted(place).close()
-            modes = {name: stat.S_IMODE(os.lstat(Path(place, name)).st_mode) for name in ["hall.sock", "hall.log", "hall.log.toml"]}
-            equal(modes, {"hall.sock": 0o770, "hall.log": 0o600, "hall.log.toml": 0o600}, "the modes of the files")
-            equal(other.read_text(), "another\n", "the file to which the link led")
-            serves_until(serving, signal.SIGINT, place, "clean sessions=1 accepted=0 codes=0")
+def modes_of_its_files(folder: str) -> None:
+    """Whatever the umask is, only the user can read the log and the copy of the book. The socket has the mode that the umask leaves."""
+    with_tools(folder, BOOK_OF_USER).chmod(0o644)
+    serving = start(folder, START.replace("umask 077", "umask 007"))
+    greeted(folder).close()
+    modes = {name: stat.S_IMODE(os.lstat(Path(folder, name)).st_mode) for name in ["hall.sock", "hall.log", "hall.log.toml"]}
+    equal(modes, {"hall.sock": 0o770, "hall.log": 0o600, "hall.log.toml": 0o600}, "the modes of the files")
+    serves_until(serving, signal.SIGINT, folder, "clean sessions=1 accepted=0 codes=0")
 
 
 def a_socket_that_is_replaced(folder: str) -> None:
@@ -462,7 +452,7 @@ def a_hall_that_does_not_begin(folder: str) -> None:
     with_tools(folder, BOOK_OF_USER)
     copy = Path(folder, "hall.log.toml")
     copy.mkdir()
-    equal(ran(folder, SERVE), (1, "", "serve-hall: [Errno 21] Is a directory: 'hall.log.toml'\n"), "a folder in the place of the copy")
+    equal(ran(folder, SERVE), (1, "", "serve-hall: hall.log.toml already exists\n"), "a folder in the place of the copy")
     copy.rmdir()
     leaves_nothing(folder)
     # A folder for the PATH that has only Python
@@ -488,7 +478,7 @@ suite.run_all(
         a_log_that_is_there,
         a_copy_that_is_the_book,
         a_socket_that_is_left,
-        copies_that_are_there,
+        modes_of_its_files,
         a_socket_that_is_replaced,
         a_stop_before_the_hall_begins,
         a_hall_that_does_not_begin,

@@ -38,6 +38,14 @@ def with_tools(folder: str | Path, text: str) -> Path:
     return book
 
 
+def stand_in(folder: str | Path, command: str, script: str) -> Path:
+    """Puts a script in the place of a command, for the blocks that run in a folder. Returns its path, so that it can be removed."""
+    path = Path(program_on_path(folder)["PATH"].partition(":")[0], command)
+    path.write_text(f"#!/bin/sh\n{script}\n")
+    path.chmod(0o755)
+    return path
+
+
 def book_of(folder: str) -> dict[str, Any]:
     return read_book(Path(folder, "book.toml"))
 
