@@ -566,6 +566,8 @@ def a_verifier_there_and_back(folder: str) -> None:
     does(folder, into, both[0] + "\n")
     does(folder, out, printed="\n".join(both) + "\n")
     does(folder, into.replace(NAME, "user"), both[0] + "\n")
+    headers = f'[accounts."{NAME}".sha256]\n[accounts.user.sha256]\n'
+    does(folder, "grep 'sha256]$' book.toml", printed=headers)
     clean = "clean sessions=1 accepted=1 codes=0\n"
     does(folder, f"scramotp audit --book book.toml --log {AUDITS / 'sha256.log'}", printed=clean)
     name = "q\"\\'@ x"

@@ -56,9 +56,7 @@ def made(kind: str, folder: str, shim: str, refused: int) -> tuple[str | None, i
     environment = {"LD_PRELOAD": shim, "REFUSED": str(refused)}
     status, output, faults = ran([BENCH, kind, "1", "given"], cwd=folder, env=environment)
     holds(status in (0, 1), kind, "request", refused, "the status is neither 0 nor 1", status, faults)
-    found = re.search(r"^requests (\d+)$", faults, re.M)
-    holds(found, kind, "request", refused, "the run ended before it could say how many requests it made", status, faults)
-    return None if status else output, int(found[1])
+    return None if status else output, shims.requests(faults, kind, "request", refused, "status", status)[1]
 
 
 def each_refused(kind: str, folder: str, given: str) -> tuple[str | None, list[str | None]]:
@@ -98,10 +96,9 @@ def sent_in_a_login(command: Command, folder: str, number: int) -> tuple[list[in
     sent.write_text("")
     loaded = f"{shims.built('refuse_memory')}:{shims.keeps_sent()}"
     answer = run(command, files, env={**os.environ, "LD_PRELOAD": loaded, "REFUSED": str(number), "SENT": str(sent)})
-    found = re.search(r"^requests (\d+)$", answer.faults, re.M)
-    holds(found, "request", number, "the run ended before it could say how many requests it made", answer)
+    _, requests = shims.requests(answer.faults, "request", number, answer)
     told = [int(counter) for counter in re.findall(r"^PASS 5 (\d+)$", sent.read_text(), re.M)]
-    return told, token(files / "book")["next"], int(found[1])
+    return told, token(files / "book")["next"], requests
 
 
 def clients_are_told_what_is_saved(folder: str) -> None:

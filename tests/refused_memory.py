@@ -8,7 +8,6 @@ Usage: refused_memory.py PROGRAM [TEST ..]
 import itertools
 import os
 import pathlib
-from typing import Any
 
 import shims
 import suite
@@ -18,23 +17,15 @@ from expected import AUDITS
 from processes import ran
 from suite import PROGRAM, each, fault_text
 
-
 # What a command reports if memory runs out, whatever it needed it for (docs/FAULTS.md).
 FAULT = fault_text("no memory")
-
-
-def split(said: str, *run: Any) -> tuple[str, int]:
-    """The faults of this run, and the number of its requests, which the shim prints when it ends."""
-    faults, is_counted, requests = said.rpartition("requests ")
-    holds(is_counted, *run, "the run ended before it could say how many requests it made", said)
-    return faults, int(requests)
 
 
 def run_refused(folder: str, words: list, shim: str, refused: int) -> tuple[int, str, str, int]:
     """The status, output and faults of a command for which this request was refused, and how many requests it made."""
     environment = {"LD_PRELOAD": shim, "REFUSED": str(refused)}
     status, output, said = ran([PROGRAM, *words], cwd=folder, env=environment)
-    faults, requests = split(said, words, "request", refused, "status", status)
+    faults, requests = shims.requests(said, words, "request", refused, "status", status)
     return status, output, faults, requests
 
 
@@ -78,7 +69,7 @@ def refused(command: Command, folder: str, shim: str, number: int, lasting: dict
     the shim. Also how many requests it made."""
     prepare(folder, command)
     status, printed, faults = run(command, folder, env={**os.environ, "LD_PRELOAD": shim, "REFUSED": str(number), **lasting})
-    faults, requests = split(faults, command.name, "request", number, "status", status)
+    faults, requests = shims.requests(faults, command.name, "request", number, "status", status)
     return (status, printed, faults), requests
 
 

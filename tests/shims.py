@@ -6,6 +6,9 @@ import os
 import pathlib
 import subprocess
 import tempfile
+from typing import Any
+
+from checks import holds
 
 HERE = pathlib.Path(__file__).parent
 # The libraries that were compiled; the folder goes with the script.
@@ -76,6 +79,13 @@ def compiled(name: str, source: pathlib.Path, folder: str | pathlib.Path = MADE.
     shim = os.path.join(folder, f"{name}.so")
     subprocess.run(["cc", "-shared", "-fPIC", "-O1", "-o", shim, source, "-ldl", *options], check=True)
     return shim
+
+
+def requests(said: str, *run: Any) -> tuple[str, int]:
+    """What a run that loads refuse_memory.c has said, and the number of its requests, which that prints when the run ends."""
+    faults, is_counted, count = said.rpartition("requests ")
+    holds(is_counted, *run, "the run ended before it could say how many requests it made", said)
+    return faults, int(count)
 
 
 def stand_in(program: str | pathlib.Path, library: str, to: pathlib.Path) -> pathlib.Path:
