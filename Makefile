@@ -17,7 +17,9 @@ TOOLS = $(addprefix tools/,check-code drop-tables edit-book find-key from-verifi
 	set-password to-verifier)
 # The documents that are installed, with the folder docs as it is here, so that their links lead to each other.
 DOCUMENTS = README.md CHANGELOG.md CONTRIBUTING.md LICENSE HANDLES
-SOURCES = crates.txt HANDLES $(shell find crates \( -name out -prune \) -o \( -name '*.rt' -o -name '*.antt' \) -print)
+# What the program is built from.
+SOURCES = crates.txt HANDLES $(shell find $(wildcard $(addprefix crates/,$(LIBRARIES) scramotp)) \( -name out -prune \) -o \
+	\( -name '*.rt' -o -name '*.antt' \) -print)
 # Succeeds where the program is built and newer than its sources.
 IS_FRESH = test -x $(PROGRAM) && test -z "$$(find $(SOURCES) -newer $(PROGRAM))"
 # The example of RFC 5802, section 5; its password is pencil.

@@ -573,6 +573,12 @@ def a_verifier_there_and_back(folder: str) -> None:
     name = "q\"\\'@ x"
     does(folder, f"tools/from-verifier {shlex.quote(name)} >keys.toml && tools/edit-book book.toml cat - keys.toml", both[1] + "\n")
     equal(book_of(folder)["accounts"][name], book_of(folder)["accounts"]["user"], "the account whose name TOML has to quote")
+    for trial, name in each(["a-b_1", "a b", 'a"b', "a\\b", "it's", "it's \"b\"", name]):
+        with trial:
+            does(folder, f"tools/from-verifier {shlex.quote(name)} >keys.toml", both[1] + "\n")
+            header = Path(folder, "keys.toml").read_text().split("\n")[1]
+            answer = ran(folder, f"tools/drop-tables {shlex.quote(header)} <keys.toml")
+            equal(answer, (0, "\n", ""), name, "the table's header is as a command saves it")
     before = book_of(folder)
     for trial, text in each(["", "md5c0ffee", both[0].replace("256", "512"), both[0].replace("==", "=")]):
         with trial:
