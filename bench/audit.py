@@ -14,6 +14,7 @@ import pathlib
 import subprocess
 import sys
 import tempfile
+from collections.abc import Iterator
 
 from timed import exactly, processor
 from expected import HASHES, base64_of, code, login_keys, proved
@@ -31,7 +32,7 @@ COUNT = 4096
 KEYS = {table: login_keys(table, b"pencil", SALT, COUNT) for table in MECHANISMS}
 
 
-def book(names, token):
+def book(names: list[str], token: bool) -> str:
     """A book in which each name has keys for both mechanisms, and a token if `token`."""
     parts = [f'format = 1\ndecoy_key = "{bytes(range(32)).hex()}"\ndecoy_count = {COUNT}\n']
     for name in names:
@@ -45,7 +46,7 @@ def book(names, token):
     return "".join(parts)
 
 
-def login(table, name, number):
+def login(table: str, name: str, number: int) -> str:
     """The lines of a login that is accepted, from MECHS to OK."""
     nonce = base64_of(hashlib.md5(f"c{number}".encode()).digest() + b"!!")
     whole = nonce + base64_of(hashlib.md5(f"s{number}".encode()).digest() + b"!!")
@@ -61,16 +62,18 @@ def login(table, name, number):
     )
 
 
-def logins(count):
+def logins(count: int) -> Iterator[str]:
+    """The lines of so many logins to `user`, of which each ends by `C GONE`."""
     tables = list(MECHANISMS)
     return (login(tables[i % 2], "user", i) + "C GONE\nE\n" for i in range(count))
 
 
-def of_logins(count):
+def of_logins(count: int) -> tuple[str, str]:
+    """A log of so many logins, and the answer of an audit."""
     return "SCRAMLOG 1\n" + "".join(logins(count)), f"clean sessions={count} accepted={count} codes=0\n"
 
 
-def at_once(count, open_sessions):
+def at_once(count: int, open_sessions: int) -> tuple[str, str]:
     """A log of version 2 with the same logins, of which `open_sessions` are open at a time: a line of each in turn, and the next login
     begins when one ends."""
     waiting = enumerate(logins(count), 1)
@@ -89,14 +92,15 @@ def at_once(count, open_sessions):
     return "".join(lines), f"clean sessions={count} accepted={count} codes=0\n"
 
 
-def of_codes(names):
+def of_codes(names: list[str]) -> tuple[str, str]:
+    """A log of a login to each of these accounts, with codes, and the answer of an audit."""
     codes = "".join(f"C CODE {code(SECRET, counter)}\nS PASS {counter} {counter}\n" for counter in range(CODES))
     sessions = (login("sha256", name, i) + codes + "C GONE\nE\n" for i, name in enumerate(names))
     count = len(names)
     return "SCRAMLOG 1\n" + "".join(sessions), f"clean sessions={count} accepted={count} codes={count * CODES}\n"
 
 
-def peak(words, log, want):
+def peak(words: list, log: str, want: str) -> int:
     """The peak memory in KiB of a run that reads the log from a pipe, looked up when it has read nearly all of it."""
     child = subprocess.Popen(words, stdin=subprocess.PIPE, stdout=subprocess.PIPE)
     child.stdin.write(log.encode())
@@ -108,20 +112,20 @@ def peak(words, log, want):
     return int(status.split("VmHWM:")[1].split()[0])
 
 
-def audit(program, folder, text, log):
+def audit(program: str, folder: pathlib.Path, text: str, log: pathlib.Path | str) -> list[str]:
     """Writes a book with this text, and returns the words of an audit by it."""
     (folder / "book").write_text(text)
     return [program, "audit", "--book", str(folder / "book"), "--log", str(log)]
 
 
-def best(program, folder, text, log, want):
+def best(program: str, folder: pathlib.Path, text: str, log: str, want: str) -> float:
     """The least processor time, in seconds, of several audits of this log."""
     (folder / "log").write_text(log)
     words = audit(program, folder, text, folder / "log")
     return min(processor(words, exactly(want)) for _ in range(TURNS))
 
 
-def main():
+def main() -> None:
     program = os.path.abspath(sys.argv[1])
     names = [f"user{i:04}" for i in range(ACCOUNTS)]
     with tempfile.TemporaryDirectory() as name:

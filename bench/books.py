@@ -24,11 +24,13 @@ SECRET = b"12345678901234567890"
 CODE = "755224"  # RFC 4226, appendix D: counter 0
 
 
-def hexadecimal(label, size):
+def hexadecimal(label: str, size: int) -> str:
+    """So many bytes that follow from a label, in hexadecimal."""
     return hashlib.sha512(label.encode()).digest()[:size].hex()
 
 
-def mechanism(name, table, size):
+def mechanism(name: str, table: str, size: int) -> str:
+    """The table of an account's keys for one mechanism, of so many bytes each."""
     return f'''
 [accounts.{name}.{table}]
 count = 4096
@@ -38,7 +40,8 @@ stored = "{hexadecimal(name + table + "stored", size)}"
 '''
 
 
-def text():
+def text() -> str:
+    """The text of a book of ACCOUNTS accounts, one of which has a token."""
     parts = [f'decoy_count = 4096\ndecoy_key = "{hexadecimal("decoy", 32)}"\nformat = 1\n']
     for i in range(ACCOUNTS):
         name = f"user{i:04}"
@@ -57,14 +60,15 @@ secret = "{SECRET.hex()}"
     return "".join(parts)
 
 
-def by_tomllib(content):
+def by_tomllib(content: str) -> float:
+    """The seconds that tomllib takes to read a text."""
     begun = time.perf_counter()
     for _ in range(READINGS):
         tomllib.loads(content)
     return (time.perf_counter() - begun) / READINGS
 
 
-def times(program, bench, content):
+def times(program: str, bench: str, content: str) -> list[float]:
     """The least seconds of a run of bench that only reads the file, of one that also reads the book, of verify
     with no code and with one, and of tomllib."""
     turns = []
@@ -84,7 +88,7 @@ def times(program, bench, content):
     return [min(column) for column in zip(*turns)]
 
 
-def main():
+def main() -> None:
     program, bench = sys.argv[1:]
     content = text()
     start, read, held, judged, python = times(program, bench, content)

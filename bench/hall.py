@@ -15,6 +15,8 @@ import subprocess
 import sys
 import tempfile
 import time
+from collections.abc import Callable
+from typing import IO
 
 from serve import LOGGED, book
 from expected import AUDITS, SHA256_NONCES
@@ -31,29 +33,29 @@ STAYING = 63
 LINES = 7  # of each login in a log
 
 
-def logged(count):
+def logged(count: int) -> int:
     """How many bytes a log has for `count` logins. Each line of a login has its session's number and a space."""
     return count * LOGGED + sum(LINES * (len(str(number)) + 1) for number in range(1, count + 1))
 
 
-def serves(count, size):
+def serves(count: int, size: int) -> Callable[[str], bool]:
     """Returns a check that a run of bench says that it has served `count` logins, with `size` bytes of log."""
     return lambda printed: printed.startswith(f"served {count} logged {size} sent ")
 
 
-def seconds(bench, kind, count, size, path):
+def seconds(bench: str, kind: str, count: int, size: int, path: str) -> float:
     """The processor time of a run that serves `count` logins, with `size` bytes of log."""
     return processor([bench, kind, str(count), path], serves(count, size))
 
 
-def rate(bench, kind, size, path):
+def rate(bench: str, kind: str, size: int, path: str) -> float:
     """The logins per second."""
     none = min(seconds(bench, kind, 0, 0, path) for _ in range(TURNS))
     all_of_them = min(seconds(bench, kind, LOGINS, size, path) for _ in range(TURNS))
     return LOGINS / (all_of_them - none)
 
 
-def logins_as_lines(count):
+def logins_as_lines(count: int) -> str:
     """Input for `hall`: logins of RFC 7677's example, 64 at a time, each of which sends a line in turn."""
     recorded = (AUDITS / "sha256.log").read_text().splitlines()
     sent = [line.removeprefix("C ") for line in recorded if line.startswith(("C AUTH ", "C RESP "))]
@@ -67,15 +69,15 @@ def logins_as_lines(count):
     return "".join(events)
 
 
-def rate_of_program(program, path):
+def rate_of_program(program: str, path: str) -> float:
     """The logins per second of `hall` that are given as lines, all at once."""
-    def seconds_of(count):
+    def seconds_of(count: int) -> float:
         given = logins_as_lines(count)
         return min(wall([program, "hall", "--book", path], lambda log: log.count(" S OK ") == count, given) for _ in range(TURNS))
     return LOGINS_AS_LINES / (seconds_of(LOGINS_AS_LINES) - seconds_of(0))
 
 
-def peak(words, is_due, given=None):
+def peak(words: list, is_due: Callable[[str], bool], given: IO[bytes] | None = None) -> int:
     """The peak memory in KiB of a run, looked up until it ends."""
     most = 0
     with tempfile.TemporaryFile("w+") as output:
@@ -89,21 +91,21 @@ def peak(words, is_due, given=None):
     return most
 
 
-def come_and_go(path, count):
+def come_and_go(path: str, count: int) -> None:
     """Writes input for `hall`: 63 sessions begin and stay, and `count` others begin and end, one after another."""
     with open(path, "w") as file:
         file.write("open z\n" * STAYING)
         file.writelines(f"open z\ngone {number} 0\n" for number in range(STAYING + 1, STAYING + 1 + count))
 
 
-def of_program(program, path, given, count):
+def of_program(program: str, path: str, given: str, count: int) -> int:
     """The peak memory in KiB of a `hall` whose sessions come and go."""
     come_and_go(given, count)
     with open(given, "rb") as events:
         return peak([program, "hall", "--book", path], lambda printed: printed.count(" S MECHS ") == STAYING + count, events)
 
 
-def main():
+def main() -> None:
     program, bench = sys.argv[1:]
     with tempfile.TemporaryDirectory() as folder:
         path, given = (os.path.join(folder, name) for name in ["book", "events"])

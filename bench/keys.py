@@ -16,7 +16,7 @@ TURNS = 7
 SALT = "4125c247e43ab1e93c6dff76"
 
 
-def main():
+def main() -> None:
     program = sys.argv[1]
     for mechanism, digest in (("SCRAM-SHA-1", "sha1"), ("SCRAM-SHA-256", "sha256")):
         words = [program, "keys", "--mechanism", mechanism, "--salt", SALT, "--count", str(COUNT)]

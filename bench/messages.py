@@ -46,7 +46,8 @@ PATTERNS = {
 FIELDS = {"client-first": (), "server-first": (3,), "client-final": (1, 4), "server-final": (1,)}
 
 
-def by_python(kind, text):
+def by_python(kind: str, text: bytes) -> float:
+    """The messages of this kind that Python reads per second."""
     pattern, fields = re.compile(PATTERNS[kind]), FIELDS[kind]
     begun = time.perf_counter()
     for _ in range(PYTHON_COUNT):
@@ -56,17 +57,17 @@ def by_python(kind, text):
     return PYTHON_COUNT / (time.perf_counter() - begun)
 
 
-def best(words, printed):
+def best(words: list, printed: str) -> float:
     """The least seconds, in several turns, of a run that prints this line."""
     return min(wall(words, exactly(f"{printed}\n")) for _ in range(TURNS))
 
 
-def of_oathtool(words):
+def of_oathtool(words: list) -> float:
     """The least seconds of oathtool, whose codes are not checked."""
     return min(wall(words, anything, output=subprocess.DEVNULL) for _ in range(TURNS))
 
 
-def main():
+def main() -> None:
     bench = sys.argv[1]
     start = best([bench, "client-first", "1", "x"], "client-first 0")
     for kind, text in MESSAGES.items():

@@ -13,6 +13,7 @@ import pathlib
 import sys
 import tempfile
 import time
+from collections.abc import Callable
 
 from books import mechanism
 from timed import exactly, wall
@@ -27,7 +28,7 @@ SECRET = b"12345678901234567890"
 LOGGED = len((AUDITS / "sha256.log").read_bytes()) - len("SCRAMLOG 1\n")
 
 
-def book(accounts):
+def book(accounts: int) -> str:
     """A book of so many accounts: RFC 7677's user with RFC 4226's token, and others."""
     others = "".join(
         f"\n[accounts.user{i:04}]\nact_as = []\n{mechanism(f'user{i:04}', 'sha1', 20)}{mechanism(f'user{i:04}', 'sha256', 32)}"
@@ -45,12 +46,12 @@ secret = "{SECRET.hex()}"
 {others}'''
 
 
-def best(words, is_due):
+def best(words: list, is_due: Callable[[str], bool]) -> float:
     """The least seconds of several turns. The output of each has to satisfy `is_due`."""
     return min(wall(words, is_due) for _ in range(TURNS))
 
 
-def over_memory(bench, path):
+def over_memory(bench: str, path: str) -> tuple[float, float]:
     """The logins per second, and the codes per second."""
     start = best([bench, "logins", "0", path], exactly("served 0 logged 0 sent 0\n"))
     logins = best([bench, "logins", str(LOGINS), path], lambda it: it.startswith(f"served {LOGINS} logged {LOGINS * LOGGED} sent "))
@@ -60,7 +61,7 @@ def over_memory(bench, path):
     return LOGINS / (logins - start), CODES / (codes - start)
 
 
-def over_file(program, folder, text, codes):
+def over_file(program: str, folder: str, text: str, codes: list[str]) -> float:
     """The least seconds of a login with these codes, over a book in a file."""
     paths = ["--book", f"{folder}/book", "--socket", f"{folder}/socket"]
     words = [program, "login", *paths, "--name", "user", "--moment", "5", *SHA256_NONCES]
@@ -72,7 +73,7 @@ def over_file(program, folder, text, codes):
     return min(turns)
 
 
-def synced(folder, size):
+def synced(folder: str, size: int) -> float:
     """The seconds that it takes to replace a file of this size: written, synced, renamed, and its folder synced."""
     data, place = b"x" * size, os.open(folder, os.O_RDONLY)
     begun = time.perf_counter()
@@ -88,7 +89,7 @@ def synced(folder, size):
     return taken
 
 
-def main():
+def main() -> None:
     program, bench = sys.argv[1:]
     codes = [code(SECRET, at) for at in range(SAVED)]
     for accounts in (1, 1000):

@@ -4,27 +4,29 @@ import pathlib
 import subprocess
 import sys
 import time
+from collections.abc import Callable
 
 # The values with which the scripts compare are in expected.py of the tests.
 sys.path.append(str(pathlib.Path(__file__).resolve().parent.parent / "tests"))
 
 
-def exactly(want):
+def exactly(want: str) -> Callable[[str], bool]:
     """Returns a check that a run has printed exactly this."""
     return lambda printed: printed == want
 
 
-def anything(printed):
+def anything(printed: str) -> bool:
     """Accepts any output of a run."""
     return True
 
 
-def check(words, status, printed, faults, is_due):
+def check(words: list, status: int, printed: str, faults: str, is_due: Callable[[str], bool]) -> None:
+    """Ends the script if a run has failed, or has printed something else."""
     if status or faults or not is_due(printed):
         sys.exit(f"{words}: status {status}, {printed!r}, {faults!r}")
 
 
-def wall(words, is_due, given="", output=subprocess.PIPE):
+def wall(words: list, is_due: Callable[[str], bool], given: str = "", output: int = subprocess.PIPE) -> float:
     """The seconds of wall time that a run with this input takes."""
     begun = time.perf_counter()
     done = subprocess.run(words, input=given, stdout=output, stderr=subprocess.PIPE, text=True)
@@ -33,7 +35,7 @@ def wall(words, is_due, given="", output=subprocess.PIPE):
     return taken
 
 
-def processor(words, is_due):
+def processor(words: list, is_due: Callable[[str], bool]) -> float:
     """The seconds of processor time that a run takes."""
     child = subprocess.Popen(words, stdout=subprocess.PIPE, text=True)
     printed = child.stdout.read()

@@ -25,7 +25,8 @@ AUTH = (
 FINAL = "c=biws,r=rOprNGfwEbeRWgbNEkqO%hvYDpWUa2RaTCAfuxFIlj)hNlF$k0,p=dHzbZapWIk4jUhN+Ute9ytag9zjfMHgsqmmiz7AndVQ="
 
 
-def by_python(macs):
+def by_python(macs: int) -> float:
+    """The verdicts that Python computes per second, each of so many MACs and a hash."""
     key, hidden = hashlib.sha256(b"key").digest(), hashlib.sha256(b"hidden").digest()
     begun = time.perf_counter()
     for _ in range(PYTHON_COUNT):
@@ -35,7 +36,7 @@ def by_python(macs):
     return PYTHON_COUNT / (time.perf_counter() - begun)
 
 
-def main():
+def main() -> None:
     bench = sys.argv[1]
     start = min(wall([bench, "verdict", "1", FINAL], exactly("accepted 1\n")) for _ in range(TURNS))
     many = [bench, "verdict", str(COUNT), FINAL]

@@ -252,7 +252,7 @@ def unused_functions() -> Iterator[str]:
 def untyped_functions() -> Iterator[str]:
     """The functions of the scripts, and of the tools in Python, that do not give the types of all their arguments and of their result."""
     tools = [path for path in TOP.glob("tools/*") if path.read_text(encoding="utf-8").startswith("#!/usr/bin/env python3\n")]
-    for path in sorted([*TOP.glob("tests/*.py"), *tools]):
+    for path in sorted([*TOP.glob("tests/*.py"), *TOP.glob("bench/*.py"), *tools]):
         for it in ast.walk(ast.parse(path.read_text(encoding="utf-8"))):
             if isinstance(it, ast.FunctionDef | ast.AsyncFunctionDef):
                 arguments = [argument for argument in ast.walk(it.args) if isinstance(argument, ast.arg) and argument.arg != "self"]

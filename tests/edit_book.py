@@ -20,7 +20,7 @@ from pathlib import Path
 
 import suite
 from checks import equal, holds
-from processes import Running, Terminal, sleeps, until, whole
+from processes import LIMIT_OF_LINES, Running, Terminal, sleeps, until, whole
 from suite import (
     BOOK_OF_USER, CODES, ROOT, as_nobody, each, hotp, is_awaited, is_locked, is_root, nobody, program_on_path, seen, verify_words,
 )
@@ -127,6 +127,16 @@ def an_edit_in_a_folder_of_others(folder: str) -> None:
             found = ran(folder, "tools/edit-book book.toml cat")
             equal(found, (int(is_refused), "", fault if is_refused else ""), f"an edit in a folder of the mode {mode:o}")
             equal(seen(book) == before, is_refused, f"whether the book in a folder of the mode {mode:o} stays")
+
+
+def a_book_of_two_names(folder: str) -> None:
+    """A book with two names is refused, and stays as it was: after an edit it would be two books, and a code would pass once in each."""
+    book = with_tools(folder, BOOK_OF_USER)
+    os.link(book, Path(folder, "other"))
+    before = seen(book)
+    fault = f"edit-book: {os.path.realpath(book)} has a second name, a hard link: remove one\n"
+    equal(ran(folder, "tools/edit-book book.toml cat"), (1, "", fault), "an edit of a book of two names")
+    equal((seen(book), seen(Path(folder, "other"))), (before, before), "both names")
 
 
 def an_edit_that_cannot_lock(folder: str) -> None:
@@ -281,7 +291,7 @@ def an_edit_gives_up(folder: str) -> None:
         found = ran(folder, "tools/edit-book book.toml sed s/4096/4097/")
         waited = time.monotonic() - began
     equal(found, (1, "", f"edit-book: {os.path.realpath(book)} is in use\n"), "an edit of a book that is held")
-    holds(waited > 29, "the edit gives up after seconds", waited)
+    holds(29 < waited < 30 + LIMIT_OF_LINES, "the edit gives up after seconds", waited)
     equal(book.read_text(), BOOK_OF_USER, "the book after an edit that gave up")
 
 
@@ -292,6 +302,7 @@ suite.run_all(
         an_edit_that_cannot_be_saved,
         an_edit_of_anothers_book,
         an_edit_in_a_folder_of_others,
+        a_book_of_two_names,
         an_edit_that_cannot_lock,
         a_process_that_an_edit_leaves,
         an_edit_that_is_stopped,

@@ -142,7 +142,7 @@ def codes_of_one_account(folder: str) -> None:
 
 
 def told_at_once(folder: str) -> None:
-    """Each line is in the log while the input is still open, and a code is spent before its reply is printed."""
+    """Each line is in the log while the input is still open, and the code is spent."""
     here = Hall(folder)
     running = here.start()
     running.prints(clients.FIRST_LINE)

@@ -478,12 +478,15 @@ def decoys(folder: str) -> None:
     [tell] = blocks("Hide which names have accounts")
     does(folder, tell)
     does(folder, "scramotp enrol --book book.toml --name slow --count 5000", "pencil\n", "enrolled slow\n")
-    keys = f'\n[accounts.old.sha1]\ncount = 4096\nsalt = "00"\nserver = "{"00" * 20}"\nstored = "{"00" * 20}"\n'
-    Path(folder, "keys.toml").write_text(keys)
+    keys = [
+        f'\n[accounts.old.{table}]\ncount = 4096\nsalt = "00"\nserver = "{"00" * size}"\nstored = "{"00" * size}"\n'
+        for table, size in [("sha1", 20), ("sha256", 32)]
+    ]
+    Path(folder, "keys.toml").write_text("".join(keys))
     does(folder, "tools/edit-book book.toml cat - keys.toml")
     status, output, faults = ran(folder, tell)
-    count = "has the count 5000, decoys have 4096"
-    want = {f"slow: sha1 {count}", f"slow: sha256 {count}", "old: sha1 has a salt of 1 bytes, decoys have 16"}
+    count, salt = "has the count 5000, decoys have 4096", "has a salt of 1 bytes, decoys have 16"
+    want = {f"slow: sha1 {count}", f"slow: sha256 {count}", f"old: sha1 {salt}", f"old: sha256 {salt}"}
     equal((status, set(output.splitlines()), faults), (0, want, ""), output)
 
 
@@ -580,7 +583,11 @@ def a_verifier_there_and_back(folder: str) -> None:
             answer = ran(folder, f"tools/drop-tables {shlex.quote(header)} <keys.toml")
             equal(answer, (0, "\n", ""), name, "the table's header is as a command saves it")
     before = book_of(folder)
-    for trial, text in each(["", "md5c0ffee", both[0].replace("256", "512"), both[0].replace("==", "=")]):
+    longer, shorter = (base64_of(bytes(size)) for size in (33, 31))
+    no_verifiers = ["", "md5c0ffee", both[0].replace("256", "512"), both[0].replace("==", "="), both[0].replace("4096", "-1")]
+    no_verifiers += [both[0].replace("4096", "4_096"), f"{{{both[1]}", both[1].replace(",", ":", 1), f"{both[1]},"]
+    no_verifiers += [re.sub("[^,]*$", it, both[1]) for it in (longer, shorter)]
+    for trial, text in each(no_verifiers):
         with trial:
             fault = "from-verifier: not a verifier of PostgreSQL or Dovecot\n"
             equal(ran(folder, "tools/from-verifier new", text + "\n"), (1, "", fault), "a text that is no verifier", text)
@@ -870,6 +877,10 @@ def a_unit_of_a_hall(folder: str) -> None:
     beside it."""
     [unit] = blocks("A unit for `serve-hall`", "ini")
     [command] = re.findall(r"^ExecStart=(.*)$", unit, re.M)
+    # What systemd does with these is not tested, and what they are for is said below the unit.
+    lines = ["KillMode=mixed", "UMask=0077", "RuntimeDirectoryMode=0700", "StateDirectoryMode=0700", "LimitCORE=0", "Restart=on-failure"]
+    for line in lines:
+        holds(f"\n{line}\n" in unit, "the unit lacks a line", line)
     with_tools(folder, BOOK_OF_USER)
     for old, new in [("$$", "$"), ("%%", "%"), (INSTALLED, str(TOOLS)), ("/run/scramotp/", f"{folder}/")]:
         holds(old in command, "the command does not have what is replaced in it", old, command)

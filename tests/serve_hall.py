@@ -6,7 +6,7 @@ Usage: serve_hall.py PROGRAM [TEST ..]
 The tool is started as in the block of docs/OPERATING.md. What the clients send and have to receive is computed with Python's hashlib and
 hmac. A code is judged by the moment at which it comes. The tool goes on if a client is gone before it is greeted, is the 65th, sends a
 line in pieces or no whole line, does not read what it is sent, or sends 16 MB without the end of a line. If its hall is killed, it ends at
-the next event, and says why. It ends with status 0 at INT and at TERM, and with status 1 and a fault if a code can't be saved, or if the
+the next event, and says why. It ends with status 0 at INT, TERM and HUP, and with status 1 and a fault if a code can't be saved, or if the
 log can't be written. No hall begins if the log or the socket is there already, as after a run that was killed, or if the copy of the book
 would take the book's place. If the hall does not begin, or a signal comes before it has, nothing is left. Nobody else can read the log and
 the copy of the book.
@@ -88,8 +88,8 @@ def begins_login(client: socket.socket, account: Account) -> None:
     client.sendall(f"AUTH {account.mechanism} :{account.exchange('fyko', '').first}\n".encode())
 
 
-def logs_in(client: socket.socket, account: Account) -> None:
-    """The client receives the challenge of that login, answers it, and is let in."""
+def logs_in(client: socket.socket, account: Account) -> str:
+    """The client receives the challenge of that login, answers it, and is let in. Returns the server's part of the nonce."""
     challenge = line_of(client).removeprefix("CONT :")
     found = re.match(r"r=fyko([^,]{24}),", challenge)
     holds(found, "no challenge", challenge)
@@ -98,6 +98,7 @@ def logs_in(client: socket.socket, account: Account) -> None:
     equal(challenge, it.challenge, "the challenge")
     client.sendall(f"RESP :{it.final}\n".encode())
     equal(line_of(client), f"OK :v={it.signature}", "the login")
+    return own
 
 
 def is_read(client: socket.socket) -> bool:
@@ -190,6 +191,11 @@ def a_full_hall(folder: str) -> None:
     account = clients.Account("bare", "SCRAM-SHA-256")
     serving = serving_hall(folder, clients.book([account], have_tokens=False))
     guests = [greeted(folder) for _ in range(64)]
+    parts = set()
+    for guest in guests[1:9]:
+        begins_login(guest, account)
+        parts.add(logs_in(guest, account))
+    equal(len(parts), 8, "how many different parts of the nonce the server has made for 8 clients", parts)
     away = connected(folder)
     equal([line_of(away), line_of(away)], ["BUSY", ""], "the 65th")
     answers(guests[0], "ABORT", "NO :")
@@ -199,7 +205,7 @@ def a_full_hall(folder: str) -> None:
     logs_in(last, account)
     for _ in range(2):
         answers(last, "CODE 755224", r"NOCODE \d+")
-    serves_until(serving, signal.SIGTERM, folder, "clean sessions=65 accepted=1 codes=0")
+    serves_until(serving, signal.SIGTERM, folder, "clean sessions=65 accepted=9 codes=0")
 
 
 def a_hall_that_halts(folder: str) -> None:
@@ -383,10 +389,14 @@ def a_copy_that_is_the_book(folder: str) -> None:
 
 
 def a_socket_that_is_left(folder: str) -> None:
-    """A run that is killed leaves its socket. Another run can serve there once the socket is removed."""
+    """A run that is killed leaves its socket, a log that is cut, and the copy of the book by which that can be audited. Another run can
+    serve there once the socket is removed."""
     serving = serving_hall(folder, BOOK_OF_USER)
-    greeted(folder)
+    client = greeted(folder)
     serving.killed()
+    client.close()
+    cut = ran(folder, "scramotp audit --book hall.log.toml --log hall.log")
+    equal(cut, (1, "line 3: cut\n", ""), "the audit of the log of a run that was killed")
     for name in ["hall.log", "hall.log.toml"]:
         Path(folder, name).unlink()
     begins_no_hall(folder, "hall.sock")
@@ -394,6 +404,27 @@ def a_socket_that_is_left(folder: str) -> None:
     serving = serving_hall(folder, BOOK_OF_USER)
     greeted(folder)
     serves_until(serving, signal.SIGINT, folder, "clean sessions=1 accepted=0 codes=0")
+
+
+def signals_to_all(folder: str) -> None:
+    """Ctrl-C, and the end of a terminal, reach the hall's process group too. The tool then still ends each session, and ends well. Under
+    `nohup` it goes on after HUP."""
+    for trial, (number, wrapper) in each([(signal.SIGINT, ""), (signal.SIGHUP, ""), (signal.SIGHUP, "nohup")]):
+        with trial:
+            place = Path(folder, f"{number}{wrapper}")
+            place.mkdir()
+            with_tools(place, BOOK_OF_USER)
+            serving = start(place, START.replace("exec tools/", f"exec setsid {wrapper} tools/"))
+            greeted(place)
+            os.killpg(serving.process.pid, number)
+            if wrapper:
+                greeted(place)
+                serving.process.send_signal(signal.SIGTERM)
+            status, _, faults = serving.end()
+            equal((status == 0, faults.replace("nohup: ignoring input\n", "")), (True, ""), number, wrapper)
+            clean = f"clean sessions={1 + bool(wrapper)} accepted=0 codes=0\n"
+            does(place, "scramotp audit --book hall.log.toml --log hall.log", printed=clean)
+            holds(not Path(place, "hall.sock").exists(), "the socket is left")
 
 
 def modes_of_its_files(folder: str) -> None:
@@ -455,6 +486,9 @@ def a_hall_that_does_not_begin(folder: str) -> None:
     equal(ran(folder, SERVE), (1, "", "serve-hall: hall.log.toml already exists\n"), "a folder in the place of the copy")
     copy.rmdir()
     leaves_nothing(folder)
+    nowhere = ran(folder, SERVE.replace("hall.sock", "none/hall.sock"))
+    equal(nowhere, (1, "", "serve-hall: none/hall.sock: [Errno 2] No such file or directory\n"), "a socket in no folder")
+    leaves_nothing(folder)
     # A folder for the PATH that has only Python
     python = Path(folder, "only", "python3")
     python.parent.mkdir()
@@ -478,6 +512,7 @@ suite.run_all(
         a_log_that_is_there,
         a_copy_that_is_the_book,
         a_socket_that_is_left,
+        signals_to_all,
         modes_of_its_files,
         a_socket_that_is_replaced,
         a_stop_before_the_hall_begins,
