@@ -251,10 +251,10 @@ def missed(notes: Notes) -> None:
                 print(f"\n{it.name}", *lines, sep="\n")
 
 
-def stand_in(program: str, notes: Path, folder: Path) -> Path:
+def noting(program: str, notes: Path, folder: Path) -> Path:
     """The small program that becomes the program: its path."""
     library = shims.compiled("note_jumps", TOP / "tests" / "note_jumps.c", folder, f'-DRECORD="{notes}"')
-    return shims.stand_in(program, library, folder / "scramotp")
+    return shims.loader_of(program, library, folder / "scramotp")
 
 
 def main() -> int:
@@ -270,7 +270,7 @@ def main() -> int:
         # The user nobody enters it.
         os.chmod(folder, 0o755)
         notes = Notes((given.notes or Path(folder, "notes")).resolve(), os.path.abspath(given.program))
-        program = stand_in(os.path.abspath(given.program), notes.path, Path(folder))
+        program = noting(os.path.abspath(given.program), notes.path, Path(folder))
         # For refused_io.py, which asks what the program takes from the C library.
         os.environ["MEASURED"] = os.path.abspath(given.program)
         try:

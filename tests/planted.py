@@ -161,7 +161,7 @@ class Room:
             return program
         folder.chmod(0o755)
         copied = shutil.copy2(program, folder / f"{program.name}.built")
-        return shims.stand_in(copied, shims.compiled("pass_calls", self.top / CALLS, folder), folder / program.name)
+        return shims.loader_of(copied, shims.compiled("pass_calls", self.top / CALLS, folder), folder / program.name)
 
     def made_program(self, to: Path) -> Path:
         """Makes the program without proofs: copies it while `rt try` runs it, in a folder that has its output too."""

@@ -31,12 +31,15 @@ import suite
 from checks import equal, holds
 from clients import Account
 from expected import MECHS
+from limits import limit
 from processes import LIMIT, LIMIT_OF_LINES, Running, until
 from suite import BOOK_OF_USER, blocks_of, each, seen
 from tool_runs import TOOLS, book_of, code_of_now, does, ran, start, token_of_now, with_tools
 
 # What `line_of` returns for a client that waits in vain.
 NOTHING = "nothing in time"
+# The seconds in which a client has to send a whole line, in a copy of the tool.
+PATIENCE = limit(5)
 # The longest line of a client that a log can have whole: a mechanism's name of 20 characters, and a message of 2048 bytes, all escaped.
 LONGEST = f"AUTH {'X' * 20} :{'%25' * 2048}"
 OPERATING = TOOLS.parent / "docs" / "OPERATING.md"
@@ -261,13 +264,13 @@ def a_hall_that_is_killed(folder: str) -> None:
 
 
 def a_slow_client(folder: str) -> None:
-    """A client that sends byte after byte but no whole line is cut off; here after five seconds, by a copy of the tool. One that sends
+    """A client that sends byte after byte but no whole line is cut off; here after PATIENCE seconds, by a copy of the tool. One that sends
     whole lines is served before and after that."""
     account = clients.Account("bare", "SCRAM-SHA-256")
     text = (TOOLS / "serve-hall").read_text(encoding="utf-8")
     equal(text.count("\nPATIENCE = 60 "), 1, "the seconds that it waits")
     quick = Path(folder, "quick")
-    quick.write_text(text.replace("\nPATIENCE = 60 ", "\nPATIENCE = 5 "), encoding="utf-8")
+    quick.write_text(text.replace("\nPATIENCE = 60 ", f"\nPATIENCE = {PATIENCE} "), encoding="utf-8")
     quick.chmod(0o755)
     serving = serving_hall(folder, clients.book([account], have_tokens=False), "./quick")
     busy = greeted(folder)
@@ -292,7 +295,7 @@ def a_slow_client(folder: str) -> None:
 
     until(is_cut_off, "a client that sends no whole line should be cut off")
     waited = time.monotonic() - began
-    holds(waited >= 5, "the client was cut off before five seconds had passed", waited)
+    holds(waited >= PATIENCE, "the client was cut off too early, after seconds", waited)
     answers(busy, "CODE 755224", r"NOCODE \d+")
     serves_until(serving, signal.SIGINT, folder, "clean sessions=2 accepted=1 codes=0")
 

@@ -88,7 +88,7 @@ def requests(said: str, *run: Any) -> tuple[str, int]:
     return faults, int(count)
 
 
-def stand_in(program: str | pathlib.Path, library: str, to: pathlib.Path) -> pathlib.Path:
+def loader_of(program: str | pathlib.Path, library: str, to: pathlib.Path) -> pathlib.Path:
     """Compiles BECOMES for a program and a library to load, and returns the path of what is made."""
     with tempfile.NamedTemporaryFile("w", suffix=".c") as source:
         source.write(BECOMES)
