@@ -30,6 +30,7 @@ TESTS = [
     "books.py",
     "recipes.py",
     "edit_book.py",
+    "tools.py",
     "book_commands.py",
     "login_kill.py",
     "hall_kill.py",

@@ -1,5 +1,5 @@
 """What the scripts that run the tools share: the folder tools/, and runs of shell blocks, with the program on the PATH, in a folder that
-has a link to it and an account book. Also a TOTP token and its codes for this moment."""
+has a link to it and an account book. Also a TOTP token and its codes for this moment, and questions about the keys of accounts."""
 import time
 from pathlib import Path
 from typing import Any
@@ -7,10 +7,17 @@ from typing import Any
 import expected
 import processes
 from checks import equal
+from expected import keys_of
 from processes import Answer, Running
 from suite import SECRET, program_on_path, read_book, totp
 
 TOOLS = Path(__file__).resolve().parent.parent / "tools"
+# The user of the recipes, whose name has to be quoted in a book.
+NAME = "user@example.org"
+# The tables of an account's keys.
+MECHANISMS = ["sha1", "sha256"]
+# A text that is nested too deeply for Python.
+TOO_DEEP = b"x = " + b"[" * 100000
 
 
 def start(folder: str | Path, block: str, **more: Any) -> Running:
@@ -58,3 +65,25 @@ def token_of_now() -> str:
 def code_of_now(steps: int = 0) -> str:
     """The code of that token for the step of this moment, or for one so many steps later."""
     return expected.code(bytes.fromhex(SECRET), int(time.time()) // 3600 + steps, digits=8)
+
+
+def enrolled(folder: str) -> None:
+    """Makes in a folder a link to the tools, and a book with two accounts that have passwords."""
+    with_tools(folder, "").unlink()
+    for name in [NAME, "other"]:
+        enrol = f"scramotp enrol --book book.toml --name {name}"
+        does(folder, enrol, "pencil\n", f"enrolled {name}\n")
+
+
+def has_keys_of(account: dict[str, Any], password: bytes, count: int) -> None:
+    """Checks that an account has the keys of this password and this count for both mechanisms."""
+    for mechanism in MECHANISMS:
+        keys = account[mechanism]
+        due = count, *keys_of(mechanism, password, bytes.fromhex(keys["salt"]), count)
+        equal((keys["count"], keys["stored"], keys["server"]), due, f"the {mechanism} keys of", password)
+
+
+def without_keys(book: dict[str, Any], name: str) -> dict[str, Any]:
+    """What a book states, without the keys of this account."""
+    left = {key: it for key, it in book["accounts"][name].items() if key not in MECHANISMS}
+    return {**book, "accounts": {**book["accounts"], name: left}}
