@@ -177,6 +177,8 @@ class Room:
                         shutil.copy(output.with_name("program"), to)
                 run.terminate()
                 run.wait(LIMIT)
+            with contextlib.suppress(FileNotFoundError):
+                to.chmod(0o755)
             said.seek(0)
             if not to.exists():
                 raise NotJudged(said.read()[-1000:])
