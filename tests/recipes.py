@@ -726,9 +726,9 @@ def what_is_watched(folder: str) -> None:
     section = page.partition("## Watch a server\n")[2].partition("\n## ")[0]
     counts = re.findall(r"^\| [^|]* \| `((?:grep|wc) [^`]*hall\.log)`", section, re.M)
     lines = ["SCRAMLOG 2", "1 S MECHS SCRAM-SHA-256 SCRAM-SHA-1", "1 S NO :e=invalid-proof", "1 E", "2 S BUSY", "2 E", "3 S LOCKED 59"]
-    lines += ["4 S NO :e=invalid-proof", "5 C CODE BUSY", "6 S NO :e=invalid-encoding"]
+    lines += ["4 S NO :e=invalid-proof", "5 C CODE BUSY", "6 S NO :e=invalid-encoding", "7 C CODE FAIL", "7 S FAIL 59"]
     Path(folder, "hall.log").write_text("".join(f"{line}\n" for line in lines))
-    due = {"wc -l <hall.log": "10", "NO :e=invalid-proof": "2", "LOCKED": "1", "BUSY": "1"}
+    due = {"wc -l <hall.log": "12", "NO :e=invalid-proof": "2", "FAIL": "1", "LOCKED": "1", "BUSY": "1"}
     for command in counts:
         [count] = [count for words, count in due.items() if words in command]
         equal(ran(folder, command), (0, f"{count}\n", ""), command)
