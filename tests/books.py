@@ -1,7 +1,6 @@
 #!/usr/bin/env python3
-"""Tests of the commands on an account book that need processes: runs at the same time, runs that are
-killed, links, modes, access lists, a save that can't be made, a lock that another run keeps, which files a run opens,
-files that take the book's place, and how paths are shown.
+"""Tests of the commands on an account book that need processes: runs at the same time, runs that are killed, links, modes, access lists, a
+save that can't be made, a lock that another run keeps, which files a run opens, files that take the book's place, and how paths are shown.
 
 Usage: books.py PROGRAM [TEST ..]
 

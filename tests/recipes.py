@@ -86,6 +86,7 @@ def with_fob(folder: str) -> None:
 # The book by which each recorded log is judged.
 BOOKS_OF_LOGS = {"sha1": "hotp.toml", "sha256": "sha256.toml", "twice": "hotp.toml"}
 
+
 def states(folder: str, book: dict[str, Any], about: str) -> None:
     """Checks that the book in a folder states this."""
     equal(book_of(folder), book, about)
