@@ -356,8 +356,9 @@ def run_all(tests: list[Callable]) -> NoReturn:
     each with its last run, and how many pass, and exits, with status 1 if one fails. What a test has started does not outlive it."""
     tests, failed = chosen(tests), 0
     signal.signal(signal.SIGALRM, end_test)
-    # A shell that starts this script in the background has it ignore INT, and what a test starts would then ignore it too.
+    # A shell that starts this script in the background has it ignore INT, and nohup HUP. What a test starts would then ignore it too.
     signal.signal(signal.SIGINT, signal.default_int_handler)
+    signal.signal(signal.SIGHUP, signal.SIG_DFL)
     for test in tests:
         with tempfile.TemporaryDirectory() as folder:
             random.seed(f"{SEED} {test.__name__}")
