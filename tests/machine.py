@@ -512,9 +512,4 @@ TESTS = [
     moments_that_fall,
 ]
 
-# Under nohup, or in the background of a shell, some signals are ignored, also by the processes started here.
-for number in SIGNALS:
-    if number != signal.SIGKILL:
-        signal.signal(number, signal.SIG_DFL)
-
 suite.run_all(TESTS)

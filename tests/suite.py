@@ -358,7 +358,8 @@ def run_all(tests: list[Callable]) -> NoReturn:
     signal.signal(signal.SIGALRM, end_test)
     # A shell that starts this script in the background has it ignore INT, and nohup HUP. What a test starts would then ignore it too.
     signal.signal(signal.SIGINT, signal.default_int_handler)
-    signal.signal(signal.SIGHUP, signal.SIG_DFL)
+    for number in signal.SIGHUP, signal.SIGTERM:
+        signal.signal(number, signal.SIG_DFL)
     for test in tests:
         with tempfile.TemporaryDirectory() as folder:
             random.seed(f"{SEED} {test.__name__}")
