@@ -102,6 +102,7 @@ class Room:
 
     def __init__(self, folder: Path) -> None:
         self.top = folder
+        # The user nobody enters it.
         folder.chmod(0o755)
         for name in COPIED:
             if (TOP / name).is_dir():
@@ -159,6 +160,7 @@ class Room:
             raise NotJudged(f"this needs {built}: run make build and make bench")
         if (self.top / CALLS).read_bytes() == (TOP / CALLS).read_bytes():
             return program
+        # The user nobody enters it.
         folder.chmod(0o755)
         copied = shutil.copy2(program, folder / f"{program.name}.built")
         return shims.loader_of(copied, shims.compiled("pass_calls", self.top / CALLS, folder), folder / program.name)
