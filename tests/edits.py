@@ -12,9 +12,10 @@ function fails that no edit changes, is tried in halves.
 
 An edit has the form that `rt help` describes, and changes src/ or specs/. An edit of a definition in specs/ belongs to no function, and
 is refused if a proof of the crate then fails. An edit that makes the same change as an earlier one of its crate counts as let through.
-The script works in a temporary folder, with the libraries that `rt ci` or `rt lib` left in crates/NAME/out/ if they are newer than
-their sources, and otherwise builds them there. With --built it takes them in any case, for use after an `rt ci`, whose libraries may be
-older files that it kept. `rt ci` shows whether the crates are proved without edits.
+Several checks run at the same time, each in a copy of its crate. The script works in a temporary folder, with the libraries that `rt ci`
+or `rt lib` left in crates/NAME/out/ if they are newer than their sources, and otherwise builds them there. With --built it takes them in
+any case, for use after an `rt ci`, whose libraries may be older files that it kept. `rt ci` shows whether the crates are proved without
+edits.
 
 Refusals are kept on this machine, as `rt ci` keeps what it proved: by the checksum of everything that the trial read, which is the kit,
 this script, the edit, and the sources of its crate and of those below. A later run tries the other edits, and with --anew all.
@@ -33,17 +34,17 @@ import shutil
 import subprocess
 import sys
 import tempfile
+import threading
 import time
-from collections.abc import Iterable
-from concurrent.futures import ThreadPoolExecutor
+from collections.abc import Iterable, Iterator
+from concurrent.futures import FIRST_COMPLETED, Future, ThreadPoolExecutor, wait
+from contextlib import contextmanager
 from dataclasses import dataclass, field
 from functools import cache
 from pathlib import Path
 
 from edit_sources import EDITED, TOP, Edit, Function, Unusable, edits_of, functions_of, read_edit
-
-# The libraries that each crate uses, as crates.txt lists them.
-Uses = dict[str, list[str]]
+from rattle import Uses, below, kit, read_uses
 
 # The folders of a crate that a check reads.
 PARTS = ("src", "specs", "proofs")
@@ -138,7 +139,6 @@ class Room:
 
     def __init__(self, crate: str, uses: Uses, base: Path, at: Path) -> None:
         self.crate, self.source, self.folder = crate, TOP / "crates" / crate, at
-        self.refusals = Refusals(crate, uses)
         self.functions = functions_of(self.source)
         for part in PARTS:
             if (self.source / part).is_dir():
@@ -244,62 +244,102 @@ class Count:
     left: int = 0
 
 
-def read_all(room: Room) -> tuple[list[Edit], dict[str, str]]:
-    """Reads the edits of a crate, and returns those that can be tried, and for each other one why it can't."""
-    usable: dict[tuple[tuple[tuple[str, int], str], ...], Edit] = {}
-    unusable: dict[str, str] = {}
-    for path in edits_of(room.source):
+class Rooms:
+    """The copies of one crate, each of which one check at a time uses. Another one is made where none is free."""
+
+    def __init__(self, crate: str, uses: Uses, base: Path, folder: Path) -> None:
+        self.make = lambda number: Room(crate, uses, base, folder / f"{crate}-{number}")
+        self.lock, self.free, self.made = threading.Lock(), [], 0
+
+    @contextmanager
+    def one(self) -> Iterator[Room]:
+        """A copy that no other check uses."""
+        with self.lock:
+            room = self.free.pop() if self.free else None
+            self.made += room is None
+            number = self.made
+        room = room or self.make(number)
         try:
-            edit = read_edit(path, room.source, room.functions)
-        except Unusable as fault:
-            unusable[path.stem] = f"DOES NOT APPLY: {fault}"
-            continue
-        earlier = usable.setdefault(tuple(sorted(edit.lines.items())), edit)
-        if earlier is not edit:
-            unusable[edit.name] = f"THE SAME CHANGE AS {earlier.name}"
-    return [*usable.values()], unusable
+            yield room
+        finally:
+            with self.lock:
+                self.free.append(room)
 
 
-def try_crate(room: Room, is_first: bool, options: argparse.Namespace) -> Count:
-    """Tries the edits of a crate, and counts the outcomes. The first crate begins with the script's own test."""
-    began, tried, count = time.monotonic(), set(), Count()
+class Trial:
+    """The edits of one crate that a run tries, and what became of them."""
 
-    def tell(name: str, outcome: Outcome, when: str = "") -> None:
-        print(f"{room.crate}/{name}: {outcome.text}{when}", flush=True)
-        count.refused += outcome.is_refused
-        count.before += bool(when)
-        count.failed += not outcome.is_refused
-        tried.add(name)
+    def __init__(self, crate: str, uses: Uses, rooms: Rooms) -> None:
+        self.crate, self.source, self.rooms = crate, TOP / "crates" / crate, rooms
+        self.functions, self.refusals, self.count, self.seconds = functions_of(self.source), Refusals(crate, uses), Count(), 0.0
 
-    edits, unusable = read_all(room)
-    for name, why in unusable.items():
-        tell(name, Outcome(False, why))
-    if is_first:
-        self_test(room, edits)
-    if options.self_test:
-        return count
-    usable = len(edits)
-    edits = [it for it in edits if room.refusals.is_in_share(it, options.share)]
-    count.left = usable - len(edits)
-    for edit in [] if options.anew else edits:
-        if outcome := room.refusals.kept(edit):
-            tell(edit.name, outcome, " before, with the same sources")
-    batches = batches_of(it for it in edits if it.is_inside and it.name not in tried)
-    for batch in batches:
-        outcomes = try_together(room, batch)
-        for edit in batch:
-            if edit.name in outcomes:
-                tell(edit.name, outcomes[edit.name])
-                room.refusals.keep(edit, outcomes[edit.name])
-    alone = [it for it in edits if it.name not in tried]
-    for edit in alone:
-        outcome = try_alone(room, edit)
-        tell(edit.name, outcome)
-        if outcome.is_refused:
-            room.refusals.keep(edit, outcome)
-    said = f"{room.crate}: {len(edits)} edits, {len(batches)} batches, {len(alone)} alone, {time.monotonic() - began:.0f} s"
-    print(said, file=sys.stderr, flush=True)
-    return count
+    def tell(self, name: str, outcome: Outcome, when: str = "") -> None:
+        """Prints and counts what became of an edit."""
+        print(f"{self.crate}/{name}: {outcome.text}{when}", flush=True)
+        self.count.refused += outcome.is_refused
+        self.count.before += bool(when)
+        self.count.failed += not outcome.is_refused
+
+    def edits(self) -> list[Edit]:
+        """Reads the edits of the crate, and returns those that can be tried. Tells of each other one why it can't."""
+        usable: dict[tuple[tuple[tuple[str, int], str], ...], Edit] = {}
+        for path in edits_of(self.source):
+            try:
+                edit = read_edit(path, self.source, self.functions)
+            except Unusable as fault:
+                self.tell(path.stem, Outcome(False, f"DOES NOT APPLY: {fault}"))
+                continue
+            earlier = usable.setdefault(tuple(sorted(edit.lines.items())), edit)
+            if earlier is not edit:
+                self.tell(edit.name, Outcome(False, f"THE SAME CHANGE AS {earlier.name}"))
+        return [*usable.values()]
+
+    def chosen(self, edits: list[Edit], share: int, anew: bool) -> list[Edit]:
+        """Those of the edits that this run has to try: the share, without what an earlier run refused, of which it tells."""
+        chosen = [it for it in edits if self.refusals.is_in_share(it, share)]
+        self.count.left = len(edits) - len(chosen)
+        kept = {it.name: outcome for it in ([] if anew else chosen) if (outcome := self.refusals.kept(it))}
+        for name, outcome in kept.items():
+            self.tell(name, outcome, " before, with the same sources")
+        return [it for it in chosen if it.name not in kept]
+
+    def together(self, batch: list[Edit]) -> dict[str, Outcome]:
+        """What `try_together` returns, and how long it took is added up."""
+        began = time.monotonic()
+        with self.rooms.one() as room:
+            outcomes = try_together(room, batch)
+        self.seconds += time.monotonic() - began
+        return outcomes
+
+    def alone(self, edit: Edit) -> dict[str, Outcome]:
+        """The outcome of one edit by itself."""
+        began = time.monotonic()
+        with self.rooms.one() as room:
+            outcome = try_alone(room, edit)
+        self.seconds += time.monotonic() - began
+        return {edit.name: outcome}
+
+
+def try_all(trials: list[tuple[Trial, list[Edit]]], jobs: int) -> None:
+    """Tries these edits of each crate, so many checks side by side: batches first, and then each edit by itself that no batch refused."""
+    with ThreadPoolExecutor(jobs) as pool:
+        waiting: dict[Future[dict[str, Outcome]], tuple[Trial, list[Edit]]] = {}
+        for trial, edits in trials:
+            for batch in batches_of(it for it in edits if it.is_inside):
+                waiting[pool.submit(trial.together, batch)] = trial, batch
+        for trial, edit in ((trial, it) for trial, edits in trials for it in edits if not it.is_inside):
+            waiting[pool.submit(trial.alone, edit)] = trial, [edit]
+        while waiting:
+            for done in wait(waiting, return_when=FIRST_COMPLETED).done:
+                trial, batch = waiting.pop(done)
+                outcomes = done.result()
+                for edit in batch:
+                    if edit.name not in outcomes:
+                        waiting[pool.submit(trial.alone, edit)] = trial, [edit]
+                        continue
+                    trial.tell(edit.name, outcomes[edit.name])
+                    if outcomes[edit.name].is_refused:
+                        trial.refusals.keep(edit, outcomes[edit.name])
 
 
 def self_test(room: Room, edits: list[Edit]) -> None:
@@ -324,18 +364,6 @@ def self_test(room: Room, edits: list[Edit]) -> None:
         except Unusable:
             continue
         sys.exit(f"edits.py: its own test fails: an edit applies {what}")
-
-
-def read_uses() -> Uses:
-    """Reads crates.txt: the libraries that each crate uses."""
-    rows = [it.partition("#")[0].partition(":") for it in (TOP / "crates.txt").read_text(encoding="utf-8").split("\n")]
-    return {left.split()[0]: right.split() for left, colon, right in rows if colon}
-
-
-def below(crate: str, uses: Uses) -> list[str]:
-    """Returns the repository's libraries that a crate uses, directly or not, each after those that it uses itself."""
-    lower = [it for it in uses[crate] if it in uses]
-    return list(dict.fromkeys(it for low in lower for it in [*below(low, uses), low]))
 
 
 def rlib_of(root: Path, name: str) -> Path:
@@ -375,12 +403,6 @@ def linked(source: str, to: str) -> None:
 
 
 @cache
-def kit() -> Path:
-    """Returns the folder of the Rattle kit."""
-    return Path(run(["rt", "doc"], TOP).stdout.strip()).parent
-
-
-@cache
 def kit_version() -> str:
     """Returns the line by which the kit identifies itself."""
     return run(["rt", "version"], TOP).stdout
@@ -390,6 +412,13 @@ def run(words: list[str], folder: Path) -> subprocess.CompletedProcess[str]:
     """Runs a command without input, and returns its status and all its output."""
     ways = {"stdin": subprocess.DEVNULL, "stdout": subprocess.PIPE, "stderr": subprocess.STDOUT}
     return subprocess.run(words, cwd=folder, text=True, **ways)
+
+
+def tell_times(trials: list[Trial]) -> None:
+    """Adds a line for each crate to the file that TIMES in the environment names: the seconds that the checks of its edits took."""
+    if path := os.environ.get("TIMES"):
+        with open(path, "a", encoding="utf-8") as file:
+            file.writelines(f"edits of {it.crate},,{it.seconds:.1f}\n" for it in trials)
 
 
 def default_jobs() -> int:
@@ -411,7 +440,7 @@ def main() -> int:
     options = parser.parse_args()
     if options.share < 1:
         parser.error("--share takes a number from 1")
-    uses = read_uses()
+    uses = read_uses(TOP / "crates.txt")
     listed = options.crates or [it for it in uses if (TOP / "crates" / it / "edits").is_dir()]
     edits = {it: len(edits_of(TOP / "crates" / it)) for it in listed}
     if without := [it for it in listed if not edits[it]]:
@@ -420,12 +449,19 @@ def main() -> int:
     first = min(functions, key=lambda it: (len(below(it, uses)), functions[it]))
     # the longest work begins first: a check takes longest in a crate that uses many others
     names = [first] if options.self_test else sorted(functions, key=lambda it: (-len(below(it, uses)), -functions[it] * edits[it]))
-    with tempfile.TemporaryDirectory(prefix="edits-") as temp, ThreadPoolExecutor(options.jobs) as pool:
+    with tempfile.TemporaryDirectory(prefix="edits-") as temp:
         base = Path(temp) / "base"
         build(base, list(dict.fromkeys(low for it in names for low in below(it, uses))), uses, options.built)
-        rooms = [Room(it, uses, base, Path(temp) / it) for it in names]
-        tried = [pool.submit(try_crate, it, it.crate == first, options) for it in rooms]
-        counts = [it.result() for it in tried]
+        trials = [Trial(it, uses, Rooms(it, uses, base, Path(temp))) for it in names]
+        read = [(it, it.edits()) for it in trials]
+        for trial, found in read:
+            if trial.crate == first:
+                with trial.rooms.one() as room:
+                    self_test(room, found)
+        if not options.self_test:
+            try_all([(it, it.chosen(found, options.share, options.anew)) for it, found in read], options.jobs)
+    tell_times(trials)
+    counts = [it.count for it in trials]
     refused, failed, before, left = (sum(getattr(it, of) for it in counts) for of in ("refused", "failed", "before", "left"))
     said = f"{refused} refused" + f" ({before} of them before)" * bool(before) + f", {failed} let through"
     said += f", {left} not tried" * bool(left)
