@@ -7,6 +7,10 @@ JOBS ?= $(shell nproc)
 # make test tries about one in SHARE of the wrong bodies. SHARE=1 tries all, as before a release.
 SHARE ?= 3
 PROGRAM = crates/scramotp/out/scramotp
+# What is only compiled, and not proved.
+UNPROVED = out/unproved/scramotp
+# Where make time says what each part took.
+time: TIMES = out/times.csv
 # The kit with which all was last proved, as rt version prints it; README.md and docs/PROMISES.md name it too.
 KIT = rattle-kit-13f logic dac8208d650f15bf
 # What the program stands on.
@@ -27,7 +31,10 @@ EXAMPLE = keys --mechanism SCRAM-SHA-1 --salt 4125c247e43ab1e93c6dff76 --count 4
 # The processors that make last built the program for. rt ci builds it for the default ones, and make test then removes this note.
 BUILT_FOR := $(shell cat crates/scramotp/out/built_for 2>/dev/null || echo x86-64-v2)
 
-.PHONY: help run build libraries install test coverage fuzz bench clean kit this_kit needed FORCE
+TIMED = $(if $(TIMES),python3 tests/timed.py --crates $(TIMES) 'rt ci')
+export TIMES
+
+.PHONY: help run build libraries install setup test prove test-all time coverage fuzz bench clean kit this_kit needed FORCE
 
 help:
 	@echo 'make run        prints the keys of the example in RFC 5802, also before anything is built'
@@ -36,19 +43,23 @@ help:
 	@echo 'make libraries  proves the libraries, for a server of your own'
 	@echo 'make install    copies the built program to $$(DESTDIR)$$(PREFIX)/bin,'
 	@echo '                its tools to $$(DESTDIR)$$(PREFIX)/share/scramotp, and its documents to share/doc/scramotp there'
-	@echo 'make test       the gate: proves all, checks that proofs refuse wrong bodies, builds the program and runs all tests;'
+	@echo 'make setup      installs what the tests need, on Debian and as root'
+	@echo 'make test       compiles the program and all tests without proofs, and runs them: some 10 minutes'
+	@echo 'make prove      proves all, and checks that proofs refuse wrong bodies: an hour from nothing;'
 	@echo '                SHARE=1 tries all wrong bodies, instead of about a third'
+	@echo 'make test-all   tests the proved program, with every random choice, and plants all bugs that the scripts have to refuse'
+	@echo 'make time       does test and prove, and writes what each part took to out/times.csv'
 	@echo 'make coverage   measures how much of the built program the tests run; needs objdump and readelf too'
 	@echo 'make fuzz       gives the built program random input, for some minutes'
 	@echo 'make bench      compares speeds with OpenSSL, with Python, and with oathtool'
 	@echo 'make clean      removes what was built'
 
-# A program that is not built runs from its sources, which proves nothing.
+# A program that is not built is compiled from its sources first, which proves nothing. It stays where make install does not look.
 run:
 	@if $(IS_FRESH); then echo pencil | $(PROGRAM) $(EXAMPLE); else \
-		$(MAKE) --no-print-directory kit && mkdir -p crates/scramotp/out && cd crates/scramotp && \
-		echo 'Nothing is proved yet: make build does that. This runs the program from its sources, in about a minute.' >&2 && \
-		{ echo pencil | rt try -- $(EXAMPLE) 2>out/try.log || { cat out/try.log >&2; exit 1; }; }; fi
+		$(MAKE) --no-print-directory kit && \
+		echo 'Nothing is proved yet: make build does that. This compiles the program from its sources, in some minutes.' >&2 && \
+		python3 tests/unproved.py scramotp $(UNPROVED) && echo pencil | $(UNPROVED) $(EXAMPLE); fi
 
 build: $(PROGRAM)
 
@@ -93,14 +104,28 @@ install:
 	install -D -m 644 -t "$(DESTDIR)$(PREFIX)/share/doc/scramotp/docs" docs/*.md
 	install -D -m 644 -t "$(DESTDIR)$(PREFIX)/share/doc/scramotp/bench" bench/README.md
 
-test: this_kit needed
-	python3 tests/documents.py
-	rt ci
+setup:
+	python3 tests/needs.py --install
+
+test: needed
+	JOBS=$(JOBS) python3 tests/run.py --unproved
+
+prove: this_kit
+	$(TIMED) rt ci
 	@rm -f crates/scramotp/out/built_for
 	python3 tests/edits.py --built --share $(SHARE)
-	$(MAKE) build
+
+test-all: needed build
+	cd crates/bench && rt run -- hotp 1 12345678901234567890
 	JOBS=$(JOBS) python3 tests/run.py $(PROGRAM)
-	python3 tests/planted.py --unbuilt --jobs $(JOBS)
+	python3 tests/planted.py --jobs $(JOBS)
+
+# Each part has a line: its name, its seconds of wall time and its seconds of processor time. The last lines are those of the longest.
+time:
+	@mkdir -p out && rm -f $(TIMES)
+	python3 tests/timed.py $(TIMES) 'make test' $(MAKE) --no-print-directory test TIMES=$(TIMES)
+	python3 tests/timed.py $(TIMES) 'make prove' $(MAKE) --no-print-directory prove TIMES=$(TIMES)
+	@sort -t, -k2 -n $(TIMES)
 
 # Measures what the scripts run of the program, which takes them longer than usual. It judges nothing.
 coverage: needed build
@@ -128,7 +153,7 @@ bench: build
 	python3 bench/audit.py $(PROGRAM)
 
 clean:
-	rm -rf crates/*/out tests/__pycache__ bench/__pycache__
+	rm -rf out crates/*/out tests/__pycache__ bench/__pycache__
 
 kit:
 	@command -v rt >/dev/null || { echo 'rt, the command of the Rattle kit, is not on your PATH' >&2; exit 1; }
@@ -139,10 +164,5 @@ this_kit: kit
 		echo "The documents name the kit $(KIT), and this is $$found." \
 			"Once all passes with it, change KIT in the Makefile, and its name in README.md and docs/PROMISES.md." >&2
 
-# What else the tests need; they would miss it only after the proofs.
 needed:
-	@missing=; \
-	for it in cc nm bash xxd flock; do command -v $$it >/dev/null || missing="$$missing, $$it on your PATH"; done; \
-	python3 -c 'import sys; sys.exit(sys.version_info < (3, 11))' 2>/dev/null || missing="$$missing, python3 (3.11 or newer) on your PATH"; \
-	id -u nobody >/dev/null 2>&1 || missing="$$missing, a user nobody"; \
-	test -z "$$missing" || { echo "The tests need, and this machine lacks: $${missing#, }" >&2; exit 1; }
+	@python3 tests/needs.py

@@ -5,8 +5,8 @@ Usage: install.py PROGRAM [TEST ..]
 
 The program, the tools in tools/ and the documents are put where DESTDIR and PREFIX say, even if a name has a space, and no other file is.
 A program that is not built, or is older than its sources, is refused. `make run` prints the keys of RFC 5802's example, which are those
-from Python's hashlib. If the program is not built or is old, it has rt run the sources; here a stand-in for rt takes its place, since rt
-takes over a minute. Needs `make`.
+from Python's hashlib. If the program is not built or is old, it compiles the sources; here stand-ins for rt and Python take their place,
+since that takes over a minute. Needs `make`.
 """
 import os
 import pathlib
@@ -26,9 +26,9 @@ OF_MAKE = {"DESTDIR", "PREFIX", "MAKEFLAGS", "MFLAGS", "MAKELEVEL"}
 ENVIRONMENT = {name: value for name, value in os.environ.items() if name not in OF_MAKE}
 
 
-# What the Makefile takes from the PATH before it has rt run the sources.
+# What the Makefile takes from the PATH before it compiles the sources.
 NEEDED = ["cat", "date", "find", "mkdir", "nproc", "sed"]
-NOTHING_PROVED = "Nothing is proved yet: make build does that. This runs the program from its sources, in about a minute.\n"
+NOTHING_PROVED = "Nothing is proved yet: make build does that. This compiles the program from its sources, in some minutes.\n"
 
 
 def made(
@@ -95,8 +95,8 @@ def shown(folder: str) -> None:
 
 
 def run_from_sources(folder: str) -> None:
-    """Without a program that is newer than its sources, `make run` says that nothing is proved, and runs them by `rt try` in the program's
-    crate. It prints what that prints; if it fails, its fault. Without rt it says so. Here a stand-in for rt runs the built program."""
+    """Without a program that is newer than its sources, `make run` says that nothing is proved, has unproved.py compile it, and runs what
+    that made. It prints what that prints; if it fails, its fault. Without rt it says so. Here a stand-in for Python copies the program."""
     top, path, old = (pathlib.Path(folder, name) for name in ["top", "path", "old"])
     source = top / "crates" / "scramotp" / "src" / "main.rt"
     source.parent.mkdir(parents=True)
@@ -110,21 +110,24 @@ def run_from_sources(folder: str) -> None:
     status, output, faults = made("run", old, top, path)
     equal((status, output), (2, ""), "without rt", faults)
     holds("rt, the command of the Rattle kit, is not on your PATH" in faults.splitlines(), "it does not say that rt is missing", faults)
-    stand_in, asked = path / "rt", pathlib.Path(folder, "asked")
+    (path / "rt").symlink_to(shutil.which("true"))
+    stand_in, asked = path / "python3", pathlib.Path(folder, "asked")
+    copies = f'{shutil.which("mkdir")} -p out/unproved && {shutil.which("cp")} {PROGRAM} "$3"'
     for trial, (program, last, answer) in each([
-        (f"{folder}/none", f'exec {PROGRAM} "$@"', (0, KEYS_OF_PENCIL, NOTHING_PROVED)),
-        (old, f'exec {PROGRAM} "$@"', (0, KEYS_OF_PENCIL, NOTHING_PROVED)),
+        (f"{folder}/none", copies, (0, KEYS_OF_PENCIL, NOTHING_PROVED)),
+        (old, copies, (0, KEYS_OF_PENCIL, NOTHING_PROVED)),
         (old, "echo it is wrong >&2; exit 3", None),
     ]):
         with trial:
             asked.unlink(missing_ok=True)
-            stand_in.write_text(f'#!/bin/sh\necho "$PWD: $1 $2" >{asked}\nshift 2\n{last}\n')
+            stand_in.write_text(f'#!/bin/sh\necho "$PWD: $*" >{asked}\n{last}\n')
             stand_in.chmod(0o755)
             status, output, faults = done = made("run", program, top, path)
-            equal(asked.read_text(), f"{os.path.realpath(top)}/crates/scramotp: try --\n", "where rt runs, and its first words")
+            due = f"{os.path.realpath(top)}: tests/unproved.py scramotp out/unproved/scramotp\n"
+            equal(asked.read_text(), due, "where Python runs, and its words")
             if answer is None:
-                equal((status, output), (2, ""), "a run of rt that fails", faults)
-                holds(faults.startswith(f"{NOTHING_PROVED}it is wrong\n"), "the fault of rt is not shown", faults)
+                equal((status, output), (2, ""), "a compilation that fails", faults)
+                holds(faults.startswith(f"{NOTHING_PROVED}it is wrong\n"), "the fault is not shown", faults)
             else:
                 equal(done, answer, "what make run prints")
 
