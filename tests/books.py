@@ -25,7 +25,7 @@ from typing import Any
 import suite
 from checks import equal, holds
 from kills import kill_before_any_call
-from processes import LIMIT_OF_LINES, Running, ran, taken, until, whole
+from processes import LIMIT_OF_LINES, Running, processor_time, ran, taken, until, whole
 from suite import (
     BOOK_OF_USER, CODES, MOST_BYTES, PROGRAM, BookFolder, code, each, fault_text, hotp, is_locked, prints, read_book, seen, verify_words,
 )
@@ -242,8 +242,12 @@ def keys_before_the_lock(folder: str) -> None:
     """`enrol` makes its keys while other runs use or make the book, and adds its account to the book as it is afterwards."""
     here = BookFolder(folder, BOOK)
     new = here.folder / "new"
-    slow = [start_enrol(path, "slow", 4000000) for path in [here.book, new]]
-    # Each of the two needs some seconds of processor time for its keys, and is stopped early in that.
+    before = processor_time()
+    start_enrol(here.folder / "measured", "slow", 100000).ends(0, "enrolled slow\n")
+    (here.folder / "measured").unlink()
+    # Each of the two needs some three seconds of processor time for its keys, and is stopped early in that.
+    count = int(100000 * 3 / (processor_time() - before))
+    slow = [start_enrol(path, "slow", count) for path in [here.book, new]]
     until(lambda: all(taken(run.process.pid) > 0.1 for run in slow), "both runs should make keys")
     for run in slow:
         run.process.send_signal(signal.SIGSTOP)

@@ -1,30 +1,32 @@
 #!/usr/bin/env python3
 """Plants bugs, one at a time: the test that tests/data/planted.csv names for each has to fail, and to say why.
 
-Usage: planted.py [--jobs N] [--unbuilt] [BUG ..]
+Usage: planted.py [--jobs N] [--unbuilt | --changed] [--note] [BUG ..]
 
 A test could fail for another reason than its bug. So the column `says` has a text that a test's output has to have when it fails: the value
 that is wrong, or what differs, as it follows from the edit. In it `..` stands for what has no space, such as a path.
 
-By default all bugs are tried, and otherwise those of these names; with --unbuilt, only those for which nothing is built. Each is an edit,
-in the form that `rt help` describes:
+By default all bugs are tried, and otherwise those of these names. With --unbuilt only those for which nothing is built; and with --changed,
+of these only such whose file or script has changed since all were refused, by the checksums of tests/data/planted.sums. With --note, if
+all that were tried are refused, that file gets the checksums as they are now. Each bug is an edit, in the form that `rt help` describes:
 
 - of a crate, in crates/NAME/planted/: a bug for which there is a test, in most cases since no contract can speak of it. The test is in a
-  test crate, and `rt try --test` runs it with all others of that crate; or it is in a script of tests/, and is run on a program that
-  `rt try` makes of the edited sources. Nothing is proved.
+  crate of tests/rattle/, and `rt try --test` runs it with all others of that crate; or it is in a script of tests/, and is run on a program
+  that unproved.py makes of the edited sources. Nothing is proved.
 - in tests/planted/: of a tool, of a page in docs/, of the Makefile, or of what a script makes runs and their calls go wrong with, a C
   file or power_model.py: it then makes nothing go wrong, or in another way. Or of pass_calls.c: the program itself then has the bug, in
-  how it calls the C library. The test is in a script, and is run on the programs that `make build` and `make bench` made. Nothing is built.
+  how it calls the C library. The test is in a script, and is run on the programs that `make build` and `make bench` made, or on those that
+  PROGRAM and BENCH in the environment name. Nothing is built.
 
 The script works in temporary copies of the repository, whose sources must not change meanwhile. Without an edit, each test has to pass. A
 test may say that this machine can't test all of it. If it passes with the bug then, the bug counts as not tested.
 
-The program of `rt try` checks its use of memory and is slow, so a script that kills runs kills fewer of them here, as RUNS says, and one
-that makes input at random makes no more than by default, as COUNT says. That program can't run together with those C files, so for a bug
-of a crate no test that loads one of them is named. It can with note_files.c, which makes no call go wrong.
+A script that kills runs kills fewer of them here, as RUNS says, and one that makes input at random makes no more than by default, as COUNT
+says.
 """
 import argparse
 import contextlib
+import hashlib
 import os
 import re
 import shutil
@@ -42,16 +44,21 @@ from typing import Any
 from edit_sources import TOP, PlantedRow, Unusable, planted_rows, read_planted, root_of
 from limits import limit
 from run import NOT_TESTED
+import rattle
 import shims
+import unproved
 
 # The built programs, from the repository's top: the one that is tested, and the one whose library calls a script tests.
 PROGRAM = "crates/scramotp/out/scramotp"
 BENCH = "crates/bench/out/bench"
+# Where these programs are.
+MADE = {name: Path(os.environ.get(variable) or TOP / name) for name, variable in ((PROGRAM, "PROGRAM"), (BENCH, "BENCH"))}
+# The files in which bugs of tests/ are planted, and the scripts that refuse them, with their checksums when all were refused.
+SUMS = TOP / "tests/data/planted.sums"
 # Makes the program's calls of the C library as they are, unless a bug is planted in it.
 CALLS = "tests/pass_calls.c"
-# What a copy of the repository has besides them.
-COPIED = ["bench", "crates", "tests", "tools", "docs", "crates.txt", "HANDLES", "Makefile", "LICENSE"]
-COPIED += ["README.md", "CHANGELOG.md", "CONTRIBUTING.md"]
+# What a copy of the repository has besides its crates, with those of tests.
+COPIED = ["bench", "tests", "tools", "docs", "Makefile", "LICENSE", "README.md", "CHANGELOG.md", "CONTRIBUTING.md"]
 # How many characters are shown of what a test says.
 SHOWN = 3000
 # The most seconds that a command may take.
@@ -60,8 +67,6 @@ LIMIT = limit(1800)
 RUNNING: set[subprocess.Popen] = set()
 # How many runs a script kills, and how many inputs of a kind it tries.
 FEWER = {"RUNS": "60", "COUNT": "300", "SEED": "1"}
-# A run of the program that lasts long enough to copy the program, which `rt try` removes at its end.
-LONG_RUN = ["keys", "--mechanism", "SCRAM-SHA-1", "--salt", "00", "--count", "4294967295"]
 
 
 class NotJudged(Exception):
@@ -104,15 +109,16 @@ class Room:
         self.top = folder
         # The user nobody enters it.
         folder.chmod(0o755)
+        rattle.copied(folder)
         for name in COPIED:
             if (TOP / name).is_dir():
                 shutil.copytree(TOP / name, folder / name, ignore=shutil.ignore_patterns("out", "__pycache__"))
             else:
                 shutil.copy2(TOP / name, folder / name)
-        for built in filter(Path.exists, (TOP / PROGRAM, TOP / BENCH)):
-            to = folder / built.relative_to(TOP)
-            to.parent.mkdir()
-            shutil.copy2(built, to)
+        for name, built in MADE.items():
+            if built.exists():
+                (folder / name).parent.mkdir(parents=True)
+                shutil.copy2(built, folder / name)
 
     def failure_with(self, row: PlantedRow) -> str | None:
         """What `failure` returns while the row's bug is planted."""
@@ -151,7 +157,13 @@ class Room:
 
     def program(self, row: PlantedRow, folder: Path) -> Path:
         """The program for a script: the one that is built if no crate is edited, and otherwise one that is made of the copy's sources."""
-        return self.loading_calls(PROGRAM, folder) if row.of == "tests" else self.made_program(folder / "program")
+        if row.of == "tests":
+            return self.loading_calls(PROGRAM, folder)
+        try:
+            unproved.compiled("scramotp", folder / "program", self.top / "crates")
+        except unproved.NotMade as fault:
+            raise NotJudged(str(fault)[-1000:]) from None
+        return folder / "program"
 
     def loading_calls(self, built: str, folder: Path) -> Path:
         """A built program, which loads CALLS if that is edited."""
@@ -164,27 +176,6 @@ class Room:
         folder.chmod(0o755)
         copied = shutil.copy2(program, folder / f"{program.name}.built")
         return shims.loader_of(copied, shims.compiled("pass_calls", self.top / CALLS, folder), folder / program.name)
-
-    def made_program(self, to: Path) -> Path:
-        """Makes the program without proofs: copies it while `rt try` runs it, in a folder that has its output too."""
-        with tempfile.TemporaryDirectory(prefix="planted-") as folder, tempfile.TemporaryFile("w+", errors="replace") as said:
-            ways = {"stdin": subprocess.PIPE, "stdout": said, "stderr": said, "env": {**os.environ, "TMPDIR": folder}}
-            deadline = time.monotonic() + LIMIT
-            with started(["rt", "try", "--", *LONG_RUN], self.top / "crates/scramotp", **ways) as run:
-                run.stdin.write(b"pencil\n")
-                run.stdin.close()
-                while run.poll() is None and not to.exists() and time.monotonic() < deadline:
-                    time.sleep(1)
-                    for output in Path(folder).glob("*/*/stdout"):
-                        shutil.copy(output.with_name("program"), to)
-                run.terminate()
-                run.wait(LIMIT)
-            with contextlib.suppress(FileNotFoundError):
-                to.chmod(0o755)
-            said.seek(0)
-            if not to.exists():
-                raise NotJudged(said.read()[-1000:])
-        return to
 
 
 class Trial:
@@ -238,12 +229,31 @@ class Trial:
         return how.split(":")[0]
 
 
-def rows_of(bugs: list[str], is_unbuilt: bool) -> list[PlantedRow]:
-    """The rows of planted.csv, or those of these bugs, and only those for which nothing is built. Exits if there is none of a name."""
+def sums_of(row: PlantedRow) -> dict[str, str]:
+    """The checksums of the files in which a bug of tests/ is planted, of its edit, and of the script that refuses it."""
+    files = {file for file, _ in read_planted(TOP, row.of, row.bug).lines} | {f"tests/planted/{row.bug}.edit", f"tests/{row.by}"}
+    return {it: hashlib.sha256((TOP / it).read_bytes()).hexdigest() for it in files}
+
+
+def noted_sums() -> dict[str, str]:
+    """The checksums that SUMS has."""
+    lines = SUMS.read_text(encoding="utf-8").splitlines() if SUMS.exists() else []
+    return {file: found for found, file in (it.split("  ") for it in lines)}
+
+
+def note() -> None:
+    """Writes the checksums as they are now, as `sha256sum` prints them."""
+    found = {file: it for row in planted_rows(TOP) if row.of == "tests" for file, it in sums_of(row).items()}
+    SUMS.write_text("".join(f"{found[file]}  {file}\n" for file in sorted(found)), encoding="utf-8")
+
+
+def rows_of(given: argparse.Namespace) -> list[PlantedRow]:
+    """The rows of planted.csv that are to be tried. Exits if there is none of a name."""
     rows = planted_rows(TOP)
-    if strangers := set(bugs) - {it.bug for it in rows}:
+    if strangers := set(given.bugs) - {it.bug for it in rows}:
         sys.exit(f"planted.py: no bug {', '.join(sorted(strangers))}")
-    return [it for it in rows if (not bugs or it.bug in bugs) and (it.of == "tests" or not is_unbuilt)]
+    rows = [it for it in rows if (not given.bugs or it.bug in given.bugs) and (it.of == "tests" or not given.unbuilt and not given.changed)]
+    return [it for it in rows if not sums_of(it).items() <= noted_sums().items()] if given.changed else rows
 
 
 def main() -> int:
@@ -251,9 +261,11 @@ def main() -> int:
     words = argparse.ArgumentParser(description="Plants bugs that tests have to refuse.")
     words.add_argument("--jobs", type=int, default=1, help="how many bugs are tried at the same time; each takes about 2 GB of memory")
     words.add_argument("--unbuilt", action="store_true", help="only the bugs in tests/planted/, for which nothing is built")
+    words.add_argument("--changed", action="store_true", help="of these, only such whose file or script has changed since all were refused")
+    words.add_argument("--note", action="store_true", help="notes the checksums of these files, if all that were tried are refused")
     words.add_argument("bugs", metavar="BUG", nargs="*", help="the name of an edit; by default, all bugs are tried")
     given = words.parse_args()
-    rows = rows_of(given.bugs, given.unbuilt)
+    rows = rows_of(given)
     # TERM ends the tests as Ctrl-C does.
     signal.signal(signal.SIGTERM, signal.default_int_handler)
     with tempfile.TemporaryDirectory(prefix="planted-") as folder, ThreadPoolExecutor(given.jobs) as pool:
@@ -268,6 +280,8 @@ def main() -> int:
                 end_group(run)
     refused, untested = became.count("refused"), became.count("not tested")
     failed = len(rows) - refused - untested
+    if given.note and refused == len(rows) and (given.changed or given.unbuilt and not given.bugs):
+        note()
     print(f"{refused} refused, {failed} not" + (f", {untested} not tested" if untested else ""))
     return 1 if failed else 0
 
