@@ -16,12 +16,13 @@ from collections.abc import Callable, Iterable, Iterator
 from pathlib import Path
 from typing import NamedTuple
 
+import rattle
 import run
 from edit_sources import TOP, Unusable, edits_of, planted_edits, planted_rows, read_edit, read_planted
 
 PAGES = [TOP / "README.md", TOP / "CONTRIBUTING.md", TOP / "CHANGELOG.md", *sorted(TOP.glob("docs/*.md")), TOP / "bench" / "README.md"]
 PROMISES = ["PROMISES.md", "LOG_PROMISES.md", "COMMAND_PROMISES.md", "CONTRACTS.md"]
-MAINTAINERS = ["ARCHITECTURE.md", "DECISIONS.md", "EMBEDDING.md", "MUTATIONS.md", "PROVING.md", "FAULTS.md", "TESTING.md", "TIMES.md"]
+MAINTAINERS = ["ARCHITECTURE.md", "DECISIONS.md", "EMBEDDING.md", "MUTATIONS.md", "PROVING.md", "FAULTS.md", "TESTING.md"]
 MAINTAINERS += ["WORDS.md", "PROVING_NOTES.md", "SECURITY.md"]
 # The files besides pages whose lines may have no more columns than theirs.
 NARROW = [file for pattern in ["tests/*.py", "tests/*.c", "bench/*.py", "tools/*", "Makefile"] for file in sorted(TOP.glob(pattern))]
@@ -40,7 +41,7 @@ NOT_OF_THE_REPOSITORY = {"shrink_to_fit", "wrapping_abs", "getxattr", "O_NOFOLLO
 NOT_OF_THE_REPOSITORY |= {"i32", "self-test", "df"}
 # What is no name there. Source files have a check of their own, and the others name no single thing that exists: commands, and paths in any
 # crate, of build results or of several files.
-SKIPPED = r"\.(rt|antt)$| |NAME|/out/|\*"
+SKIPPED = r"\.(rt|antt|rattle)$| |NAME|/out/|^out/|\*"
 
 # What docs/PROMISES.md says that no source has: raw pointers, a C function, whose contract is trusted, and a statement without proof.
 UNPROVED = re.compile(r"\b(?:unsafe|extern|axiom)\b")
@@ -52,7 +53,7 @@ PLAIN_BUGS = {"fault_is_not_told", "last_digit_is_another"}
 LEAST_SAID = 12
 
 # How a page gives a name together with the file in which it stands: the name first, or the file and then some names.
-FILE = r"`([\w/.-]+\.(?:rt|antt|py))`"
+FILE = r"`([\w/.-]+\.(?:rt|antt|rattle|py))`"
 NAME_FIRST = re.compile(rf"((?:`[^`\n]+`,\s+)*`[^`\n]+`)\s+(?:in|of)\s+{FILE}")
 FILE_FIRST = re.compile(rf"{FILE}(?: \| |\s+\()((?:`[^`\n]+`,\s+)*`[^`\n]+`)")
 
@@ -103,7 +104,8 @@ def texts_of(files: Iterable[Path]) -> dict[str, str]:
 @functools.cache
 def sources() -> dict[str, str]:
     """The text of each source file of all crates, by its path from the repository's top."""
-    return texts_of(file for file in sorted(TOP.glob("crates/**/*")) if file.suffix in (".rt", ".antt") and "out" not in file.parts)
+    of_crates = (file for file in sorted(TOP.glob("crates/**/*")) if file.suffix in (".rt", ".antt") and "out" not in file.parts)
+    return texts_of([*of_crates, *rattle.files()])
 
 
 def missing_blocks(page: Path, texts: dict[str, str]) -> Iterator[str]:
@@ -150,12 +152,12 @@ def quoted(page: Path) -> Iterator[tuple[str, str]]:
 def unknown_files(page: Path, paths: list[str]) -> Iterator[str]:
     """The source files and edits that a page names, by the end of their path, and that are nowhere."""
     for where, name in quoted(page):
-        is_file = re.fullmatch(r"[\w/-]+\.(rt|antt|edit)", name) and "NAME" not in name
+        is_file = re.fullmatch(r"[\w/-]+\.(rt|antt|edit|rattle)", name) and "NAME" not in name
         if is_file and not any(f"/{path}".endswith(f"/{name}") for path in paths):
             yield where
 
 
-def unknown_names(page: Path, paths: list[str], known: set[str], skipped: str = r"\.(rt|antt)$") -> Iterator[str]:
+def unknown_names(page: Path, paths: list[str], known: set[str], skipped: str = r"\.(rt|antt|rattle)$") -> Iterator[str]:
     """The names of a page that are unknown, without those skipped, such as source files. A path has to exist; of any other name, each
     word has to be known."""
     for where, name in quoted(page):
@@ -225,7 +227,7 @@ def missing_functions(page: Path, sources_have: list[Owners]) -> Iterator[str]:
 
 def words_of_scripts() -> set[str]:
     """The words in the tests, the benchmarks, the tools, the Makefile and the list of crates."""
-    files = [TOP / "Makefile", TOP / "crates.txt", *TOP.glob("tests/*.*"), *TOP.glob("bench/*.py"), *TOP.glob("tools/*")]
+    files = [TOP / "Makefile", TOP / "crates.txt", rattle.LISTED, *TOP.glob("tests/*.*"), *TOP.glob("bench/*.py"), *TOP.glob("tools/*")]
     return {word for file in files for word in re.findall(r"[\w-]+", file.read_text(encoding="utf-8"))}
 
 
@@ -309,8 +311,8 @@ def libraries() -> list[str]:
 
 
 def test_functions() -> int:
-    """How many tests in Rattle all crates have."""
-    return sum(file.read_text(encoding="utf-8").count("#[test]") for file in TOP.glob("crates/*/src/**/*.rt"))
+    """How many tests in Rattle there are."""
+    return sum(file.read_text(encoding="utf-8").count("#[test]") for file in rattle.files())
 
 
 def stale_sizes() -> Iterator[str]:
@@ -457,19 +459,13 @@ def stale_bugs() -> Iterator[str]:
             read_planted(TOP, row.of, row.bug)
         except Unusable as fault:
             yield f"{name}: {fault}"
-        files = [TOP / "tests" / row.by] if row.by.endswith(".py") else [*(TOP / "crates" / row.by / "src").rglob("*.rt")]
+        files = [TOP / "tests" / row.by] if row.by.endswith(".py") else [*(rattle.TESTS / row.by).rglob(f"*{rattle.ENDING}")]
         if not any(re.search(rf"\b(?:def|fn) {row.test}\(", file.read_text(encoding="utf-8")) for file in files if file.exists()):
             yield f"{name}: {row.by} has no test {row.test}"
         if len(row.says) < LEAST_SAID:
             yield f"{name}: {row.test} of {row.by}: the row has under {LEAST_SAID} characters of what the test says: {row.says!r}"
         if re.search("[a-z]: $", row.says):
             yield f"{name}: {row.test} of {row.by}: the row names a check, and not what the test has seen: {row.says!r}"
-
-
-def untimed_crates() -> Iterator[str]:
-    """The libraries of which docs/TIMES.md gives no time."""
-    told = (TOP / "docs" / "TIMES.md").read_text(encoding="utf-8")
-    yield from (name for name in libraries() if f"`{name}`" not in told)
 
 
 def wide_lines(file: Path) -> Iterator[str]:
@@ -555,7 +551,6 @@ CHECKS = [
     Check("no public function has this signature of docs/EMBEDDING.md", unknown_signatures),
     Check("the kit of the Makefile is missing", pages_of_another_kit),
     Check("docs/PROMISES.md says that no source has this word", taken_unproved),
-    Check("docs/TIMES.md gives no time of this library", untimed_crates),
     Check("run.py does not run this script, or docs/TESTING.md does not name it", untold_tests),
     Check("its script never uses this function", unused_functions),
     Check("this function has an argument without its type, or does not give that of its result", untyped_functions),
