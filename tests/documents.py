@@ -25,7 +25,9 @@ PROMISES = ["PROMISES.md", "LOG_PROMISES.md", "COMMAND_PROMISES.md", "CONTRACTS.
 MAINTAINERS = ["ARCHITECTURE.md", "DECISIONS.md", "EMBEDDING.md", "MUTATIONS.md", "PROVING.md", "FAULTS.md", "TESTING.md"]
 MAINTAINERS += ["WORDS.md", "PROVING_NOTES.md", "SECURITY.md"]
 # The files besides pages whose lines may have no more columns than theirs.
+HOSTS = [file for file in sorted([*TOP.glob("hosts/*"), *TOP.glob("hosts/*/*.py")]) if file.is_file()]
 NARROW = [file for pattern in ["tests/*.py", "tests/*.c", "bench/*.py", "tools/*", "Makefile"] for file in sorted(TOP.glob(pattern))]
+NARROW += HOSTS
 
 # The kit with which everything was proved: its name, and the checksum of its logic.
 KIT = re.search(r"^KIT = (.+)$", (TOP / "Makefile").read_text(encoding="utf-8"), re.MULTILINE).group(1)
@@ -89,7 +91,7 @@ def broken_links(page: Path) -> Iterator[str]:
 def missing_paths(page: Path) -> Iterator[str]:
     """The paths of a page, relative to the repository's top, at which nothing exists."""
     for number, line in prose(page):
-        for path in re.findall(r"`((?:bench|crates|docs|tests|tools)/[\w./-]+)`", line):
+        for path in re.findall(r"`((?:bench|crates|docs|hosts|tests|tools)/[\w./-]+)`", line):
             is_of_any_crate = "NAME" in path
             is_built = "/out/" in path
             if not (is_of_any_crate or is_built or (TOP / path).exists()):
@@ -226,8 +228,9 @@ def missing_functions(page: Path, sources_have: list[Owners]) -> Iterator[str]:
 
 
 def words_of_scripts() -> set[str]:
-    """The words in the tests, the benchmarks, the tools, the Makefile and the list of crates."""
+    """The words in the tests, the benchmarks, the tools, the hosts, the Makefile and the lists of crates."""
     files = [TOP / "Makefile", TOP / "crates.txt", rattle.LISTED, *TOP.glob("tests/*.*"), *TOP.glob("bench/*.py"), *TOP.glob("tools/*")]
+    files += HOSTS
     return {word for file in files for word in re.findall(r"[\w-]+", file.read_text(encoding="utf-8"))}
 
 
@@ -252,9 +255,10 @@ def unused_functions() -> Iterator[str]:
 
 
 def untyped_functions() -> Iterator[str]:
-    """The functions of the scripts, and of the tools in Python, that do not give the types of all their arguments and of their result."""
+    """The functions of the scripts and the hosts, and of the tools in Python, that do not give the types of all their arguments and of
+    their result."""
     tools = [path for path in TOP.glob("tools/*") if path.read_text(encoding="utf-8").startswith("#!/usr/bin/env python3\n")]
-    for path in sorted([*TOP.glob("tests/*.py"), *TOP.glob("bench/*.py"), *tools]):
+    for path in sorted([*TOP.glob("tests/*.py"), *TOP.glob("bench/*.py"), *tools, *HOSTS]):
         for it in ast.walk(ast.parse(path.read_text(encoding="utf-8"))):
             if isinstance(it, ast.FunctionDef | ast.AsyncFunctionDef):
                 arguments = [argument for argument in ast.walk(it.args) if isinstance(argument, ast.arg) and argument.arg != "self"]

@@ -58,7 +58,7 @@ SUMS = TOP / "tests/data/planted.sums"
 # Makes the program's calls of the C library as they are, unless a bug is planted in it.
 CALLS = "tests/pass_calls.c"
 # What a copy of the repository has besides its crates, with those of tests.
-COPIED = ["bench", "tests", "tools", "docs", "Makefile", "LICENSE", "README.md", "CHANGELOG.md", "CONTRIBUTING.md"]
+COPIED = ["bench", "tests", "tools", "hosts", "docs", "Makefile", "LICENSE", "README.md", "CHANGELOG.md", "CONTRIBUTING.md"]
 # How many characters are shown of what a test says.
 SHOWN = 3000
 # The most seconds that a command may take.

@@ -54,6 +54,7 @@ TESTS = [
     "power_loss.py",
     "hall_faults.py",
     "serve_hall.py",
+    "host.py",
     "login.py",
     "audits.py",
     "upgrades.py",

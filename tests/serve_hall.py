@@ -129,7 +129,7 @@ def answers(client: socket.socket, line: str, answer: str) -> None:
 def serving_hall(folder: str | Path, book: str, tool: str = "tools/serve-hall") -> Running:
     """Starts the tool over a book with this text."""
     with_tools(folder, book)
-    return start(folder, START.replace("tools/serve-hall", tool))
+    return start(folder, START.replace("tools/serve-hall", tool), PYTHONPATH=str(TOOLS.parent / "hosts"))
 
 
 def children(serving: Running) -> list[str]:

@@ -1,0 +1,43 @@
+"""Audits of the logs that have ended, in the background and one at a time. The operator learns of each answer that is not clean."""
+import asyncio
+from asyncio.subprocess import DEVNULL, PIPE, STDOUT
+
+from scramotp_host import journal
+
+
+class Audits:
+    """Audits each log by the copy of its book. `alarm` names a program to run, with the log and the answer as its words, after an answer
+    other than clean."""
+
+    def __init__(self, alarm: str | None = None) -> None:
+        self.alarm, self.one, self.under_way = alarm, asyncio.Lock(), set[asyncio.Task[None]]()
+
+    def begin(self, log: str) -> None:
+        """Begins the audit of a log that has ended."""
+        task = asyncio.create_task(self.audit(log))
+        self.under_way.add(task)
+        task.add_done_callback(self.under_way.discard)
+
+    async def audit(self, log: str) -> None:
+        async with self.one:
+            words = ["scramotp", "audit", "--book", log + ".toml", "--log", log]
+            run = await asyncio.create_subprocess_exec(*words, stdin=DEVNULL, stdout=PIPE, stderr=STDOUT, start_new_session=True)
+            printed, _ = await run.communicate()
+        answer = printed.decode(errors="replace").strip()
+        is_clean = run.returncode == 0 and answer.startswith("clean ")
+        journal.note("audit", level=None if is_clean else "error", log=log, answer=answer)
+        if not is_clean and self.alarm:
+            await self.warn(log, answer)
+
+    async def warn(self, log: str, answer: str) -> None:
+        """Runs the operator's program."""
+        try:
+            run = await asyncio.create_subprocess_exec(str(self.alarm), log, answer, stdin=DEVNULL)
+        except OSError as fault:
+            journal.note("alarm", level="error", fault=fault)
+        else:
+            await run.wait()
+
+    async def end(self) -> None:
+        """Waits for the audits that are under way."""
+        await asyncio.gather(*self.under_way)

@@ -1,0 +1,169 @@
+"""A host: logins of one book, judged by one run of `hall` after another, each with a log of its own.
+
+A new log begins before a run is full, when the operator asks for it, and while he works on the book. Logins that come meanwhile wait, and
+nobody is dropped for it but a login that stays idle for longer than `Limits.grace`. Each log that has ended is audited.
+"""
+import asyncio
+import contextlib
+import os
+import time
+from collections import OrderedDict
+from collections.abc import AsyncIterator, Callable
+from datetime import UTC, datetime
+from typing import IO
+
+from scramotp_host import journal
+from scramotp_host.audits import Audits
+from scramotp_host.clients import Client, Clients
+from scramotp_host.hall import Hall, HallFault
+from scramotp_host.limits import Limits, PerMinute, origin
+from scramotp_host.login import Login, LoginLimited
+
+
+async def readable(file: IO[bytes]) -> None:
+    """Waits until something can be read."""
+    loop, ready = asyncio.get_running_loop(), asyncio.Event()
+    loop.add_reader(file, ready.set)
+    try:
+        await ready.wait()
+    finally:
+        loop.remove_reader(file)
+
+
+class Host:
+    """The host of a book, as in `async with Host(book, logs) as host`. LOGS is a folder: each run has the files TIME.log, TIME.log.toml and
+    TIME.log.clients there. `failed` has a HallFault or an OSError once the host can't go on."""
+
+    def __init__(self, book: str, logs: str, limits: Limits = Limits(), alarm: str | None = None) -> None:
+        self.book, self.logs, self.limits, self.audits = os.path.abspath(book), logs, limits, Audits(alarm)
+        self.hall: Hall | None = None
+        self.failed: asyncio.Future[None] = asyncio.get_running_loop().create_future()
+        # The open logins, those first that have been idle for longer.
+        self.logins: OrderedDict[Login, None] = OrderedDict()
+        # Logins pass the turnstile in the order in which they come, and then the gate, which a change of halls shuts. So a change waits for
+        # one login at most.
+        self.turnstile, self.gate, self.changed = asyncio.Lock(), asyncio.Lock(), asyncio.Event()
+        self.is_ending = False
+        self.renewal: asyncio.Task[None] | None = None
+        self.guesses, self.sent = PerMinute(limits.guesses), PerMinute(limits.kilobytes << 10)
+
+    async def __aenter__(self) -> "Host":
+        await self.begin_hall()
+        return self
+
+    async def __aexit__(self, *_: object) -> None:
+        self.is_ending = True
+        if self.renewal:
+            self.renewal.cancel()
+        try:
+            with contextlib.suppress(HallFault):
+                self.end_hall()
+        finally:
+            await self.audits.end()
+
+    def fail(self, fault: Exception) -> None:
+        """The host can't go on: the first reason is kept."""
+        if not self.failed.done():
+            self.failed.set_exception(fault)
+
+    async def begin_hall(self) -> None:
+        """Begins a run, once nobody else holds the book."""
+        log = os.path.join(self.logs, datetime.now(UTC).strftime("%Y%m%dT%H%M%S.%fZ.log"))
+        hall = Hall(self.book, log)
+        try:
+            await readable(hall.printed)
+        except asyncio.CancelledError:
+            hall.discard()
+            raise
+        hall.begin()
+        self.hall, self.clients = hall, Clients(log + ".clients")
+        journal.note("begin", log=log)
+
+    def end_hall(self) -> None:
+        """Ends the logins that are open, and the run."""
+        hall, self.hall = self.hall, None
+        if hall:
+            try:
+                self.lose_logins()
+            finally:
+                hall.end()
+                self.clients.close()
+                self.audits.begin(hall.log)
+
+    def lose_logins(self) -> None:
+        for login in list(self.logins):
+            login.give_way()
+
+    async def change(self, seconds: float) -> None:
+        """Waits until a login ends, and at most so long. Only who holds the gate waits."""
+        self.changed.clear()
+        with contextlib.suppress(TimeoutError):
+            async with asyncio.timeout(seconds):
+                await self.changed.wait()
+
+    async def login(self, client: Client, when_lost: Callable[[], None] = lambda: None) -> Login:
+        """A login of this client, once there is a place for it. `when_lost` is called if it has to give its place to others. LoginLimited
+        if its address has failed or sent too much."""
+        if self.guesses.is_over(origin(client)) or self.sent.is_over(origin(client)):
+            raise LoginLimited
+        async with self.turnstile, self.gate:
+            while len(self.logins) >= self.limits.places:
+                oldest = next(iter(self.logins))
+                if (left := oldest.seen + self.limits.idle - time.monotonic()) > 0:
+                    await self.change(left)
+                else:
+                    oldest.give_way()
+            if self.hall is None:
+                raise HallFault("the host has ended")
+            return Login(self, self.hall, client, when_lost)
+
+    def has_begun(self, login: Login) -> None:
+        """A login tells its host so, and the next two."""
+        self.logins[login] = None
+        self.clients.opens(login.number, login.client)
+
+    def has_heard(self, login: Login, size: int, is_refused: bool) -> None:
+        """Counts, for the limits, what a client has sent. The login that was heard last is the last that has to give way."""
+        self.sent.add(origin(login.client), size)
+        self.guesses.add(origin(login.client), is_refused)
+        if login in self.logins:
+            self.logins.move_to_end(login)
+        if login.hall.is_full:
+            self.renew()
+
+    def has_ended(self, login: Login) -> None:
+        del self.logins[login]
+        self.clients.ends(login.number)
+        self.changed.set()
+
+    def renew(self) -> None:
+        """Begins a new log soon, unless that is under way."""
+        if not self.renewal or self.renewal.done():
+            self.renewal = asyncio.create_task(self.renewed())
+
+    async def renewed(self) -> None:
+        with contextlib.suppress(HallFault, OSError):  # the host has these as what it failed by
+            async with self.between():
+                pass
+
+    @contextlib.asynccontextmanager
+    async def between(self) -> AsyncIterator[None]:
+        """In this context no run holds the book. It begins once the logins that are open have ended, and at its end the next run begins.
+        Logins that come meanwhile wait."""
+        async with self.gate:
+            end = time.monotonic() + self.limits.grace
+            while self.logins and (left := end - time.monotonic()) > 0:
+                await self.change(left)
+            self.end_hall()
+            try:
+                yield
+            finally:
+                if not self.is_ending:
+                    await self.begun_again()
+
+    async def begun_again(self) -> None:
+        try:
+            await self.begin_hall()
+        except (HallFault, OSError) as fault:
+            self.fail(fault)
+            raise

@@ -1,0 +1,70 @@
+"""What clients may take of a host: its limits with their defaults, the flags that change them, and what is counted for a minute."""
+import argparse
+import dataclasses
+import ipaddress
+import time
+from typing import Any
+
+from scramotp_host.clients import Client
+
+
+def limit(default: float, help: str) -> Any:
+    """A field of `Limits`, and the flag of the same name."""
+    return dataclasses.field(default=default, metadata={"help": help})
+
+
+@dataclasses.dataclass(frozen=True)
+class Limits:
+    """The limits of a host. Times are in seconds."""
+
+    places: int = limit(64, "logins that are judged at a time; a hall takes no more than 64")
+    idle: float = limit(1.0, "seconds after which an idle login gives its place to one that waits")
+    grace: float = limit(10.0, "seconds that a new log waits for the logins that are open")
+    patience: float = limit(150.0, "seconds that a login may take in all")
+    delay: float = limit(2.0, "seconds before a client is told that it is refused")
+    guesses: int = limit(60, "refused logins of an address in a minute; then its logins are refused unheard")
+    kilobytes: int = limit(1024, "kilobytes of messages of an address in a minute; then the same")
+    connections: int = limit(1024, "connections of one user of this machine")
+    logins: int = limit(1024, "open logins of one connection")
+
+
+def add_flags(words: argparse.ArgumentParser) -> None:
+    """Adds a flag for each limit."""
+    group = words.add_argument_group("limits")
+    for it in dataclasses.fields(Limits):
+        told = f"{it.metadata['help']} [{it.default}]"
+        group.add_argument(f"--{it.name}", type=type(it.default), default=it.default, metavar="N", help=told)
+
+
+def given(words: argparse.Namespace) -> Limits:
+    """The limits that these flags say."""
+    return Limits(**{it.name: getattr(words, it.name) for it in dataclasses.fields(Limits)})
+
+
+def origin(client: Client) -> str:
+    """By what a client is counted: its address, of IPv6 the first 64 bits, since one client has all that begin so; without one, its user on
+    this machine."""
+    address = str(client.get("rip", ""))
+    try:
+        found = ipaddress.ip_address(address)
+    except ValueError:
+        return address or f"uid {client.get('uid')}"
+    return str(found if found.version == 4 else ipaddress.ip_network((int(found), 64), strict=False))
+
+
+class PerMinute:
+    """Counts for each key, and begins anew each minute, so that it forgets who is gone."""
+
+    def __init__(self, most: int) -> None:
+        self.most, self.minute, self.counts = most, 0, dict[str, int]()
+
+    def add(self, key: str, count: int = 1) -> None:
+        if (minute := int(time.monotonic() // 60)) != self.minute:
+            self.minute = minute
+            self.counts.clear()
+        self.counts[key] = self.counts.get(key, 0) + count
+
+    def is_over(self, key: str) -> bool:
+        """Whether the key has come to more than the most in this minute."""
+        self.add(key, 0)
+        return self.counts[key] > self.most

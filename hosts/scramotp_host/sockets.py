@@ -1,0 +1,82 @@
+"""Sockets of this machine that a host listens at, and who is at their other end."""
+import contextlib
+import errno
+import os
+import shutil
+import socket
+import struct
+from collections.abc import Iterator
+
+
+def remove(path: str, made: os.stat_result) -> None:
+    """Removes the file of a socket, unless it is gone or another file has its name."""
+    with contextlib.suppress(FileNotFoundError):
+        if os.path.samestat(os.lstat(path), made):
+            os.unlink(path)
+
+
+def given(path: str) -> socket.socket | None:
+    """The socket with this path that the service manager has handed to this process (sd_listen_fds(3)), if there is one."""
+    count = int(os.environ.get("LISTEN_FDS", "0")) if os.environ.get("LISTEN_PID") == str(os.getpid()) else 0
+    for descriptor in range(3, 3 + count):
+        found = socket.socket(fileno=os.dup(descriptor))
+        if found.family == socket.AF_UNIX and found.getsockname() == path:
+            return found
+        found.close()
+    return None
+
+
+def is_left(path: str) -> bool:
+    """Whether nobody listens at a socket any more, as after a run that was killed."""
+    with socket.socket(socket.AF_UNIX) as client:
+        try:
+            client.connect(path)
+        except ConnectionRefusedError:
+            return True
+        except OSError:
+            return False
+    return False
+
+
+@contextlib.contextmanager
+def listening(path: str, mode: int, group: str | None = None) -> Iterator[socket.socket]:
+    """A Unix socket that listens, with this mode and group, at a path where nobody else does. A file that a killed run has left there is
+    replaced. The file is removed at the end of the context. If the service manager has made a socket with this path, it is that one."""
+    if handed := given(path):
+        with handed:
+            yield handed
+            return
+    if is_left(path):
+        os.unlink(path)
+    with bound(path, 0o600) as listener:
+        if group is not None:
+            shutil.chown(path, group=group)
+        os.chmod(path, mode)
+        listener.listen(512)
+        yield listener
+
+
+@contextlib.contextmanager
+def bound(path: str, mode: int = 0o777) -> Iterator[socket.socket]:
+    """A Unix socket with this path, whose file has this mode, less what the umask takes, and is removed at the end of the context. It does
+    not listen yet. FileExistsError if there is a file of that name, and OSError without a file's name if there can't be one."""
+    with socket.socket(socket.AF_UNIX) as listener:
+        os.fchmod(listener.fileno(), mode)
+        try:
+            listener.bind(path)
+        except OSError as fault:
+            if fault.errno == errno.EADDRINUSE:
+                raise FileExistsError(errno.EEXIST, os.strerror(errno.EEXIST), path) from None
+            raise
+        made = os.lstat(path)
+        try:
+            yield listener
+        finally:
+            remove(path, made)
+
+
+def credentials(connection: socket.socket) -> tuple[int, int]:
+    """The user and the process at the other end of a Unix socket, as they were when it connected."""
+    size = struct.calcsize("3i")
+    process, user, _ = struct.unpack("3i", connection.getsockopt(socket.SOL_SOCKET, socket.SO_PEERCRED, size))
+    return user, process
