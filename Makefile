@@ -19,6 +19,8 @@ LIBRARIES = mac_core otp_core scram_text scram_ends book_format account_book boo
 # What is installed beside it.
 TOOLS = $(addprefix tools/,check-code drop-tables edit-book find-key from-verifier list-accounts list-unlike-decoys serve-hall \
 	set-password to-verifier)
+# What serves logins, and the package of Python on which it stands.
+HOSTS = $(filter-out hosts/scramotp_host,$(wildcard hosts/*))
 # The documents that are installed, with the folder docs as it is here, so that their links lead to each other.
 DOCUMENTS = README.md CHANGELOG.md CONTRIBUTING.md LICENSE HANDLES
 # What the program is built from.
@@ -99,7 +101,8 @@ FORCE:
 install:
 	@$(IS_FRESH) || { echo 'The program is not built, or is older than its sources: run make build first.' >&2; exit 1; }
 	install -D -m 755 $(PROGRAM) "$(DESTDIR)$(PREFIX)/bin/scramotp"
-	install -D -m 755 -t "$(DESTDIR)$(PREFIX)/share/scramotp" $(TOOLS)
+	install -D -m 755 -t "$(DESTDIR)$(PREFIX)/share/scramotp" $(TOOLS) $(HOSTS)
+	install -D -m 644 -t "$(DESTDIR)$(PREFIX)/share/scramotp/scramotp_host" hosts/scramotp_host/*.py
 	install -D -m 644 -t "$(DESTDIR)$(PREFIX)/share/doc/scramotp" $(DOCUMENTS)
 	install -D -m 644 -t "$(DESTDIR)$(PREFIX)/share/doc/scramotp/docs" docs/*.md
 	install -D -m 644 -t "$(DESTDIR)$(PREFIX)/share/doc/scramotp/bench" bench/README.md
@@ -153,7 +156,7 @@ bench: build
 	python3 bench/audit.py $(PROGRAM)
 
 clean:
-	rm -rf out crates/*/out tests/__pycache__ bench/__pycache__
+	rm -rf out crates/*/out tests/__pycache__ bench/__pycache__ hosts/scramotp_host/__pycache__
 
 kit:
 	@command -v rt >/dev/null || { echo 'rt, the command of the Rattle kit, is not on your PATH' >&2; exit 1; }

@@ -3,10 +3,10 @@
 
 Usage: install.py PROGRAM [TEST ..]
 
-The program, the tools in tools/ and the documents are put where DESTDIR and PREFIX say, even if a name has a space, and no other file is.
-A program that is not built, or is older than its sources, is refused. `make run` prints the keys of RFC 5802's example, which are those
-from Python's hashlib. If the program is not built or is old, it compiles the sources; here stand-ins for rt and Python take their place,
-since that takes over a minute. Needs `make`.
+The program, the tools in tools/, the hosts in hosts/ and the documents are put where DESTDIR and PREFIX say, even if a name has a space,
+and no other file is. A program that is not built, or is older than its sources, is refused. `make run` prints the keys of RFC 5802's
+example, which are those from Python's hashlib. If the program is not built or is old, it compiles the sources; here stand-ins for rt and
+Python take their place, since that takes over a minute. Needs `make`.
 """
 import os
 import pathlib
@@ -54,7 +54,12 @@ def installed(folder: str) -> None:
     read all, and only their owner may write them."""
     program = shutil.copy(PROGRAM, folder)
     pages = [TOP / name for name in ["README.md", "CHANGELOG.md", "CONTRIBUTING.md", "LICENSE", "HANDLES", "bench/README.md"]]
-    files = {pathlib.Path("share/scramotp", path.name): (path.read_bytes(), 0o755) for path in (TOP / "tools").iterdir()}
+    commands = [path for path in [*(TOP / "tools").iterdir(), *(TOP / "hosts").iterdir()] if path.is_file()]
+    files = {pathlib.Path("share/scramotp", path.name): (path.read_bytes(), 0o755) for path in commands}
+    files |= {
+        pathlib.Path("share/scramotp", path.relative_to(TOP / "hosts")): (path.read_bytes(), 0o644)
+        for path in (TOP / "hosts/scramotp_host").glob("*.py")
+    }
     files |= {
         pathlib.Path("share/doc/scramotp", path.relative_to(TOP)): (path.read_bytes(), 0o644)
         for path in [*pages, *(TOP / "docs").glob("*.md")]
