@@ -55,6 +55,7 @@ TESTS = [
     "hall_faults.py",
     "serve_hall.py",
     "host.py",
+    "pam.py",
     "login.py",
     "audits.py",
     "upgrades.py",

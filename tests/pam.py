@@ -1,0 +1,201 @@
+#!/usr/bin/env python3
+"""Lets users in by PAM: passwords by `hosts/check-login`, and one-time codes by `tools/check-code`, both run by pam_exec.
+
+Usage: pam.py PROGRAM [TEST ..]
+
+The commands are first run by themselves, as pam_exec runs them, with hostile input among it. Then pamtester asks PAM, and the real sshd
+lets in by a key and a code, each with the services that docs/DOORS.md shows. A code lets in once. The log of the logins is audited.
+Needs pamtester and libpam-wrapper, which lets PAM read its services from a folder; and sshd needs root.
+"""
+import contextlib
+import os
+import shutil
+import socket
+import subprocess
+from collections.abc import Iterator
+from pathlib import Path
+
+import suite
+from checks import equal, holds
+from clients import Account, book
+from expected import code
+from processes import Answer, Running, ran, until
+from suite import CODES, PROGRAM, TOP, audit_says, blocks_of, each, hotp, program_on_path
+from tool_runs import TOOLS
+
+LOGIN, CODE = TOP / "hosts/check-login", TOOLS / "check-code"
+USER = Account("user", "SCRAM-SHA-256")
+PASSWORD = f"password of {USER.name}"
+WRAPPER = "/usr/lib/x86_64-linux-gnu/libpam_wrapper.so"
+# Who a client of sshd logs in as.
+SELF = "root"
+SERVICES = [block for title, _, block in blocks_of(suite.document("docs/DOORS.md")) if title == "PAM"]
+
+
+@contextlib.contextmanager
+def hall(folder: str, text: str) -> Iterator[Path]:
+    """Runs `serve-hall` over a book with this text, and gives its socket. At the end its log has to be clean."""
+    here = Path(folder)
+    (here / "book.toml").write_text(text)
+    (here / "book.toml").chmod(0o600)
+    words = [TOOLS / "serve-hall", here / "book.toml", here / "socket", here / "log"]
+    run = Running(words, env=program_on_path(folder))
+    until(lambda: (here / "log").exists() and (here / "log").read_text().startswith("SCRAMLOG"), "a hall should begin")
+    yield here / "socket"
+    run.process.terminate()
+    run.ends(0)
+
+
+def is_clean(folder: str, sessions: int, accepted: int, codes: int) -> None:
+    """Audits the log of the hall in a folder."""
+    audit_says(f"{folder}/log.toml", f"{folder}/log", f"clean sessions={sessions} accepted={accepted} codes={codes}")
+
+
+def asked(folder: str, words: list, name: str | None, text: str | bytes) -> int:
+    """The status of a command as pam_exec runs it: with the user's name in the environment, and what he typed as its input. It must say
+    nothing."""
+    environment = {it: value for it, value in program_on_path(folder).items() if it != "PAM_USER"}
+    answer = ran(words, text, env=environment | ({} if name is None else {"PAM_USER": name}))
+    equal((answer.output, answer.faults), ("", ""), "what is said for", name, text)
+    return answer.status
+
+
+def passwords(folder: str) -> None:
+    """Only the right password of a known name lets in."""
+    other = Account("a=b,c", "SCRAM-SHA-256")
+    with hall(folder, book([USER, other])) as path:
+        for trial, (name, text, due) in each([
+            ("user", PASSWORD, 0),
+            ("user", f"{PASSWORD}\0", 0),
+            ("user", f"{PASSWORD}\n", 0),
+            ("a=b,c", "password of a=b,c", 0),
+            ("user", PASSWORD[:-1], 1),
+            ("user", f"{PASSWORD} ", 1),
+            ("user", "", 1),
+            ("user", "\0", 1),
+            ("user", "x" * 1025, 1),
+            ("user", bytes(range(1, 256)), 1),
+            ("nobody", PASSWORD, 1),
+            ("", PASSWORD, 1),
+            (None, PASSWORD, 1),
+            ("us\ner", PASSWORD, 1),
+            ("u" * 5000, PASSWORD, 1),
+        ]):
+            with trial:
+                equal(asked(folder, [LOGIN, path], name, text), due, "the status for", name, text)
+    is_clean(folder, 10, 4, 0)
+    equal(asked(folder, [LOGIN, f"{folder}/none"], "user", PASSWORD), 1, "without a hall")
+
+
+def passwords_with_codes(folder: str) -> None:
+    """With --code the last six digits are a code, which passes once, and counts only after a right password."""
+    first, second = (code(USER.secret, counter) for counter in range(2))
+    with hall(folder, book([USER])) as path:
+        for trial, (text, due) in each([
+            (f"wrong{first}", 1), (f"{PASSWORD}{first}", 0), (f"{PASSWORD}{first}", 1), (PASSWORD, 1), (first, 1),
+            (f"{PASSWORD}{second}\0", 0), (f"{PASSWORD}{second[:5]}", 1),
+        ]):
+            with trial:
+                equal(asked(folder, [LOGIN, path, "--code"], "user", text), due, "the status for", text)
+    is_clean(folder, 4, 3, 2)
+
+
+def codes(folder: str) -> None:
+    """`check-code` takes the name from PAM_USER if it is given none, and needs one."""
+    book_at = Path(folder, "book.toml")
+    book_at.write_text(suite.BOOK_OF_USER + hotp(look_ahead=0, limit=9))
+    for trial, (text, due) in each([(CODES[0], 0), (CODES[0], 1), (f"{CODES[1]}\0", 0), (CODES[1], 1)]):
+        with trial:
+            equal(asked(folder, [CODE, book_at], "user", text), due, "the status for", text)
+    for trial, words in each([[CODE, book_at], [CODE], [CODE, book_at, "user", "more"], [CODE, book_at, ""]]):
+        with trial:
+            answer = ran(words, CODES[2], env={**program_on_path(folder), "PAM_USER": ""})
+            equal((answer.status, answer.output), (1, ""), "without a name", words)
+            holds(answer.faults.startswith("check-code BOOK [NAME]: "), "it does not say how it is used", answer.faults)
+
+
+def service(folder: str, name: str, block: int) -> dict[str, str]:
+    """Writes a service of docs/DOORS.md for PAM, with this folder's paths and program. Returns the environment in which PAM reads it."""
+    services = Path(folder, "services")
+    services.mkdir(exist_ok=True)
+    path = f"/usr/bin/env PATH={program_on_path(folder)['PATH']} "
+    text = SERVICES[block].replace("/usr/local/share/scramotp/check-login", f"{path}{LOGIN}")
+    text = text.replace("/usr/local/share/scramotp/check-code", f"{path}{CODE}").replace("/run/scramotp/socket", f"{folder}/socket")
+    (services / name).write_text(text.replace("/var/lib/scramotp/book.toml", f"{folder}/book.toml"))
+    return {**os.environ, "LD_PRELOAD": WRAPPER, "PAM_WRAPPER": "1", "PAM_WRAPPER_SERVICE_DIR": str(services)}
+
+
+def is_there(*commands: str) -> bool:
+    """Whether these commands and the wrapper of PAM are there. Says what is not tested if not."""
+    if lacking := [it for it in commands if not shutil.which(it)] + [WRAPPER] * (not os.path.exists(WRAPPER)):
+        suite.not_tested(f"PAM itself, since there is no {', '.join(lacking)}")
+    return not lacking
+
+
+def by_pamtester(folder: str) -> None:
+    """PAM lets in by a password, and by a password and a code in one line, as its services of docs/DOORS.md say."""
+    if not is_there("pamtester"):
+        return
+
+    def authenticates(name: str, environment: dict[str, str], user: str, text: str) -> Answer:
+        return ran(["pamtester", name, user, "authenticate"], f"{text}\n", env=environment)
+
+    first = code(USER.secret, 0)
+    with hall(folder, book([USER])):
+        password, both = service(folder, "password", 0), service(folder, "both", 1)
+        for trial, (name, environment, user, text, due) in each([
+            ("password", password, "user", PASSWORD, 0),
+            ("password", password, "user", "another", 1),
+            ("password", password, "nobody", PASSWORD, 1),
+            ("both", both, "user", f"{PASSWORD}{first}", 0),
+            ("both", both, "user", f"{PASSWORD}{first}", 1),
+        ]):
+            with trial:
+                answer = authenticates(name, environment, user, text)
+                equal(answer.status, due, "the status of pamtester", user, text, answer.output, answer.faults)
+    is_clean(folder, 5, 3, 1)
+
+
+def free_port() -> int:
+    """A port of this machine that nobody listens at."""
+    with socket.socket() as found:
+        found.bind(("127.0.0.1", 0))
+        return found.getsockname()[1]
+
+
+def by_sshd(folder: str) -> None:
+    """sshd lets in by a key and a code, as its service of docs/DOORS.md says. The code lets in once."""
+    if not is_there("sshd", "ssh", "ssh-keygen") or not suite.is_root():
+        return
+    here, port = Path(folder), free_port()
+    here.chmod(0o755)
+    (here / "book.toml").write_text(suite.BOOK_OF_USER + f"\n[accounts.{SELF}]\n" + hotp(look_ahead=0, limit=9, name=SELF))
+    for name in ("host", "key"):
+        subprocess.run(["ssh-keygen", "-q", "-t", "ed25519", "-N", "", "-f", here / name], check=True)
+    (here / "sshd_config").write_text(
+        f"ListenAddress 127.0.0.1:{port}\nHostKey {here}/host\nPidFile none\nStrictModes no\nPermitRootLogin yes\nUsePAM yes\n"
+        f"AuthorizedKeysFile {here}/key.pub\nKbdInteractiveAuthentication yes\nAuthenticationMethods publickey,keyboard-interactive\n"
+    )
+    Path("/run/sshd").mkdir(exist_ok=True)
+    server = Running([shutil.which("sshd"), "-D", "-e", "-f", here / "sshd_config"], env=service(folder, "sshd", 2))
+    until(lambda: is_served(port), "sshd should listen")
+    asks = here / "asks"
+    options = ["StrictHostKeyChecking=no", f"UserKnownHostsFile={here}/known", "NumberOfPasswordPrompts=1", "IdentitiesOnly=yes"]
+    words = ["ssh", "-F", "none", "-p", str(port), "-i", here / "key", *[word for it in options for word in ("-o", it)]]
+    for trial, (text, due) in each([(CODES[0], (0, "in\n")), (CODES[0], (255, "")), ("000000", (255, "")), (CODES[1], (0, "in\n"))]):
+        with trial:
+            asks.write_text(f"#!/bin/sh\necho {text}\n")
+            asks.chmod(0o755)
+            environment = {**os.environ, "SSH_ASKPASS": str(asks), "SSH_ASKPASS_REQUIRE": "force"}
+            answer = ran([*words, f"{SELF}@127.0.0.1", "echo in"], env=environment)
+            equal((answer.status, answer.output), due, "what ssh says to the code", text, answer.faults)
+    server.process.terminate()
+
+
+def is_served(port: int) -> bool:
+    """Whether somebody listens at a port of this machine."""
+    with socket.socket() as client:
+        return client.connect_ex(("127.0.0.1", port)) == 0
+
+
+suite.run_all([passwords, passwords_with_codes, codes, by_pamtester, by_sshd])
