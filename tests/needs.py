@@ -11,24 +11,35 @@ import pwd
 import shutil
 import subprocess
 import sys
+from collections.abc import Iterable
 
 # The commands that the tests call, each with its package.
 COMMANDS = {"bash": "bash", "cc": "gcc", "flock": "util-linux", "git": "git", "make": "make", "nm": "binutils", "xxd": "xxd"}
-# Those that only parts of tests call.
-FOR_PARTS = {"systemd-analyze": "systemd"}
+# The commands, and files, that only parts of tests need.
+FOR_PARTS = {"systemd-analyze": "systemd", "pamtester": "pamtester", "sshd": "openssh-server", "ssh": "openssh-client"}
+FOR_PARTS |= {"/usr/lib/x86_64-linux-gnu/libpam_wrapper.so": "libpam-wrapper"}
+# Where servers are, which not every PATH has.
+SERVERS = "/usr/local/sbin:/usr/sbin:/sbin"
 OLDEST_PYTHON = (3, 11)
 # Who runs what needs few rights.
 USER = "nobody"
 
 
-def lacking(commands: dict[str, str]) -> list[str]:
-    """The commands that are not on the PATH."""
-    return [it for it in commands if not shutil.which(it)]
+def found(command: str) -> str | None:
+    """Where a command, or a file that is given by its path, is, or None."""
+    if command.startswith("/"):
+        return command if os.path.exists(command) else None
+    return shutil.which(command, path=f"{os.environ.get('PATH', os.defpath)}:{SERVERS}")
+
+
+def lacking(commands: Iterable[str]) -> list[str]:
+    """Those of the commands that are nowhere."""
+    return [it for it in commands if not found(it)]
 
 
 def install() -> None:
     """Installs the packages of what is lacking, and fails with what apt-get says."""
-    packages = sorted({(COMMANDS | FOR_PARTS)[it] for it in lacking(COMMANDS | FOR_PARTS)})
+    packages = sorted({(COMMANDS | FOR_PARTS)[it] for it in lacking([*COMMANDS, *FOR_PARTS])})
     if not packages:
         return
     if not shutil.which("apt-get") or os.geteuid():

@@ -9,12 +9,12 @@ Needs pamtester and libpam-wrapper, which lets PAM read its services from a fold
 """
 import contextlib
 import os
-import shutil
 import socket
 import subprocess
 from collections.abc import Iterator
 from pathlib import Path
 
+import needs
 import suite
 from checks import equal, holds
 from clients import Account, book
@@ -126,10 +126,10 @@ def service(folder: str, name: str, block: int) -> dict[str, str]:
 
 
 def is_there(*commands: str) -> bool:
-    """Whether these commands and the wrapper of PAM are there. Says what is not tested if not."""
-    if lacking := [it for it in commands if not shutil.which(it)] + [WRAPPER] * (not os.path.exists(WRAPPER)):
-        suite.not_tested(f"PAM itself, since there is no {', '.join(lacking)}")
-    return not lacking
+    """Whether these commands and the library of PAM's wrapper are there. Says what is not tested if not."""
+    if missing := needs.lacking([*commands, WRAPPER]):
+        suite.not_tested(f"PAM itself, since there is no {', '.join(missing)}")
+    return not missing
 
 
 def by_pamtester(folder: str) -> None:
@@ -177,7 +177,7 @@ def by_sshd(folder: str) -> None:
         f"AuthorizedKeysFile {here}/key.pub\nKbdInteractiveAuthentication yes\nAuthenticationMethods publickey,keyboard-interactive\n"
     )
     Path("/run/sshd").mkdir(exist_ok=True)
-    server = Running([shutil.which("sshd"), "-D", "-e", "-f", here / "sshd_config"], env=service(folder, "sshd", 2))
+    server = Running([needs.found("sshd"), "-D", "-e", "-f", here / "sshd_config"], env=service(folder, "sshd", 2))
     until(lambda: is_served(port), "sshd should listen")
     asks = here / "asks"
     options = ["StrictHostKeyChecking=no", f"UserKnownHostsFile={here}/known", "NumberOfPasswordPrompts=1", "IdentitiesOnly=yes"]
