@@ -56,6 +56,7 @@ TESTS = [
     "serve_hall.py",
     "host.py",
     "pam.py",
+    "dovecot_auth.py",
     "login.py",
     "audits.py",
     "upgrades.py",
