@@ -57,6 +57,7 @@ TESTS = [
     "host.py",
     "pam.py",
     "dovecot_auth.py",
+    "doors.py",
     "login.py",
     "audits.py",
     "upgrades.py",

@@ -1,0 +1,355 @@
+#!/usr/bin/env python3
+"""Logs in at real mail servers whose logins `hosts/serve-dovecot-auth` judges, with real clients, and audits the logs.
+
+Usage: doors.py PROGRAM [TEST ..]
+
+Postfix, Exim and Dovecot serve on the loopback, over TLS, configured as docs/DOORS.md says. msmtp, gsasl and curl log in by SCRAM-SHA-256,
+SCRAM-SHA-1, PLAIN and LOGIN, with the right password, a wrong one, and a name that has no account. The journal of the door has to say the
+same as the client. PACKAGES names what this needs of Debian. Exim may not be installed beside Postfix: it is also looked for in the folder
+tests/out/exim, where its packages may be unpacked. What is missing is not tested, and said.
+"""
+import contextlib
+import os
+import shutil
+import smtplib
+import socket
+import ssl
+import subprocess
+import time
+from base64 import b64encode
+from collections.abc import Iterator
+from pathlib import Path
+
+import suite
+from checks import equal, holds
+from mail_servers import Door
+from processes import Answer, ran, until
+from suite import PROGRAM, TOP, blocks_of, each
+
+# What the tests need, by the file that shows that it is there: what is installed, and what may be unpacked into EXIM instead.
+PACKAGES = {
+    "/usr/sbin/postfix": "postfix", "/usr/sbin/dovecot": "dovecot-core", "/usr/lib/dovecot/imap-login": "dovecot-imapd",
+    "/usr/bin/msmtp": "msmtp", "/usr/bin/gsasl": "gsasl", "/usr/bin/curl": "curl", "/usr/bin/openssl": "openssl",
+}
+EXIM = TOP / "tests" / "out" / "exim"
+# Exim's, and the libraries that it needs, which are unpacked with it; libnss-wrapper is installed.
+UNPACKED = ["exim4-daemon-heavy", "libspf2-2", "libmariadb3", "libidn12"]
+WRAPPER = {"/usr/lib/x86_64-linux-gnu/libnss_wrapper.so": "libnss-wrapper"}
+
+NAME, PASSWORD = "alice@example.org", "wonder land"
+SCRAMS = ["SCRAM-SHA-256", "SCRAM-SHA-1"]
+BY_PASSWORD = ["PLAIN", "LOGIN"]
+PAGE = suite.document("docs/DOORS.md")
+
+
+def has(what: str, *files: str) -> bool:
+    """Whether root runs the script, and these files are there. If not, the script says what it does not test, and why."""
+    missing = [f"{(PACKAGES | WRAPPER)[file]} is not installed" for file in files if not Path(file).exists()]
+    if not suite.ROOT:
+        missing.append("root does not run this")
+    if missing:
+        suite.not_tested(f"{what}, since {' and '.join(missing)}")
+    return not missing
+
+
+def free_port() -> int:
+    """A port of the loopback at which nobody listens."""
+    with socket.socket() as found:
+        found.bind(("127.0.0.1", 0))
+        return found.getsockname()[1]
+
+
+def listens(port: int) -> bool:
+    """Whether a server listens at a port."""
+    with contextlib.suppress(OSError), socket.create_connection(("127.0.0.1", port), 1):
+        return True
+    return False
+
+
+def configuration(title: str, changes: dict[str, str]) -> str:
+    """The blocks of a section of docs/DOORS.md, one after another, with these changes of paths and ports."""
+    text = "".join(block for section, language, block in blocks_of(PAGE) if section == title and not language)
+    for old, new in changes.items():
+        holds(old in text, "the page does not have", old)
+        text = text.replace(old, new)
+    return text
+
+
+def certificate(folder: str) -> dict[str, Path]:
+    """Makes a key and a certificate for localhost."""
+    files = {name: Path(folder, name) for name in ["key.pem", "cert.pem"]}
+    names = ["-subj", "/CN=localhost", "-addext", "subjectAltName=DNS:localhost,IP:127.0.0.1"]
+    key = ["-newkey", "rsa:2048", "-nodes", "-keyout", files["key.pem"], "-out", files["cert.pem"]]
+    equal(ran(["openssl", "req", "-x509", "-days", "2", *key, *names]).status, 0, "the certificate")
+    return files
+
+
+def book_of_users(folder: str) -> str:
+    """A book with two users, each with keys for both mechanisms."""
+    path = Path(folder, "users.toml")
+    for name, password in [(NAME, PASSWORD), ("x=y,z", "comma")]:
+        equal(ran([PROGRAM, "enrol", "--book", path, "--name", name], f"{password}\n").status, 0, "enrol")
+    return path.read_text()
+
+
+@contextlib.contextmanager
+def door_in(folder: str, accepted: int, *flags: str) -> Iterator[Door]:
+    """A door over that book, for servers that run as other users."""
+    os.chmod(folder, 0o711)
+    door = Door(folder, book_of_users(folder), "--plain", "--mode", "666", *flags)
+    yield door
+    door.ends(accepted)
+
+
+@contextlib.contextmanager
+def process(words: list, port: int, log: Path, **how: object) -> Iterator[None]:
+    """A server that runs in the foreground, from when it listens at a port until the end of the context."""
+    with open(log, "ab") as output:
+        run = subprocess.Popen(words, stdin=subprocess.DEVNULL, stdout=output, stderr=output, start_new_session=True, **how)
+        try:
+            until(lambda: run.poll() is not None or listens(port), "the server should listen")
+            holds(run.poll() is None, "the server has ended", log.read_text())
+            yield
+        finally:
+            run.terminate()
+            run.wait(20)
+
+
+@contextlib.contextmanager
+def postfix(folder: str) -> Iterator[int]:
+    """Postfix, with the settings of the page, from a folder of its own. Gives its port."""
+    place, files, port = Path(folder, "postfix"), certificate(folder), free_port()
+    for name in ["", "queue", "data"]:
+        (place / name).mkdir()
+        (place / name).chmod(0o755)
+    shutil.chown(place / "data", "postfix")
+    own = f"""compatibility_level = 3.6
+queue_directory = {place}/queue
+data_directory = {place}/data
+maillog_file_prefixes = {place}
+maillog_file = {place}/log
+inet_interfaces = 127.0.0.1
+inet_protocols = ipv4
+myhostname = localhost
+mydestination =
+local_recipient_maps =
+alias_maps =
+default_transport = discard:
+smtpd_relay_restrictions = permit_sasl_authenticated, reject
+smtpd_tls_security_level = may
+smtpd_tls_chain_files = {files["key.pem"]}, {files["cert.pem"]}
+smtpd_client_connection_count_limit = 0
+smtpd_client_connection_rate_limit = 0
+"""
+    (place / "main.cf").write_text(own + configuration("Postfix", {"private/scramotp": f"{folder}/auth"}))
+    (place / "master.cf").write_text(f"127.0.0.1:{port} inet n - n - - smtpd\n{MASTER}")
+    equal(ran(["/usr/sbin/postfix", "-c", place, "start"]).status, 0, "the start of Postfix")
+    try:
+        until(lambda: listens(port), "Postfix should listen")
+        yield port
+    finally:
+        ran(["/usr/sbin/postfix", "-c", place, "stop"])
+
+
+def exim_words() -> tuple[list[str], dict[str, str]]:
+    """How Exim is run: the installed one, or the unpacked one with its libraries and a user that the machine has not. No word if there is
+    none."""
+    if Path("/usr/sbin/exim4").exists():
+        return ["/usr/sbin/exim4"], {}
+    if not (EXIM / "usr/sbin/exim4").exists():
+        return [], {}
+    libraries = ":".join(str(EXIM / "usr/lib" / name) for name in ["", "x86_64-linux-gnu"])
+    users = {"PASSWD": "root:x:0:0::/:/bin/sh\nDebian-exim:x:65533:65533::/:/bin/sh\nnobody:x:65534:65534::/:/bin/sh\n"}
+    users["GROUP"] = "root:x:0:\nDebian-exim:x:65533:\nnogroup:x:65534:\n"
+    for name, text in users.items():
+        (EXIM / name).write_text(text)
+    preload = {"LD_LIBRARY_PATH": libraries, "LD_PRELOAD": [*WRAPPER][0]}
+    return [str(EXIM / "usr/sbin/exim4")], preload | {f"NSS_WRAPPER_{name}": str(EXIM / name) for name in users}
+
+
+@contextlib.contextmanager
+def exim(folder: str) -> Iterator[int]:
+    """Exim, with the authenticators of the page. Gives its port."""
+    place, files, port = Path(folder, "exim"), certificate(folder), free_port()
+    place.mkdir()
+    words, variables = exim_words()
+    own = f"""keep_environment =
+primary_hostname = localhost
+exim_user = Debian-exim
+exim_group = Debian-exim
+spool_directory = {place}/spool
+log_file_path = {place}/%slog
+pid_file_path = {place}/pid
+daemon_smtp_ports = {port}
+local_interfaces = 127.0.0.1
+disable_ipv6 = true
+queue_only = true
+rfc1413_hosts =
+tls_advertise_hosts = *
+tls_certificate = {files["cert.pem"]}
+tls_privatekey = {files["key.pem"]}
+acl_smtp_rcpt = rcpt
+begin acl
+rcpt:
+  accept authenticated = *
+  deny
+begin routers
+all:
+  driver = accept
+  transport = none
+begin transports
+none:
+  driver = appendfile
+  file = /dev/null
+  user = nobody
+"""
+    for name in ["key.pem", "cert.pem"]:
+        files[name].chmod(0o644)
+    place.chmod(0o777)
+    (place / "conf").write_text(own + configuration("Exim", {"/run/scramotp/auth": f"{folder}/auth"}))
+    with process([*words, "-C", place / "conf", "-bdf"], port, place / "output", env={**os.environ, **variables}):
+        yield port
+
+
+@contextlib.contextmanager
+def dovecot(folder: str) -> Iterator[int]:
+    """Dovecot's IMAP server, with the settings of the page. Gives its port."""
+    place, files, port = Path(folder, "dovecot"), certificate(folder), free_port()
+    place.mkdir()
+    place.chmod(0o755)
+    own = f"""base_dir = {place}/run
+state_dir = {place}/state
+log_path = {place}/log
+protocols = imap
+listen = 127.0.0.1
+ssl = required
+ssl_cert = <{files["cert.pem"]}
+ssl_key = <{files["key.pem"]}
+mail_location = maildir:~/mail
+first_valid_uid = 1
+service imap-login {{
+  inet_listener imap {{
+    port = {port}
+  }}
+  inet_listener imaps {{
+    port = 0
+  }}
+}}
+"""
+    page = configuration("Dovecot", {"/run/scramotp/auth": f"{folder}/auth", "/run/scramotp/master": f"{folder}/master"})
+    (place / "conf").write_text(own + page)
+    with process(["/usr/sbin/dovecot", "-F", "-c", place / "conf"], port, place / "output"):
+        yield port
+
+
+def by_msmtp(folder: str, port: int, mechanism: str, name: str, password: str) -> Answer:
+    """Sends a mail with msmtp."""
+    words = ["timeout", "20", "msmtp", "--file=/dev/null", "--host=localhost", f"--port={port}"]
+    words += ["--tls=on", f"--tls-trust-file={folder}/cert.pem"]
+    words += [f"--auth={mechanism.lower()}", f"--user={name}", f"--passwordeval=printf %s '{password}'"]
+    return ran([*words, "--from=alice@example.org", "bob@example.org"], "Subject: x\n\nx\n")
+
+
+def by_gsasl(folder: str, port: int, mechanism: str, name: str, password: str, protocol: str = "smtp") -> Answer:
+    """Logs in with gsasl, which leaves then."""
+    words = ["timeout", "20", "gsasl", "--client", f"--{protocol}", "--connect", f"localhost:{port}"]
+    words += ["--no-cb", f"--x509-ca-file={folder}/cert.pem"]
+    return ran([*words, "-m", mechanism, "-a", name, f"--password={password}"])
+
+
+def by_curl(folder: str, port: int, mechanism: str, name: str, password: str, protocol: str = "smtp") -> Answer:
+    """Sends a mail, or lists mailboxes, with curl."""
+    words = ["timeout", "20", "curl", "--silent", "--ssl-reqd", "--cacert", f"{folder}/cert.pem", "--user", f"{name}:{password}"]
+    words += ["--login-options", f"AUTH={mechanism}", f"{protocol}://localhost:{port}/"]
+    if protocol == "smtp":
+        words += ["--mail-from", "alice@example.org", "--mail-rcpt", "bob@example.org", "--upload-file", "-"]
+    return ran(words, "Subject: x\n\nx\n")
+
+
+def try_clients(folder: str, port: int, door: Door, clients: list) -> None:
+    """Each of these clients logs in by each of its mechanisms, with the right password, a wrong one, and an unknown name. The client and
+    the journal have to say the same."""
+    people = [(NAME, PASSWORD, True), (NAME, "wonder lan", False), ("nobody@example.org", PASSWORD, False)]
+    rows = [(client, mechanism, *person) for client, mechanisms in clients for mechanism in mechanisms for person in people]
+    for trial, (client, mechanism, name, password, is_right) in each(rows):
+        with trial:
+            before = len(door.notes("login"))
+            answer = client(folder, port, mechanism, name, password)
+            equal(answer.status == 0, is_right, "whether the client is let in", client.__name__, mechanism, name, answer)
+            until(lambda: len(door.notes("login")) > before, "the journal should have the login")
+            line = door.notes("login")[before]
+            due = f"outcome={'accepted' if is_right else 'refused'} mechanism={mechanism} name={name} "
+            holds(due in line and "rip=127.0.0.1" in line, "the journal does not say so", due, line)
+
+
+def smtp_answers(folder: str, port: int, door: Door, refused: int, gone: int) -> None:
+    """What a client is told of a wrong password, of a response that is none, and while the door is gone. Once it is back, it is used."""
+    context = ssl.create_default_context(cafile=f"{folder}/cert.pem")
+
+    def told(initial: str) -> int:
+        with smtplib.SMTP("localhost", port, timeout=20) as client:
+            client.starttls(context=context)
+            client.ehlo()
+            return client.docmd("AUTH", f"PLAIN {initial}")[0]
+
+    right, wrong = (b64encode(f"\0{NAME}\0{it}".encode()).decode() for it in [PASSWORD, "x"])
+    equal([told(wrong), told("QUJD"), told(right)], [refused, refused, 235], "the answers")
+    door.run.process.terminate()
+    door.status()
+    equal(told(right), gone, "the answer while the door is gone")
+    door.start("--plain", "--mode", "666")
+    equal(told(right), 235, "the answer once it is back")
+
+
+# What smtpd needs to take a mail.
+MASTER = """postlog unix-dgram n - n - 1 postlogd
+cleanup unix n - n - 0 cleanup
+qmgr unix n - n 300 1 qmgr
+rewrite unix - - n - - trivial-rewrite
+bounce unix - - n - 0 bounce
+defer unix - - n - 0 bounce
+trace unix - - n - 0 bounce
+discard unix - - n - - discard
+anvil unix - - n - 1 anvil
+tlsmgr unix - - n 1000? 1 tlsmgr
+"""
+
+OF_SMTP = [(by_msmtp, SCRAMS + BY_PASSWORD), (by_gsasl, SCRAMS + ["PLAIN"]), (by_curl, BY_PASSWORD)]
+CLIENTS = ["/usr/bin/msmtp", "/usr/bin/gsasl", "/usr/bin/curl", "/usr/bin/openssl"]
+
+
+def logins_at_postfix(folder: str) -> None:
+    """Postfix."""
+    if has("Postfix", "/usr/sbin/postfix", *CLIENTS):
+        with door_in(folder, 11) as door, postfix(folder) as port:
+            try_clients(folder, port, door, OF_SMTP)
+            smtp_answers(folder, port, door, 535, 454)
+
+
+def logins_at_exim(folder: str) -> None:
+    """Exim."""
+    words, variables = exim_words()
+    if not words:
+        suite.not_tested(f"Exim, since {' '.join(UNPACKED)} are not unpacked in tests/out/exim")
+    elif has("Exim", *CLIENTS, *(WRAPPER if variables else [])):
+        with door_in(folder, 11) as door, exim(folder) as port:
+            try_clients(folder, port, door, OF_SMTP)
+            smtp_answers(folder, port, door, 535, 435)
+
+
+def logins_at_dovecot(folder: str) -> None:
+    """Dovecot's IMAP server: a user who is let in has a mailbox in the folder that the door names."""
+    if has("Dovecot", "/usr/sbin/dovecot", "/usr/lib/dovecot/imap-login", *CLIENTS[1:]):
+        homes = Path(folder, "homes")
+        homes.mkdir()
+        homes.chmod(0o777)
+        userdb = f"uid=65534 gid=65534 home={homes}/%u"
+        with door_in(folder, 5, "--master", f"{folder}/master", "--userdb", userdb) as door, dovecot(folder) as port:
+            over_imap = [(lambda *given, by=by: by(*given, protocol="imap")) for by in (by_gsasl, by_curl)]
+            for it, by in zip(over_imap, ["gsasl", "curl"]):
+                it.__name__ = by
+            try_clients(folder, port, door, [(over_imap[0], SCRAMS + ["PLAIN"]), (over_imap[1], BY_PASSWORD)])
+        holds((homes / NAME / "mail").is_dir(), "the mailbox is not where it should be", [*homes.rglob("*")])
+
+
+suite.run_all([logins_at_postfix, logins_at_exim, logins_at_dovecot])
