@@ -7,7 +7,6 @@ import itertools
 import os
 import re
 import stat
-import tempfile
 import time
 from hmac import digest
 from pathlib import Path
@@ -15,10 +14,10 @@ from pathlib import Path
 import suite
 from checks import equal, holds
 from expected import DATA, HASHES, keys_of
+from help_pages import example_ran, help_of, listed_commands
 from processes import ran
 from suite import (
-    BOOK_OF_USER, KEYS_OF_PENCIL, MOST_BYTES, PROGRAM, SALT, SECRET, SEEDS, BookFolder, each, fault_text, hotp, prints, program_on_path,
-    read_book, totp,
+    BOOK_OF_USER, KEYS_OF_PENCIL, MOST_BYTES, PROGRAM, SALT, SECRET, SEEDS, BookFolder, each, fault_text, hotp, prints, read_book, totp,
 )
 
 # 64 bytes
@@ -183,14 +182,6 @@ def usage(folder: str) -> None:
             check_usage(words.split(), begin)
 
 
-def help_of(words: list) -> str:
-    """The output of --help, whose lines have at most 100 columns."""
-    status, output, faults = ran([PROGRAM, *words, "--help"])
-    equal((status, faults), (0, ""), words, output)
-    equal([line for line in output.splitlines() if len(line) > 100], [], "lines with over 100 columns in the help of", words)
-    return output
-
-
 def help_and_version(folder: str) -> None:
     """Each help page is that in data/help, and each page there belongs to a command or to the program."""
     check(["--version"], "", 0, "scramotp 0.1.0\n")
@@ -199,8 +190,7 @@ def help_and_version(folder: str) -> None:
     for trial, (name, words) in each(pages.items()):
         with trial:
             equal(help_of(words), (HELP / f"{name}.txt").read_text(), f"{name}.txt")
-    listed = re.findall(r"^  ([a-z]+) +[A-Z]", help_of([]).split("Commands:\n")[1].split("\n\n")[0], re.M)
-    equal(sorted(listed), sorted(command for command, _ in EXAMPLES), "the commands that the help lists")
+    equal(sorted(listed_commands()), sorted(command for command, _ in EXAMPLES), "the commands that the help lists")
 
 
 def example_of(command: str) -> tuple[list[str], str]:
@@ -212,11 +202,9 @@ def example_of(command: str) -> tuple[list[str], str]:
 
 def runs_example(folder: str | Path, command: str) -> None:
     """The example of a command runs as it stands, with the program on the PATH; that of `verify` prints the present moment."""
-    with tempfile.TemporaryDirectory() as beside:
-        environment, words = program_on_path(beside), ["sh", "-ec", example_of(command)[1]]
-        began = int(time.time())
-        status, output, faults = ran(words, cwd=folder, env=environment, umask=0)
-        moments = range(began, int(time.time()) + 1)
+    began = int(time.time())
+    status, output, faults = example_ran(folder, example_of(command)[1])
+    moments = range(began, int(time.time()) + 1)
     equal((status, faults), (0, ""), command, output)
     due = [dict(EXAMPLES)[command].format(moment) for moment in moments]
     holds(output in due, f"what the example of {command} prints is none of", due, output)
