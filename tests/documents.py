@@ -26,8 +26,8 @@ MAINTAINERS = ["ARCHITECTURE.md", "DECISIONS.md", "EMBEDDING.md", "MUTATIONS.md"
 MAINTAINERS += ["WORDS.md", "PROVING_NOTES.md", "SECURITY.md"]
 # The files besides pages whose lines may have no more columns than theirs.
 HOSTS = [file for file in sorted([*TOP.glob("hosts/*"), *TOP.glob("hosts/*/*.py")]) if file.is_file()]
-NARROW = [file for pattern in ["tests/*.py", "tests/*.c", "bench/*.py", "tools/*", "Makefile"] for file in sorted(TOP.glob(pattern))]
-NARROW += HOSTS
+NARROWED = ["tests/*.py", "tests/*.c", "bench/*.py", "tools/*", "man/*", "Makefile"]
+NARROW = [file for pattern in NARROWED for file in sorted(TOP.glob(pattern))] + HOSTS
 
 # The kit with which everything was proved: its name, and the checksum of its logic.
 KIT = re.search(r"^KIT = (.+)$", (TOP / "Makefile").read_text(encoding="utf-8"), re.MULTILINE).group(1)
@@ -88,7 +88,7 @@ def broken_links(page: Path) -> Iterator[str]:
 def missing_paths(page: Path) -> Iterator[str]:
     """The paths of a page, relative to the repository's top, at which nothing exists."""
     for number, line in prose(page):
-        for path in re.findall(r"`((?:bench|crates|docs|hosts|tests|tools)/[\w./-]+)`", line):
+        for path in re.findall(r"`((?:bench|crates|docs|hosts|man|tests|tools)/[\w./-]+)`", line):
             is_of_any_crate = "NAME" in path
             is_built = "/out/" in path
             if not (is_of_any_crate or is_built or (TOP / path).exists()):

@@ -66,6 +66,7 @@ TESTS = [
     "fuzz.py",
     "commands.py",
     "terminal.py",
+    "man.py",
     "install.py",
     "story.py",
     "formats.py",
