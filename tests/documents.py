@@ -26,7 +26,7 @@ MAINTAINERS = ["ARCHITECTURE.md", "DECISIONS.md", "EMBEDDING.md", "MUTATIONS.md"
 MAINTAINERS += ["WORDS.md", "PROVING_NOTES.md", "SECURITY.md"]
 # The files besides pages whose lines may have no more columns than theirs.
 HOSTS = [file for file in sorted([*TOP.glob("hosts/*"), *TOP.glob("hosts/*/*.py")]) if file.is_file()]
-NARROWED = ["tests/*.py", "tests/*.c", "bench/*.py", "tools/*", "man/*", "Makefile"]
+NARROWED = ["tests/*.py", "tests/*.c", "bench/*.py", "tools/*", "man/*", "completions/*", "Makefile"]
 NARROW = [file for pattern in NARROWED for file in sorted(TOP.glob(pattern))] + HOSTS
 
 # The kit with which everything was proved: its name, and the checksum of its logic.

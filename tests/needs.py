@@ -17,7 +17,7 @@ from collections.abc import Iterable
 COMMANDS = {"bash": "bash", "cc": "gcc", "flock": "util-linux", "git": "git", "make": "make", "nm": "binutils", "xxd": "xxd"}
 # The commands, and files, that only parts of tests need.
 FOR_PARTS = {"systemd-analyze": "systemd", "pamtester": "pamtester", "sshd": "openssh-server", "ssh": "openssh-client"}
-FOR_PARTS |= {"/usr/lib/x86_64-linux-gnu/libpam_wrapper.so": "libpam-wrapper", "mandoc": "mandoc"}
+FOR_PARTS |= {"/usr/lib/x86_64-linux-gnu/libpam_wrapper.so": "libpam-wrapper", "mandoc": "mandoc", "fish": "fish", "zsh": "zsh"}
 # Where servers are, which not every PATH has.
 SERVERS = "/usr/local/sbin:/usr/sbin:/sbin"
 OLDEST_PYTHON = (3, 11)

@@ -67,6 +67,7 @@ TESTS = [
     "commands.py",
     "terminal.py",
     "man.py",
+    "completions.py",
     "install.py",
     "story.py",
     "formats.py",

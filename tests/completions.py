@@ -1,0 +1,201 @@
+#!/usr/bin/env python3
+"""Checks the completions of bash, zsh and fish in completions/.
+
+Usage: completions.py PROGRAM [TEST ..]
+
+Those of bash are called in a bash without settings, and tried at its prompt: what is typed there is completed and run, with a function in
+the place of the program that notes its words. Of zsh and fish only the syntax is checked, and the lists of commands and options, which have
+to be those of the help. Names of accounts are hostile ones: none may run anything, or become two words.
+"""
+import contextlib
+import json
+import os
+import re
+import shutil
+import subprocess
+from collections.abc import Iterator
+from pathlib import Path
+
+import suite
+from checks import equal, holds
+from help_pages import listed_commands, listed_options
+from processes import ran, until
+from suite import BOOK_OF_USER, PROGRAM, TOP, each, not_tested
+
+FOLDER = TOP / "completions"
+BASH = FOLDER / "scramotp.bash"
+# Calls the function of bash for each line of standard input, and prints in a line what it offers.
+CALLS = r"""
+source "$1"
+while IFS= read -r COMP_LINE; do
+    COMP_POINT=${#COMP_LINE} COMP_WORDS=($COMP_LINE) COMP_CWORD=$((${#COMP_WORDS[@]} - 1))
+    _scramotp scramotp "" ""
+    printf '%s\n' "${COMPREPLY[*]}"
+done
+"""
+# What a bash at a terminal reads first: `scramotp` notes its words, each followed by a zero byte, and how many they are.
+NOTES = r"""
+source {completions}
+scramotp() {{ printf '%s\0' "$#" "$@" >>{noted}; }}
+PS1= HISTFILE=
+"""
+# Readline's keys for the insertion of all completions, and to remove the line.
+ALL, KILL = "\x1b*", "\x15"
+# Names that a shell would run, split or expand if they were not quoted; and one that begins as an option.
+HOSTILE = [
+    "$(touch ran)", "`touch ran`", "a;touch ran", "a&touch ran&", "a|touch ran", "a>ran", "a b", " a", "a ", "a'b", 'a"b', "a\\b", "a\\",
+    "*", "?", "[a]", "{a,b}", "(a)", "~root", "$HOME", "a!b", "!!", "^a^b", "#a", "%s", "a=b", "a:b", "a: nothing", "user@example.org",
+]
+
+
+def offered(lines: list[str]) -> list[list[str]]:
+    """What the function of bash offers for each of these lines, with the cursor at its end."""
+    status, output, faults = ran(["bash", "--norc", "--noprofile", "-c", CALLS, "bash", BASH], "".join(f"{it}\n" for it in lines))
+    equal((status, faults), (0, ""), "the calls of the function", output)
+    return [it.split() for it in output.splitlines()]
+
+
+def words(folder: str) -> None:
+    """In bash a command comes first, and then its options, each once. Of an option that takes one of some values these are offered, and of
+    any other value nothing."""
+    for trial, (line, due) in each([
+        ("scramotp ", [*listed_commands(), "--help", "--version"]),
+        ("scramotp u", ["unlock", "upgrade"]),
+        ("scramotp --v", ["--version"]),
+        ("scramotp nothing ", []),
+        ("scramotp keys --m", ["--mechanism"]),
+        ("scramotp keys --mechanism ", ["SCRAM-SHA-1", "SCRAM-SHA-256"]),
+        ("scramotp keys --mechanism SCRAM-SHA-2", ["SCRAM-SHA-256"]),
+        ("scramotp keys --mechanism 'SCRAM-SHA-2", ["SCRAM-SHA-256"]),
+        ("scramotp keys --mechanism=", ["SCRAM-SHA-1", "SCRAM-SHA-256"]),
+        ("scramotp code --hash ", ["sha1", "sha256", "sha512"]),
+        ("scramotp code --digits ", ["6", "7", "8"]),
+        ("scramotp keys --count ", []),
+        ("scramotp keys --count 4096 --s", ["--salt"]),
+        ("scramotp keys --count=4096 --", ["--mechanism", "--salt", "--help"]),
+        ("scramotp keys --count 4096 --c", []),
+        ("scramotp hall --book 'a book' ", ["--help"]),
+    ]):
+        with trial:
+            equal(offered([line]), [due], "what bash offers for", line)
+
+
+def options_of(file: Path, command: str) -> list[str]:
+    """The options that the completions of zsh or fish have for a command, as their sources list them."""
+    text = file.read_text(encoding="utf-8")
+    if file.suffix == ".fish":
+        return [f"--{it}" for it in re.findall(rf"^complete -c scramotp -n '__scramotp_runs {command}' .*?-l ([\w-]+)", text, re.M)]
+    [part] = re.findall(rf"^ +{command}\)\n((?:.*\n)+?) +;;\n", text, re.M)
+    return re.findall(r"(--[\w-]+)(?:=|\[)", part)
+
+
+def options(folder: str) -> None:
+    """Each shell is offered the commands that the help lists, and for each command the options of its help."""
+    commands = listed_commands()
+    lines = [f"scramotp {it} --" for it in commands]
+    for trial, (command, found) in each(zip(commands, offered(lines))):
+        with trial:
+            due = sorted(it.names[-1] for it in listed_options([command]))
+            listed = {shell: options_of(FOLDER / name, command) for shell, name in [("zsh", "_scramotp"), ("fish", "scramotp.fish")]}
+            got = {shell: sorted(it) for shell, it in {"bash": found, **listed}.items()}
+            equal(got, dict.fromkeys(got, due), "the options of", command)
+    zsh, fish = ((FOLDER / name).read_text(encoding="utf-8") for name in ["_scramotp", "scramotp.fish"])
+    told = re.findall(r"^ +'([a-z]+):([A-Z].*)'$", zsh, re.M)
+    equal({name: says.replace(r"'\''", "'") for name, says in told}, commands, "the commands in zsh")
+    told = re.findall(r"^complete -c scramotp -n __scramotp_begins -a ([a-z]+) -d (['\"])(.*)\2$", fish, re.M)
+    equal({name: says for name, _, says in told}, commands, "the commands in fish")
+
+
+def installed(folder: str | Path) -> dict[str, str]:
+    """The environment of a bash in which the program is installed below this folder, with its tools."""
+    here = Path(folder, "prefix")
+    shutil.copytree(TOP / "tools", here / "share/scramotp")
+    (here / "bin").mkdir()
+    shutil.copy(PROGRAM, here / "bin/scramotp")
+    return {**os.environ, "PATH": f"{here}/bin:{os.environ['PATH']}", "HOME": str(folder), "TERM": "dumb", "INPUTRC": "/dev/null"}
+
+
+def book_of(names: list[str]) -> str:
+    """A book with accounts of these names, which have nothing."""
+    head, _, _ = BOOK_OF_USER.partition("[accounts.user]")
+    return head + "".join(f"[accounts.{json.dumps(name)}]\n" for name in names)
+
+
+def records(path: Path) -> list[list[str]]:
+    """The words of each run that `scramotp` has noted."""
+    parts, found = path.read_text().split("\0")[:-1] if path.exists() else [], []
+    while parts:
+        count = int(parts[0])
+        found.append(parts[1:count + 1])
+        parts = parts[count + 1:]
+    return found
+
+
+def is_noted(path: Path, number: int, side: int) -> bool:
+    """Whether so many runs are noted. Reads what bash shows meanwhile, on this side of its terminal, so that it need not wait."""
+    with contextlib.suppress(BlockingIOError):
+        os.read(side, 65536)
+    return len(records(path)) >= number
+
+
+def typed(folder: str | Path, lines: list[str]) -> Iterator[list[str]]:
+    """Types lines at the prompt of a bash in this folder, and gives the words that each has run `scramotp` with."""
+    noted, rc = Path(folder, "noted"), Path(folder, "rc")
+    rc.write_text(NOTES.format(completions=BASH, noted=noted))
+    side, end = os.openpty()
+    os.set_blocking(side, False)
+    ways = {"stdin": end, "stdout": end, "stderr": end, "cwd": folder, "env": installed(folder), "start_new_session": True}
+    with subprocess.Popen(["bash", "--noprofile", "--rcfile", rc, "-i"], **ways) as run:
+        try:
+            for number, line in enumerate(lines, 1):
+                os.write(side, f"{line}\n".encode())
+                until(lambda: is_noted(noted, number, side), "the line should have run", line)
+                yield records(noted)[number - 1]
+        finally:
+            run.kill()
+            os.close(side)
+            os.close(end)
+
+
+def names(folder: str) -> None:
+    """After `--name` and `--as`, the names of the accounts in the book of `--book` are offered, quoted: each arrives at the program as one
+    word, and none runs anything."""
+    Path(folder, "book.toml").write_text(book_of([*HOSTILE, "--help"]))
+    Path(folder, "a book.toml").write_text(book_of(["anne", "bob"]))
+    Path(folder, "none.toml").write_text("[")
+    rows = [
+        (f"scramotp verify --book book.toml --name {ALL}", ["verify", "--book", "book.toml", "--name", *HOSTILE]),
+        (f"scramotp login --book=book.toml --as {ALL}", ["login", "--book=book.toml", "--as", *HOSTILE]),
+        (f"scramotp verify --book 'a book.toml' --name a{ALL}", ["verify", "--book", "a book.toml", "--name", "anne"]),
+        (f"scramotp verify --book ~/a\\ book.toml --name=b{ALL}", ["verify", "--book", f"{folder}/a book.toml", "--name=bob"]),
+        (f"scramotp verify --book book.toml --name user@ex{ALL}", ["verify", "--book", "book.toml", "--name", "user@example.org"]),
+        (f"scramotp verify --book book.toml --name a:b{ALL}", ["verify", "--book", "book.toml", "--name", "a:b"]),
+        (f"scramotp verify --book book.toml --name \\$\\(\t", ["verify", "--book", "book.toml", "--name", "$(touch ran)"]),
+        (f"scramotp verify --book book.toml --name '$(t{ALL}'", ["verify", "--book", "book.toml", "--name", "$(t"]),
+        (f"scramotp verify --book book.toml --name \"a;{ALL}\"", ["verify", "--book", "book.toml", "--name", "a;"]),
+        ("scramotp verify --book book.toml --name \"user\t", ["verify", "--book", "book.toml", "--name", "user@example.org"]),
+        (f"scramotp verify --book $(>ran) --name {ALL}{KILL}scramotp none", ["none"]),
+        (f"scramotp verify --book '$(touch ran)' --name {ALL}", ["verify", "--book", "$(touch ran)", "--name"]),
+        (f"scramotp verify --book none.toml --name {ALL}", ["verify", "--book", "none.toml", "--name"]),
+        (f"scramotp verify --name {ALL}", ["verify", "--name"]),
+        ("scramotp hall --book a\t", ["hall", "--book", "a book.toml"]),
+        ("scramotp hall --book=bo\t", ["hall", "--book=book.toml"]),
+    ]
+    for trial, ((line, due), found) in each(zip(rows, typed(folder, [line for line, _ in rows]))):
+        with trial:
+            # Readline sorts names as they are quoted.
+            equal(sorted(found), sorted(due), "the words that were run, of", line)
+            holds(not Path(folder, "ran").exists(), "a name was run, of", line)
+
+
+def syntax(folder: str) -> None:
+    """Each shell finds its file well-formed."""
+    for trial, (shell, name) in each([("bash", "scramotp.bash"), ("zsh", "_scramotp"), ("fish", "scramotp.fish")]):
+        with trial:
+            if shutil.which(shell):
+                equal(ran([shell, "-n", FOLDER / name]), (0, "", ""), name)
+            else:
+                not_tested(f"the completions of {shell}, which is not here")
+
+
+suite.run_all([words, options, names, syntax])
