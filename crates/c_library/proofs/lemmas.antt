@@ -1,0 +1,5 @@
+-- Lemmas that the proofs of this crate cite.
+pub mod ActAs
+pub mod Challenges
+pub mod Demands
+pub mod Verdicts

@@ -1,0 +1,6 @@
+-- The calls for C. Begin with `Demands`: each contract is written with it.
+pub mod Demands
+pub mod Numbers
+pub mod Entries
+pub mod Buffers
+pub mod Logins

@@ -1,0 +1,59 @@
+//! Why a call does nothing.
+ghost use Rattle.std.specs.Prelude.{◌≡◌};
+ghost use Rattle.c_library.specs.Numbers.{fault_number};
+
+use scram_ends::{FirstFault, RecordedFault};
+
+/// Why a call does nothing: the first of its demands that its arguments do not meet.
+#[derive(Clone, Copy, Debug, PartialEq, Eq)]
+pub enum Fault {
+    /// The client-first message is refused.
+    First(FirstFault),
+
+    /// The first two messages open no login of the entry.
+    Recorded(RecordedFault),
+
+    /// The name is not 1 to 255 bytes from 0x20 to 0x7E.
+    Name,
+
+    /// The salt does not have 1 to 64 bytes.
+    Salt,
+
+    /// The iteration count is 0.
+    Count,
+
+    /// The keys do not have the length of the mechanism's digests.
+    KeyLength,
+
+    /// There is no mechanism of this number.
+    Mechanism,
+
+    /// The password is not 1 to 1024 bytes from 0x20 to 0x7E.
+    Password,
+
+    /// The server's part of the nonce is not 1 to 256 printable characters.
+    ServerNonce,
+
+    /// The caller's buffer is shorter than the message.
+    NoRoom,
+}
+
+impl Fault {
+    /// The number that the call returns.
+    pub(crate) fn number(&self) -> u32
+        ensures { result ≡ fault_number self.now }
+    {
+        match self {
+            Fault::First(fault) => u32::from(fault.number()),
+            Fault::Recorded(fault) => u32::from(fault.number()),
+            Fault::Name => 63,
+            Fault::Salt => 64,
+            Fault::Count => 65,
+            Fault::KeyLength => 66,
+            Fault::Mechanism => 90,
+            Fault::Password => 91,
+            Fault::ServerNonce => 92,
+            Fault::NoRoom => 93,
+        }
+    }
+}

@@ -1,0 +1,17 @@
+//! SCRAM logins at a server (RFC 5802, RFC 7677), the keys of a password, and one-time codes (RFC 4226, RFC 6238), for C.
+//!
+//! Each exported function is one call of `clib/scramotp.h`, which says how a program in C uses it. No call allocates memory, keeps
+//! anything between calls, or fails in a way that its number does not tell: the contract of each says which demands it makes of its
+//! arguments, in order, what it does if all are met, and that it else returns the number of the first that is not and changes
+//! nothing.
+#![tactic(auto)]
+
+mod act_as;
+mod decoy;
+mod entry;
+mod fault;
+mod keys;
+mod names;
+mod put;
+mod server;
+mod text;
