@@ -4,3 +4,4 @@ pub mod Numbers
 pub mod Entries
 pub mod Buffers
 pub mod Logins
+pub mod Tokens

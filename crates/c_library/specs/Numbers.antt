@@ -2,6 +2,7 @@
 use Rattle.std.specs.Prelude.{ℕ}
 use Rattle.mac_core.specs.declared.mechanism.Mechanism.{Mechanism}
 use Rattle.mac_core.specs.declared.mechanism.Mechanism.TheVariants.{ScramSha1, ScramSha256}
+use Rattle.otp_core.specs.Fault.{otp_fault_number}
 use Rattle.scram_ends.specs.Faults.{first_fault_number, recorded_fault_number}
 use Rattle.scram_ends.specs.Verdict.{Due, accept, refuse}
 use Rattle.scram_ends.specs.declared.verdict.Refusal.{Refusal}
@@ -41,3 +42,6 @@ fault_number fault.Mechanism = 90
 fault_number fault.Password = 91
 fault_number fault.ServerNonce = 92
 fault_number fault.NoRoom = 93
+fault_number fault.Hash = 94
+fault_number fault.Moment = 95
+fault_number (fault.Otp otp) = otp_fault_number otp

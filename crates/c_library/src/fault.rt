@@ -1,7 +1,9 @@
 //! Why a call does nothing.
 ghost use Rattle.std.specs.Prelude.{◌≡◌};
 ghost use Rattle.c_library.specs.Numbers.{fault_number};
+ghost use Rattle.c_library.specs.declared.fault.Fault.TheVariants.{Otp};
 
+use otp_core::OtpFault;
 use scram_ends::{FirstFault, RecordedFault};
 
 /// Why a call does nothing: the first of its demands that its arguments do not meet.
@@ -36,6 +38,23 @@ pub enum Fault {
 
     /// The caller's buffer is shorter than the message.
     NoRoom,
+
+    /// There is no hash function of this number.
+    Hash,
+
+    /// A moment is after the year 9999.
+    Moment,
+
+    /// The secret, the number of digits or a setting of a token is refused.
+    Otp(OtpFault),
+}
+
+impl From<OtpFault> for Fault {
+    ghost from_gives = { λ fault f. f ≡ Otp fault };
+
+    fn from(fault: OtpFault) -> Fault {
+        Fault::Otp(fault)
+    }
 }
 
 impl Fault {
@@ -54,6 +73,9 @@ impl Fault {
             Fault::Password => 91,
             Fault::ServerNonce => 92,
             Fault::NoRoom => 93,
+            Fault::Hash => 94,
+            Fault::Moment => 95,
+            Fault::Otp(fault) => u32::from(fault.number()),
         }
     }
 }
