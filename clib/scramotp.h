@@ -1,0 +1,192 @@
+/* libscramotp: SCRAM-SHA-1 and SCRAM-SHA-256 at a server (RFC 5802, RFC 7677), without channel binding; HOTP and TOTP codes (RFC 4226,
+ * RFC 6238).
+ *
+ * Each call is proved to do what is said here. No call allocates memory, keeps a pointer, or shares anything with another call, so any
+ * thread may make any call at any time.
+ *
+ * You owe each call pointers to as many bytes as it says, which no other thread writes meanwhile. What a call writes to overlaps none of
+ * its other arguments. A pointer is NULL only if the length after it is 0; `at` in scramotp_bytes never is. All else is judged: what a
+ * client sends may be any bytes.
+ *
+ * Each call returns 0 if it did what it says, else one of the numbers at the end of this page. Then what it writes to is as it was, except
+ * that a refusal (32 to 37) comes with a message, and a code that does not pass (43) is counted.
+ *
+ * A login. Keep the entry, the client's first message and the challenge until the client's final message is there. There `get` and
+ * `put` receive and send a message, `fill` makes the entry of the account of a name, and `nonce` has 24 fresh characters.
+ *
+ *     first_len = get(first);
+ *     if (scramotp_read_names(first, first_len, &names) != 0)
+ *         return refused;
+ *     if (!fill(names.name, &entry))
+ *         scramotp_decoy(decoy_key, SCRAMOTP_SHA_256, 4096, names.name, strlen(names.name), &entry);
+ *     if (scramotp_server_first(&entry, first, first_len, nonce, 24, challenge, sizeof challenge, &challenge_len) != 0)
+ *         return refused;
+ *     put(challenge, challenge_len);
+ *     final_len = get(final);
+ *     number = scramotp_server_final(&entry, NULL, 0, first, first_len, challenge, challenge_len, final, final_len,
+ *         verdict, sizeof verdict, &verdict_len);
+ *     if (number == SCRAMOTP_OK || SCRAMOTP_IS_REFUSAL(number))
+ *         put(verdict, verdict_len);
+ *     return number == SCRAMOTP_OK ? accepted : refused;
+ *
+ * examples/login.c is a whole program.
+ *
+ * A code. A token is its secret and a struct, of which `next`, `last`, `drift` and `failures` are state. Judge one code of a token at a
+ * time, and store the token before you act on a pass: else the code can pass again.
+ *
+ *     lock(account);
+ *     number = scramotp_totp(secret, 20, &token, time(NULL), code, strlen(code));
+ *     if (!store(account, &token))
+ *         number = SCRAMOTP_FAIL;
+ *     unlock(account);
+ */
+#ifndef SCRAMOTP_H
+#define SCRAMOTP_H
+
+#include <stddef.h>
+#include <stdint.h>
+
+#ifdef __cplusplus
+extern "C" {
+#endif
+
+/* The mechanisms are SCRAM-SHA-1, whose keys have 20 bytes, and SCRAM-SHA-256, whose keys have 32. A TOTP token can also use SHA-512. */
+enum { SCRAMOTP_SHA_1 = 1, SCRAMOTP_SHA_256 = 256, SCRAMOTP_SHA_512 = 512 };
+
+/* The room that the longest messages need. */
+enum { SCRAMOTP_FIRST_ROOM = 618, SCRAMOTP_FINAL_ROOM = 46 };
+
+/* What a server keeps for a name and a mechanism. */
+typedef struct {
+    uint32_t mechanism;
+    uint32_t count;         /* the iteration count, at least 1 */
+    size_t salt_len;        /* 1 to 64 */
+    size_t key_len;         /* 20 or 32, as the mechanism has; 0 makes it a decoy, for which no proof is right */
+    uint8_t salt[64];       /* what is after the lengths is ignored */
+    uint8_t stored_key[64];
+    uint8_t server_key[64];
+} scramotp_entry;
+
+/* Bytes of yours. */
+typedef struct {
+    const void *at;
+    size_t len;
+} scramotp_bytes;
+
+/* The names in a client's first message, each with NULs after it. A name has 1 to 255 bytes from space to tilde. */
+typedef struct {
+    char name[256];
+    char act_as[256];       /* the name to act as (authzid), empty if none is asked for */
+} scramotp_names;
+
+/* Makes the entry of a password: 1 to 1024 bytes from space to tilde. The salt has 1 to 64 bytes: take 16 fresh random ones. The count
+ * decides how long the call takes. Keep the entry, and not the password.
+ * Numbers: 90 mechanism, 65 count, 64 salt, 91 password; the first of these that applies. */
+uint32_t scramotp_keys(uint32_t mechanism, uint32_t count, const void *salt, size_t salt_len, const void *password, size_t password_len,
+    scramotp_entry *entry);
+
+/* Makes the decoy of a name that has no account, so that a client can't tell: a salt of 16 bytes that follows from the key, the
+ * mechanism and the name. The key is 32 random bytes that stay the same and secret. Take the count and the length of the salt that
+ * your accounts have.
+ * Numbers: 90 mechanism, 65 count, 63 name; the first of these that applies. */
+uint32_t scramotp_decoy(const uint8_t key[32], uint32_t mechanism, uint32_t count, const void *name, size_t name_len,
+    scramotp_entry *entry);
+
+/* Reads the names in a client's first message.
+ * Numbers: 20 to 23, as a server refuses the message. */
+uint32_t scramotp_read_names(const void *client_first, size_t client_first_len, scramotp_names *names);
+
+/* Writes the challenge to a client's first message. The server's part of the nonce is 1 to 256 bytes from `!` to tilde, without a
+ * comma: take the base64 of 18 fresh random bytes, and none twice.
+ * Numbers: 90, 65, 64, 66 of the entry, 92 server_nonce, 20 to 23 of the message, 93 room; the first of these that applies. */
+uint32_t scramotp_server_first(const scramotp_entry *entry, const void *client_first, size_t client_first_len, const void *server_nonce,
+    size_t server_nonce_len, void *out, size_t out_room, size_t *out_len);
+
+/* Judges a login by its three messages, the first two as they were received and sent, and writes the server's final message. `act_as`
+ * are the other names that the account may act as. The answer is 0 exactly if the login is valid.
+ * Numbers: 90, 65, 64, 66 of the entry, 20 to 23 and 31 of the first two messages, 93 room; the first of these that applies. Else 32 to
+ * 37, the refusal that is due, and the message that tells it is written. */
+uint32_t scramotp_server_final(const scramotp_entry *entry, const scramotp_bytes *act_as, size_t act_as_len, const void *client_first,
+    size_t client_first_len, const void *server_first, size_t server_first_len, const void *client_final, size_t client_final_len,
+    void *out, size_t out_room, size_t *out_len);
+
+/* A HOTP token without its secret (RFC 4226, section 7): 6 digits from counter 0 on are {0, 2, 10, 5, 0, 6}. */
+typedef struct {
+    uint64_t next;          /* state: the least counter that can pass, or 2^63 - 1 if none can */
+    uint64_t look_ahead;    /* how many counters after it can also pass, at most 100 */
+    uint64_t sync_ahead;    /* how many counters after it can be the first of two codes in a row, at most 1000 */
+    uint64_t limit;         /* the number of failures that locks the token, 1 to 100 */
+    uint64_t failures;      /* state: the failures since the token last passed, at most `limit`; set it to 0 to unlock the token */
+    uint8_t digits;         /* of a code, 6 to 8 */
+} scramotp_hotp_token;
+
+/* A TOTP token without its secret (RFC 6238): 6 digits every 30 seconds are {0, 30, 1, 1, 2, UINT64_MAX, 0, 5, 0, SCRAMOTP_SHA_1, 6}. */
+typedef struct {
+    uint64_t t0;            /* when step 0 begins, in seconds since 1970 */
+    uint64_t step;          /* the length of a step in seconds, 1 to 3600 */
+    uint64_t back;          /* how many steps before the present one, moved by `drift`, can pass, at most 10 */
+    uint64_t ahead;         /* how many steps after it can pass, at most 10 */
+    uint64_t max_drift;     /* how far a step that passes may be from the present one, at most 100 steps */
+    uint64_t last;          /* state: the greatest step that has passed, or UINT64_MAX if none has */
+    int64_t drift;          /* state: by how many steps the token's clock is ahead, at most `max_drift` either way */
+    uint64_t limit;         /* the number of failures that locks the token, 1 to 100 */
+    uint64_t failures;      /* state: the failures since the token last passed, at most `limit`; set it to 0 to unlock the token */
+    uint32_t hash;          /* SCRAMOTP_SHA_1, SCRAMOTP_SHA_256 or SCRAMOTP_SHA_512 */
+    uint8_t digits;         /* of a code, 6 to 8 */
+} scramotp_totp_token;
+
+/* Judges a code. The secret has 10 to 64 bytes. Numbers: 40 secret, 41 digits, 42 another setting; the first of these that applies. Else
+ * 43 if the code does not pass, or 44 if the token is locked; these two, like 0, leave the token's state changed as they say. */
+uint32_t scramotp_hotp(const void *secret, size_t secret_len, scramotp_hotp_token *token, const void *code, size_t code_len);
+
+/* Judges two codes in a row, to find a token whose counter has run far ahead (RFC 4226, section 7.4). Else as scramotp_hotp. */
+uint32_t scramotp_hotp_sync(const void *secret, size_t secret_len, scramotp_hotp_token *token, const void *first, size_t first_len,
+    const void *second, size_t second_len);
+
+/* Judges a code at a moment, in seconds since 1970. Numbers: 94 hash, 40 secret, 41 digits, 95 moments, 42 another setting; the first of
+ * these that applies. Else 43 and 44, as above. */
+uint32_t scramotp_totp(const void *secret, size_t secret_len, scramotp_totp_token *token, uint64_t moment, const void *code,
+    size_t code_len);
+
+/* The numbers. */
+enum {
+    SCRAMOTP_OK = 0,
+
+    SCRAMOTP_NOT_CLIENT_FIRST = 20, /* the text is not a client's first message, or has more than 2048 bytes */
+    SCRAMOTP_MANDATORY = 21,        /* it asks for a mandatory extension */
+    SCRAMOTP_BINDING_ASKED = 22,    /* it asks for channel binding */
+    SCRAMOTP_OUTSIDE_PROFILE = 23,  /* a name in it is not 1 to 255 bytes from space to tilde */
+    SCRAMOTP_NOT_CHALLENGE = 31,    /* the second text is not a challenge to the first message with the entry's salt and count */
+
+    SCRAMOTP_INVALID_ENCODING = 32, /* the text is not a client's final message: e=invalid-encoding */
+    SCRAMOTP_EXTENSIONS = 33,       /* it asks for a mandatory extension: e=extensions-not-supported */
+    SCRAMOTP_OTHER_NONCE = 34,      /* its nonce is not the challenge's: e=other-error */
+    SCRAMOTP_CHANNEL = 35,          /* its channel field is not the first message's header: e=channel-bindings-dont-match */
+    SCRAMOTP_INVALID_PROOF = 36,    /* its proof is not made with the entry's keys: e=invalid-proof */
+    SCRAMOTP_NOT_AUTHORISED = 37,   /* the name to act as is neither the name nor in act_as: e=other-error */
+
+    SCRAMOTP_BAD_SECRET = 40,       /* the secret does not have 10 to 64 bytes */
+    SCRAMOTP_BAD_DIGITS = 41,       /* a code does not have 6 to 8 digits */
+    SCRAMOTP_BAD_SETTING = 42,      /* a field of the token is outside its range */
+    SCRAMOTP_FAIL = 43,             /* the code is not due, or has passed; the failures are one more */
+    SCRAMOTP_LOCKED = 44,           /* the failures have reached `limit`; nothing is changed */
+
+    SCRAMOTP_BAD_NAME = 63,         /* the name is not 1 to 255 bytes from space to tilde */
+    SCRAMOTP_BAD_SALT = 64,         /* the salt does not have 1 to 64 bytes */
+    SCRAMOTP_BAD_COUNT = 65,        /* the count is 0 */
+    SCRAMOTP_BAD_KEY_LEN = 66,      /* key_len is neither 0 nor the length of the mechanism's keys */
+    SCRAMOTP_BAD_MECHANISM = 90,    /* there is no mechanism of this number */
+    SCRAMOTP_BAD_PASSWORD = 91,     /* the password is not 1 to 1024 bytes from space to tilde */
+    SCRAMOTP_BAD_NONCE = 92,        /* the server's part of the nonce is not 1 to 256 bytes from `!` to tilde without a comma */
+    SCRAMOTP_NO_ROOM = 93,          /* the message is longer than out_room */
+    SCRAMOTP_BAD_HASH = 94,         /* there is no hash function of this number */
+    SCRAMOTP_BAD_MOMENT = 95        /* t0 or the moment is after the year 9999 */
+};
+
+/* Whether a number is a refusal, which comes with a message. */
+#define SCRAMOTP_IS_REFUSAL(number) ((number) >= SCRAMOTP_INVALID_ENCODING && (number) <= SCRAMOTP_NOT_AUTHORISED)
+
+#ifdef __cplusplus
+}
+#endif
+#endif

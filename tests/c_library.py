@@ -1,0 +1,512 @@
+#!/usr/bin/env python3
+"""Tests the library for C: its examples, its calls, its interface, and what it does with random bytes and from several threads.
+
+Usage: c_library.py PROGRAM [TEST ..]
+
+PROGRAM is not run. The environment's CLIB names the folder with the archives of the library; without it they are those that `rt lib` made
+in crates/c_library/out. Each example is compiled with warnings as errors, and logs users in with messages that are in RFC 5802 and RFC
+7677, or were made here with Python's hmac and hashlib. Needs cc; c++, rustc and go for the examples in their languages.
+"""
+import base64
+import ctypes
+import functools
+import hashlib
+import hmac
+import os
+import pathlib
+import re
+import shutil
+import subprocess
+import sys
+import tempfile
+from collections.abc import Callable, Iterator
+from typing import Any, NamedTuple
+
+import suite
+from checks import equal, holds
+from expected import DATA, VECTORS, code, login_keys, rows_of
+from processes import ran
+from suite import CODES, SEEDS, TOP, each, not_tested
+
+CLIB = pathlib.Path(os.environ.get("CLIB") or TOP / "crates/c_library/out").resolve()
+ARCHIVES = sorted(CLIB.glob("lib*.a"))
+EXAMPLES = TOP / "clib/examples"
+# What the compilers of C and C++ take as errors.
+WARNINGS = ["-Wall", "-Wextra", "-Wpedantic", "-Wconversion", "-Wshadow", "-Werror"]
+
+# The two published exchanges: RFC 5802, section 5, and RFC 7677, section 3. The password is pencil, and the count 4096.
+SHA1 = {
+    "mechanism": "SCRAM-SHA-1",
+    "salt": "4125c247e43ab1e93c6dff76",
+    "nonce": "3rfcNHYJY1ZVvWVs7j",
+    "first": "n,,n=user,r=fyko+d2lbbFgONRv9qkxdawL",
+    "challenge": "r=fyko+d2lbbFgONRv9qkxdawL3rfcNHYJY1ZVvWVs7j,s=QSXCR+Q6sek8bf92,i=4096",
+    "final": "c=biws,r=fyko+d2lbbFgONRv9qkxdawL3rfcNHYJY1ZVvWVs7j,p=v0X8v3Bz2T0CJGbJQyF0X+HI4Ts=",
+    "verdict": "v=rmF9pqV8S7suAoZWja4dJRkFsKQ=",
+}
+SHA256 = {
+    "mechanism": "SCRAM-SHA-256",
+    "salt": "5b6d99689d12358eeca04b141236fa81",
+    "nonce": "%hvYDpWUa2RaTCAfuxFIlj)hNlF$k0",
+    "first": "n,,n=user,r=rOprNGfwEbeRWgbNEkqO",
+    "challenge": "r=rOprNGfwEbeRWgbNEkqO%hvYDpWUa2RaTCAfuxFIlj)hNlF$k0,s=W22ZaJ0SNY7soEsUEjb6gQ==,i=4096",
+    "final": "c=biws,r=rOprNGfwEbeRWgbNEkqO%hvYDpWUa2RaTCAfuxFIlj)hNlF$k0,p=dHzbZapWIk4jUhN+Ute9ytag9zjfMHgsqmmiz7AndVQ=",
+    "verdict": "v=6rriTRBi23WpRR/wtup+mMhUZUn/dB5nLTJRsjl95G4=",
+}
+# The hash function of each mechanism, and its number in C.
+FUNCTIONS = {"SCRAM-SHA-1": ("sha1", 1), "SCRAM-SHA-256": ("sha256", 256)}
+# The decoy key of the examples.
+DECOY_KEY = bytes([1, 2, 3]).ljust(32, b"\0")
+
+
+def base64_of(data: bytes) -> str:
+    """The base64 text of some bytes."""
+    return base64.b64encode(data).decode()
+
+
+def final_for(login: dict[str, str], first: str, password: bytes = b"pencil", **changed: str) -> tuple[str, str, str]:
+    """The challenge to a first message, the final message of a client that has this password, and the server's signature for it. Parts of
+    the final message may be changed: the channel field, the nonce, and what is between the nonce and the proof."""
+    function = FUNCTIONS[login["mechanism"]][0]
+    header, _, bare = re.match(r"([^,]*,[^,]*,)()(.*)", first).groups()
+    nonce = re.search(r",r=([^,]*)", first)[1] + login["nonce"]
+    challenge = f"r={nonce},s={base64_of(bytes.fromhex(login['salt']))},i=4096"
+    channel = changed.get("channel", base64_of(header.encode()))
+    unproved = f"c={channel},r={changed.get('nonce', nonce)}{changed.get('more', '')}"
+    auth = f"{bare},{challenge},{unproved}".encode()
+    client_key, server_key = login_keys(function, password, bytes.fromhex(login["salt"]), 4096)
+    signature = hmac.digest(hashlib.new(function, client_key).digest(), auth, function)
+    proof = bytes(a ^ b for a, b in zip(client_key, signature))
+    return challenge, f"{unproved},p={base64_of(proof)}", f"v={base64_of(hmac.digest(server_key, auth, function))}"
+
+
+def decoy_salt(mechanism: str, name: str) -> bytes:
+    """The salt of a decoy under the examples' key."""
+    return hmac.digest(DECOY_KEY, mechanism.encode() + b"\0" + name.encode(), "sha256")[:16]
+
+
+# ---- the library, and the programs that use it
+
+MADE = tempfile.TemporaryDirectory(prefix="c_library-")
+
+
+@functools.cache
+def library() -> pathlib.Path:
+    """The folder with libscramotp.a and libscramotp.so.0, made of the archives."""
+    folder = pathlib.Path(MADE.name, "lib")
+    subprocess.run([sys.executable, TOP / "clib/merge.py", folder, *ARCHIVES], check=True)
+    return folder
+
+
+def compiled(source: pathlib.Path, to: str, *words: str | pathlib.Path, compiler: str = "cc", standard: str = "c11") -> pathlib.Path:
+    """The program of a file in C or C++, with the static library unless the words name another."""
+    program = pathlib.Path(MADE.name, to)
+    linked = words or (library() / "libscramotp.a",)
+    subprocess.run([compiler, f"-std={standard}", "-O2", *WARNINGS, "-I", TOP / "clib", source, "-o", program, *linked], check=True)
+    return program
+
+
+def in_c() -> list:
+    """The command of the example in C, with the static library."""
+    return [compiled(EXAMPLES / "login.c", "login")]
+
+
+def in_shared_c() -> list:
+    """The command of the example in C, with the shared library."""
+    return [compiled(EXAMPLES / "login.c", "login_shared", "-L", library(), "-lscramotp", f"-Wl,-rpath,{library()}")]
+
+
+def in_cpp() -> list:
+    """The command of the example in C++."""
+    return [compiled(EXAMPLES / "login.cpp", "login_cpp", compiler="c++", standard="c++17")]
+
+
+def in_python() -> list:
+    """The command of the example in Python."""
+    return ["env", f"LIBRARY={library() / 'libscramotp.so.0'}", sys.executable, EXAMPLES / "login.py"]
+
+
+def in_rust() -> list:
+    """The command of the example in Rust."""
+    program = pathlib.Path(MADE.name, "login_rs")
+    subprocess.run(["rustc", "-O", "-D", "warnings", "-L", library(), EXAMPLES / "login.rs", "-o", program], check=True)
+    return [program]
+
+
+def in_go() -> list:
+    """The command of the example in Go."""
+    program = pathlib.Path(MADE.name, "login_go")
+    flags = {"CGO_CFLAGS": f"-I{TOP / 'clib'}", "CGO_LDFLAGS": f"-L{library()} -Wl,-rpath,{library()}", "GOFLAGS": "-mod=mod"}
+    folders = {"GOCACHE": f"{MADE.name}/go", "GOPATH": f"{MADE.name}/gopath", "HOME": MADE.name}
+    subprocess.run(["go", "build", "-o", program, EXAMPLES / "login.go"], env={**os.environ, **flags, **folders}, check=True)
+    return [program]
+
+
+# Each example, by the compiler that it needs.
+LANGUAGES: list[tuple[str, Callable[[], list]]] = [
+    ("cc", in_c), ("cc", in_shared_c), ("c++", in_cpp), ("python3", in_python), ("rustc", in_rust), ("go", in_go)
+]
+
+
+@functools.cache
+def commands() -> list[list]:
+    """The command of each example whose compiler is on this machine."""
+    for compiler, _ in LANGUAGES:
+        if not shutil.which(compiler):
+            not_tested(f"the example for {compiler}, which is not installed")
+    return [made() for compiler, made in LANGUAGES if shutil.which(compiler)]
+
+
+class Login(NamedTuple):
+    """A row of a table of logins: what it shows, the names to act as, the client's messages, and what the server has to answer."""
+
+    about: str
+    of: dict[str, str]
+    act_as: list[str]
+    first: str
+    final: str
+    output: list[str]
+    said: str
+
+
+def logins_are(rows: list[Login]) -> None:
+    """Runs each login with each example."""
+    for command in commands():
+        for trial, row in each(rows):
+            with trial:
+                words = [*command, row.of["mechanism"], row.of["salt"], row.of["nonce"], *row.act_as]
+                answer = ran(words, f"{row.first}\n{row.final}\n")
+                want = ("".join(f"{line}\n" for line in row.output), f"{row.said}\n", int(row.said.startswith("refused")))
+                equal((answer.output, answer.faults, answer.status), want, command[-1], row.about)
+
+
+def published(folder: str) -> None:
+    """The exchanges of both RFCs, byte for byte, with each example."""
+    said = "user is logged in as user"
+    logins_are([Login(it["mechanism"], it, [], it["first"], it["final"], [it["challenge"], it["verdict"]], said) for it in (SHA1, SHA256)])
+
+
+def refusals_of(of: dict[str, str]) -> Iterator[Login]:
+    """Logins that are refused after a challenge: the message and the number for each."""
+    first = of["first"]
+    challenge, right, _ = final_for(of, first)
+    wrong = {
+        "invalid-encoding 32": [right[:-1], right.replace("c=", "d="), right.replace(",p=", ",q="), "", "c=biws"],
+        "extensions-not-supported 33": [final_for(of, first, more=",m=x")[1]],
+        "other-error 34": [final_for(of, first, nonce=first[-4:])[1], right.replace(of["nonce"], of["nonce"][:-1])],
+        "channel-bindings-dont-match 35": [final_for(of, first, channel="eSws")[1]],
+        "invalid-proof 36": [final_for(of, first, b"pencils")[1], right[:-4] + "AAA="],
+    }
+    for told, finals in wrong.items():
+        error, number = told.split()
+        for final in finals:
+            yield Login(told, of, [], first, final, [challenge, f"e={error}"], f"refused: {number}")
+    asks = first.replace("n,,", "n,a=root,")
+    challenge, final, _ = final_for(of, asks)
+    yield Login("others", of, ["admin", "roo"], asks, final, [challenge, "e=other-error"], "refused: 37")
+    name = first.replace("n=user", "n=nobody")
+    challenge, final, _ = final_for({**of, "salt": decoy_salt(of["mechanism"], "nobody").hex()}, name)
+    yield Login("decoy", of, [], name, final, [challenge, "e=invalid-proof"], "refused: 36")
+
+
+def refused(folder: str) -> None:
+    """A login by a wrong password, with another nonce, header or name, or of a name without an account is refused, by its number."""
+    logins_are([*refusals_of(SHA1), *refusals_of(SHA256)])
+    faults = {
+        "20": ["", "n,,n=user", "x,,n=user,r=a", "n,,n=us=er,r=a", "n,,n=user,r=" + "a" * 257],
+        "21": ["n,,m=x,n=user,r=a", "n,,n=user,r=a,m=x"],
+        "22": ["p=tls-unique,,n=user,r=a"],
+        "23": ["n,,n=us\u00e9r,r=a", "n,a=\u00e9,n=user,r=a", "n,,n=" + "u" * 256 + ",r=a"],
+    }
+    logins_are([Login(number, SHA1, [], text, "", [], f"refused: {number}") for number, texts in faults.items() for text in texts])
+
+
+def acts_as(folder: str) -> None:
+    """An account acts as its own name, and as those in the list. Names are decoded."""
+    rows = []
+    for asked, spelled, names in [("root", "root", ["root"]), ("user", "user", []), ("a,b=c", "a=2Cb=3Dc", ["x", "a,b=c", "y"])]:
+        first = SHA256["first"].replace("n,,", f"n,a={spelled},")
+        challenge, final, verdict = final_for(SHA256, first)
+        rows.append(Login(asked, SHA256, names, first, final, [challenge, verdict], f"user is logged in as {asked}"))
+    logins_are(rows)
+
+
+# ---- the calls, from Python
+
+
+class Entry(ctypes.Structure):
+    """scramotp_entry"""
+
+    _fields_ = [("mechanism", ctypes.c_uint32), ("count", ctypes.c_uint32), ("salt_len", ctypes.c_size_t), ("key_len", ctypes.c_size_t)]
+    _fields_ += [(name, ctypes.c_uint8 * 64) for name in ("salt", "stored_key", "server_key")]
+
+
+class Hotp(ctypes.Structure):
+    """scramotp_hotp_token"""
+
+    _fields_ = [(name, ctypes.c_uint64) for name in ("next", "look_ahead", "sync_ahead", "limit", "failures")]
+    _fields_ += [("digits", ctypes.c_uint8)]
+
+
+class Totp(ctypes.Structure):
+    """scramotp_totp_token"""
+
+    _fields_ = [(name, ctypes.c_uint64) for name in ("t0", "step", "back", "ahead", "max_drift", "last")]
+    _fields_ += [("drift", ctypes.c_int64), ("limit", ctypes.c_uint64), ("failures", ctypes.c_uint64)]
+    _fields_ += [("hash", ctypes.c_uint32), ("digits", ctypes.c_uint8)]
+
+
+def call(name: str, *given: Any) -> int:
+    """Makes a call of the shared library. Bytes are followed by their length; a structure is handed over by its address."""
+    words: list[Any] = []
+    for it in given:
+        if isinstance(it, bytes):
+            words += [it, ctypes.c_size_t(len(it))]
+        elif isinstance(it, ctypes.Structure):
+            words.append(ctypes.byref(it))
+        else:
+            words.append(it)
+    return ctypes.CDLL(str(library() / "libscramotp.so.0"))[f"scramotp_{name}"](*words)
+
+
+def number(value: int) -> ctypes.c_uint32:
+    """A number of 32 bits."""
+    return ctypes.c_uint32(value)
+
+
+def entry_of(mechanism: int, count: int, salt: bytes, password: bytes) -> Entry:
+    """The entry of a password, which has to be one."""
+    entry = Entry()
+    equal(call("keys", number(mechanism), number(count), salt, password, entry), 0)
+    return entry
+
+
+def entry_bytes(entry: Entry) -> tuple[bytes, ...]:
+    """The salt and the keys of an entry."""
+    return bytes(entry.salt)[:entry.salt_len], bytes(entry.stored_key)[:entry.key_len], bytes(entry.server_key)[:entry.key_len]
+
+
+def keys(folder: str) -> None:
+    """The keys of passwords are those that GNU SASL and Dovecot made. What is no password, salt, count or mechanism is refused, by the
+    first of their numbers, and leaves the entry as it was."""
+    for trial, row in each(rows_of(VECTORS / "keys.csv")):
+        with trial:
+            salt, (_, mechanism) = bytes.fromhex(row["salt_hex"]), FUNCTIONS[row["mechanism"]]
+            entry = entry_of(mechanism, int(row["count"]), salt, row["password"].encode())
+            equal(entry_bytes(entry), (salt, bytes.fromhex(row["stored_hex"]), bytes.fromhex(row["server_hex"])))
+            equal((entry.mechanism, entry.count), (mechanism, int(row["count"])))
+    faults = [
+        (90, 0, 0, b"", b""), (90, 2, 1, b"s", b"p"), (90, 512, 1, b"s", b"p"), (65, 1, 0, b"", b""), (64, 1, 1, b"", b""),
+        (64, 256, 1, b"s" * 65, b""), (91, 1, 1, b"s", b""), (91, 1, 1, b"s" * 64, b"p\n"), (91, 256, 1, b"s", b"p" * 1025),
+    ]
+    for trial, (want, mechanism, count, salt, password) in each(faults):
+        with trial:
+            entry = entry_of(1, 1, b"salt", b"pencil")
+            before = bytes(entry)
+            equal(call("keys", number(mechanism), number(count), salt, password, entry), want)
+            equal(bytes(entry), before)
+
+
+def decoys(folder: str) -> None:
+    """A decoy's salt is the HMAC of its name, and it has no keys. What is no name, count or mechanism is refused, by the first of their
+    numbers, and leaves the entry as it was."""
+    for trial, (mechanism, name) in each([("SCRAM-SHA-1", "user"), ("SCRAM-SHA-256", "user"), ("SCRAM-SHA-256", "u" * 255)]):
+        with trial:
+            entry = entry_of(1, 1, b"salt", b"pencil")
+            equal(call("decoy", ctypes.c_char_p(DECOY_KEY), number(FUNCTIONS[mechanism][1]), number(7), name.encode(), entry), 0)
+            equal(entry_bytes(entry), (decoy_salt(mechanism, name), b"", b""))
+            equal((entry.mechanism, entry.count), (FUNCTIONS[mechanism][1], 7))
+    for trial, (want, mechanism, count, name) in each([(90, 3, 0, b""), (65, 1, 0, b""), (63, 1, 1, b""), (63, 1, 1, b"u" * 256)]):
+        with trial:
+            entry = entry_of(1, 1, b"salt", b"pencil")
+            before = bytes(entry)
+            equal(call("decoy", ctypes.c_char_p(DECOY_KEY), number(mechanism), number(count), name, entry), want)
+            equal(bytes(entry), before)
+
+
+def written(name: str, room: int, *given: Any) -> tuple[int, bytes, int]:
+    """Makes a call that writes a message into a buffer of X. Returns its number, the buffer, and the length that was written."""
+    out, size = ctypes.create_string_buffer(b"X" * (room + 9)), ctypes.c_size_t(777)
+    return call(name, *given, out, ctypes.c_size_t(room), ctypes.byref(size)), out.raw[:-1], size.value
+
+
+def rooms(folder: str) -> None:
+    """A message is written if there is room for it, and nothing after it is changed; else 93 is returned and nothing is written."""
+    for trial, of in each([SHA1, SHA256]):
+        with trial:
+            entry = entry_of(FUNCTIONS[of["mechanism"]][1], 4096, bytes.fromhex(of["salt"]), b"pencil")
+            first, challenge, final, none = *(of[it].encode() for it in ("first", "challenge", "final")), (None, ctypes.c_size_t(0))
+            for name, given, text in [
+                ("server_first", (entry, first, of["nonce"].encode()), challenge),
+                ("server_final", (entry, *none, first, challenge, final), of["verdict"].encode()),
+                ("server_final", (entry, *none, first, challenge, b""), b"e=invalid-encoding"),
+            ]:
+                for room in [len(text), len(text) + 1, len(text) + 500]:
+                    told = 32 if text.startswith(b"e=") else 0
+                    equal(written(name, room, *given), (told, text.ljust(room + 9, b"X"), len(text)), name)
+                for room in [0, 1, len(text) - 1]:
+                    equal(written(name, room, *given), (93, b"X" * (room + 9), 777), name)
+
+
+def changed_entry(entry: Entry, **fields: int) -> Entry:
+    """A copy of an entry with other fields."""
+    copy = Entry.from_buffer_copy(bytes(entry))
+    for name, value in fields.items():
+        setattr(copy, name, value)
+    return copy
+
+
+def faults(folder: str) -> None:
+    """An entry that is none, a nonce that is none, and messages that open no login of the entry are refused, by the first of their
+    numbers, and nothing is written."""
+    entry = entry_of(256, 4096, bytes.fromhex(SHA256["salt"]), b"pencil")
+    first, challenge, final = (SHA256[it].encode() for it in ("first", "challenge", "final"))
+    nonce, none = SHA256["nonce"].encode(), (None, ctypes.c_size_t(0))
+    for trial, (want, fields) in each([
+        (90, {"mechanism": 0, "count": 0}), (90, {"mechanism": 512}), (65, {"count": 0, "salt_len": 0}),
+        (64, {"salt_len": 0, "key_len": 1}), (64, {"salt_len": 65}), (64, {"salt_len": 2**64 - 1}),
+        (66, {"key_len": 20}), (66, {"key_len": 31}), (66, {"key_len": 64}),
+    ]):
+        with trial:
+            wrong = changed_entry(entry, **fields)
+            equal(written("server_first", 700, wrong, b"", b""), (want, b"X" * 709, 777))
+            equal(written("server_final", 700, wrong, *none, b"", b"", b""), (want, b"X" * 709, 777))
+    for trial, (want, message, part) in each([
+        (92, b"", b""), (92, first, b"a,b"), (92, first, b"a b"), (92, first, b"a" * 257), (20, b"", nonce), (21, first + b",m=x", nonce),
+        (22, first.replace(b"n,,", b"p=x,,"), nonce), (23, first.replace(b"user", b"u" * 256), nonce),
+    ]):
+        with trial:
+            equal(written("server_first", 700, entry, message, part), (want, b"X" * 709, 777))
+    for trial, (want, message, answer) in each([
+        (20, b"", challenge), (22, first.replace(b"n,,", b"p=x,,"), challenge), (31, first, b""), (31, first, challenge[:-1]),
+        (31, first, challenge.replace(b"W22", b"W23")), (31, first, challenge + b",m=x"), (31, first.replace(b"EkqO", b"EkqP"), challenge),
+        (31, first, b"r=rOprNGfwEbeRWgbNEkqO,s=W22ZaJ0SNY7soEsUEjb6gQ==,i=4096"),
+    ]):
+        with trial:
+            equal(written("server_final", 700, entry, *none, message, answer, final), (want, b"X" * 709, 777))
+
+
+def codes(folder: str) -> None:
+    """The codes of RFC 4226, appendix D, RFC 6238, appendix B, and those that oathtool made pass, each once."""
+    secret = bytes.fromhex(SEEDS["sha1"])
+    token = Hotp(0, 0, 0, 3, 0, 6)
+    for at, text in enumerate(CODES):
+        equal((call("hotp", secret, token, text.encode()), token.next, token.failures), (0, at + 1, 0))
+        equal((call("hotp", secret, token, text.encode()), token.next, token.failures), (43, at + 1, 1))
+    # RFC 6238, appendix B: 8 digits, a step of 30 seconds.
+    table = {
+        59: ("94287082", "46119246", "90693936"), 1111111109: ("07081804", "68084774", "25091201"),
+        1111111111: ("14050471", "67062674", "99943326"), 1234567890: ("89005924", "91819424", "93441116"),
+        2000000000: ("69279037", "90698825", "38618901"), 20000000000: ("65353130", "77737706", "47863826"),
+    }
+    for at, (function, hash_number) in enumerate([("sha1", 1), ("sha256", 256), ("sha512", 512)]):
+        token = Totp(0, 30, 0, 0, 0, 2**64 - 1, 0, 3, 0, hash_number, 8)
+        for moment, texts in table.items():
+            given = (bytes.fromhex(SEEDS[function]), token, ctypes.c_uint64(moment), texts[at].encode())
+            equal((call("totp", *given), token.last, token.failures), (0, moment // 30, 0))
+            equal((call("totp", *given), token.last, token.failures), (43, moment // 30, 1))
+    for trial, row in each(rows_of(VECTORS / "codes.csv")):
+        with trial:
+            secret, digits, text = bytes.fromhex(row["secret_hex"]), int(row["digits"]), row["code"].encode()
+            if row["counter"]:
+                token = Hotp(int(row["counter"]), 0, 0, 1, 0, digits)
+                equal((call("hotp", secret, token, text), token.next), (0, int(row["counter"]) + 1))
+            else:
+                t0, step, of = int(row["t0"]), int(row["step"]), {"sha1": 1, "sha256": 256, "sha512": 512}[row["hash"]]
+                token = Totp(t0, step, 0, 0, 0, 2**64 - 1, 0, 1, 0, of, digits)
+                moment = int(row["moment"])
+                equal((call("totp", secret, token, ctypes.c_uint64(moment), text), token.last), (0, (moment - t0) // step))
+
+
+def tokens(folder: str) -> None:
+    """A token that runs ahead is found again, a clock that is ahead is followed, failures lock, and settings outside their ranges are
+    refused, by the first of their numbers, and leave the token as it was."""
+    secret = bytes.fromhex(SEEDS["sha1"])
+    token = Hotp(0, 2, 9, 2, 0, 6)
+    equal((call("hotp", secret, token, CODES[3].encode()), token.next, token.failures), (43, 0, 1))
+    equal((call("hotp_sync", secret, token, CODES[8].encode(), CODES[9].encode()), token.next, token.failures), (0, 10, 0))
+    for want, failures in [(43, 1), (43, 2), (44, 2), (44, 2)]:
+        equal((call("hotp", secret, token, b"000000"), token.next, token.failures), (want, 10, failures))
+    ahead = Totp(0, 30, 0, 2, 4, 2**64 - 1, 0, 5, 0, 1, 6)
+    equal((call("totp", secret, ahead, ctypes.c_uint64(300), code(secret, 12).encode()), ahead.last, ahead.drift), (0, 12, 2))
+    equal((call("totp", secret, ahead, ctypes.c_uint64(330), code(secret, 14).encode()), ahead.last, ahead.drift), (0, 14, 3))
+    for trial, (want, key, fields) in each([
+        (40, b"s" * 9, {"digits": 0}), (40, b"s" * 65, {}), (41, secret, {"digits": 5, "limit": 0}), (41, secret, {"digits": 9}),
+        (42, secret, {"next": 2**63}), (42, secret, {"look_ahead": 101}), (42, secret, {"sync_ahead": 1001}), (42, secret, {"limit": 0}),
+        (42, secret, {"limit": 101}), (42, secret, {"failures": 3}),
+    ]):
+        with trial:
+            token = Hotp(0, 0, 0, 2, 0, 6)
+            for name, value in fields.items():
+                setattr(token, name, value)
+            before = bytes(token)
+            equal((call("hotp", key, token, b"1"), call("hotp_sync", key, token, b"1", b"2"), bytes(token)), (want, want, before))
+    for trial, (want, fields) in each([
+        (94, {"hash": 0, "digits": 0}), (94, {"hash": 2}), (41, {"digits": 9, "t0": 2**63}), (95, {"t0": 253402300800}),
+        (42, {"step": 0}), (42, {"step": 3601}), (42, {"back": 11}), (42, {"ahead": 11}), (42, {"max_drift": 101}),
+        (42, {"last": 2**63 - 1}), (42, {"drift": 2}), (42, {"drift": -2}), (42, {"limit": 0}), (42, {"failures": 4}),
+    ]):
+        with trial:
+            token = Totp(0, 30, 0, 0, 1, 2**64 - 1, 0, 3, 0, 1, 6)
+            for name, value in fields.items():
+                setattr(token, name, value)
+            before = bytes(token)
+            equal((call("totp", secret, token, ctypes.c_uint64(60), b"1"), bytes(token)), (want, before))
+    token = Totp(0, 30, 0, 0, 1, 2**64 - 1, 0, 3, 0, 1, 6)
+    equal(call("totp", secret, token, ctypes.c_uint64(253402300800), b"1"), 95)
+
+
+# ---- the interface, random bytes, and threads
+
+
+def interface(folder: str) -> None:
+    """Both libraries have the symbols of data/c_library.csv and no others, need only memcpy, memmove, memset and memcmp, and the header's
+    structures have the sizes of that table."""
+    rows = rows_of(DATA / "c_library.csv")
+    symbols = {row["name"] for row in rows if row["kind"] == "call"}
+    for words in ["nm", "-D", library() / "libscramotp.so.0"], ["nm", "-g", library() / "libscramotp.a"]:
+        found = [line.split()[-2:] for line in ran(words).output.splitlines() if re.search(r" [A-Zw] ", line)]
+        equal({name for kind, name in found if kind == "T"}, symbols, words[-1])
+        needed = {name.partition("@")[0] for kind, name in found if kind == "U"}
+        equal(needed - {"memcpy", "memmove", "memset", "memcmp"}, set(), words[-1])
+        equal({kind for kind, _ in found} - {"T", "U", "w"}, set(), words[-1])
+    source = pathlib.Path(folder, "sizes.c")
+    parts = [(row["name"], row["expression"]) for row in rows if row["kind"] == "size"]
+    lines = "".join(f'    printf("{name} %zu\\n", (size_t)({expression}));\n' for name, expression in parts)
+    source.write_text(f'#include "scramotp.h"\n#include <stdio.h>\n\nint main(void)\n{{\n{lines}    return 0;\n}}\n')
+    want = {row["name"]: row["bytes"] for row in rows if row["kind"] == "size"}
+    equal(dict(line.split() for line in ran([compiled(source, "sizes")]).output.splitlines()), want)
+    declared = set(re.findall(r"\bscramotp_\w+(?=\()", re.sub(r"/\*.*?\*/", "", (TOP / "clib/scramotp.h").read_text(), flags=re.S)))
+    equal(declared, symbols)
+
+
+def sanitized(source: str, to: str, kind: str) -> pathlib.Path | None:
+    """The program of a file in C with a sanitizer, or None if the compiler has none."""
+    words = ["cc", f"-fsanitize={kind}", "-x", "c", "-", "-o", "/dev/null"]
+    if ran(words, "int main(void) { return 0; }").status != 0:
+        not_tested(f"{source} with {kind} sanitizers, which cc does not have")
+        return None
+    words = [f"-fsanitize={kind}", "-fno-sanitize-recover=all", "-g", "-pthread", library() / "libscramotp.a"]
+    return compiled(TOP / "tests" / source, to, *words)
+
+
+def fuzzed(folder: str) -> None:
+    """Random and changed messages in buffers of exactly their length, and NULL where the length is 0: no call reads or writes outside."""
+    if program := sanitized("c_library_fuzz.c", "fuzz", "address,undefined"):
+        answer = ran([program, str(suite.SEED), "20000"])
+        equal((answer.status, answer.faults), (0, ""))
+        seen = {int(it) for it in answer.output.split()}
+        holds(seen >= {0, 20, 31, 32, 34, 36, 42, 43, 44, 63, 64, 65, 66, 90, 91, 92, 93}, "numbers that were seen", sorted(seen))
+
+
+def threads(folder: str) -> None:
+    """Eight threads log in at once, and each login is accepted."""
+    if program := sanitized("c_library_threads.c", "threads", "thread"):
+        answer = ran([program])
+        equal((answer.status, answer.output, answer.faults), (0, "8 threads, 0 wrong\n", ""))
+
+
+if not ARCHIVES:
+    not_tested("the library for C, since there is no archive in crates/c_library/out, which rt lib makes, or in CLIB")
+    sys.exit()
+suite.run_all([published, refused, acts_as, keys, decoys, rooms, faults, codes, tokens, interface, fuzzed, threads])

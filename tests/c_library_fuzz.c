@@ -1,0 +1,148 @@
+/* Makes each call of the library for C with random and changed bytes, in buffers of exactly their length, and NULL where that is 0. Prints
+ * the numbers that were returned.
+ *
+ * Usage: c_library_fuzz SEED COUNT */
+#include "scramotp.h"
+
+#include <stdio.h>
+#include <stdlib.h>
+#include <string.h>
+
+static const char first_text[] = "n,,n=user,r=rOprNGfwEbeRWgbNEkqO";
+static const char asks_text[] = "n,a=root,n=user,r=rOprNGfwEbeRWgbNEkqO";
+static const char nonce_text[] = "%hvYDpWUa2RaTCAfuxFIlj)hNlF$k0";
+static const char challenge_text[] = "r=rOprNGfwEbeRWgbNEkqO%hvYDpWUa2RaTCAfuxFIlj)hNlF$k0,s=W22ZaJ0SNY7soEsUEjb6gQ==,i=4096";
+static const char final_text[] =
+    "c=biws,r=rOprNGfwEbeRWgbNEkqO%hvYDpWUa2RaTCAfuxFIlj)hNlF$k0,p=dHzbZapWIk4jUhN+Ute9ytag9zjfMHgsqmmiz7AndVQ=";
+static const uint8_t salt_bytes[16] = {91, 109, 153, 104, 157, 18, 53, 142, 236, 160, 75, 20, 18, 54, 250, 129};
+static const char secret_text[] = "12345678901234567890";
+
+enum { NUMBERS = 100, LONGEST = 2200 };
+static uint64_t state;
+static unsigned seen[NUMBERS];
+
+/* A random number below `most`, by xorshift. */
+static size_t below(size_t most)
+{
+    state ^= state << 13;
+    state ^= state >> 7;
+    state ^= state << 17;
+    return (size_t)(state >> 11) % most;
+}
+
+/* Bytes in a buffer of exactly their length. */
+typedef struct {
+    uint8_t *at;
+    size_t len;
+} buffer;
+
+static buffer exactly(const void *from, size_t len)
+{
+    buffer made = {len == 0 && below(2) ? NULL : malloc(len), len};
+    if (len > 0)
+        memcpy(made.at, from, len);
+    return made;
+}
+
+/* A text with up to two bytes changed, left out or added, or cut there; or now and then only random bytes. */
+static buffer changed(const char *text)
+{
+    uint8_t bytes[LONGEST];
+    size_t len = strlen(text);
+    memcpy(bytes, text, len);
+    if (below(20) == 0)
+        for (len = below(LONGEST), text = NULL; len > 0 && below(LONGEST) > 0;)
+            bytes[below(len)] = (uint8_t)below(256);
+    for (size_t changes = below(3); text && changes > 0 && len > 0; changes--) {
+        size_t at = below(len), kind = below(4);
+        if (kind == 0)
+            bytes[at] = (uint8_t)below(256);
+        else if (kind == 1)
+            memmove(bytes + at, bytes + at + 1, --len - at);
+        else if (kind == 2)
+            memmove(bytes + at + 1, bytes + at, len++ - at);
+        else
+            len = at;
+    }
+    return exactly(bytes, len);
+}
+
+static uint32_t note(uint32_t number)
+{
+    if (number >= NUMBERS)
+        abort();
+    seen[number]++;
+    return number;
+}
+
+/* An entry, and now and then one that is none. */
+static scramotp_entry entry_of(void)
+{
+    scramotp_entry entry;
+    buffer salt = below(9) ? exactly(salt_bytes, sizeof salt_bytes) : changed(final_text), password = changed("pencil");
+    uint32_t mechanism = below(9) ? SCRAMOTP_SHA_256 : (uint32_t)below(3);
+    if (note(scramotp_keys(mechanism, (uint32_t)below(9), salt.at, salt.len, password.at, password.len, &entry)) != 0 || below(3))
+        scramotp_keys(SCRAMOTP_SHA_256, 1, salt_bytes, sizeof salt_bytes, "pencil", 6, &entry);
+    entry.count = below(9) ? 4096 : (uint32_t)below(2);
+    size_t *lengths[] = {&entry.salt_len, &entry.key_len};
+    if (below(5) == 0)
+        *lengths[below(2)] = below(2) ? below(70) : SIZE_MAX - below(70);
+    free(salt.at);
+    free(password.at);
+    return entry;
+}
+
+static void log_in(void)
+{
+    scramotp_entry entry = entry_of();
+    scramotp_names names;
+    buffer first = changed(below(3) ? first_text : asks_text), nonce = changed(nonce_text), challenge = changed(challenge_text);
+    buffer final = changed(final_text), name = changed("root"), out = {NULL, below(3) ? 700 : below(120)};
+    uint8_t key[32] = {1};
+    size_t len = 0;
+    out.at = malloc(out.len);
+    if (note(scramotp_read_names(first.at, first.len, &names)) == 0 && (strlen(names.name) > 255 || strlen(names.act_as) > 255))
+        abort();
+    if (note(scramotp_server_first(&entry, first.at, first.len, nonce.at, nonce.len, out.at, out.len, &len)) == 0 && len > out.len)
+        abort();
+    scramotp_bytes others[] = {{"admin", 5}, {name.len ? name.at : (const uint8_t *)"", name.len}};
+    size_t others_len = below(3);
+    uint32_t number = note(scramotp_server_final(&entry, others_len > 0 ? others : NULL, others_len, first.at, first.len, challenge.at,
+        challenge.len, final.at, final.len, out.at, out.len, &len));
+    if ((number == SCRAMOTP_OK || SCRAMOTP_IS_REFUSAL(number)) && len > out.len)
+        abort();
+    note(scramotp_decoy(key, below(2) ? SCRAMOTP_SHA_1 : (uint32_t)below(600), (uint32_t)below(5), name.at, name.len, &entry));
+    buffer all[] = {first, nonce, challenge, final, name, out};
+    for (size_t i = 0; i < sizeof all / sizeof *all; i++)
+        free(all[i].at);
+}
+
+static void judge_codes(void)
+{
+    buffer secret = changed(secret_text), code = changed("755224"), next = changed("287082");
+    scramotp_hotp_token hotp = {below(2), below(3), below(20), below(4), below(3), (uint8_t)(below(9) ? 6 : below(256))};
+    note(scramotp_hotp(secret.at, secret.len, &hotp, code.at, code.len));
+    note(scramotp_hotp_sync(secret.at, secret.len, &hotp, code.at, code.len, next.at, next.len));
+    scramotp_totp_token totp = {below(2), below(40), below(12), below(12), below(5), below(2) ? UINT64_MAX : below(5),
+        (int64_t)below(3) - 1, below(4), below(3), below(9) ? SCRAMOTP_SHA_1 : (uint32_t)below(600),
+        (uint8_t)(below(9) ? 6 : below(256))};
+    note(scramotp_totp(secret.at, secret.len, &totp, below(9) ? below(100) : state, code.at, code.len));
+    free(secret.at);
+    free(code.at);
+    free(next.at);
+}
+
+int main(int count, char **words)
+{
+    if (count != 3)
+        return 2;
+    state = strtoull(words[1], NULL, 10) * 2654435761u + 88172645463325252u;
+    for (long i = strtol(words[2], NULL, 10); i > 0; i--) {
+        log_in();
+        judge_codes();
+    }
+    for (int i = 0; i < NUMBERS; i++)
+        if (seen[i])
+            printf("%d\n", i);
+    return 0;
+}

@@ -1,0 +1,53 @@
+/* Logs in from eight threads with small stacks at once, and counts the logins that do not end as RFC 7677's does. Prints the count. */
+#include "scramotp.h"
+
+#include <pthread.h>
+#include <stdio.h>
+#include <string.h>
+
+enum { THREADS = 8, LOGINS = 500, STACK = 128 * 1024 };
+
+static const char first[] = "n,,n=user,r=rOprNGfwEbeRWgbNEkqO";
+static const char nonce[] = "%hvYDpWUa2RaTCAfuxFIlj)hNlF$k0";
+static const char final[] = "c=biws,r=rOprNGfwEbeRWgbNEkqO%hvYDpWUa2RaTCAfuxFIlj)hNlF$k0,p=dHzbZapWIk4jUhN+Ute9ytag9zjfMHgsqmmiz7AndVQ=";
+static const char want[] = "v=6rriTRBi23WpRR/wtup+mMhUZUn/dB5nLTJRsjl95G4=";
+static const uint8_t salt[16] = {91, 109, 153, 104, 157, 18, 53, 142, 236, 160, 75, 20, 18, 54, 250, 129};
+static scramotp_entry entry;
+
+static int is_accepted(void)
+{
+    char challenge[SCRAMOTP_FIRST_ROOM], verdict[SCRAMOTP_FINAL_ROOM];
+    size_t challenge_len, verdict_len;
+    if (scramotp_server_first(&entry, first, strlen(first), nonce, strlen(nonce), challenge, sizeof challenge, &challenge_len) != 0)
+        return 0;
+    return scramotp_server_final(&entry, NULL, 0, first, strlen(first), challenge, challenge_len, final, strlen(final), verdict,
+               sizeof verdict, &verdict_len) == 0
+        && verdict_len == strlen(want) && memcmp(verdict, want, verdict_len) == 0;
+}
+
+static void *log_in(void *wrong)
+{
+    for (int i = 0; i < LOGINS; i++)
+        *(int *)wrong += !is_accepted();
+    return NULL;
+}
+
+int main(void)
+{
+    pthread_t threads[THREADS];
+    pthread_attr_t small;
+    int wrong[THREADS] = {0}, all = 0;
+    if (scramotp_keys(SCRAMOTP_SHA_256, 4096, salt, sizeof salt, "pencil", 6, &entry) != 0)
+        return 1;
+    pthread_attr_init(&small);
+    pthread_attr_setstacksize(&small, STACK);
+    for (int i = 0; i < THREADS; i++)
+        if (pthread_create(&threads[i], &small, log_in, &wrong[i]) != 0)
+            return 1;
+    for (int i = 0; i < THREADS; i++) {
+        pthread_join(threads[i], NULL);
+        all += wrong[i];
+    }
+    printf("%d threads, %d wrong\n", THREADS, all);
+    return all != 0;
+}
