@@ -318,8 +318,6 @@ def stale_sizes() -> Iterator[str]:
     code = lines_of(*(f"crates/{name}/src/**/*.rt" for name in [*libraries(), "scramotp"]))
     definitions, proofs = lines_of("crates/*/specs/**/*.antt"), lines_of("crates/*/proofs/**/*.antt")
     for name, form, size, most_off in [
-        ("../README.md", r"some (\d+) lines of definitions", definitions, definitions // 50),
-        ("../README.md", r"Some (\d+) \[bugs", edits, edits // 50),
         ("PROMISES.md", r"some (\d+) of definitions", definitions, definitions // 50),
         ("PROMISES.md", r"some (\d+) of code", code, code // 50),
         ("PROMISES.md", r"The (\d+) lines of proofs", proofs, proofs // 50),

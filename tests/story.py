@@ -1,11 +1,11 @@
 #!/usr/bin/env python3
-"""Runs the quick start of README.md as it stands, and compares each line that it prints and each status.
+"""Runs the first steps of README.md as they stand, and compares each line that it prints and each status.
 
 Usage: story.py PROGRAM [TEST ..]
 
-The story is made of the shell blocks in the section "Quick start". In them a line with `#>` is one that the command above it
-prints, or `#> status N` if that command does not end with status 0. The story runs in an empty folder, with the program
-on the PATH and a password on standard input. DOCUMENT=PATH in the environment names another page than README.md.
+The story is made of the shell blocks in the section "Try it". In them a line with `#>` is one that the command above it
+prints, or `#> status N` if that command does not end with status 0. The story runs in an empty folder, with the program,
+the tools and the hosts on the PATH. DOCUMENT=PATH in the environment names another page than README.md.
 """
 import os
 import re
@@ -13,14 +13,13 @@ import re
 import processes
 import suite
 from checks import equal
-from suite import blocks_of, document, each, program_on_path
+from suite import TOP, blocks_of, document, each, program_on_path
 
-TITLE = "Quick start"
+TITLE = "Try it"
 SHOWN = "#>"
-PASSWORD = "pencil\n"
 
 # Parts of commands that a story has to have, so that a test of half of it can't pass.
-NEEDED = ["mkdir -m 0700 ", "read -rsp ", "enrol ", "<<'END'", "base32", "verify ", "unlock ", "login ", "audit "]
+NEEDED = ["mkdir -m 0700 ", "enrol ", "serve-hall ", "check-login ", "kill ", "audit ", "sed -i "]
 
 
 def steps(block: str) -> list[tuple[str, list[str], int]]:
@@ -51,13 +50,15 @@ def ran(folder: str, story: list[tuple[str, list[str], int]]) -> list[tuple[str,
     """Runs all commands of a story in one bash. Returns the output and the status of each; none may print a fault."""
     mark = f"{os.urandom(16).hex()} "
     script = "".join(f"{command}printf '{mark}%d\\n' $?\n" for command, _, _ in story)
-    answer = processes.ran(["bash", "-c", script], PASSWORD, cwd=folder, env=program_on_path(folder))
+    environment = program_on_path(folder)
+    environment["PATH"] += f":{TOP / 'tools'}:{TOP / 'hosts'}"
+    answer = processes.ran(["bash", "-c", script], "", cwd=folder, env=environment)
     equal(answer.faults, "", "the faults of the story")
     parts = re.split(rf"{mark}(\d+)\n", answer.output)
     return list(zip(parts[0::2], map(int, parts[1::2])))
 
 
-def quick_start(folder: str) -> None:
+def first_steps(folder: str) -> None:
     """Each command of the story prints what the document shows, and ends with that status."""
     shown = [block for title, language, block in blocks_of(document("README.md")) if (title, language) == (TITLE, "sh")]
     story = [step for block in shown for step in steps(block)]
@@ -70,4 +71,4 @@ def quick_start(folder: str) -> None:
     print(f"story.py: {len(story)} commands do as README says")
 
 
-suite.run_all([quick_start])
+suite.run_all([first_steps])
