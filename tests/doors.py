@@ -5,8 +5,8 @@ Usage: doors.py PROGRAM [TEST ..]
 
 Postfix, Exim and Dovecot serve on the loopback, over TLS, configured as docs/DOORS.md says. msmtp, gsasl and curl log in by SCRAM-SHA-256,
 SCRAM-SHA-1, PLAIN and LOGIN, with the right password, a wrong one, and a name that has no account. The journal of the door has to say the
-same as the client. PACKAGES names what this needs of Debian. Exim may not be installed beside Postfix: it is also looked for in the folder
-tests/out/exim, where its packages may be unpacked. What is missing is not tested, and said.
+same as the client. `needs.py --install` installs these servers and clients; Exim, which can't be installed beside Postfix, it unpacks. What
+is missing is not tested, and said.
 """
 import contextlib
 import os
@@ -20,31 +20,25 @@ from base64 import b64encode
 from collections.abc import Iterator
 from pathlib import Path
 
+import needs
 import suite
 from checks import equal, holds
 from mail_servers import Door
+from needs import EXIM
 from processes import Answer, ran, until
 from suite import PROGRAM, TOP, blocks_of, each
 
-# What the tests need, by the file that shows that it is there: what is installed, and what may be unpacked into EXIM instead.
-PACKAGES = {
-    "/usr/sbin/postfix": "postfix", "/usr/sbin/dovecot": "dovecot-core", "/usr/lib/dovecot/imap-login": "dovecot-imapd",
-    "/usr/bin/msmtp": "msmtp", "/usr/bin/gsasl": "gsasl", "/usr/bin/curl": "curl", "/usr/bin/openssl": "openssl",
-}
-EXIM = TOP / "tests" / "out" / "exim"
-# Exim's, and the libraries that it needs, which are unpacked with it; libnss-wrapper is installed.
-UNPACKED = ["exim4-daemon-heavy", "libspf2-2", "libmariadb3", "libidn12"]
-WRAPPER = {"/usr/lib/x86_64-linux-gnu/libnss_wrapper.so": "libnss-wrapper"}
-
+# Gives Exim a user that the machine has not.
+WRAPPER = "/usr/lib/x86_64-linux-gnu/libnss_wrapper.so"
 NAME, PASSWORD = "alice@example.org", "wonder land"
 SCRAMS = ["SCRAM-SHA-256", "SCRAM-SHA-1"]
 BY_PASSWORD = ["PLAIN", "LOGIN"]
 PAGE = suite.document("docs/DOORS.md")
 
 
-def has(what: str, *files: str) -> bool:
-    """Whether root runs the script, and these files are there. If not, the script says what it does not test, and why."""
-    missing = [f"{(PACKAGES | WRAPPER)[file]} is not installed" for file in files if not Path(file).exists()]
+def has(what: str, *needed: str) -> bool:
+    """Whether root runs the script, and these commands and files are there. If not, the script says what it does not test, and why."""
+    missing = [f"{it} is not installed" for it in needs.lacking(needed)]
     if not suite.ROOT:
         missing.append("root does not run this")
     if missing:
@@ -163,7 +157,7 @@ def exim_words() -> tuple[list[str], dict[str, str]]:
     users["GROUP"] = "root:x:0:\nDebian-exim:x:65533:\nnogroup:x:65534:\n"
     for name, text in users.items():
         (EXIM / name).write_text(text)
-    preload = {"LD_LIBRARY_PATH": libraries, "LD_PRELOAD": [*WRAPPER][0]}
+    preload = {"LD_LIBRARY_PATH": libraries, "LD_PRELOAD": WRAPPER}
     return [str(EXIM / "usr/sbin/exim4")], preload | {f"NSS_WRAPPER_{name}": str(EXIM / name) for name in users}
 
 
@@ -315,12 +309,12 @@ tlsmgr unix - - n 1000? 1 tlsmgr
 """
 
 OF_SMTP = [(by_msmtp, SCRAMS + BY_PASSWORD), (by_gsasl, SCRAMS + ["PLAIN"]), (by_curl, BY_PASSWORD)]
-CLIENTS = ["/usr/bin/msmtp", "/usr/bin/gsasl", "/usr/bin/curl", "/usr/bin/openssl"]
+CLIENTS = ["msmtp", "gsasl", "curl", "openssl"]
 
 
 def logins_at_postfix(folder: str) -> None:
     """Postfix."""
-    if has("Postfix", "/usr/sbin/postfix", *CLIENTS):
+    if has("Postfix", "postfix", *CLIENTS):
         with door_in(folder, 11) as door, postfix(folder) as port:
             try_clients(folder, port, door, OF_SMTP)
             smtp_answers(folder, port, door, 535, 454)
@@ -330,8 +324,8 @@ def logins_at_exim(folder: str) -> None:
     """Exim."""
     words, variables = exim_words()
     if not words:
-        suite.not_tested(f"Exim, since {' '.join(UNPACKED)} are not unpacked in tests/out/exim")
-    elif has("Exim", *CLIENTS, *(WRAPPER if variables else [])):
+        suite.not_tested("Exim, since it is neither installed nor unpacked")
+    elif has("Exim", *CLIENTS, *([WRAPPER] if variables else [])):
         with door_in(folder, 11) as door, exim(folder) as port:
             try_clients(folder, port, door, OF_SMTP)
             smtp_answers(folder, port, door, 535, 435)
@@ -339,7 +333,7 @@ def logins_at_exim(folder: str) -> None:
 
 def logins_at_dovecot(folder: str) -> None:
     """Dovecot's IMAP server: a user who is let in has a mailbox in the folder that the door names."""
-    if has("Dovecot", "/usr/sbin/dovecot", "/usr/lib/dovecot/imap-login", *CLIENTS[1:]):
+    if has("Dovecot", "dovecot", "/usr/lib/dovecot/imap-login", *CLIENTS[1:]):
         homes = Path(folder, "homes")
         homes.mkdir()
         homes.chmod(0o777)

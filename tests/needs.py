@@ -11,13 +11,20 @@ import pwd
 import shutil
 import subprocess
 import sys
+import tempfile
 from collections.abc import Iterable
+from pathlib import Path
 
 # The commands that the tests call, each with its package.
 COMMANDS = {"bash": "bash", "cc": "gcc", "flock": "util-linux", "git": "git", "make": "make", "nm": "binutils", "xxd": "xxd"}
 # The commands, and files, that only parts of tests need.
 FOR_PARTS = {"systemd-analyze": "systemd", "pamtester": "pamtester", "sshd": "openssh-server", "ssh": "openssh-client"}
 FOR_PARTS |= {"/usr/lib/x86_64-linux-gnu/libpam_wrapper.so": "libpam-wrapper", "mandoc": "mandoc", "fish": "fish", "zsh": "zsh"}
+FOR_PARTS |= {"postfix": "postfix", "dovecot": "dovecot-core", "/usr/lib/dovecot/imap-login": "dovecot-imapd", "msmtp": "msmtp"}
+FOR_PARTS |= {"gsasl": "gsasl", "curl": "curl", "openssl": "openssl", "/usr/lib/x86_64-linux-gnu/libnss_wrapper.so": "libnss-wrapper"}
+# Exim can't be installed beside Postfix. So it is unpacked here, with the libraries that it needs.
+EXIM = Path(os.environ.get("EXIM") or Path(__file__).resolve().parent.parent / "out" / "exim")
+OF_EXIM = ["exim4-daemon-heavy", "libspf2-2", "libmariadb3", "libidn12"]
 # Where servers are, which not every PATH has.
 SERVERS = "/usr/local/sbin:/usr/sbin:/sbin"
 OLDEST_PYTHON = (3, 11)
@@ -40,14 +47,31 @@ def lacking(commands: Iterable[str]) -> list[str]:
 def install() -> None:
     """Installs the packages of what is lacking, and fails with what apt-get says."""
     packages = sorted({(COMMANDS | FOR_PARTS)[it] for it in lacking([*COMMANDS, *FOR_PARTS])})
-    if not packages:
+    if not packages and EXIM.exists():
         return
     if not shutil.which("apt-get") or os.geteuid():
-        print(f"needs.py: not installed, which takes root and apt-get: {' '.join(packages)}", file=sys.stderr)
+        print(f"needs.py: not installed, which takes root and apt-get: {' '.join([*packages, *OF_EXIM])}", file=sys.stderr)
         return
     environment = {**os.environ, "DEBIAN_FRONTEND": "noninteractive"}
-    for words in (["update", "--quiet"], ["install", "--quiet", "--yes", "--no-install-recommends", *packages]):
+    subprocess.run(["apt-get", "update", "--quiet"], env=environment, check=True)
+    if packages:
+        words = ["install", "--quiet", "--yes", "--no-install-recommends", *packages]
         subprocess.run(["apt-get", *words], env=environment, check=True)
+    if not EXIM.exists():
+        unpack_exim()
+
+
+def unpack_exim() -> None:
+    """Unpacks Exim, without its right to become root."""
+    with tempfile.TemporaryDirectory() as folder:
+        os.chmod(folder, 0o777)  # apt-get fetches as another user
+        subprocess.run(["apt-get", "download", "--quiet", *OF_EXIM], cwd=folder, check=True)
+        to = Path(folder, "exim")
+        for package in Path(folder).glob("*.deb"):
+            subprocess.run(["dpkg", "-x", package, to], check=True)
+        (to / "usr/sbin/exim4").chmod(0o755)
+        EXIM.parent.mkdir(parents=True, exist_ok=True)
+        shutil.move(to, EXIM)
 
 
 def has_user() -> bool:

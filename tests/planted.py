@@ -44,6 +44,7 @@ from typing import Any
 from edit_sources import TOP, PlantedRow, Unusable, planted_rows, read_planted, root_of
 from limits import limit
 from run import NOT_TESTED
+import needs
 import rattle
 import shims
 import unproved
@@ -98,7 +99,8 @@ def end_group(run: subprocess.Popen) -> None:
 
 def ran(words: list[str], folder: Path, **more: str) -> str:
     """Runs a command without input, with these variables in its environment, and returns all its output."""
-    ways = {"stdin": subprocess.DEVNULL, "stdout": subprocess.PIPE, "stderr": subprocess.STDOUT, "env": {**os.environ, **FEWER, **more}}
+    environment = {**os.environ, **FEWER, "EXIM": str(needs.EXIM), **more}
+    ways = {"stdin": subprocess.DEVNULL, "stdout": subprocess.PIPE, "stderr": subprocess.STDOUT, "env": environment}
     with started(words, folder, text=True, errors="replace", **ways) as run:
         return run.communicate(timeout=LIMIT)[0]
 
