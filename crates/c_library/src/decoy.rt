@@ -47,8 +47,8 @@ pub extern "C" fn scramotp_decoy(
         salt_len: salt.bytes().len(),
         key_len: 0,
         salt: padded(salt.bytes()),
-        stored_key: [0; 64],
-        server_key: [0; 64],
+        stored_key: padded(&[]),
+        server_key: padded(&[]),
     };
     0
 }

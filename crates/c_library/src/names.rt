@@ -30,7 +30,7 @@ pub extern "C" fn scramotp_read_names(client_first: &[u8], names: &mut Names) ->
     };
     let act_as = match authzid_of(client_first) {
         Some(act_as) => padded(act_as.bytes()),
-        None => [0; 256],
+        None => padded(&[]),
     };
     *names = Names {
         name: padded(name.bytes()),

@@ -1,5 +1,5 @@
 -- Demands, first one list of them and then more.
-use Rattle.std.proofs.Common.{◌⊎◌, inl, inr, ℕ, List, [], ◌∷◌, ◌++◌}
+use Rattle.std.proofs.Common.{inl, inr, ℕ, List, [], ◌∷◌, ◌++◌}
 use Rattle.c_library.specs.Demands.{Demand, AreMet, IsFirstFault}
 
 -- the first fault of a list of demands is that of a longer one

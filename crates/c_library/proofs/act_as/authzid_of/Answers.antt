@@ -1,10 +1,9 @@
-use Rattle.std.proofs.Common.{rules, ◌≡◌, ℕ, List, ap, sym, ◌∙◌}
+use Rattle.std.proofs.Common.{◌≡◌, ℕ, List, sym, ◌∙◌}
 use Rattle.std.specs.declared.option.Option.{Option}
 use Rattle.std.specs.declared.option.Option.TheVariants.{None, Some}
 use Rattle.scram_text.specs.Class.{IsPlainName}
-use Rattle.scram_text.specs.Messages.{ClientFirstParts, IsClientFirst}
 use Rattle.scram_text.specs.Name.{SpellsName}
-use Rattle.scram_ends.specs.Opening.{IsTakenUp, IsAuthzidOf}
+use Rattle.scram_ends.specs.Opening.{IsAuthzidOf}
 use Rattle.std.specs.Prelude.{IfSome, IfNone}
 use Rattle.c_library.proofs.lemmas.ActAs.{plain_is_authzid, other_is_no_authzid}
 use Rattle.c_library.proofs.act_as.authzid_of.Goals as goal

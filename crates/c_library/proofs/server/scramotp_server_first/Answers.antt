@@ -1,7 +1,6 @@
 use Rattle.std.proofs.Common.{◌≡◌, ◌≤◌, inl, inr, ℕ, List, [], ◌∷◌, length, sym, ◌∙◌, ap, subst, refl, arith}
 use Rattle.std.proofs.lemmas.Option.{same_Some}
 use Rattle.mac_core.specs.declared.mechanism.Mechanism.{Mechanism}
-use Rattle.c_library.specs.Buffers.{IsPut}
 use Rattle.c_library.specs.Demands.{AreMet, IsFirstFault}
 use Rattle.c_library.specs.Entries.{entry_in}
 use Rattle.c_library.specs.Logins.{first_demands, first_fits}

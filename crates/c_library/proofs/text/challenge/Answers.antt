@@ -1,6 +1,6 @@
 use Rattle.c_library.proofs.text.challenge.Goals as goal
 use Rattle.c_library.proofs.lemmas.Challenges.{composed_is_challenge}
-use Rattle.std.proofs.Common.{rules, ◌≡◌, ◌++◌, ◌^◌, ◌<◌, arith}
+use Rattle.std.proofs.Common.{rules, ◌≡◌, ◌++◌, arith}
 use Rattle.std.specs.Prelude.{codes, decimal}
 use Rattle.base64.specs.GeneralPurpose.{IsBytes}
 use Rattle.scram_text.specs.Base64Field.{base64}
