@@ -459,9 +459,17 @@ def tokens(folder: str) -> None:
 # ---- the interface, random bytes, and threads
 
 
+def size_line(row: dict[str, str]) -> str:
+    """The line of C that prints the size of a structure, or the place and the size of what it holds."""
+    of, _, name = row["name"].partition(".")
+    if not name:
+        return f'    printf("{of} %zu\\n", sizeof({of}));\n'
+    return f'    printf("{of}.{name} %zu %zu\\n", offsetof({of}, {name}), sizeof((({of} *)0)->{name}));\n'
+
+
 def interface(folder: str) -> None:
     """Both libraries have the symbols of data/c_library.csv and no others, need only memcpy, memmove, memset and memcmp, and the header's
-    structures have the sizes of that table."""
+    structures, and what they hold, have the places and sizes of that table."""
     rows = rows_of(DATA / "c_library.csv")
     symbols = {row["name"] for row in rows if row["kind"] == "call"}
     for words in ["nm", "-D", library() / "libscramotp.so.0"], ["nm", "-g", library() / "libscramotp.a"]:
@@ -470,12 +478,11 @@ def interface(folder: str) -> None:
         needed = {name.partition("@")[0] for kind, name in found if kind == "U"}
         equal(needed - {"memcpy", "memmove", "memset", "memcmp"}, set(), words[-1])
         equal({kind for kind, _ in found} - {"T", "U", "w"}, set(), words[-1])
+    want = {row["name"]: f"{row['at']} {row['bytes']}".strip() for row in rows if row["kind"] != "call"}
+    lines = "".join(size_line(row) for row in rows if row["kind"] != "call")
     source = pathlib.Path(folder, "sizes.c")
-    parts = [(row["name"], row["expression"]) for row in rows if row["kind"] == "size"]
-    lines = "".join(f'    printf("{name} %zu\\n", (size_t)({expression}));\n' for name, expression in parts)
     source.write_text(f'#include "scramotp.h"\n#include <stdio.h>\n\nint main(void)\n{{\n{lines}    return 0;\n}}\n')
-    want = {row["name"]: row["bytes"] for row in rows if row["kind"] == "size"}
-    equal(dict(line.split() for line in ran([compiled(source, "sizes")]).output.splitlines()), want)
+    equal(dict(line.split(" ", 1) for line in ran([compiled(source, "sizes")]).output.splitlines()), want)
     declared = set(re.findall(r"\bscramotp_\w+(?=\()", re.sub(r"/\*.*?\*/", "", (TOP / "clib/scramotp.h").read_text(), flags=re.S)))
     equal(declared, symbols)
 
@@ -503,7 +510,7 @@ def threads(folder: str) -> None:
     """Eight threads log in at once, and each login is accepted."""
     if program := sanitized("c_library_threads.c", "threads", "thread"):
         answer = ran([program])
-        equal((answer.status, answer.output, answer.faults), (0, "8 threads, 0 wrong\n", ""))
+        equal((answer.status, answer.output, answer.faults), (0, "8 threads, 4000 logins\n", ""))
 
 
 if not ARCHIVES:
