@@ -36,13 +36,14 @@ BUILT_FOR := $(shell cat crates/scramotp/out/built_for 2>/dev/null || echo x86-6
 TIMED = $(if $(TIMES),python3 tests/timed.py --crates $(TIMES) 'rt ci')
 export TIMES
 
-.PHONY: help run build libraries install setup test prove test-all time coverage fuzz bench clean kit this_kit needed FORCE
+.PHONY: help run build libraries libscramotp install setup test prove test-all time coverage fuzz bench clean kit this_kit needed FORCE
 
 help:
 	@echo 'make run        prints the keys of the example in RFC 5802, also before anything is built'
 	@echo 'make build      proves the program and leaves it at $(PROGRAM);'
 	@echo '                CPU=x86-64-v3 builds it for newer processors'
 	@echo 'make libraries  proves the libraries, for a server of your own'
+	@echo 'make libscramotp  proves the library for C, and leaves it in clib/out'
 	@echo 'make install    copies the built program to $$(DESTDIR)$$(PREFIX)/bin,'
 	@echo '                its tools to $$(DESTDIR)$$(PREFIX)/share/scramotp, and its documents to share/doc/scramotp there'
 	@echo 'make setup      installs what the tests need, on Debian and as root'
@@ -84,6 +85,14 @@ endef
 $(foreach it,$(LIBRARIES),$(eval $(call library_rule,$(it))))
 
 libraries: $(foreach it,$(LIBRARIES),crates/$(it)/out/built)
+
+# The library for C, its header, and what pkg-config reads.
+libscramotp: kit $(foreach it,mac_core otp_core scram_text scram_ends,crates/$(it)/out/built)
+	@echo "$$(date +%T) c_library" && mkdir -p crates/c_library/out && cd crates/c_library && \
+		{ rt lib --jobs $(JOBS) >out/build.log 2>&1 || { cat out/build.log; exit 1; }; }
+	python3 clib/merge.py clib/out crates/c_library/out/libc_library.a
+	cp clib/scramotp.h clib/out
+	sed 's|@PREFIX@|$(PREFIX)|' clib/scramotp.pc.in >clib/out/scramotp.pc
 
 $(PROGRAM): $(SOURCES)
 	@$(MAKE) --no-print-directory kit
