@@ -12,6 +12,7 @@ import os
 import random
 import re
 import resource
+import shutil
 import signal
 import socket
 import stat
@@ -27,8 +28,8 @@ from checks import equal, holds
 from clients import Account, book
 from expected import proved
 from mail_servers import GREETING, SETTINGS, Door, Server, door_of
-from processes import ran, until
-from suite import PROGRAM, TOP, each, program_on_path
+from processes import Running, ran, until
+from suite import PROGRAM, TOP, blocks_of, each, program_on_path
 
 USER = Account("user", "SCRAM-SHA-256")
 OLD = Account("old=user, odd", "SCRAM-SHA-1")
@@ -420,6 +421,93 @@ def new_log_each_day(folder: str) -> None:
         holds(began[1] >= moment.replace(":", ""), "the new log begins early", began, moment)
 
 
+PAGE = suite.document("docs/DOORS.md")
+
+
+def blocks(title: str, language: str) -> list[str]:
+    """The blocks of a section of the page in this language."""
+    return [text for section, of, text in blocks_of(PAGE) if (section, of) == (title, language)]
+
+
+def shown(block: str) -> tuple[str, str]:
+    """The commands of a block, and what it says that they print."""
+    lines = block.splitlines()
+    told = [line.removeprefix("#> ") for line in lines if line.startswith("#> ")]
+    return "\n".join(line for line in lines if not line.startswith("#> ")), "".join(f"{line}\n" for line in told)
+
+
+def blocks_of_the_page(folder: str) -> None:
+    """The page's commands start a door, and work on its book while it serves. Its program says whether a password is right."""
+    Path(folder, "hosts").symlink_to(TOP / "hosts")
+    Path(folder, "book.toml").write_text(BOOK.replace("failures = 0", "failures = 100").replace("decoy_count = 4096", "decoy_count = 4095"))
+    Path(folder, "book.toml").chmod(0o600)
+    [start], [work], [program] = blocks("Start", "sh"), blocks("Unlock, enrol, edit", "sh"), blocks("As a library", "python")
+    holds(" --group postfix" in start, "the block has no group", start)
+    how = {"cwd": folder, "env": {**program_on_path(folder), "PYTHONPATH": str(TOP / "hosts")}}
+    run = Running(["bash", "-c", start.replace("hosts/serve", "exec hosts/serve").replace(" --group postfix", "")], **how)
+    until(lambda: Path(folder, "auth").exists() or run.process.poll() is not None, "the door should serve")
+    with Server(Path(folder, "auth")) as server:
+        equal(server.logs_in(1, USER), OK.format(1), "a login")
+    commands, printed = shown(work)
+    equal(ran(["bash", "-c", commands], **how), (0, printed, ""), "what the block prints")
+    found = suite.read_book(Path(folder, "book.toml"))
+    done = found["accounts"]["user"]["token"]["failures"], "new" in found["accounts"], found["decoy_count"]
+    equal(done, (0, True, 4096), "the book after that")
+    run.process.send_signal(signal.SIGTERM)
+    equal(run.end().status, 0, "the status of the door")
+    Path(folder, "other").mkdir()
+    Path(folder, "program.py").write_text(program)
+    for password, due in ("correct horse", "True\n"), ("correct horses", "False\n"):
+        answer = ran(["python3", "program.py", "book.toml", "other", "new"], f"{password}\n", **how)
+        equal((answer.status, answer.output), (0, due), "what the program says", password, answer)
+    logs = sorted([*Path(folder, "logs").glob("*.log"), *Path(folder, "other").glob("*.log")], key=lambda path: path.name)
+    answers = [ran([PROGRAM, "audit", "--book", f"{log}.toml", "--log", log]).output.split()[2:3] for log in logs]
+    equal(sum(int(counts[0].removeprefix("accepted=")) for counts in answers), 2, "the accepted logins", answers)
+
+
+def units(folder: str) -> None:
+    """The units of systemd are right, by its own words, and leave the door little to do harm with. The door tells the manager that it is
+    ready, and stops."""
+    manager = socket.socket(socket.AF_UNIX, socket.SOCK_DGRAM)
+    manager.bind(f"{folder}/manager")
+    manager.settimeout(20)
+    os.environ["NOTIFY_SOCKET"] = f"{folder}/manager"
+    with door_of(folder, BOOK, 0):
+        equal(manager.recv(99), b"READY=1", "what the manager is told")
+    equal(manager.recv(99), b"STOPPING=1", "what the manager is told at the end")
+    del os.environ["NOTIFY_SOCKET"]
+    manager.close()
+    place = Path(folder, "units")
+    place.mkdir()
+    for unit in (TOP / "hosts/units").iterdir():
+        (place / unit.name).write_text(unit.read_text().replace("/usr/local/share/scramotp", str(TOP / "hosts")))
+    service = place / "scramotp-dovecot-auth.service"
+    words = re.search(r"^ExecStart=(\S+) ((?:.*\\\n)*.*)$", service.read_text(), re.M)[2].replace("\\\n", " ").split()
+    listens = re.search(r"^ListenStream=(.*)$", service.with_suffix(".socket").read_text(), re.M)[1]
+    equal(words[-3:], ["/var/lib/scramotp/book.toml", listens, "/var/lib/scramotp/logs"], "the words of the door")
+    if not shutil.which("systemd-analyze"):
+        return suite.not_tested("what systemd makes of the units, since there is no systemd-analyze")
+    for unit in sorted(place.iterdir()):
+        answer = ran(["systemd-analyze", "verify", "--man=no", unit])
+        equal([line for line in answer.faults.splitlines() if "scramotp" in line], [], "what systemd says of", unit.name)
+    answer = ran(["systemd-analyze", "security", "--offline=true", "--threshold=10", service])
+    equal(answer.status, 0, "whether the door is exposed to little", answer.output[-300:])
+
+
+def manuals(folder: str) -> None:
+    """The manual pages have the options that the commands' help has, and are well-formed where mandoc is there to say so."""
+    for name, words in ("serve-dovecot-auth", []), ("scramotp-host", ["ctl"]):
+        page = (TOP / "hosts/man" / f"{name}.8").read_text()
+        told = {*re.findall(r"^\.It Fl -(\w+)", page, re.M)}
+        command = [TOP / "hosts" / name, *words]
+        helps = ran([*command, "--help"]).output + (ran([*command, "enrol", "--help"]).output if words else "")
+        equal(told, {*re.findall(r"--(\w+)", helps)} - {"help"}, "the options of", name)
+        if shutil.which("mandoc"):
+            equal(ran(["mandoc", "-Tlint", "-Wwarning", TOP / "hosts/man" / f"{name}.8"]), (0, "", ""), name)
+        else:
+            suite.not_tested("the form of the manual pages, since there is no mandoc")
+
+
 suite.run_all(
     [
         greeting,
@@ -435,5 +523,8 @@ suite.run_all(
         halls_that_fail,
         sockets,
         new_log_each_day,
+        blocks_of_the_page,
+        units,
+        manuals,
     ]
 )

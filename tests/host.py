@@ -215,7 +215,8 @@ def refused(call: Callable[[], object], fault: type[Exception]) -> None:
 
 
 def idle_logins(folder: str) -> None:
-    """Once all places are taken, the login that has been idle for longest gives way, and only once it has been idle for `idle` seconds."""
+    """Once all places are taken, the login that has been idle for longest gives way, and only once it has been idle for `idle` seconds. One
+    for which the host computes is not idle."""
     lost = []
 
     async def many(host: Host) -> None:
@@ -232,9 +233,16 @@ def idle_logins(folder: str) -> None:
         await host.login(HOME)
         holds(loop.time() - began < 0.4, "a login waits although there is a place, for seconds", loop.time() - began)
         equal((lost, says(last, USER)), ([1], "OK"), "which logins were lost, and the last login")
+        with logins[2].busy():
+            await asyncio.sleep(0.6)
+            says(await host.login(HOME), USER)
+            says(await host.login(HOME), USER)
+            await host.login(HOME)
+            await host.login(HOME)
+        equal(lost, [1, 3], "which logins were lost while one was busy")
 
     serves(folder, many, places=8, idle=0.5)
-    equal((sorted(lost), audits(folder)), ([0, 1, 2, 3, 4, 6, 7], [(10, 1)]), "which logins were lost at the end, and the audit")
+    equal((sorted(lost), audits(folder)), ([0, 1, 2, 3, 4, 6, 7], [(14, 3)]), "which logins were lost at the end, and the audit")
 
 
 def idle_over_a_change(folder: str) -> None:

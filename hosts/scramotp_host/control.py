@@ -28,8 +28,11 @@ async def controlled(host: Host, path: str) -> AsyncIterator[None]:
             journal.note("control", uid=user, pid=process, book="taken back")
 
     with listening(path, 0o600) as listener:
-        async with await asyncio.start_unix_server(give, sock=listener):
+        server = await asyncio.start_unix_server(give, sock=listener)
+        try:
             yield
+        finally:
+            server.close()
 
 
 @contextlib.contextmanager

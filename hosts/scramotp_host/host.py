@@ -101,18 +101,28 @@ class Host:
             async with asyncio.timeout(seconds):
                 await self.changed.wait()
 
+    async def make_place(self) -> None:
+        """Lets the login that has been idle for longest give way, or waits until it has been so for long enough, or a login ends."""
+        oldest = next((it for it in self.logins if not it.is_busy), None)
+        left = self.limits.idle + (oldest.seen - time.monotonic() if oldest else 0)
+        if oldest and left <= 0:
+            oldest.give_way()
+        else:
+            await self.change(left)
+
+    def check(self, client: Client) -> None:
+        """LoginLimited if the client's address has failed or sent too much in this minute."""
+        if self.guesses.is_over(origin(client)) or self.sent.is_over(origin(client)):
+            raise LoginLimited
+
     async def login(self, client: Client, when_lost: Callable[[], None] = lambda: None) -> Login:
         """A login of this client, once there is a place for it. `when_lost` is called if it has to give its place to others. LoginLimited
         if its address has failed or sent too much."""
-        if self.guesses.is_over(origin(client)) or self.sent.is_over(origin(client)):
-            raise LoginLimited
+        self.check(client)
         async with self.turnstile, self.gate:
             while len(self.logins) >= self.limits.places:
-                oldest = next(iter(self.logins))
-                if (left := oldest.seen + self.limits.idle - time.monotonic()) > 0:
-                    await self.change(left)
-                else:
-                    oldest.give_way()
+                await self.make_place()
+            self.check(client)  # others of its address may have failed meanwhile
             if self.hall is None:
                 raise HallFault("the host has ended")
             return Login(self, self.hall, client, when_lost)

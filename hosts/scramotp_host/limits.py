@@ -1,6 +1,7 @@
 """What clients may take of a host: its limits with their defaults, the flags that change them, and what is counted for a minute."""
 import argparse
 import dataclasses
+import functools
 import ipaddress
 import time
 from typing import Any
@@ -42,13 +43,17 @@ def given(words: argparse.Namespace) -> Limits:
 
 
 def origin(client: Client) -> str:
-    """By what a client is counted: its address, of IPv6 the first 64 bits, since one client has all that begin so; without one, its user on
-    this machine."""
-    address = str(client.get("rip", ""))
+    """By what a client is counted: its address, or without one its user on this machine."""
+    return counted(str(client.get("rip", ""))) or f"uid {client.get('uid')}"
+
+
+@functools.lru_cache(10_000)
+def counted(address: str) -> str:
+    """By what an address is counted: itself, or of IPv6 its first 64 bits, since one client has all that begin so."""
     try:
         found = ipaddress.ip_address(address)
     except ValueError:
-        return address or f"uid {client.get('uid')}"
+        return address
     return str(found if found.version == 4 else ipaddress.ip_network((int(found), 64), strict=False))
 
 

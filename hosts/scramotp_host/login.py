@@ -1,7 +1,8 @@
 """A login: what a client says to a host, what it is to be told, and who it is once it is accepted."""
+import contextlib
 import re
 import time
-from collections.abc import Callable
+from collections.abc import Callable, Iterator
 from typing import TYPE_CHECKING, NamedTuple
 from urllib.parse import quote, unquote_to_bytes
 
@@ -52,10 +53,12 @@ class Login:
 
     def __init__(self, host: "Host", hall: Hall, client: Client, when_lost: Callable[[], None]) -> None:
         self.host, self.hall, self.client, self.when_lost = host, hall, client, when_lost
-        self.seen, self.first, self.is_accepted, self.is_open = time.monotonic(), b"", False, True
+        self.seen, self.first, self.is_accepted, self.is_open, self.is_busy = time.monotonic(), b"", False, True, False
         heard = self.heard(hall.open)
-        self.number, self.is_open = heard.number, not heard.is_over
+        self.number = heard.number
         self.host.has_begun(self)
+        if heard.is_over:
+            self.end()  # more than 64 places were asked for
 
     def heard(self, call: Callable[..., Heard], *given: object) -> Heard:
         """What the hall says. If it has failed, the host learns of it."""
@@ -113,6 +116,15 @@ class Login:
     def end(self) -> None:
         self.is_open = False
         self.host.has_ended(self)
+
+    @contextlib.contextmanager
+    def busy(self) -> Iterator[None]:
+        """In this context the login does not count as idle, since the host itself works on it."""
+        self.is_busy = True
+        try:
+            yield
+        finally:
+            self.is_busy, self.seen = False, time.monotonic()
 
     def give_way(self) -> None:
         """Ends the session for others, and says so to who began it."""

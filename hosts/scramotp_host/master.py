@@ -71,6 +71,8 @@ class Master(asyncio.Protocol):
 @contextlib.asynccontextmanager
 async def mastered(accepted: Accepted, userdb: str, listener: socket.socket) -> AsyncIterator[None]:
     """Serves at this socket while the context lasts."""
-    loop = asyncio.get_running_loop()
-    async with await loop.create_unix_server(lambda: Master(accepted, userdb), sock=listener):
+    server = await asyncio.get_running_loop().create_unix_server(lambda: Master(accepted, userdb), sock=listener)
+    try:
         yield
+    finally:
+        server.close()

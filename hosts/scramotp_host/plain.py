@@ -30,7 +30,8 @@ async def accepts(login: Login, name: bytes, password: bytes, act_as: bytes = b"
         nonce, salt, count = (part[2:] for part in challenge.split(b","))
         final = b"c=%s,r=%s" % (b64encode(header), nonce)
         signed = b",".join((bare, challenge, final))
-        proof = await asyncio.to_thread(proof_of, password, b64decode(salt), int(count), signed)
+        with login.busy():
+            proof = await asyncio.to_thread(proof_of, password, b64decode(salt), int(count), signed)
         word, _ = login.respond(final + b",p=" + b64encode(proof))
     login.leave()
     return word == "OK"

@@ -2,7 +2,9 @@
 import argparse
 import asyncio
 import contextlib
+import os
 import signal
+import socket
 import sys
 from collections.abc import Callable
 from contextlib import AbstractAsyncContextManager
@@ -35,6 +37,13 @@ def flags(words: argparse.ArgumentParser) -> None:
     limits.add_flags(words)
 
 
+def tell_manager(text: str) -> None:
+    """Tells the service manager what has become of this process (sd_notify(3)), if it asks for that."""
+    if path := os.environ.get("NOTIFY_SOCKET"):
+        with socket.socket(socket.AF_UNIX, socket.SOCK_DGRAM) as manager:
+            manager.sendto(text.encode(), "\0" + path[1:] if path.startswith("@") else path)
+
+
 def until(moment: time, now: datetime) -> float:
     """The seconds until it is this time of day, more than none."""
     next_one = datetime.combine(now.date(), moment, UTC)
@@ -62,6 +71,8 @@ async def serve(given: argparse.Namespace, opens: Opens) -> None:
             daily = asyncio.create_task(renew_daily(host, given.daily))
             open_ones.callback(daily.cancel)
         journal.note("ready", socket=given.socket)
+        tell_manager("READY=1")
+        open_ones.callback(tell_manager, "STOPPING=1")
         await host.failed
 
 
