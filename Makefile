@@ -20,7 +20,7 @@ LIBRARIES = mac_core otp_core scram_text scram_ends book_format account_book boo
 TOOLS = $(addprefix tools/,check-code drop-tables edit-book find-key from-verifier list-accounts list-unlike-decoys serve-hall \
 	set-password to-verifier)
 # What serves logins, and the package of Python on which it stands.
-HOSTS = $(filter-out hosts/scramotp_host,$(wildcard hosts/*))
+HOSTS = hosts/scramotp-host hosts/serve-dovecot-auth
 # The documents that are installed, with the folder docs as it is here, so that their links lead to each other.
 DOCUMENTS = README.md CHANGELOG.md CONTRIBUTING.md LICENSE HANDLES
 # What the program is built from.
@@ -112,6 +112,8 @@ install:
 	install -D -m 755 $(PROGRAM) "$(DESTDIR)$(PREFIX)/bin/scramotp"
 	install -D -m 755 -t "$(DESTDIR)$(PREFIX)/share/scramotp" $(TOOLS) $(HOSTS)
 	install -D -m 644 -t "$(DESTDIR)$(PREFIX)/share/scramotp/scramotp_host" hosts/scramotp_host/*.py
+	install -D -m 644 -t "$(DESTDIR)$(PREFIX)/share/man/man8" hosts/man/*.8
+	install -D -m 644 -t "$(DESTDIR)$(PREFIX)/lib/systemd/system" hosts/units/*
 	install -D -m 644 -t "$(DESTDIR)$(PREFIX)/share/doc/scramotp" $(DOCUMENTS)
 	install -D -m 644 -t "$(DESTDIR)$(PREFIX)/share/doc/scramotp/docs" docs/*.md
 	install -D -m 644 -t "$(DESTDIR)$(PREFIX)/share/doc/scramotp/bench" bench/README.md
@@ -145,7 +147,7 @@ coverage: needed build
 	python3 tests/coverage.py $(PROGRAM)
 
 # What the other scripts choose at random: which runs they kill, and in which order they do things.
-RANDOM = hall.py sessions.py hall_kill.py login_kill.py books.py machine.py
+RANDOM = hall.py sessions.py hall_kill.py login_kill.py books.py machine.py dovecot_auth.py
 # Each run begins from another seed, which it prints: make fuzz SEED=7 tries the same again.
 SEED := $(or $(SEED),$(shell date +%s))
 COUNT ?= 5000
@@ -163,6 +165,7 @@ bench: build
 	python3 bench/serve.py $(PROGRAM) crates/bench/out/bench
 	python3 bench/hall.py $(PROGRAM) crates/bench/out/bench
 	python3 bench/audit.py $(PROGRAM)
+	python3 bench/door.py $(PROGRAM)
 
 clean:
 	rm -rf out crates/*/out tests/__pycache__ bench/__pycache__ hosts/scramotp_host/__pycache__

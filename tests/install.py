@@ -60,6 +60,8 @@ def installed(folder: str) -> None:
         pathlib.Path("share/scramotp", path.relative_to(TOP / "hosts")): (path.read_bytes(), 0o644)
         for path in (TOP / "hosts/scramotp_host").glob("*.py")
     }
+    for name, place in ("man", "share/man/man8"), ("units", "lib/systemd/system"):
+        files |= {pathlib.Path(place, path.name): (path.read_bytes(), 0o644) for path in (TOP / "hosts" / name).iterdir()}
     files |= {
         pathlib.Path("share/doc/scramotp", path.relative_to(TOP)): (path.read_bytes(), 0o644)
         for path in [*pages, *(TOP / "docs").glob("*.md")]
