@@ -85,9 +85,9 @@ typedef struct {
 uint32_t scramotp_keys(uint32_t mechanism, uint32_t count, const void *salt, size_t salt_len, const void *password, size_t password_len,
     scramotp_entry *entry);
 
-/* Makes the decoy of a name that has no account, so that a client can't tell: a salt of 16 bytes that follows from the key, the
- * mechanism and the name. The key is 32 random bytes that stay the same and secret. Take the count and the length of the salt that
- * your accounts have.
+/* Makes the decoy of a name that has no account, so that no message tells: a salt of 16 bytes that follows from the key, the mechanism
+ * and the name. The key is 32 random bytes that stay the same and secret. Take the count and the length of the salt that your accounts
+ * have. How long you take to answer may still tell.
  * Numbers: 90 mechanism, 65 count, 63 name; the first of these that applies. */
 uint32_t scramotp_decoy(const uint8_t key[32], uint32_t mechanism, uint32_t count, const void *name, size_t name_len,
     scramotp_entry *entry);

@@ -44,6 +44,16 @@ static buffer exactly(const void *from, size_t len)
     return made;
 }
 
+/* Random bytes, half of the time printable ones. */
+static buffer random_bytes(void)
+{
+    uint8_t bytes[LONGEST];
+    size_t len = below(LONGEST), first = below(2) ? 0 : ' ', some = first ? 95 : 256;
+    for (size_t i = 0; i < len; i++)
+        bytes[i] = (uint8_t)(first + below(some));
+    return exactly(bytes, len);
+}
+
 /* A text with up to two bytes changed, left out or added, or cut there; or now and then only random bytes. */
 static buffer changed(const char *text)
 {
@@ -51,9 +61,8 @@ static buffer changed(const char *text)
     size_t len = strlen(text);
     memcpy(bytes, text, len);
     if (below(20) == 0)
-        for (len = below(LONGEST), text = NULL; len > 0 && below(LONGEST) > 0;)
-            bytes[below(len)] = (uint8_t)below(256);
-    for (size_t changes = below(3); text && changes > 0 && len > 0; changes--) {
+        return random_bytes();
+    for (size_t changes = below(3); changes > 0 && len > 0; changes--) {
         size_t at = below(len), kind = below(4);
         if (kind == 0)
             bytes[at] = (uint8_t)below(256);
