@@ -8,6 +8,7 @@ logins at a time on one connection. Best of several turns, wall time. Also print
 hall, in Dovecot's auth service and in the client. Dovecot's part needs root and Debian's dovecot-core, and is left out where these are not.
 """
 import os
+import socket
 import subprocess
 import sys
 import tempfile
@@ -31,6 +32,7 @@ def at_once(server: "Server", account: "Account", first: int) -> None:
         server.respond(ident, it.final.encode())
     for ident in idents:
         server.challenge(ident)
+    for ident in idents:
         server.respond(ident, b"")
     for ident in idents:
         line = server.line()
@@ -61,6 +63,12 @@ def of_door(folder: str, account: "Account") -> str:
     return found
 
 
+def listens(path: Path) -> bool:
+    """Whether a service listens at a socket."""
+    with socket.socket(socket.AF_UNIX) as client:
+        return client.connect_ex(str(path)) == 0
+
+
 def of_dovecot(folder: str, account: "Account") -> str:
     """The rate of Dovecot's own auth service, whose file of users has the account's keys."""
     keys = ",".join(["4096", *(b64encode(it).decode() for it in [account.salt, account.stored, account.server])])
@@ -89,7 +97,7 @@ service auth {{
     os.chmod(Path(folder, "users"), 0o644)
     run = subprocess.Popen(["/usr/sbin/dovecot", "-F", "-c", f"{folder}/conf"])
     try:
-        until(Path(folder, "run", "client").exists, "Dovecot's auth service should listen")
+        until(lambda: listens(Path(folder, "run", "client")), "Dovecot's auth service should listen")
         with Server(Path(folder, "run", "client")) as server:
             [auth] = [int(line.split("\t")[1]) for line in server.greeting if line.startswith("SPID\t")]
         return rate(Path(folder, "run", "client"), account, {"auth": auth, "client": os.getpid()})

@@ -21,6 +21,7 @@ from pathlib import Path
 import suite
 from checks import equal, holds
 from clients import Account, book
+from limits import limit
 from processes import ran
 from suite import PROGRAM, TOP, each, program_on_path, read_book
 
@@ -75,14 +76,14 @@ def audits(folder: str) -> list[tuple[int, int]]:
     return found
 
 
-def says(login: Login, account: Account, wrong: bool = False) -> str:
+async def says(login: Login, account: Account, wrong: bool = False) -> str:
     """Logs in to an account whose challenge has not come, and leaves. Returns the last word of the answer."""
-    answer = login.begin(account.mechanism, account.exchange("fyko", "").first.encode())
+    answer = await login.begin(account.mechanism, account.exchange("fyko", "").first.encode())
     equal(answer.word, "CONT", "the answer to the first message")
     own = answer.message.decode().split(",")[0].removeprefix("r=fyko")
     it = account.exchange("fyko", own)
     equal(answer.message.decode(), it.challenge, "the challenge")
-    word, message = login.respond((it.wrong_final if wrong else it.final).encode())
+    word, message = await login.respond((it.wrong_final if wrong else it.final).encode())
     equal(message.decode(), "e=invalid-proof" if wrong else f"v={it.signature}", "the server's last message")
     login.leave()
     return word
@@ -92,7 +93,7 @@ async def logs_in(host: Host, account: Account = USER, wrong: bool = False) -> s
     """A whole login at a host."""
     login = await host.login(HOME)
     await asyncio.sleep(0.002)
-    return says(login, account, wrong)
+    return await says(login, account, wrong)
 
 
 def logins_over_changes(folder: str) -> None:
@@ -139,13 +140,13 @@ def names_of_logins(folder: str) -> None:
 
     async def one(host: Host) -> None:
         login = await host.login(HOME)
-        login.begin("SCRAM-SHA-1", None)
+        await login.begin("SCRAM-SHA-1", None)
         try:
             holds(False, "a login has names before it is accepted", login.names)
         except LookupError:
             pass
-        challenge = login.respond(odd.exchange("fyko", "").first.encode()).message.decode()
-        login.respond(odd.exchange("fyko", challenge.split(",")[0].removeprefix("r=fyko")).final.encode())
+        challenge = (await login.respond(odd.exchange("fyko", "").first.encode())).message.decode()
+        await login.respond(odd.exchange("fyko", challenge.split(",")[0].removeprefix("r=fyko")).final.encode())
         equal(login.names, Names("a=b,c", "a=b,c"), "the names")
         login.leave()
         login = await host.login(HOME)
@@ -153,7 +154,7 @@ def names_of_logins(folder: str) -> None:
         equal(login.names, Names("user", "x=,y"), "the names")
         for message, claimed in [(b"n,,n=user,r=a", "user"), (b"n,,n=\xff,r=a", None), ("n,,n=ü,r=a".encode(), None), (b"n,,", None)]:
             login = await host.login(HOME)
-            login.begin("SCRAM-SHA-256", message)
+            await login.begin("SCRAM-SHA-256", message)
             equal(login.claimed, claimed, "the name that is claimed", message)
             login.leave()
 
@@ -187,17 +188,17 @@ def codes(folder: str) -> None:
     async def one(host: Host) -> None:
         for given in "SCRAM-SHA-256 x", "PLAIN\nopen x", "":
             login = await host.login(HOME)
-            refused(lambda: login.begin(given, b"n,,n=user,r=x"), ValueError)
+            await refused(login.begin(given, b"n,,n=user,r=x"), ValueError)
             login.leave()
         login = await host.login(HOME)
         await plain.accepts(login, b"user", b"x")
-        refused(lambda: login.code("123456"), LoginLost)
+        await refused(login.code("123456"), LoginLost)
         login = await host.login(HOME)
-        challenge = login.begin(USER.mechanism, USER.exchange("fyko", "").first.encode()).message.decode()
-        login.respond(USER.exchange("fyko", challenge.split(",")[0].removeprefix("r=fyko")).final.encode())
+        challenge = (await login.begin(USER.mechanism, USER.exchange("fyko", "").first.encode())).message.decode()
+        await login.respond(USER.exchange("fyko", challenge.split(",")[0].removeprefix("r=fyko")).final.encode())
         for code in "123 456", "1\n", "", "12345678901234567":
-            refused(lambda: login.code(code), ValueError)
-        equal([login.code(USER.code(1)).word, login.code(USER.code(1)).word], ["PASS", "FAIL"], "the replies")
+            await refused(login.code(code), ValueError)
+        equal([(await login.code(USER.code(1))).word for _ in range(2)], ["PASS", "FAIL"], "the replies")
         login.leave()
 
     serves(folder, one)
@@ -205,13 +206,52 @@ def codes(folder: str) -> None:
     equal(read_book(Path(folder, "book.toml"))["accounts"]["user"]["token"]["next"], 2, "the counter")
 
 
-def refused(call: Callable[[], object], fault: type[Exception]) -> None:
+async def refused(call: Awaitable[object], fault: type[Exception]) -> None:
     """Checks that a call raises this."""
     try:
-        call()
+        await call
     except fault:
         return
     holds(False, "the call is not refused", fault)
+
+
+def cancelled_logins(folder: str) -> None:
+    """A login whose task is cancelled, at whatever moment, gives its place back, even if the hall has not answered it."""
+    async def one(host: Host) -> None:
+        login = await host.login(HOME)
+        try:
+            await says(login, USER)
+        finally:
+            login.leave()
+
+    async def many(host: Host) -> None:
+        for turns in range(12):
+            task = asyncio.create_task(one(host))
+            for _ in range(turns):
+                await asyncio.sleep(0)
+            task.cancel()
+        await asyncio.sleep(0.1)
+        equal([login.number for login in host.logins], [], "the logins that are left")
+        equal(await logs_in(host), "OK", "a login after that")
+
+    serves(folder, many)
+    [(sessions, accepted)] = audits(folder)
+    holds(sessions > accepted, "no login was cancelled while it was open", sessions)
+
+
+def long_messages_at_once(folder: str) -> None:
+    """Sixty-four logins that come together with the longest messages do not stop the host and the hall, which could wait for each other's
+    pipes."""
+    async def all_of(host: Host) -> None:
+        async def one() -> str:
+            login = await host.login(HOME)
+            return (await login.begin("SCRAM-SHA-256", b"\xff" * 2048)).word
+
+        signal.alarm(limit(60))
+        equal({*await asyncio.gather(*(one() for _ in range(64)))}, {"NO"}, "the answers")
+
+    serves(folder, all_of)
+    equal(audits(folder), [(64, 0)], "the audit")
 
 
 def idle_logins(folder: str) -> None:
@@ -222,21 +262,21 @@ def idle_logins(folder: str) -> None:
     async def many(host: Host) -> None:
         loop = asyncio.get_running_loop()
         logins = [await host.login(HOME, lambda number=number: lost.append(number)) for number in range(8)]
-        logins[0].begin("SCRAM-SHA-256", None)
+        await logins[0].begin("SCRAM-SHA-256", None)
         began = loop.time()
         last = await host.login(HOME)
         holds(loop.time() - began > 0.4, "a login that was not idle gave way after seconds", loop.time() - began)
         equal(lost, [1], "which logins were lost")
-        refused(lambda: logins[1].begin("SCRAM-SHA-256", None), LoginLost)
+        await refused(logins[1].begin("SCRAM-SHA-256", None), LoginLost)
         logins[5].leave()
         began = loop.time()
         await host.login(HOME)
         holds(loop.time() - began < 0.4, "a login waits although there is a place, for seconds", loop.time() - began)
-        equal((lost, says(last, USER)), ([1], "OK"), "which logins were lost, and the last login")
+        equal((lost, await says(last, USER)), ([1], "OK"), "which logins were lost, and the last login")
         with logins[2].busy():
             await asyncio.sleep(0.6)
-            says(await host.login(HOME), USER)
-            says(await host.login(HOME), USER)
+            await says(await host.login(HOME), USER)
+            await says(await host.login(HOME), USER)
             await host.login(HOME)
             await host.login(HOME)
         equal(lost, [1, 3], "which logins were lost while one was busy")
@@ -256,7 +296,7 @@ def idle_over_a_change(folder: str) -> None:
         await asyncio.sleep(0.1)
         following = asyncio.create_task(logs_in(host))
         await asyncio.sleep(0.1)
-        equal((says(busy, USER), lost, following.done()), ("OK", [], False), "what goes on while the old log ends")
+        equal((await says(busy, USER), lost, following.done()), ("OK", [], False), "what goes on while the old log ends")
         equal((await following, lost), ("OK", ["idle"]), "what goes on after it")
 
     serves(folder, two, grace=0.5)
@@ -273,9 +313,9 @@ def limited_addresses(folder: str) -> None:
             await logs_in(host, wrong=True)
         await is_limited(host, HOME)
         for rip in "198.51.100.1", "2001:db8:0:1::1":
-            says(await host.login({"rip": rip}), USER)
+            await says(await host.login({"rip": rip}), USER)
         long = await host.login({"rip": "2001:db8:0:2::1"})
-        long.begin("SCRAM-SHA-256", b"x" * 5000)
+        await long.begin("SCRAM-SHA-256", b"x" * 5000)
         await is_limited(host, {"rip": "2001:db8:0:2:ffff::2"})
 
     serves(folder, some)
@@ -366,15 +406,15 @@ def faults_of_a_hall(folder: str) -> None:
         login = await host.login(HOME)
         os.kill(host.hall.process.pid, signal.SIGKILL)
         os.waitid(os.P_PID, host.hall.process.pid, os.WEXITED | os.WNOWAIT)
-        refused(lambda: login.begin("SCRAM-SHA-256", None), HallFault)
+        await refused(login.begin("SCRAM-SHA-256", None), HallFault)
         equal(str(host.failed.exception()), "the hall has ended", "what the host failed by")
 
     async def halted(host: Host) -> None:
         login = await host.login(HOME)
-        challenge = login.begin(USER.mechanism, USER.exchange("fyko", "").first.encode()).message.decode()
-        login.respond(USER.exchange("fyko", challenge.split(",")[0].removeprefix("r=fyko")).final.encode())
+        challenge = (await login.begin(USER.mechanism, USER.exchange("fyko", "").first.encode())).message.decode()
+        await login.respond(USER.exchange("fyko", challenge.split(",")[0].removeprefix("r=fyko")).final.encode())
         Path(f"{host.book}.new").mkdir()
-        refused(lambda: login.code(USER.code(0)), HallFault)
+        await refused(login.code(USER.code(0)), HallFault)
         equal(str(host.failed.exception()), "the book can't be saved", "what the host failed by")
 
     for trial, does in each([killed, halted]):
@@ -411,6 +451,8 @@ suite.run_all(
         names_of_logins,
         passwords,
         codes,
+        cancelled_logins,
+        long_messages_at_once,
         idle_logins,
         idle_over_a_change,
         limited_addresses,

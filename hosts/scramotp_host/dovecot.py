@@ -76,8 +76,7 @@ class Request:
         """Gives the place back, and notes what came of the login."""
         fields: dict[str, object] = {"outcome": outcome, "mechanism": self.mechanism}
         if login := self.login:
-            with contextlib.suppress(HallFault):
-                login.leave()
+            login.leave()
             names = login.names if outcome == "accepted" else Names(login.claimed or "", login.claimed or "")
             self.user = names.act_as
             fields |= {"name": names.name or None, "act_as": names.act_as if names.act_as != names.name else None}
@@ -109,9 +108,9 @@ class Request:
     async def by_scram(self, message: bytes | None) -> tuple[str, bytes]:
         """Hands the messages on between the client and the hall."""
         login = await self.begun()
-        word, told = login.begin(self.mechanism, message)
+        word, told = await login.begin(self.mechanism, message)
         while word == "CONT":
-            word, told = login.respond(await self.response(told))
+            word, told = await login.respond(await self.response(told))
         login.leave()
         if word != "OK":
             return "refused", b""
@@ -167,6 +166,7 @@ class Connection(asyncio.Protocol):
     def __init__(self, door: "Door") -> None:
         self.door, self.requests = door, dict[bytes, Request]()
         self.client: Client = {}
+        self.unsent: list[bytes] = []
         self.text, self.is_greeted, self.process, self.cookie = b"", False, b"", secrets.token_hex(16).encode()
 
     def connection_made(self, transport: asyncio.BaseTransport) -> None:
@@ -186,10 +186,18 @@ class Connection(asyncio.Protocol):
         self.door.connections.pop(self, None)
 
     def send(self, line: bytes) -> None:
-        """Sends a line, unless too much is unread: then the server is cut off."""
-        self.transport.write(line + b"\n")
-        if self.transport.get_write_buffer_size() > MOST_UNREAD:
-            self.cut_off("does not read")
+        """Sends a line, together with all others of this turn of the event loop."""
+        if not self.unsent:
+            asyncio.get_running_loop().call_soon(self.flush)
+        self.unsent.append(line)
+
+    def flush(self) -> None:
+        """Sends the lines that are there. A server that leaves too much unread is cut off."""
+        lines, self.unsent = self.unsent, []
+        if lines and not self.transport.is_closing():
+            self.transport.write(b"\n".join(lines) + b"\n")
+            if self.transport.get_write_buffer_size() > MOST_UNREAD:
+                self.cut_off("does not read")
 
     def cut_off(self, why: str) -> None:
         journal.note("cut_off", level="error", why=why, **self.client)
@@ -248,6 +256,7 @@ class Connection(asyncio.Protocol):
         """Refuses a login; if that is not final, for now. Postfix and Exim overlook the word `temp`, and say that the client should try
         again only if the connection is lost: so it is, if it has no other login."""
         if not is_final and not self.requests:
+            self.flush()
             return self.transport.close()
         user = f"\tuser={request.user}" if request.user else ""
         # An IMAP client shows the reason to its user as an alert.

@@ -3,6 +3,7 @@
 The order is the point: each line is in the log's file, whole, before anyone is told what it says. docs/SERVING.md has the steps.
 """
 import contextlib
+import fcntl
 import os
 import select
 import shutil
@@ -15,6 +16,7 @@ from typing import IO, NamedTuple, NoReturn, cast
 LONGEST = 6201  # one byte more than a line of a client may have: the hall then ends the session
 # A run takes 16 MiB of events, and an audit 1000000 lines. What is above these is left for the sessions that are open then.
 MOST_BYTES, MOST_LINES = 15 << 20, 900_000
+HALT = b"HALT"  # what a client is told if the book can't be saved; the hall ends then
 
 
 class HallFault(Exception):
@@ -43,7 +45,7 @@ def made(name: str, undo: contextlib.ExitStack) -> FileIO:
 
 
 class Hall:
-    """A run of `scramotp hall`, which is found on the PATH. It takes one event at a time."""
+    """A run of `scramotp hall`, which is found on the PATH."""
 
     def __init__(self, book: str, log: str) -> None:
         """Makes the files LOG and LOG.toml, and starts the run, which then waits for the book. OSError if a file can't be made or there is
@@ -56,6 +58,8 @@ class Hall:
             self.process = subprocess.Popen(words, stdin=subprocess.PIPE, stdout=subprocess.PIPE, start_new_session=True)
             self.undo = undo.pop_all()
         self.events, self.printed = cast(IO[bytes], self.process.stdin), cast(IO[bytes], self.process.stdout)
+        # What the pipe holds while the hall itself waits until its lines are read.
+        self.most_at_once = fcntl.fcntl(self.events, fcntl.F_GETPIPE_SZ)
 
     def is_ready(self, seconds: float) -> bool:
         """Whether `begin` would not wait, after at most so many seconds."""
@@ -65,7 +69,7 @@ class Hall:
         """Waits until the hall holds the book, and copies that to LOG.toml. HallFault if the hall ends before that, or OSError if there can
         be no copy; no file is left then."""
         try:
-            self.keep(self.printed.readline() or fail("the hall did not start"))
+            self.keep([self.printed.readline() or fail("the hall did not start")])
             with open(self.book, "rb") as begun, self.copy:
                 shutil.copyfileobj(begun, self.copy)
         except BaseException:
@@ -79,53 +83,54 @@ class Hall:
         self.end()
         self.undo.close()
 
-    def keep(self, line: bytes) -> None:
-        """Writes a line to the log, whole. HallFault if it can't."""
-        self.lines += 1
-        left = memoryview(line)
+    def keep(self, lines: list[bytes]) -> None:
+        """Writes lines to the log, whole. HallFault if it can't."""
+        self.lines += len(lines)
+        left = memoryview(b"".join(lines))
         try:
             while left:
                 left = left[self.written.write(left):]
         except OSError as fault:
             fail(f"the log can't be written: {fault.strerror}")
 
-    def next_line(self) -> bytes:
-        """The next line that the hall prints, without its LF, once the log has it."""
-        line = self.printed.readline() or fail("the hall has ended")
-        self.keep(line)
-        return line.removesuffix(b"\n")
-
-    def hear(self, event: bytes) -> Heard:
-        """Gives the hall an event, which has no LF in it. Returns once it has answered, which takes far less than a millisecond unless a
-        code is saved. HallFault if the hall has ended, or if the log can't be written."""
-        self.bytes += len(event) + 1
+    def hear(self, *events: bytes) -> list[Heard]:
+        """Gives the hall events, none of which has an LF in it, and which together have no more than `most_at_once` bytes unless there is
+        only one. Returns what each has led to, or up to HALT, once the log has it all: after far less than a millisecond for each, unless a
+        code is saved. HallFault if the hall has ended, or if the log can't be written: then nobody may be told anything."""
+        self.give(b"".join(event + b"\n" for event in events))
+        lines, found = list[bytes](), list[Heard]()
         try:
-            self.events.write(event + b"\n")
+            while len(found) < len(events) and not (found and found[-1].told == HALT):
+                found.append(self.answer(lines))
+        finally:
+            self.keep(lines)
+        return found
+
+    def give(self, text: bytes) -> None:
+        """Writes to the hall."""
+        self.bytes += len(text)
+        try:
+            self.events.write(text)
             self.events.flush()
         except (BrokenPipeError, ValueError):  # the second, if the pipe is closed since the first
             with contextlib.suppress(BrokenPipeError):
                 self.events.close()  # or Python would try to send the rest at its end
             fail("the hall has ended")
-        number, _, what = self.next_line().partition(b" ")
+
+    def answer(self, lines: list[bytes]) -> Heard:
+        """What the next event has led to. Adds its lines to these."""
+        def line() -> bytes:
+            lines.append(self.printed.readline() or fail("the hall has ended"))
+            return lines[-1].removesuffix(b"\n")
+
+        number, _, what = line().partition(b" ")
         if what.startswith(b"C ") and what != b"C GONE":
-            what = self.next_line().partition(b" ")[2]
+            what = line().partition(b" ")[2]
         told = what[2:] if what.startswith(b"S ") else b""
         is_over = told.startswith((b"NO :", b"BUSY")) or not told
         if is_over:
-            self.next_line()
-        return Heard(int(number), told, is_over or told == b"HALT")
-
-    def open(self) -> Heard:
-        """A client comes. It is told the mechanisms, or BUSY if 64 sessions are open."""
-        return self.hear(b"open " + b64encode(os.urandom(18)))
-
-    def line(self, number: int, text: bytes) -> Heard:
-        """The client of an open session sends this line, which has no LF in it."""
-        return self.hear(b"line %d %d %s" % (number, now(), text[:LONGEST]))
-
-    def gone(self, number: int) -> Heard:
-        """The client of an open session goes away, or its session is to end."""
-        return self.hear(b"gone %d %d" % (number, now()))
+            line()
+        return Heard(int(number), told, is_over or told == HALT)
 
     @property
     def is_full(self) -> bool:
@@ -145,3 +150,18 @@ class Hall:
 def now() -> int:
     """The moment by which codes are judged."""
     return int(time.time())
+
+
+def opening() -> bytes:
+    """The event of a client that comes. It is told the mechanisms, or BUSY if 64 sessions are open."""
+    return b"open " + b64encode(os.urandom(18))
+
+
+def saying(number: int, text: bytes) -> bytes:
+    """The event of a client that sends this line in an open session. It has no LF in it."""
+    return b"line %d %d %s" % (number, now(), text[:LONGEST])
+
+
+def going(number: int) -> bytes:
+    """The event of a client that goes away from an open session, or whose session is to end."""
+    return b"gone %d %d" % (number, now())

@@ -7,17 +7,20 @@ import asyncio
 import contextlib
 import os
 import time
-from collections import OrderedDict
-from collections.abc import AsyncIterator, Callable
+from collections import OrderedDict, deque
+from collections.abc import AsyncIterator, Callable, Sequence
 from datetime import UTC, datetime
 from typing import IO
 
 from scramotp_host import journal
 from scramotp_host.audits import Audits
 from scramotp_host.clients import Client, Clients
-from scramotp_host.hall import Hall, HallFault
+from scramotp_host.hall import HALT, Hall, HallFault, Heard
 from scramotp_host.limits import Limits, PerMinute, origin
 from scramotp_host.login import Login, LoginLimited
+
+# What is done with the answer to an event.
+Take = Callable[[Heard | HallFault], None]
 
 
 async def readable(file: IO[bytes]) -> None:
@@ -40,6 +43,7 @@ class Host:
         self.failed: asyncio.Future[None] = asyncio.get_running_loop().create_future()
         # The open logins, those first that have been idle for longer.
         self.logins: OrderedDict[Login, None] = OrderedDict()
+        self.events: deque[tuple[bytes, Take]] = deque()
         # Logins pass the turnstile in the order in which they come, and then the gate, which a change of halls shuts. So a change waits for
         # one login at most.
         self.turnstile, self.gate, self.changed = asyncio.Lock(), asyncio.Lock(), asyncio.Event()
@@ -55,11 +59,8 @@ class Host:
         self.is_ending = True
         if self.renewal:
             self.renewal.cancel()
-        try:
-            with contextlib.suppress(HallFault):
-                self.end_hall()
-        finally:
-            await self.audits.end()
+        self.end_hall()
+        await self.audits.end()
 
     def fail(self, fault: Exception) -> None:
         """The host can't go on: the first reason is kept."""
@@ -81,18 +82,16 @@ class Host:
 
     def end_hall(self) -> None:
         """Ends the logins that are open, and the run."""
-        hall, self.hall = self.hall, None
-        if hall:
-            try:
-                self.lose_logins()
-            finally:
-                hall.end()
-                self.clients.close()
-                self.audits.begin(hall.log)
-
-    def lose_logins(self) -> None:
-        for login in list(self.logins):
-            login.give_way()
+        if hall := self.hall:
+            self.hand_over()
+            for login in list(self.logins):
+                login.give_way()
+            self.hand_over()
+            self.events.clear()  # those of a hall that has failed
+            self.hall = None
+            hall.end()
+            self.clients.close()
+            self.audits.begin(hall.log)
 
     async def change(self, seconds: float) -> None:
         """Waits until a login ends, and at most so long. Only who holds the gate waits."""
@@ -125,25 +124,57 @@ class Host:
             self.check(client)  # others of its address may have failed meanwhile
             if self.hall is None:
                 raise HallFault("the host has ended")
-            return Login(self, self.hall, client, when_lost)
+            login = Login(self, self.hall, client, when_lost)
+            self.logins[login] = None
+        try:
+            await login.open()
+        except asyncio.CancelledError:
+            login.leave()
+            raise
+        return login
 
-    def has_begun(self, login: Login) -> None:
-        """A login tells its host so, and the next two."""
-        self.logins[login] = None
-        self.clients.opens(login.number, login.client)
+    def hear(self, event: bytes, take: Take) -> None:
+        """Hands the hall an event of a login, together with all others of this turn of the event loop. `take` is given the answer."""
+        if not self.events:
+            asyncio.get_running_loop().call_soon(self.hand_over)
+        self.events.append((event, take))
 
-    def has_heard(self, login: Login, size: int, is_refused: bool) -> None:
-        """Counts, for the limits, what a client has sent. The login that was heard last is the last that has to give way."""
-        self.sent.add(origin(login.client), size)
-        self.guesses.add(origin(login.client), is_refused)
-        if login in self.logins:
-            self.logins.move_to_end(login)
+    def hand_over(self) -> None:
+        """Hands over the events that are there. What their answers lead to may add others."""
+        while self.events and self.hall:
+            size, batch = 0, list[tuple[bytes, Take]]()
+            while self.events and (not batch or size + len(self.events[0][0]) < self.hall.most_at_once):
+                size += len(self.events[0][0]) + 1
+                batch.append(self.events.popleft())
+            answers = self.answers([event for event, _ in batch])
+            for (_, take), answer in zip(batch, answers):
+                take(answer)
+
+    def answers(self, events: list[bytes]) -> Sequence[Heard | HallFault]:
+        """What the hall answers to each of these events, or why it can't go on. The host learns of that."""
+        try:
+            heard = self.hall.hear(*events) if self.hall else []
+            if not heard or heard[-1].told == HALT:
+                raise HallFault("the book can't be saved")
+            return heard
+        except HallFault as fault:
+            self.fail(fault)
+            return [fault] * len(events)
+
+    def has_heard(self, login: Login, heard: Heard) -> None:
+        """A login tells its host what it was told. The login that was heard last is the last that has to give way."""
+        if not login.number:
+            login.number = heard.number
+            self.clients.opens(login.number, login.client)
+        self.guesses.add(origin(login.client), heard.told.startswith(b"NO "))
+        self.logins.move_to_end(login)
         if login.hall.is_full:
             self.renew()
 
     def has_ended(self, login: Login) -> None:
         del self.logins[login]
-        self.clients.ends(login.number)
+        if login.number:
+            self.clients.ends(login.number)
         self.changed.set()
 
     def renew(self) -> None:

@@ -1,4 +1,5 @@
 """A login: what a client says to a host, what it is to be told, and who it is once it is accepted."""
+import asyncio
 import contextlib
 import re
 import time
@@ -7,7 +8,8 @@ from typing import TYPE_CHECKING, NamedTuple
 from urllib.parse import quote, unquote_to_bytes
 
 from scramotp_host.clients import Client
-from scramotp_host.hall import LONGEST, Hall, HallFault, Heard
+from scramotp_host.hall import LONGEST, Hall, HallFault, Heard, going, opening, saying
+from scramotp_host.limits import origin
 
 if TYPE_CHECKING:
     from scramotp_host.host import Host
@@ -53,64 +55,78 @@ class Login:
 
     def __init__(self, host: "Host", hall: Hall, client: Client, when_lost: Callable[[], None]) -> None:
         self.host, self.hall, self.client, self.when_lost = host, hall, client, when_lost
-        self.seen, self.first, self.is_accepted, self.is_open, self.is_busy = time.monotonic(), b"", False, True, False
-        heard = self.heard(hall.open)
-        self.number = heard.number
-        self.host.has_begun(self)
-        if heard.is_over:
-            self.end()  # more than 64 places were asked for
+        self.number, self.seen, self.first = 0, time.monotonic(), b""
+        self.is_open, self.is_accepted, self.is_busy = True, False, False
+        # An event is handed in and not answered, and what is to be done once it is.
+        self.is_pending, self.is_leaving = False, False
+        self.answer: asyncio.Future[Heard]
 
-    def heard(self, call: Callable[..., Heard], *given: object) -> Heard:
-        """What the hall says. If it has failed, the host learns of it."""
-        try:
-            heard = call(*given)
-            if heard.told == b"HALT":
-                raise HallFault("the book can't be saved")
-        except HallFault as fault:
-            self.host.fail(fault)
-            raise
-        return heard
+    async def happens(self, event: bytes) -> Heard:
+        """Hands in an event, and returns what the hall says."""
+        self.is_pending, self.answer = True, asyncio.get_running_loop().create_future()
+        self.host.hear(event, self.take)
+        return await self.answer
 
-    def say(self, line: bytes) -> Answer:
+    def take(self, heard: Heard | HallFault) -> None:
+        """The hall has answered, or failed. Who has waited for it may have been cancelled meanwhile."""
+        self.is_pending = False
+        if isinstance(heard, Heard):
+            self.host.has_heard(self, heard)
+            if heard.is_over:
+                self.end()
+            elif self.is_leaving:
+                self.leave()
+        if self.answer.done():
+            return
+        if isinstance(heard, HallFault):
+            self.answer.set_exception(heard)
+        else:
+            self.answer.set_result(heard)
+
+    async def open(self) -> None:
+        """Begins the session."""
+        if (await self.happens(opening())).is_over:
+            raise LoginLost  # more than 64 places were asked for
+
+    async def say(self, line: bytes) -> Answer:
         """The client says this line."""
-        if not self.is_open:
+        if not self.is_open or self.is_leaving:
             raise LoginLost
         self.seen = time.monotonic()
-        heard = self.heard(self.hall.line, self.number, line)
+        self.host.sent.add(origin(self.client), len(line))
+        heard = await self.happens(saying(self.number, line))
         words, _, message = heard.told.partition(b" :")
-        answer = Answer(words.partition(b" ")[0].decode(), unquote_to_bytes(message))
-        if heard.is_over:
-            self.end()
-        self.host.has_heard(self, len(line), answer.word == "NO")
-        return answer
+        return Answer(words.partition(b" ")[0].decode(), unquote_to_bytes(message))
 
-    def send(self, line: str, message: bytes) -> Answer:
+    async def send(self, line: str, message: bytes) -> Answer:
         self.first = self.first or message
-        answer = self.say(f"{line} :{quote(message[:LONGEST], safe=PLAIN)}".encode())
+        answer = await self.say(f"{line} :{quote(message[:LONGEST], safe=PLAIN)}".encode())
         self.is_accepted = self.is_accepted or answer.word == "OK"
         return answer
 
-    def begin(self, mechanism: str, message: bytes | None) -> Answer:
+    async def begin(self, mechanism: str, message: bytes | None) -> Answer:
         """The client begins by one of MECHANISMS, with its first message, or with None if that comes later. ValueError for another
         mechanism."""
         if mechanism not in MECHANISMS:
             raise ValueError(mechanism)
-        return self.say(f"AUTH {mechanism}".encode()) if message is None else self.send(f"AUTH {mechanism}", message)
+        return await (self.say(f"AUTH {mechanism}".encode()) if message is None else self.send(f"AUTH {mechanism}", message))
 
-    def respond(self, message: bytes) -> Answer:
+    async def respond(self, message: bytes) -> Answer:
         """The client sends its next message."""
-        return self.send("RESP", message)
+        return await self.send("RESP", message)
 
-    def code(self, text: str) -> Answer:
+    async def code(self, text: str) -> Answer:
         """The client, once it is accepted, sends a one-time code. ValueError if it has other than 1 to 16 characters from `!` to `~`."""
         if not CODE.fullmatch(text):
             raise ValueError("not the text of a code")
-        return self.say(b"CODE " + text.encode())
+        return await self.say(b"CODE " + text.encode())
 
     def leave(self) -> None:
         """Ends the session. Call it as soon as the login is over, whatever came of it: its place is then for others."""
-        if self.is_open:
-            self.heard(self.hall.gone, self.number)
+        if self.is_pending:
+            self.is_leaving = True
+        elif self.is_open:
+            self.host.hear(going(self.number), lambda _: None)
             self.end()
 
     def end(self) -> None:

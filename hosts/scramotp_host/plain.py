@@ -25,13 +25,13 @@ async def accepts(login: Login, name: bytes, password: bytes, act_as: bytes = b"
     """Whether the hall accepts a login with this password, and its session is over then. Others are served while the proof is computed."""
     header = b"n,%s," % (act_as and b"a=" + escaped(act_as))
     bare = b"n=%s,r=%s" % (escaped(name), b64encode(os.urandom(18)))
-    word, challenge = login.begin("SCRAM-SHA-256", header + bare)
+    word, challenge = await login.begin("SCRAM-SHA-256", header + bare)
     if word == "CONT":
         nonce, salt, count = (part[2:] for part in challenge.split(b","))
         final = b"c=%s,r=%s" % (b64encode(header), nonce)
         signed = b",".join((bare, challenge, final))
         with login.busy():
             proof = await asyncio.to_thread(proof_of, password, b64decode(salt), int(count), signed)
-        word, _ = login.respond(final + b",p=" + b64encode(proof))
+        word, _ = await login.respond(final + b",p=" + b64encode(proof))
     login.leave()
     return word == "OK"
