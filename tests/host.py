@@ -239,6 +239,26 @@ def cancelled_logins(folder: str) -> None:
     holds(sessions > accepted, "no login was cancelled while it was open", sessions)
 
 
+def logins_that_are_lost_at_once(folder: str) -> None:
+    """Where a login has to give way at once, even while the hall judges it, each has a verdict or is lost, and none is left."""
+    async def one(host: Host, wrong: bool) -> str:
+        try:
+            return await logs_in(host, wrong=wrong)
+        except LoginLost:
+            return "lost"
+
+    async def many(host: Host) -> None:
+        for _ in range(20):
+            found = await asyncio.gather(*(one(host, number % 2 == 0) for number in range(20)))
+            holds({*found} <= {"OK", "NO", "lost"}, "another answer", found)
+        equal([login.number for login in host.logins], [], "the logins that are left")
+        equal(await logs_in(host), "OK", "a login after that")
+
+    serves(folder, many, places=1, idle=0)
+    [(sessions, accepted)] = audits(folder)
+    holds(sessions == 401 > accepted, "no login was lost", sessions, accepted)
+
+
 def long_messages_at_once(folder: str) -> None:
     """Sixty-four logins that come together with the longest messages do not stop the host and the hall, which could wait for each other's
     pipes."""
@@ -452,6 +472,7 @@ suite.run_all(
         passwords,
         codes,
         cancelled_logins,
+        logins_that_are_lost_at_once,
         long_messages_at_once,
         idle_logins,
         idle_over_a_change,

@@ -77,7 +77,12 @@ class Host:
             hall.discard()
             raise
         hall.begin()
-        self.hall, self.clients = hall, Clients(log + ".clients")
+        try:
+            self.clients = Clients(log + ".clients")
+        except OSError:
+            hall.end()
+            raise
+        self.hall = hall
         journal.note("begin", log=log)
 
     def end_hall(self) -> None:

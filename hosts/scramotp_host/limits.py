@@ -9,16 +9,23 @@ from typing import Any
 from scramotp_host.clients import Client
 
 
-def limit(default: float, help: str) -> Any:
-    """A field of `Limits`, and the flag of the same name."""
-    return dataclasses.field(default=default, metadata={"help": help})
+def limit(default: float, help: str, least: float = 0, most: float = 1e9) -> Any:
+    """A field of `Limits`, and the flag of the same name, with its least and its greatest value."""
+    def read(text: str) -> float:
+        value = type(default)(text)
+        if not least <= value <= most:
+            raise ValueError(text)
+        return value
+
+    read.__name__ = "number"
+    return dataclasses.field(default=default, metadata={"help": help, "read": read})
 
 
 @dataclasses.dataclass(frozen=True)
 class Limits:
     """The limits of a host. Times are in seconds."""
 
-    places: int = limit(64, "logins that are judged at a time; a hall takes no more than 64")
+    places: int = limit(64, "logins that are judged at a time; a hall takes no more than 64", 1, 64)
     idle: float = limit(1.0, "seconds after which an idle login gives its place to one that waits")
     grace: float = limit(10.0, "seconds that a new log waits for the logins that are open")
     patience: float = limit(150.0, "seconds that a login may take in all")
@@ -34,7 +41,7 @@ def add_flags(words: argparse.ArgumentParser) -> None:
     group = words.add_argument_group("limits")
     for it in dataclasses.fields(Limits):
         told = f"{it.metadata['help']} [{it.default}]"
-        group.add_argument(f"--{it.name}", type=type(it.default), default=it.default, metavar="N", help=told)
+        group.add_argument(f"--{it.name}", type=it.metadata["read"], default=it.default, metavar="N", help=told)
 
 
 def given(words: argparse.Namespace) -> Limits:

@@ -57,8 +57,7 @@ class Login:
         self.host, self.hall, self.client, self.when_lost = host, hall, client, when_lost
         self.number, self.seen, self.first = 0, time.monotonic(), b""
         self.is_open, self.is_accepted, self.is_busy = True, False, False
-        # An event is handed in and not answered, and what is to be done once it is.
-        self.is_pending, self.is_leaving = False, False
+        self.is_pending = False  # an event is handed in, and not answered
         self.answer: asyncio.Future[Heard]
 
     async def happens(self, event: bytes) -> Heard:
@@ -74,8 +73,6 @@ class Login:
             self.host.has_heard(self, heard)
             if heard.is_over:
                 self.end()
-            elif self.is_leaving:
-                self.leave()
         if self.answer.done():
             return
         if isinstance(heard, HallFault):
@@ -90,7 +87,7 @@ class Login:
 
     async def say(self, line: bytes) -> Answer:
         """The client says this line."""
-        if not self.is_open or self.is_leaving:
+        if not self.is_open:
             raise LoginLost
         self.seen = time.monotonic()
         self.host.sent.add(origin(self.client), len(line))
@@ -124,8 +121,8 @@ class Login:
     def leave(self) -> None:
         """Ends the session. Call it as soon as the login is over, whatever came of it: its place is then for others."""
         if self.is_pending:
-            self.is_leaving = True
-        elif self.is_open:
+            self.host.hand_over()  # the answer may be that the session is over
+        if self.is_open:
             self.host.hear(going(self.number), lambda _: None)
             self.end()
 

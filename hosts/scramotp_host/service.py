@@ -62,9 +62,14 @@ async def serve(given: argparse.Namespace, opens: Opens) -> None:
     loop, main = asyncio.get_running_loop(), asyncio.current_task()
     for number in signal.SIGINT, signal.SIGTERM:
         loop.add_signal_handler(number, lambda: main and main.cancel())
+    # One that comes before there is a log asks for nothing, and nohup ignores it.
+    hup_is_heard = signal.getsignal(signal.SIGHUP) != signal.SIG_IGN
+    if hup_is_heard:
+        loop.add_signal_handler(signal.SIGHUP, lambda: None)
     async with contextlib.AsyncExitStack() as open_ones:
         host = await open_ones.enter_async_context(Host(given.book, given.logs, limits.given(given), given.alarm))
-        loop.add_signal_handler(signal.SIGHUP, host.renew)
+        if hup_is_heard:
+            loop.add_signal_handler(signal.SIGHUP, host.renew)
         await open_ones.enter_async_context(controlled(host, given.control or f"{given.logs}/control"))
         await open_ones.enter_async_context(opens(host))
         if given.daily:
@@ -82,7 +87,7 @@ def run(given: argparse.Namespace, opens: Opens) -> int:
         asyncio.run(serve(given, opens))
     except asyncio.CancelledError:
         return 0
-    except (HallFault, OSError) as fault:
+    except (HallFault, OSError, LookupError) as fault:  # the last, if there is no such group
         journal.note("end", level="error", fault=fault)
         return 1
     return 0
