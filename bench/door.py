@@ -8,12 +8,9 @@ logins at a time on one connection. Best of several turns, wall time. Also print
 hall, in Dovecot's auth service and in the client. Dovecot's part needs root and Debian's dovecot-core, and is left out where these are not.
 """
 import os
-import socket
-import subprocess
 import sys
 import tempfile
 import time
-from base64 import b64encode
 from pathlib import Path
 
 import timed  # the folder of the tests is on the path from here on
@@ -63,55 +60,20 @@ def of_door(folder: str, account: "Account") -> str:
     return found
 
 
-def listens(path: Path) -> bool:
-    """Whether a service listens at a socket."""
-    with socket.socket(socket.AF_UNIX) as client:
-        return client.connect_ex(str(path)) == 0
-
-
 def of_dovecot(folder: str, account: "Account") -> str:
-    """The rate of Dovecot's own auth service, whose file of users has the account's keys."""
-    keys = ",".join(["4096", *(b64encode(it).decode() for it in [account.salt, account.stored, account.server])])
-    Path(folder, "users").write_text(f"user:{{SCRAM-SHA-256}}{keys}::::::\n")
-    Path(folder, "conf").write_text(f"""base_dir = {folder}/run
-state_dir = {folder}/state
-log_path = {folder}/log
-protocols =
-ssl = no
-auth_mechanisms = scram-sha-256
-passdb {{
-  driver = passwd-file
-  args = {folder}/users
-}}
-userdb {{
-  driver = static
-  args = uid=nobody gid=nogroup home=/
-}}
-service auth {{
-  unix_listener client {{
-    mode = 0666
-  }}
-}}
-""")
-    os.chmod(folder, 0o755)
-    os.chmod(Path(folder, "users"), 0o644)
-    run = subprocess.Popen(["/usr/sbin/dovecot", "-F", "-c", f"{folder}/conf"])
-    try:
-        until(lambda: listens(Path(folder, "run", "client")), "Dovecot's auth service should listen")
-        with Server(Path(folder, "run", "client")) as server:
+    """The rate of Dovecot's own auth service."""
+    with dovecot_auth(folder, account) as path:
+        with Server(path) as server:
             [auth] = [int(line.split("\t")[1]) for line in server.greeting if line.startswith("SPID\t")]
-        return rate(Path(folder, "run", "client"), account, {"auth": auth, "client": os.getpid()})
-    finally:
-        run.terminate()
-        run.wait(20)
+        return rate(path, account, {"auth": auth, "client": os.getpid()})
 
 
 if __name__ == "__main__":
     if len(sys.argv) != 2:
         sys.exit("usage: door.py PROGRAM")
     from clients import Account, book
-    from mail_servers import Door, Server
-    from processes import taken, until
+    from mail_servers import Door, Server, dovecot_auth
+    from processes import taken
 
     user = Account("user", "SCRAM-SHA-256")
     with tempfile.TemporaryDirectory() as folder:

@@ -23,7 +23,8 @@ from pathlib import Path
 import needs
 import suite
 from checks import equal, holds
-from mail_servers import Door
+from clients import Account, book
+from mail_servers import Door, Server, dovecot_auth
 from needs import EXIM
 from processes import Answer, ran, until
 from suite import PROGRAM, TOP, blocks_of
@@ -307,6 +308,64 @@ anvil unix - - n - 1 anvil
 tlsmgr unix - - n 1000? 1 tlsmgr
 """
 
+def told(path: Path, *lines: str) -> str:
+    """What a service says to these lines at once: the words of its first line without the login's number and a challenge, or that it
+    closes the connection, or says nothing in three seconds."""
+    server = Server(path)
+    with contextlib.closing(server):
+        server.connection.settimeout(3)
+        try:
+            server.send(*lines)
+            line = server.lines.readline().decode()
+        except TimeoutError:
+            return "nothing"
+        except ConnectionError:
+            return "closed"
+    word, _, *rest = line.strip().split("\t") if line else ("closed", "")
+    return " ".join([word, *(rest if word != "CONT" else [])])
+
+
+def differences_from_dovecot(folder: str) -> None:
+    """The same lines to the door and to Dovecot's own auth service: most are answered alike. docs/DOORS.md has each difference, with its
+    reason."""
+    if not has("Dovecot's auth service", "dovecot"):
+        return
+    user = Account("user", "SCRAM-SHA-256")
+    hello, settings = [f"VERSION\t1\t0\nCPID\t{os.getpid()}"], "service=imap\tno-penalty"
+    auth, refused = f"AUTH\t1\tSCRAM-SHA-256\t{settings}", "FAIL user=user"
+
+    def first(message: bytes, mechanism: str = "SCRAM-SHA-256", more: str = "") -> list[str]:
+        return [*hello, f"AUTH\t1\t{mechanism}\t{settings}{more}\tresp={b64encode(message).decode()}"]
+
+    os.chmod(folder, 0o711)
+    Path(folder, "dovecot").mkdir()
+    with Door(folder, book([user]), "--plain").served() as door, dovecot_auth(f"{folder}/dovecot", user) as other:
+        for what, lines, ours, theirs in [
+            ("a login without a first message", [*hello, auth], "CONT", "CONT"),
+            ("an empty first message", [*hello, f"{auth}\tresp="], "CONT", "CONT"),
+            ("a first message", first(b"n,,n=user,r=x"), "CONT", "CONT"),
+            ("a first message by a client that knows channel binding", first(b"y,,n=user,r=x"), "CONT", "CONT"),
+            ("no message", first(b"x"), "FAIL", "FAIL"),
+            ("no version", [auth], "closed", "closed"),
+            ("another version", ["VERSION\t2\t0"], "closed", "closed"),
+            ("a login without a mechanism", [*hello, "AUTH\t1"], "closed", "closed"),
+            ("a login without a number", [*hello, "AUTH\tx\tPLAIN"], "closed", "closed"),
+            ("a line that is too long", [*hello, f"{auth}\tresp={'A' * 20000}"], "closed", "closed"),
+            ("the end of a login that is not there", [*hello, "CANCEL\t5"], "nothing", "nothing"),
+            ("a password", first(b"\0user\0password of user", "PLAIN", "\tsecured"), "OK user=user", "OK user=user"),
+            ("a wrong password", first(b"\0user\0x", "PLAIN", "\tsecured"), refused, refused),
+            ("a name to act as", first(b"root\0user\0password of user", "PLAIN", "\tsecured"), refused, refused),
+            # These differ.
+            ("a password on a connection that is not secured", first(b"\0user\0password of user", "PLAIN"), "FAIL", "OK user=user"),
+            ("a name without an account", first(b"n,,n=nobody,r=x"), "CONT", "FAIL user=nobody"),
+            ("a mechanism that is not offered", first(b"x", "X"), "FAIL", "closed"),
+            ("a word that is not known", [*hello, "NEW\tx"], "nothing", "closed"),
+            ("a response of no login", [*hello, "CONT\t5\tAAAA"], "nothing", "FAIL reason=Authentication request timed out"),
+        ]:
+            equal(told(door.socket, *lines), ours, "the door's answer to", what)
+            equal(told(other, *lines), theirs, "Dovecot's answer to", what)
+
+
 OF_SMTP = [(by_msmtp, SCRAMS + BY_PASSWORD), (by_gsasl, SCRAMS + ["PLAIN"]), (by_curl, BY_PASSWORD)]
 CLIENTS = ["msmtp", "gsasl", "curl", "openssl"]
 
@@ -345,4 +404,4 @@ def logins_at_dovecot(folder: str) -> None:
         holds((homes / NAME / "mail").is_dir(), "the mailbox is not where it should be", [*homes.rglob("*")])
 
 
-suite.run_all([logins_at_postfix, logins_at_exim, logins_at_dovecot])
+suite.run_all([logins_at_postfix, logins_at_exim, logins_at_dovecot, differences_from_dovecot])

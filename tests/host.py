@@ -152,14 +152,16 @@ def names_of_logins(folder: str) -> None:
         login = await host.login(HOME)
         holds(await plain.accepts(login, b"user", b"password of user", b"x=,y"), "the user may not act as the other")
         equal(login.names, Names("user", "x=,y"), "the names")
-        for message, claimed in [(b"n,,n=user,r=a", "user"), (b"n,,n=\xff,r=a", None), ("n,,n=ü,r=a".encode(), None), (b"n,,", None)]:
+        odd_messages = [(b"n,,m=x,n=user,r=a", None), (b"n,x,n=user,r=a", None), (b"n,,n=,r=a", None)]
+        odd_messages += [(b"n,,n=\xff,r=a", None), ("n,,n=ü,r=a".encode(), None), (b"n,,", None)]
+        for message, claimed in [*odd_messages, (b"n,,n=user,r=a", "user")]:
             login = await host.login(HOME)
             await login.begin("SCRAM-SHA-256", message)
             equal(login.claimed, claimed, "the name that is claimed", message)
             login.leave()
 
     serves(folder, one, text)
-    equal(audits(folder), [(6, 2)], "the audit")
+    equal(audits(folder), [(9, 2)], "the audit")
     equal(names_in(b"n,a=x=2C=3Dy,n=z,r=1"), Names("z", "x,=y"), "the names in a message")
 
 

@@ -46,6 +46,13 @@ class Door:
         is_ready = lambda: self.run.process.poll() is not None or len(self.notes("ready")) > before
         until(is_ready, "a door should be ready")
 
+    @contextlib.contextmanager
+    def served(self) -> Iterator["Door"]:
+        """The door, which is ended by TERM at the end of the context."""
+        yield self
+        self.run.process.send_signal(signal.SIGTERM)
+        equal(self.status(), 0, "the status of a door", self.journal.read_text()[-2000:])
+
     def notes(self, event: str) -> list[str]:
         """The lines of the journal for such an event."""
         text = self.journal.read_text() if self.journal.exists() else ""
@@ -173,3 +180,48 @@ def door_of(folder: str | Path, book: str, accepted: int, *flags: str) -> Iterat
     door = Door(folder, book, *flags)
     yield door
     door.ends(accepted)
+
+
+def is_served(path: Path) -> bool:
+    """Whether somebody listens at a socket."""
+    with socket.socket(socket.AF_UNIX) as client:
+        return client.connect_ex(str(path)) == 0
+
+
+@contextlib.contextmanager
+def dovecot_auth(folder: str | Path, account: Account) -> Iterator[Path]:
+    """Dovecot's own auth service, whose file of users has this account's keys for SCRAM-SHA-256. Gives the path of its socket. Needs root
+    and Dovecot."""
+    place = Path(folder)
+    keys = ",".join(["4096", *(b64encode(it).decode() for it in [account.salt, account.stored, account.server])])
+    (place / "users").write_text(f"{account.name}:{{SCRAM-SHA-256}}{keys}::::::\n")
+    (place / "conf").write_text(f"""base_dir = {place}/run
+state_dir = {place}/state
+log_path = {place}/log
+protocols =
+ssl = no
+auth_failure_delay = 0
+auth_mechanisms = scram-sha-256 plain login
+passdb {{
+  driver = passwd-file
+  args = {place}/users
+}}
+userdb {{
+  driver = static
+  args = uid=nobody gid=nogroup home=/
+}}
+service auth {{
+  unix_listener client {{
+    mode = 0666
+  }}
+}}
+""")
+    place.chmod(0o755)
+    (place / "users").chmod(0o644)
+    run = subprocess.Popen(["/usr/sbin/dovecot", "-F", "-c", place / "conf"])
+    try:
+        until(lambda: is_served(place / "run/client"), "Dovecot's auth service should listen")
+        yield place / "run/client"
+    finally:
+        run.terminate()
+        run.wait(SECONDS)

@@ -45,6 +45,8 @@ class Names(NamedTuple):
 def names_in(client_first: bytes) -> Names:
     """The names in a client-first message (RFC 5802, section 7). ValueError if it is none. Believe them only after OK."""
     _, act_as, name = client_first.decode().split(",")[:3]
+    if not name.startswith("n=") or not act_as.startswith("a=") and act_as:
+        raise ValueError("no names")
     name, act_as = (part[2:].replace("=2C", ",").replace("=3D", "=") for part in (name, act_as))
     return Names(name, act_as or name)
 
