@@ -38,7 +38,7 @@ class Host:
     TIME.log.clients there. `failed` has a HallFault or an OSError once the host can't go on."""
 
     def __init__(self, book: str, logs: str, limits: Limits = Limits(), alarm: str | None = None) -> None:
-        self.book, self.logs, self.limits, self.audits = os.path.abspath(book), logs, limits, Audits(alarm)
+        self.book, self.logs, self.limits, self.audits = os.path.abspath(book), os.path.abspath(logs), limits, Audits(alarm)
         self.hall: Hall | None = None
         self.failed: asyncio.Future[None] = asyncio.get_running_loop().create_future()
         # The open logins, those first that have been idle for longer.
