@@ -147,12 +147,9 @@ smtpd_client_connection_rate_limit = 0
 
 
 def exim_words() -> tuple[list[str], dict[str, str]]:
-    """How Exim is run: the installed one, or the unpacked one with its libraries and a user that the machine has not. No word if there is
-    none."""
+    """How Exim is run: the installed one, or the unpacked one with its libraries and a user that the machine has not."""
     if Path("/usr/sbin/exim4").exists():
         return ["/usr/sbin/exim4"], {}
-    if not (EXIM / "usr/sbin/exim4").exists():
-        return [], {}
     libraries = ":".join(str(EXIM / "usr/lib" / name) for name in ["", "x86_64-linux-gnu"])
     users = {"PASSWD": "root:x:0:0::/:/bin/sh\nDebian-exim:x:65533:65533::/:/bin/sh\nnobody:x:65534:65534::/:/bin/sh\n"}
     users["GROUP"] = "root:x:0:\nDebian-exim:x:65533:\nnogroup:x:65534:\n"
@@ -380,10 +377,10 @@ def logins_at_postfix(folder: str) -> None:
 
 def logins_at_exim(folder: str) -> None:
     """Exim."""
-    words, variables = exim_words()
-    if not words:
+    is_installed = Path("/usr/sbin/exim4").exists()
+    if not is_installed and not (EXIM / "usr/sbin/exim4").exists():
         suite.not_tested("Exim, since it is neither installed nor unpacked")
-    elif has("Exim", *CLIENTS, *([WRAPPER] if variables else [])):
+    elif has("Exim", *CLIENTS, *([] if is_installed else [WRAPPER])):
         with door_in(folder, 11) as door, exim(folder) as port:
             try_clients(folder, port, door, OF_SMTP)
             smtp_answers(folder, port, door, 535, 435)

@@ -174,10 +174,11 @@ def outcomes(folder: str) -> None:
         server.challenge(13)
         server.begin(14, USER, "service=imap\tsecured=tls\tsession=x y\tlocal_name=localhost")
         equal(server.goes_on(14, USER, is_wrong=True), "FAIL\t14\tuser=user", "a wrong password of an IMAP client, who is told no reason")
-        server.auth(15, "PLAIN", b"\0user\0password of user", "service=smtp\tsecured")
+        server.auth(15, "PLAIN", b"\0user\0password of user", f"service=smtp\tsecured\trip={'9' * 9000}")
         equal(server.line(), "FAIL\t15\treason=Invalid user name or password", "a password, without --plain")
     told = [*["accepted"] * 2, *["refused"] * 2, *["accepted"] * 3, *["refused"] * 5, "abandoned", *["refused"] * 2, "abandoned"]
     equal(door.outcomes(), told, "the outcomes in the journal")
+    holds(max(map(len, door.notes("login"))) < 400, "a line of the journal is long", door.notes("login"))
     holds(' service=imap client="x y"' in door.notes("login")[13], "the journal lacks the client's connection", door.notes("login")[13])
     due = r"event=login outcome=accepted mechanism=SCRAM-SHA-256 name=user act_as=other log=\S+Z\.log session=7 service=smtp rip=.*"
     holds(any(re.fullmatch(due, line) for line in door.notes("login")), "the journal lacks the line of a login", door.notes("login"))

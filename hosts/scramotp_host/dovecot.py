@@ -32,6 +32,7 @@ MOST_UNREAD = 1 << 20  # bytes that are kept for a server that does not read
 PASSWORDS = ("PLAIN", "LOGIN")
 # What of the parameters of AUTH is kept of a client, and how it is called then; `session` is Dovecot's own name of the client's connection.
 KEPT = {"service": "service", "rip": "rip", "lip": "lip", "session": "client"}
+LONGEST_KEPT = 64  # characters of each
 REFUSED = "Invalid user name or password"
 
 
@@ -46,7 +47,7 @@ class Request:
         self.connection, self.host, self.ident, self.mechanism = connection, connection.door.host, ident, mechanism
         self.settings, self.user = settings, ""
         self.login: Login | None = None
-        self.client: Client = {name: settings[key] for key, name in KEPT.items() if key in settings} or connection.client
+        self.client: Client = {name: settings[key][:LONGEST_KEPT] for key, name in KEPT.items() if key in settings} or connection.client
         self.is_asked, self.messages = False, asyncio.Queue[bytes | None]()
         self.task = asyncio.create_task(self.run())
         self.task.add_done_callback(connection.sees_end)
@@ -74,7 +75,7 @@ class Request:
 
     def end(self, outcome: str) -> None:
         """Gives the place back, and notes what came of the login."""
-        fields: dict[str, object] = {"outcome": outcome, "mechanism": self.mechanism}
+        fields: dict[str, object] = {"outcome": outcome, "mechanism": self.mechanism[:LONGEST_KEPT]}
         if login := self.login:
             login.leave()
             names = login.names if outcome == "accepted" else Names(login.claimed or "", login.claimed or "")
