@@ -1,6 +1,8 @@
 # make help lists the targets.
 PREFIX ?= /usr/local
 DESTDIR ?=
+# Where zsh looks for completions, below PREFIX. A name of the environment does not change this.
+ZSH_FOLDER = share/zsh/site-functions
 # The oldest processors that the program is built for: x86-64, x86-64-v2 or x86-64-v3.
 CPU ?= x86-64-v2
 JOBS ?= $(shell nproc)
@@ -45,7 +47,8 @@ help:
 	@echo 'make libraries  proves the libraries, for a server of your own'
 	@echo 'make libscramotp  proves the library for C, and leaves it in clib/out'
 	@echo 'make install    copies the built program to $$(DESTDIR)$$(PREFIX)/bin,'
-	@echo '                its tools to $$(DESTDIR)$$(PREFIX)/share/scramotp, and its documents to share/doc/scramotp there'
+	@echo '                its tools to $$(DESTDIR)$$(PREFIX)/share/scramotp, its documents to share/doc/scramotp there,'
+	@echo '                and its man pages and completions to where man, bash, zsh and fish look for them'
 	@echo 'make setup      installs what the tests need, on Debian and as root'
 	@echo 'make test       compiles the program and all tests without proofs, and runs them: some 10 minutes'
 	@echo 'make prove      proves all, and checks that proofs refuse wrong bodies: an hour from nothing;'
@@ -117,6 +120,12 @@ install:
 	install -D -m 644 -t "$(DESTDIR)$(PREFIX)/share/doc/scramotp" $(DOCUMENTS)
 	install -D -m 644 -t "$(DESTDIR)$(PREFIX)/share/doc/scramotp/docs" docs/*.md
 	install -D -m 644 -t "$(DESTDIR)$(PREFIX)/share/doc/scramotp/bench" bench/README.md
+	install -D -m 644 -t "$(DESTDIR)$(PREFIX)/share/man/man1" man/*.1
+	install -D -m 644 -t "$(DESTDIR)$(PREFIX)/share/man/man5" man/*.5
+	install -D -m 644 -t "$(DESTDIR)$(PREFIX)/share/man/man8" man/*.8
+	install -D -m 644 completions/scramotp.bash "$(DESTDIR)$(PREFIX)/share/bash-completion/completions/scramotp"
+	install -D -m 644 -t "$(DESTDIR)$(PREFIX)/$(ZSH_FOLDER)" completions/_scramotp
+	install -D -m 644 -t "$(DESTDIR)$(PREFIX)/share/fish/vendor_completions.d" completions/scramotp.fish
 
 setup:
 	python3 tests/needs.py --install

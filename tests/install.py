@@ -3,40 +3,26 @@
 
 Usage: install.py PROGRAM [TEST ..]
 
-The program, the tools in tools/, the hosts in hosts/ and the documents are put where DESTDIR and PREFIX say, even if a name has a space,
-and no other file is. A program that is not built, or is older than its sources, is refused. `make run` prints the keys of RFC 5802's
-example, which are those from Python's hashlib. If the program is not built or is old, it compiles the sources; here stand-ins for rt and
-Python take their place, since that takes over a minute. Needs `make`.
+The program, the tools in tools/, the hosts in hosts/ with their units, the documents, the man pages and the completions are put where DESTDIR
+and PREFIX say, even if a name has a space, and no other file is. A program that is not built, or is older than its sources, is refused.
+`make run` prints the keys of RFC 5802's example, which are those from Python's hashlib. If the program is not built or is old, it compiles
+the sources; here stand-ins for rt and Python take their place, since that takes over a minute. Needs `make`.
 """
 import os
 import pathlib
 import shutil
 import stat
 from collections.abc import Iterable
-from typing import Any
 
 import suite
 from checks import equal, holds
-from processes import Answer, ran
+from installs import due_files, made
 from suite import KEYS_OF_PENCIL, PROGRAM, TOP, each
 
 REFUSED = "The program is not built, or is older than its sources: run make build first."
-# What make takes from the environment: where to install, and the settings of a make that called it, such as that of `make test`.
-OF_MAKE = {"DESTDIR", "PREFIX", "MAKEFLAGS", "MFLAGS", "MAKELEVEL"}
-ENVIRONMENT = {name: value for name, value in os.environ.items() if name not in OF_MAKE}
-
-
 # What the Makefile takes from the PATH before it compiles the sources.
 NEEDED = ["cat", "date", "find", "mkdir", "nproc", "sed"]
 NOTHING_PROVED = "Nothing is proved yet: make build does that. This compiles the program from its sources, in some minutes.\n"
-
-
-def made(
-    target: str, program: str | pathlib.Path, top: pathlib.Path = TOP, path: str | pathlib.Path | None = None, **folders: Any
-) -> Answer:
-    """Makes a target with this program and these variables, in a folder with the Makefile, and with another PATH if one is given."""
-    words = [shutil.which("make"), target, *(f"{name}={value}" for name, value in {"PROGRAM": program, **folders}.items())]
-    return ran(words, cwd=top, env={**ENVIRONMENT, **({"PATH": str(path)} if path else {})})
 
 
 def files_of(folder: pathlib.Path) -> list[pathlib.Path]:
@@ -50,23 +36,9 @@ def modes_of(paths: Iterable[pathlib.Path]) -> dict[str, str]:
 
 
 def installed(folder: str) -> None:
-    """The program, the tools and the documents are there, with the right bytes, and no other file is. All users may run the first two and
-    read all, and only their owner may write them."""
-    program = shutil.copy(PROGRAM, folder)
-    pages = [TOP / name for name in ["README.md", "CHANGELOG.md", "CONTRIBUTING.md", "LICENSE", "HANDLES", "bench/README.md"]]
-    commands = [path for path in [*(TOP / "tools").iterdir(), *(TOP / "hosts").iterdir()] if path.is_file()]
-    files = {pathlib.Path("share/scramotp", path.name): (path.read_bytes(), 0o755) for path in commands}
-    files |= {
-        pathlib.Path("share/scramotp", path.relative_to(TOP / "hosts")): (path.read_bytes(), 0o644)
-        for path in (TOP / "hosts/scramotp_host").glob("*.py")
-    }
-    for name, place in ("man", "share/man/man8"), ("units", "lib/systemd/system"):
-        files |= {pathlib.Path(place, path.name): (path.read_bytes(), 0o644) for path in (TOP / "hosts" / name).iterdir()}
-    files |= {
-        pathlib.Path("share/doc/scramotp", path.relative_to(TOP)): (path.read_bytes(), 0o644)
-        for path in [*pages, *(TOP / "docs").glob("*.md")]
-    }
-    files[pathlib.Path("bin/scramotp")] = (pathlib.Path(PROGRAM).read_bytes(), 0o755)
+    """All files of an installation are there, with the right bytes, and no other file is. All users may run the program, the tools and the
+    hosts, and read all, and only their owner may write them."""
+    program, files = shutil.copy(PROGRAM, folder), due_files()
     for trial, (name, folders, place) in each([
         ("plain", {"DESTDIR": "{}"}, "usr/local"),
         ("with a space", {"DESTDIR": "{}"}, "usr/local"),
