@@ -1,7 +1,8 @@
 # make help lists the targets.
 PREFIX ?= /usr/local
 DESTDIR ?=
-# Where zsh looks for completions, below PREFIX. A name of the environment does not change this.
+# Where make deb puts the package, and where zsh looks for completions below PREFIX. Names of the environment do not change these.
+DEB_FOLDER = out
 ZSH_FOLDER = share/zsh/site-functions
 # The oldest processors that the program is built for: x86-64, x86-64-v2 or x86-64-v3.
 CPU ?= x86-64-v2
@@ -38,7 +39,7 @@ BUILT_FOR := $(shell cat crates/scramotp/out/built_for 2>/dev/null || echo x86-6
 TIMED = $(if $(TIMES),python3 tests/timed.py --crates $(TIMES) 'rt ci')
 export TIMES
 
-.PHONY: help run build libraries libscramotp install setup test prove test-all time coverage fuzz bench clean kit this_kit needed FORCE
+.PHONY: help run build libraries libscramotp install deb setup test prove test-all time coverage fuzz bench clean kit this_kit needed FORCE
 
 help:
 	@echo 'make run        prints the keys of the example in RFC 5802, also before anything is built'
@@ -49,6 +50,7 @@ help:
 	@echo 'make install    copies the built program to $$(DESTDIR)$$(PREFIX)/bin,'
 	@echo '                its tools to $$(DESTDIR)$$(PREFIX)/share/scramotp, its documents to share/doc/scramotp there,'
 	@echo '                and its man pages and completions to where man, bash, zsh and fish look for them'
+	@echo 'make deb        makes a package for Debian of the built program, and prints its path'
 	@echo 'make setup      installs what the tests need, on Debian and as root'
 	@echo 'make test       compiles the program and all tests without proofs, and runs them: some 10 minutes'
 	@echo 'make prove      proves all, and checks that proofs refuse wrong bodies: an hour from nothing;'
@@ -127,6 +129,10 @@ install:
 	install -D -m 644 -t "$(DESTDIR)$(PREFIX)/$(ZSH_FOLDER)" completions/_scramotp
 	install -D -m 644 -t "$(DESTDIR)$(PREFIX)/share/fish/vendor_completions.d" completions/scramotp.fish
 
+# The time of its files is that of the last commit, so that the same commit gives the same bytes.
+deb: build
+	SOURCE_DATE_EPOCH=$${SOURCE_DATE_EPOCH:-$$(git log -1 --format=%ct)} python3 packaging/make_deb.py $(PROGRAM) $(DEB_FOLDER)
+
 setup:
 	python3 tests/needs.py --install
 
@@ -140,8 +146,8 @@ prove: this_kit
 
 test-all: needed build
 	cd crates/bench && rt run -- hotp 1 12345678901234567890
-	JOBS=$(JOBS) python3 tests/run.py $(PROGRAM)
-	python3 tests/planted.py --jobs $(JOBS)
+	FRESH=yes JOBS=$(JOBS) python3 tests/run.py $(PROGRAM)
+	FRESH=yes python3 tests/planted.py --jobs $(JOBS)
 
 # Each part has a line: its name, its seconds of wall time and its seconds of processor time. The last lines are those of the longest.
 time:

@@ -26,7 +26,7 @@ MAINTAINERS = ["ARCHITECTURE.md", "DECISIONS.md", "EMBEDDING.md", "MUTATIONS.md"
 MAINTAINERS += ["WORDS.md", "PROVING_NOTES.md", "SECURITY.md"]
 # The files besides pages whose lines may have no more columns than theirs.
 HOSTS = [file for file in sorted([*TOP.glob("hosts/*"), *TOP.glob("hosts/*/*.py")]) if file.is_file()]
-NARROWED = ["tests/*.py", "tests/*.c", "bench/*.py", "tools/*", "man/*", "completions/*", "Makefile"]
+NARROWED = ["tests/*.py", "tests/*.c", "bench/*.py", "tools/*", "man/*", "completions/*", "packaging/*.py", "Makefile"]
 NARROW = [file for pattern in NARROWED for file in sorted(TOP.glob(pattern))] + HOSTS
 
 # The kit with which everything was proved: its name, and the checksum of its logic.
@@ -90,7 +90,7 @@ def broken_links(page: Path) -> Iterator[str]:
 def missing_paths(page: Path) -> Iterator[str]:
     """The paths of a page, relative to the repository's top, at which nothing exists."""
     for number, line in prose(page):
-        for path in re.findall(r"`((?:bench|crates|docs|hosts|man|tests|tools)/[\w./-]+)`", line):
+        for path in re.findall(r"`((?:bench|crates|docs|hosts|man|packaging|tests|tools)/[\w./-]+)`", line):
             is_of_any_crate = "NAME" in path
             is_built = "/out/" in path
             if not (is_of_any_crate or is_built or (TOP / path).exists()):
@@ -229,7 +229,7 @@ def missing_functions(page: Path, sources_have: list[Owners]) -> Iterator[str]:
 def words_of_scripts() -> set[str]:
     """The words in the tests, the benchmarks, the tools, the hosts, the Makefile and the lists of crates."""
     files = [TOP / "Makefile", TOP / "crates.txt", rattle.LISTED, *TOP.glob("tests/*.*"), *TOP.glob("bench/*.py"), *TOP.glob("tools/*")]
-    files += HOSTS
+    files += [*HOSTS, *TOP.glob("packaging/*.py")]
     return {word for file in files for word in re.findall(r"[\w-]+", file.read_text(encoding="utf-8"))}
 
 
@@ -257,7 +257,7 @@ def untyped_functions() -> Iterator[str]:
     """The functions of the scripts and the hosts, and of the tools in Python, that do not give the types of all their arguments and of
     their result."""
     tools = [path for path in TOP.glob("tools/*") if path.read_text(encoding="utf-8").startswith("#!/usr/bin/env python3\n")]
-    for path in sorted([*TOP.glob("tests/*.py"), *TOP.glob("bench/*.py"), *tools, *HOSTS]):
+    for path in sorted([*TOP.glob("tests/*.py"), *TOP.glob("bench/*.py"), *TOP.glob("packaging/*.py"), *tools, *HOSTS]):
         for it in ast.walk(ast.parse(path.read_text(encoding="utf-8"))):
             if isinstance(it, ast.FunctionDef | ast.AsyncFunctionDef):
                 arguments = [argument for argument in ast.walk(it.args) if isinstance(argument, ast.arg) and argument.arg != "self"]

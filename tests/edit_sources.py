@@ -2,8 +2,9 @@
 refuse planted bugs.
 
 An edit has the form that `rt help` describes. That of a crate changes src/ or specs/, and one of a definition in specs/ belongs to no
-function. The edits in tests/planted/ change what no crate has: a tool, the package of hosts/, a man page, completions, a page with blocks
-that a test runs, the Makefile, a C file through which the program makes calls, or power_model.py.
+function. The edits in tests/planted/ change what no crate has: a tool, the package of hosts/, a man page, completions, the script that makes
+the package for Debian, a page with blocks that a test runs, what is around the library for C, the Makefile, a C file through which the
+program makes calls, or power_model.py.
 """
 import csv
 import re
@@ -18,8 +19,8 @@ TOP = Path(__file__).resolve().parent.parent
 FOLDERS = ("must-fail", "edits")
 # Where in a crate an edit may make changes; and where in the repository one in tests/planted/ may.
 EDITED = ("src/", "specs/")
-EDITED_BY_TESTS = ("tools/", "hosts/", "man/", "completions/", "docs/", "clib/", "Makefile", "tests/refuse_", "tests/note_files.c")
-EDITED_BY_TESTS += ("tests/turn_clock.c", "tests/pass_calls.c", "tests/power_model.py", "tests/c_library_")
+EDITED_BY_TESTS = ("tools/", "hosts/", "man/", "completions/", "packaging/", "docs/", "clib/", "Makefile", "tests/refuse_")
+EDITED_BY_TESTS += ("tests/note_files.c", "tests/turn_clock.c", "tests/pass_calls.c", "tests/power_model.py", "tests/c_library_")
 
 FUNCTION = re.compile(r"( *)(?:pub(?:\([a-z ]+\))? )?(?:(?:const|unsafe) )*fn (\w+)")
 IMPL = re.compile(r"impl(?:<.*?>)? (?:(?:\w+::)*(\w+)(?:<(.*?)>)? for )?(?:\w+::)*(\w+)")

@@ -22,6 +22,7 @@ FOR_PARTS = {"systemd-analyze": "systemd", "pamtester": "pamtester", "sshd": "op
 FOR_PARTS |= {"/usr/lib/x86_64-linux-gnu/libpam_wrapper.so": "libpam-wrapper", "mandoc": "mandoc", "fish": "fish", "zsh": "zsh"}
 FOR_PARTS |= {"postfix": "postfix", "dovecot": "dovecot-core", "/usr/lib/dovecot/imap-login": "dovecot-imapd", "msmtp": "msmtp"}
 FOR_PARTS |= {"gsasl": "gsasl", "curl": "curl", "openssl": "openssl", "/usr/lib/x86_64-linux-gnu/libnss_wrapper.so": "libnss-wrapper"}
+FOR_PARTS |= {"dpkg-deb": "dpkg", "lintian": "lintian", "mmdebstrap": "mmdebstrap"}
 # Exim can't be installed beside Postfix. So it is unpacked here, with the libraries that it needs.
 EXIM = Path(os.environ.get("EXIM") or Path(__file__).resolve().parent.parent / "out" / "exim")
 OF_EXIM = ["exim4-daemon-heavy", "libspf2-2", "libmariadb3", "libidn12"]

@@ -66,6 +66,7 @@ TESTS = [
     "fuzz.py",
     "commands.py",
     "terminal.py",
+    "deb.py",
     "man.py",
     "completions.py",
     "install.py",
