@@ -130,7 +130,7 @@ install:
 	install -D -m 644 -t "$(DESTDIR)$(PREFIX)/share/fish/vendor_completions.d" completions/scramotp.fish
 
 # The time of its files is that of the last commit, so that the same commit gives the same bytes.
-deb: build
+deb:
 	SOURCE_DATE_EPOCH=$${SOURCE_DATE_EPOCH:-$$(git log -1 --format=%ct)} python3 packaging/make_deb.py $(PROGRAM) $(DEB_FOLDER)
 
 setup:

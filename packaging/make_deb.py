@@ -78,8 +78,8 @@ def for_debian(root: Path, version: str, moment: int) -> None:
     """Adds what a package has to have, and changes what Debian has in another form: it compresses pages, and names the system's Python."""
     for page in root.glob("usr/share/man/*/*"):
         compressed(page)
-    for tool in root.glob("usr/share/scramotp/*"):
-        tool.write_text(tool.read_text(encoding="utf-8").replace("#!/usr/bin/env python3\n", "#!/usr/bin/python3\n", 1), encoding="utf-8")
+    for tool in filter(Path.is_file, root.glob("usr/share/scramotp/**/*")):
+        tool.write_bytes(re.sub(rb"\A#!/usr/bin/env python3\n", b"#!/usr/bin/python3\n", tool.read_bytes()))
     doc, license_text = root / "usr/share/doc/scramotp", (TOP / "LICENSE").read_text(encoding="utf-8")
     [holders] = re.findall(r"^Copyright \(c\) (.*)$", license_text, re.M)
     terms = license_text.partition("\n\n")[2].partition("\n\n")[2]
@@ -135,11 +135,11 @@ def main() -> int:
     if not (epoch := os.environ.get("SOURCE_DATE_EPOCH", "")).isdecimal():
         sys.exit("make_deb.py: SOURCE_DATE_EPOCH is not a time in seconds since 1970")
     moment = int(epoch)
-    version = subprocess.run([program, "--version"], capture_output=True, text=True, check=True).stdout.split()[1]
-    package = folder / f"scramotp_{version}_amd64.deb"
-    folder.mkdir(parents=True, exist_ok=True)
     with tempfile.TemporaryDirectory() as root:
         installed(program, Path(root))
+        version = subprocess.run([program, "--version"], capture_output=True, text=True, check=True).stdout.split()[1]
+        folder.mkdir(parents=True, exist_ok=True)
+        package = folder / f"scramotp_{version}_amd64.deb"
         for_debian(Path(root), version, moment)
         described(Path(root), version)
         settled(Path(root), moment)

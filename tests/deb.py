@@ -52,8 +52,8 @@ def packaged(folder: str | pathlib.Path, **how: int) -> pathlib.Path:
 
 
 def same_bytes(folder: str) -> None:
-    """`make deb`, and the script with another umask and in another folder, make the same bytes. Without a time, or with too few words, the
-    script makes nothing."""
+    """`make deb`, and the script with another umask and in another folder, make the same bytes. Without a time, with too few words, or of a
+    program that is older than its sources, the script makes nothing."""
     if not has("dpkg-deb", "the package for Debian"):
         return
     one, other = pathlib.Path(folder, "one"), pathlib.Path(folder, "other")
@@ -65,10 +65,17 @@ def same_bytes(folder: str) -> None:
     again = packaged(other, umask=0o077)
     equal(again.name, package.name, "the package's name")
     holds(package.read_bytes() == again.read_bytes(), "with another umask, the package has other bytes")
-    for trial, (words, moment) in each([([PROGRAM], MOMENT), ([PROGRAM, f"{folder}/none"], "")]):
+    old, none = shutil.copy(PROGRAM, pathlib.Path(folder, "old")), f"{folder}/none"
+    os.utime(old, (0, 0))
+    for trial, (words, moment, fault) in each([
+        ([PROGRAM], MOMENT, "make_deb.py PROGRAM FOLDER: makes the Debian package"),
+        ([PROGRAM, none], "", "make_deb.py: SOURCE_DATE_EPOCH is not a time"),
+        ([old, none], MOMENT, "The program is not built, or is older than its sources: run make build first."),
+    ]):
         with trial:
             answer = ran(["python3", TOP / "packaging/make_deb.py", *words], env={**ENVIRONMENT, "SOURCE_DATE_EPOCH": str(moment)})
-            equal((answer.status, answer.output, os.path.exists(f"{folder}/none")), (1, "", False), words, answer.faults)
+            equal((answer.status, answer.output, os.path.exists(none)), (1, "", False), words, answer.faults)
+            holds(answer.faults.startswith(fault), "another fault is due:", fault, answer.faults)
 
 
 def entries_of(package: pathlib.Path) -> dict[str, tuple[tarfile.TarInfo, bytes]]:
