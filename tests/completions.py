@@ -4,8 +4,9 @@
 Usage: completions.py PROGRAM [TEST ..]
 
 Those of bash are called in a bash without settings, and tried at its prompt: what is typed there is completed and run, with a function in
-the place of the program that notes its words. Of zsh and fish only the syntax is checked, and the lists of commands and options, which have
-to be those of the help. Names of accounts are hostile ones: none may run anything, or become two words.
+the place of the program that notes its words. Names of accounts are hostile ones: none may run anything, or become two words. In zsh, where
+it is installed, a few are tried in the same way, and fish is asked for all. In each shell the commands and options have to be those of the
+help.
 """
 import contextlib
 import json
@@ -33,12 +34,13 @@ while IFS= read -r COMP_LINE; do
     printf '%s\n' "${COMPREPLY[*]}"
 done
 """
-# What a bash at a terminal reads first: `scramotp` notes its words, each followed by a zero byte, and how many they are.
-NOTES = r"""
-source {completions}
-scramotp() {{ printf '%s\0' "$#" "$@" >>{noted}; }}
-PS1= HISTFILE=
-"""
+# How a shell at a terminal is started, which file it then reads, and what this has. In it `scramotp` notes its words, each followed by a
+# zero byte, and how many they are.
+NOTES = "scramotp() {{ printf '%s\\0' \"$#\" \"$@\" >>{noted}; }}\nPS1= HISTFILE=\n"
+SHELLS = {
+    "bash": (["bash", "--noprofile", "--rcfile", ".bashrc", "-i"], ".bashrc", "source {completions}/scramotp.bash\n" + NOTES),
+    "zsh": (["zsh", "-d", "-i"], ".zshrc", "fpath=({completions} $fpath)\nautoload -Uz compinit && compinit -u -D\n" + NOTES),
+}
 # Readline's keys for the insertion of all completions, and to remove the line.
 ALL, KILL = "\x1b*", "\x15"
 # Names that a shell would run, split or expand if they were not quoted; and one that begins as an option.
@@ -107,12 +109,13 @@ def options(folder: str) -> None:
 
 
 def installed(folder: str | Path) -> dict[str, str]:
-    """The environment of a bash in which the program is installed below this folder, with its tools."""
+    """The environment of a shell in which the program is installed below this folder, with its tools."""
     here = Path(folder, "prefix")
     shutil.copytree(TOP / "tools", here / "share/scramotp")
     (here / "bin").mkdir()
     shutil.copy(PROGRAM, here / "bin/scramotp")
-    return {**os.environ, "PATH": f"{here}/bin:{os.environ['PATH']}", "HOME": str(folder), "TERM": "dumb", "INPUTRC": "/dev/null"}
+    of_shells = {"HOME": str(folder), "ZDOTDIR": str(folder), "TERM": "dumb", "INPUTRC": "/dev/null"}
+    return {**os.environ, "PATH": f"{here}/bin:{os.environ['PATH']}", **of_shells}
 
 
 def book_of(names: list[str]) -> str:
@@ -132,20 +135,21 @@ def records(path: Path) -> list[list[str]]:
 
 
 def is_noted(path: Path, number: int, side: int) -> bool:
-    """Whether so many runs are noted. Reads what bash shows meanwhile, on this side of its terminal, so that it need not wait."""
+    """Whether so many runs are noted. Reads what the shell shows meanwhile, on this side of its terminal, so that it need not wait."""
     with contextlib.suppress(BlockingIOError):
         os.read(side, 65536)
     return len(records(path)) >= number
 
 
-def typed(folder: str | Path, lines: list[str]) -> Iterator[list[str]]:
-    """Types lines at the prompt of a bash in this folder, and gives the words that each has run `scramotp` with."""
-    noted, rc = Path(folder, "noted"), Path(folder, "rc")
-    rc.write_text(NOTES.format(completions=BASH, noted=noted))
+def typed(folder: str | Path, shell: str, lines: list[str]) -> Iterator[list[str]]:
+    """Types lines at the prompt of a shell in this folder, and gives the words that each has run `scramotp` with."""
+    words_of_shell, rc, text = SHELLS[shell]
+    noted = Path(folder, "noted")
+    Path(folder, rc).write_text(text.format(completions=FOLDER, noted=noted))
     side, end = os.openpty()
     os.set_blocking(side, False)
     ways = {"stdin": end, "stdout": end, "stderr": end, "cwd": folder, "env": installed(folder), "start_new_session": True}
-    with subprocess.Popen(["bash", "--noprofile", "--rcfile", rc, "-i"], **ways) as run:
+    with subprocess.Popen(words_of_shell, **ways) as run:
         try:
             for number, line in enumerate(lines, 1):
                 os.write(side, f"{line}\n".encode())
@@ -157,13 +161,27 @@ def typed(folder: str | Path, lines: list[str]) -> Iterator[list[str]]:
             os.close(end)
 
 
-def names(folder: str) -> None:
-    """After `--name` and `--as`, the names of the accounts in the book of `--book` are offered, quoted: each arrives at the program as one
-    word, and none runs anything."""
+def with_books(folder: str | Path) -> None:
+    """Makes a book with hostile names in this folder, another with two plain ones, and a file that is no book."""
     Path(folder, "book.toml").write_text(book_of([*HOSTILE, "--help"]))
     Path(folder, "a book.toml").write_text(book_of(["anne", "bob"]))
     Path(folder, "none.toml").write_text("[")
-    rows = [
+
+
+def completed(folder: str, shell: str, rows: list[tuple[str, list[str]]]) -> None:
+    """Types each line of these rows at a shell's prompt, and compares the words with which `scramotp` is then run. Nothing else may be."""
+    for trial, ((line, due), found) in each(zip(rows, typed(folder, shell, [line for line, _ in rows]))):
+        with trial:
+            # Readline sorts names as they are quoted.
+            equal(sorted(found), sorted(due), "the words that were run, of", line)
+            holds(not Path(folder, "ran").exists(), "a name was run, of", line)
+
+
+def names(folder: str) -> None:
+    """After `--name` and `--as`, bash offers the names of the accounts in the book of `--book`, quoted: each arrives at the program as one
+    word, and none runs anything."""
+    with_books(folder)
+    completed(folder, "bash", [
         (f"scramotp verify --book book.toml --name {ALL}", ["verify", "--book", "book.toml", "--name", *HOSTILE]),
         (f"scramotp login --book=book.toml --as {ALL}", ["login", "--book=book.toml", "--as", *HOSTILE]),
         (f"scramotp verify --book 'a book.toml' --name a{ALL}", ["verify", "--book", "a book.toml", "--name", "anne"]),
@@ -180,12 +198,48 @@ def names(folder: str) -> None:
         (f"scramotp verify --name {ALL}", ["verify", "--name"]),
         ("scramotp hall --book a\t", ["hall", "--book", "a book.toml"]),
         ("scramotp hall --book=bo\t", ["hall", "--book=book.toml"]),
-    ]
-    for trial, ((line, due), found) in each(zip(rows, typed(folder, [line for line, _ in rows]))):
+    ])
+
+
+def names_in_zsh(folder: str) -> None:
+    """The same in zsh, for one name at a time."""
+    if not shutil.which("zsh"):
+        return not_tested("the names that zsh offers, which is not here")
+    with_books(folder)
+    return completed(folder, "zsh", [
+        ("scramotp ver\t", ["verify"]),
+        ("scramotp verify --book book.toml --name user@\t", ["verify", "--book", "book.toml", "--name", "user@example.org"]),
+        ("scramotp verify --book book.toml --name \\$\\(\t", ["verify", "--book", "book.toml", "--name", "$(touch ran)"]),
+        ("scramotp verify --book book.toml --name a\\;\t", ["verify", "--book", "book.toml", "--name", "a;touch ran"]),
+        ("scramotp verify --book=book.toml --name=user@\t", ["verify", "--book=book.toml", "--name=user@example.org"]),
+        ("scramotp login --book 'a book.toml' --as an\t", ["login", "--book", "a book.toml", "--as", "anne"]),
+        ("scramotp verify --book ~/a\\ book.toml --name b\t", ["verify", "--book", f"{folder}/a book.toml", "--name", "bob"]),
+        ("scramotp verify --book '$(touch ran)' --name u\t", ["verify", "--book", "$(touch ran)", "--name", "u"]),
+        ("scramotp hall --book non\t", ["hall", "--book", "none.toml"]),
+    ])
+
+
+def names_in_fish(folder: str) -> None:
+    """fish offers each name as it is, which it quotes itself, and runs nothing."""
+    if not shutil.which("fish"):
+        return not_tested("the names that fish offers, which is not here")
+    with_books(folder)
+    environment = installed(folder)
+    for trial, (line, due) in each([
+        ("scramotp verify --book book.toml --name ", HOSTILE),
+        ("scramotp login --book=book.toml --as a", [name for name in HOSTILE if name.startswith("a")]),
+        ("scramotp login --book 'a book.toml' --as ", ["anne", "bob"]),
+        ("scramotp verify --book ~/a\\ book.toml --name b", ["bob"]),
+        ("scramotp verify --book '$(touch ran)' --name ", []),
+        ("scramotp verify --book none.toml --name ", []),
+        ("scramotp u", ["unlock", "upgrade"]),
+    ]):
         with trial:
-            # Readline sorts names as they are quoted.
-            equal(sorted(found), sorted(due), "the words that were run, of", line)
-            holds(not Path(folder, "ran").exists(), "a name was run, of", line)
+            words = ["fish", "--no-config", "-c", f"source {FOLDER}/scramotp.fish; complete -C $argv[1]", line]
+            status, output, faults = ran(words, cwd=folder, env=environment)
+            equal((status, faults, Path(folder, "ran").exists()), (0, "", False), line, output)
+            equal(sorted(it.partition("\t")[0] for it in output.splitlines()), sorted(due), "what fish offers for", line)
+    return None
 
 
 def syntax(folder: str) -> None:
@@ -198,4 +252,4 @@ def syntax(folder: str) -> None:
                 not_tested(f"the completions of {shell}, which is not here")
 
 
-suite.run_all([words, options, names, syntax])
+suite.run_all([words, options, names, names_in_zsh, names_in_fish, syntax])
