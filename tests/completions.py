@@ -43,7 +43,7 @@ SHELLS = {
 }
 # Readline's keys for the insertion of all completions, and to remove the line.
 ALL, KILL = "\x1b*", "\x15"
-# Names that a shell would run, split or expand if they were not quoted; and one that begins as an option.
+# Names that a shell would run, split or expand if they were not quoted, or in which a colon could be taken for the end.
 HOSTILE = [
     "$(touch ran)", "`touch ran`", "a;touch ran", "a&touch ran&", "a|touch ran", "a>ran", "a b", " a", "a ", "a'b", 'a"b', "a\\b", "a\\",
     "*", "?", "[a]", "{a,b}", "(a)", "~root", "$HOME", "a!b", "!!", "^a^b", "#a", "%s", "a=b", "a:b", "a: nothing", "user@example.org",
