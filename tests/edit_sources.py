@@ -2,9 +2,9 @@
 refuse planted bugs.
 
 An edit has the form that `rt help` describes. That of a crate changes src/ or specs/, and one of a definition in specs/ belongs to no
-function. The edits in tests/planted/ change what no crate has: a tool, the package of hosts/, a man page, completions, the script that makes
-the package for Debian, a page with blocks that a test runs, what is around the library for C, the Makefile, a C file through which the
-program makes calls, or power_model.py.
+function. The edits in tests/planted/ change what no crate has: a tool, the package of hosts/, a man page, completions, the script that
+makes the package for Debian, a page with blocks that a test runs, what is around the library for C, the Makefile, a C file through which
+the program makes calls, or power_model.py.
 """
 import csv
 import re

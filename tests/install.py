@@ -3,10 +3,10 @@
 
 Usage: install.py PROGRAM [TEST ..]
 
-The program, the tools in tools/, the hosts in hosts/ with their units, the documents, the man pages and the completions are put where DESTDIR
-and PREFIX say, even if a name has a space, and no other file is. A program that is not built, or is older than its sources, is refused.
-`make run` prints the keys of RFC 5802's example, which are those from Python's hashlib. If the program is not built or is old, it compiles
-the sources; here stand-ins for rt and Python take their place, since that takes over a minute. Needs `make`.
+The program, the tools in tools/, the hosts in hosts/ with their units, the documents, the man pages and the completions are put where
+DESTDIR and PREFIX say, even if a name has a space, and no other file is. A program that is not built, or is older than its sources, is
+refused. `make run` prints the keys of RFC 5802's example, which are those from Python's hashlib. If the program is not built or is old, it
+compiles the sources; here stand-ins for rt and Python take their place, since that takes over a minute. Needs `make`.
 """
 import os
 import pathlib
