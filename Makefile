@@ -23,7 +23,7 @@ LIBRARIES = mac_core otp_core scram_text scram_ends book_format account_book boo
 TOOLS = $(addprefix tools/,check-code drop-tables edit-book find-key from-verifier list-accounts list-unlike-decoys serve-hall \
 	set-password to-verifier)
 # What serves logins, and the package of Python on which it stands.
-HOSTS = hosts/scramotp-host hosts/serve-dovecot-auth
+HOSTS = $(addprefix hosts/,check-login scramotp-host serve-dovecot-auth)
 # The documents that are installed, with the folder docs as it is here, so that their links lead to each other.
 DOCUMENTS = README.md CHANGELOG.md CONTRIBUTING.md LICENSE HANDLES
 # What the program is built from.
