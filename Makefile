@@ -141,10 +141,12 @@ test: needed
 
 prove: this_kit
 	$(TIMED) rt ci
+	cd crates/c_library && rt lib --jobs $(JOBS)
+	python3 tests/c_library.py $(PROGRAM)
 	@rm -f crates/scramotp/out/built_for
 	python3 tests/edits.py --built --share $(SHARE)
 
-test-all: needed build
+test-all: needed build libscramotp
 	cd crates/bench && rt run -- hotp 1 12345678901234567890
 	FRESH=yes JOBS=$(JOBS) python3 tests/run.py $(PROGRAM)
 	FRESH=yes python3 tests/planted.py --jobs $(JOBS)
