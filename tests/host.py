@@ -269,8 +269,14 @@ def long_messages_at_once(folder: str) -> None:
             login = await host.login(HOME)
             return (await login.begin("SCRAM-SHA-256", b"\xff" * 2048)).word
 
-        signal.alarm(limit(60))
-        equal({*await asyncio.gather(*(one() for _ in range(64)))}, {"NO"}, "the answers")
+        # If both wait, the alarm ends the host's wait, and then the hall is killed.
+        signal.alarm(limit(20))
+        try:
+            async with asyncio.timeout(limit(30)):
+                equal({*await asyncio.gather(*(one() for _ in range(64)))}, {"NO"}, "the answers")
+        finally:
+            if signal.alarm(0) == 0:
+                host.hall.process.kill()
 
     serves(folder, all_of)
     equal(audits(folder), [(64, 0)], "the audit")
