@@ -136,7 +136,7 @@ smtpd_tls_chain_files = {files["key.pem"]}, {files["cert.pem"]}
 smtpd_client_connection_count_limit = 0
 smtpd_client_connection_rate_limit = 0
 """
-    (place / "main.cf").write_text(own + configuration("Postfix", {"private/scramotp": f"{folder}/auth"}))
+    (place / "main.cf").write_text(own + configuration("Postfix", {"scramotp/auth": f"{folder}/auth"}))
     (place / "master.cf").write_text(f"127.0.0.1:{port} inet n - n - - smtpd\n{MASTER}")
     equal(ran(["/usr/sbin/postfix", "-c", place, "start"]).status, 0, "the start of Postfix")
     try:

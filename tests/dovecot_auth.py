@@ -443,9 +443,8 @@ def blocks_of_the_page(folder: str) -> None:
     Path(folder, "book.toml").write_text(BOOK.replace("failures = 0", "failures = 100").replace("decoy_count = 4096", "decoy_count = 4095"))
     Path(folder, "book.toml").chmod(0o600)
     [start], [work], [program] = blocks("Start", "sh"), blocks("Unlock, enrol, edit", "sh"), blocks("As a library", "python")
-    holds(" --group postfix" in start, "the block has no group", start)
     how = {"cwd": folder, "env": {**program_on_path(folder), "PYTHONPATH": str(TOP / "hosts")}}
-    run = Running(["bash", "-c", start.replace("hosts/serve", "exec hosts/serve").replace(" --group postfix", "")], **how)
+    run = Running(["bash", "-c", start.replace("hosts/serve", "exec hosts/serve")], **how)
     until(lambda: Path(folder, "auth").exists() or run.process.poll() is not None, "the door should serve")
     with Server(Path(folder, "auth")) as server:
         equal(server.logs_in(1, USER), OK.format(1), "a login")
