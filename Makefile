@@ -46,7 +46,7 @@ help:
 	@echo 'make build      proves the program and leaves it at $(PROGRAM);'
 	@echo '                CPU=x86-64-v3 builds it for newer processors'
 	@echo 'make libraries  proves the libraries, for a server of your own'
-	@echo 'make libscramotp  proves the library for C, and leaves it in clib/out'
+	@echo 'make libscramotp proves the library for C, and leaves it in clib/out'
 	@echo 'make install    copies the built program to $$(DESTDIR)$$(PREFIX)/bin,'
 	@echo '                its tools to $$(DESTDIR)$$(PREFIX)/share/scramotp, its documents to share/doc/scramotp there,'
 	@echo '                and its man pages and completions to where man, bash, zsh and fish look for them'
