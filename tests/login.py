@@ -268,6 +268,31 @@ def parts_of_nonces(log: str) -> tuple[str, str]:
     return client, re.search(r"\nS CONT :r=([^,]+),", log)[1].removeprefix(client)
 
 
+def values_with_hyphens(folder: str) -> None:
+    """A name or a nonce that begins with a hyphen may be the next word. After any other option such a word is an unknown option."""
+    here = Login(folder)
+    here.book.unlink()
+    equal(ran([PROGRAM, "enrol", "--book", here.book, "--name", "-u"], "pencil"), (0, "enrolled -u\n", ""), "a name with a hyphen")
+    here.put(here.book.read_text())
+    values = {"--as": "-u", "--client-nonce": "--name", "--server-nonce": "-"}
+    log = here.log_of(here.words(*[word for pair in values.items() for word in pair], name="-u"), "pencil", 0)
+    lines = log.splitlines()
+    equal(lines[2], "C AUTH SCRAM-SHA-256 :n,a=-u,n=-u,r=--name", lines)
+    holds(lines[3].startswith("S CONT :r=--name-,s="), "the challenge does not have the nonces", lines)
+    here.audited(log, clean(1, 1, 0))
+    equal(here.log_of(here.words(*map("=".join, values.items()), name="-u"), "pencil", 0), log, "the log with each value after =")
+    for trial, (option, value) in each([("--name", "-\x7f"), ("--as", "-\x7f"), ("--client-nonce", "-,"), ("--server-nonce", "- ")]):
+        with trial:
+            here.refuses(here.words(option, value) if option != "--name" else here.words(name=value), "", 2, f"bad value for {option}")
+    for trial, option in each(["--moment", "--mechanism", "--random"]):
+        with trial:
+            status, output, faults = ran(here.words(option, "-1"), "pencil")
+            equal((status, output), (2, ""), faults)
+            holds(faults.startswith("error: unexpected argument '-1' found"), "the word is not refused", faults)
+    answer = ran([PROGRAM, "verify", "--book", here.book, "--moment", "5", "--name"], "")
+    holds(answer.faults.startswith("error: a value is required for '--name "), "the missing value is not told", answer)
+
+
 def moments(folder: str) -> None:
     """A code's moment is the time of the machine's clock, unless one is given."""
     here = Login(folder, with_codes())
@@ -380,6 +405,7 @@ TESTS = [
     replies_at_once,
     failed_saves,
     random_nonces,
+    values_with_hyphens,
     moments,
     order_of_faults,
     short_random_files,

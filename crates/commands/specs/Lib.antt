@@ -14,5 +14,6 @@ pub mod LoginFaults
 pub mod Hall
 pub mod Audit
 pub mod Upgrade
+pub mod Joined
 pub mod Program
 pub mod inner

@@ -12,6 +12,7 @@
 mod audit;
 mod audit_lines;
 mod hall;
+mod joined;
 pub mod laws;
 mod login;
 mod printed_log;

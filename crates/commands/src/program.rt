@@ -4,10 +4,12 @@ ghost use Rattle.std.specs.Io.KnownBytes.{Appends};
 ghost use Rattle.clap.specs.Words.{kind_of, subcommand_rows_of};
 ghost use Rattle.command_line.specs.Fault.{status_of};
 ghost use Rattle.command_words.specs.Commands.{NamesCommand};
+ghost use Rattle.commands.specs.Joined.{joined};
 ghost use Rattle.commands.specs.Program.{answer_status, EndsBeforeFlush, EndsCommand, EndsRun, Explains};
 
 use crate::audit::audit;
 use crate::hall::hall;
+use crate::joined::joined_words;
 use crate::login::login;
 use crate::upgrade::upgrade;
 use crate::verify::verify;
@@ -35,6 +37,27 @@ use std::time::Clock;
 /// failed, or memory ran out. The answer, help and version go to `output`, which is returned, and everything else to `faults`. Both
 /// are flushed. No contract states what goes to `faults`, or that the streams are flushed.
 pub fn run<R, S, I, O, E>(rt: &R, words: &[S], input: &mut I, output: O, faults: &mut E) -> (u8, O)
+where
+    R: Files + Net + Clock + AllocGlobal,
+    R::File: BookFileExt,
+    S: AsStr,
+    I: TerminalInput,
+    O: Write + Drop,
+    E: TerminalOutput,
+    // Follows from `ends`.
+    ensures most { result.0 ≤ 3 }
+    ensures ends { EndsRun R.File.remaining R.File.contents (joined (map S.text words.now)) result.0 (I.remaining input.old)
+        (O.contents output) (O.contents result.1) }
+{
+    let alloc = rt.alloc();
+    match joined_words(alloc, words) {
+        Ok(line) => run_line(rt, line.as_slice(), input, output, faults),
+        Err(_) => (report(alloc, faults, Fault::NoMemory), output),
+    }
+}
+
+// As `run`, for words as `clap` reads them.
+fn run_line<R, S, I, O, E>(rt: &R, words: &[S], input: &mut I, output: O, faults: &mut E) -> (u8, O)
 where
     R: Files + Net + Clock + AllocGlobal,
     R::File: BookFileExt,
