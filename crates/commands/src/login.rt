@@ -32,7 +32,7 @@ use account_book::BookStore;
 use book_file::{BookFileExt, FileStore};
 use clap::ArgMatches;
 use client_end::ClientEnd;
-use clock::{GivenMoment, LoginClock};
+use clock::{GivenMoment, LoginClock, ReadyClock};
 use command_io::held_book::HeldBook;
 use command_io::input::Lines;
 use command_io::open_book;
@@ -256,7 +256,7 @@ where
     R: Source + Drop,
     W: Sink + Drop,
     L: Sink + Drop,
-    C: sasl_desk::Clock + Drop,
+    C: ReadyClock + Drop,
     I: BufRead,
     requires closed { desk_phase talk.old.desk ≡ Phase.Closed }
     requires silent { client.stage ≡ Stage.Silent }
@@ -290,7 +290,7 @@ where
     R: Source + Drop,
     W: Sink + Drop,
     L: Sink + Drop,
-    C: sasl_desk::Clock + Drop,
+    C: ReadyClock + Drop,
     ensures client { talk.new.ends.client ≡ talk.old.ends.client }
     ensures silent { OnOk result (LogSays (L.facts talk.old.log).given (L.facts talk.new.log).given []) }
     ensures log { OnOk result (StaysDeskLog S.facts S.IsStored C.IsNow talk.old.desk (L.facts talk.old.log)

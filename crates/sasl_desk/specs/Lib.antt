@@ -17,6 +17,7 @@ pub mod Saved
 pub mod Changes
 pub mod Faults
 pub mod Inputs
+pub mod Clocks
 pub mod Outputs
 pub mod Serves
 pub mod inner

@@ -2,6 +2,7 @@
 use Rattle.std.specs.Prelude.{ℕ, ◌≡◌, ◌≢◌, ◌⊎◌, ◌<◌, ◌≤◌, true, false, List, [], ◌∷◌, ◌++◌, length, map}
 use Rattle.std.specs.Io.KnownBytes.{Appends}
 use Rattle.std.specs.List.{AllByRecursion}
+use Rattle.std.specs.declared.option.Option.{Option}
 use Rattle.account_book.specs.{BookFields}
 use Rattle.account_book.specs.Store.{StoreFacts}
 use Rattle.log_grammar.specs.Lines.{LogLine, log_bytes}
@@ -23,16 +24,22 @@ use Rattle.sasl_desk.specs.declared.fault.ServeFault.TheVariants.{Halted, Unwrit
 abbrev pub HaltsOnlyByStore : {S : Type 0} → (S → StoreFacts) → Desk S → Type 0
 HaltsOnlyByStore facts desk = desk_phase desk ≡ phase.Halted → (facts desk.keeper.store).failed ≡ true
 
--- a desk that serves a client, and what is known of the client's input, of the wire to it, and of the log
+-- a desk that serves a client, and what is known of the client's input, of the wire to it, of the log, and of the moments that the
+-- clock gave
 pub record Service (S : Type 0) : Type 0 where
   pub desk : Desk S
   pub input : SourceFacts
   pub wire : SinkFacts
   pub log : SinkFacts
+  pub given : Option (List ℕ)
 
 -- a service of these parts
-abbrev pub service_of : {S : Type 0} → Desk S → (input : SourceFacts) → (wire log : SinkFacts) → Service S
-service_of desk input wire log = record { desk = desk; input = input; wire = wire; log = log }
+abbrev pub service_of : {S : Type 0} → Desk S → (input : SourceFacts) → (wire log : SinkFacts) → (given : Option (List ℕ)) → Service S
+service_of desk input wire log given = record { desk = desk; input = input; wire = wire; log = log; given = given }
+
+-- the clock was asked once in between, and gave this moment
+abbrev pub IsAskedOnce : {S : Type 0} → (moment : ℕ) → (old new : Service S) → Type 0
+IsAskedOnce moment old new = Appends old.given new.given (moment ∷ [])
 
 -- what was read in a turn, its moment, and the lines of the turn
 pub record ServedTurn : Type 0 where
@@ -47,6 +54,11 @@ call_in turn = call_of (hears (event_read turn.read) turn.moment) turn.lines
 -- what was read in these turns
 abbrev pub reads_in : List ServedTurn → List LineRead
 reads_in turns = map (λ turn. turn.read) turns
+
+-- the moments of these turns, in their order
+abbrev pub moments_in : List ServedTurn → List ℕ
+moments_in [] = []
+moments_in (turn ∷ before) = moments_in before ++ (turn.moment ∷ [])
 
 -- the calls of a session: its greeting, with this server's part of the nonce, and its turns
 abbrev pub session_calls : (server_nonce : List ℕ) → (greeting : List LogLine) → List ServedTurn → List Call
@@ -95,32 +107,37 @@ module _ {S : Type 0} (facts : S → StoreFacts) (IsStored : List ℕ → Type 0
   IsNotDone request old new wire wire' log log' WriteFault = IsUnsent request old new wire' log log'
   IsNotDone request old new wire wire' log log' LogFault = IsUnlogged request old new wire wire' log'
 
-  -- a turn: one line was read, the desk heard it at this moment and answered it, and the lines were written
+  -- a turn: one line was read, the clock was asked once, the desk heard the line at this moment and answered it, and the lines were
+  -- written
   pub record IsTurnServed (moment : ℕ) (old new : Service S) : Type 0 where
     pub read : LineRead
     pub reads : ReadsLine old.input read new.input
+    pub asked : IsAskedOnce moment old new
     pub done : IsDone (hears (event_read read) moment) old.desk new.desk old.wire new.wire old.log new.log
 
-  -- why a turn is not served. If the desk had halted, nothing was read; else one line was, and it is lost if memory ran out.
+  -- why a turn is not served. If the desk had halted, nothing was read and the clock was not asked; else one line was read, which is lost
+  -- if memory ran out, and the clock was asked once.
   abbrev pub IsTurnFault : (moment : ℕ) → (old new : Service S) → ServeFault → Type 0
   IsTurnFault moment old new Halted = new ≡ old
   IsTurnFault moment old new fault =
-      (read : LineRead) × ReadsLine old.input read new.input
+      (read : LineRead) × ReadsLine old.input read new.input × IsAskedOnce moment old new
       × IsNotDone (hears (event_read read) moment) old.desk new.desk old.wire new.wire old.log new.log fault
 
   -- the client was not greeted, for this reason
   pub record FailsInGreeting (server_nonce : List ℕ) (old new : Service S) (fault : ServeFault) : Type 0 where
     pub unread : new.input ≡ old.input
+    pub unasked : new.given ≡ old.given
     pub undone : IsNotDone (greets server_nonce) old.desk new.desk old.wire new.wire old.log new.log fault
 
   -- a session from its greeting on: `IsNow` is true of each moment of the clock
   module _ (IsNow : ℕ → Type 0) where
     -- a session up to these turns: its client was greeted, what it sent was read and answered, turn by turn, at a moment of the
-    -- clock, and all lines were written
+    -- clock, which gave these moments and no others, and all lines were written
     pub record IsServedUpTo (server_nonce : List ℕ) (turns : List ServedTurn) (old new : Service S) : Type 0 where
       pub greeting : List LogLine
       pub reads : ReadsLines old.input (reads_in turns) new.input
       pub moments : AllByRecursion (λ turn. IsNow turn.moment) turns
+      pub asked : Appends old.given new.given (moments_in turns)
       pub answers : AnswersAll old.desk (session_calls server_nonce greeting turns) new.desk
       pub written : AreWritten (call_lines (session_calls server_nonce greeting turns)) old.wire new.wire old.log new.log
       pub halts : HaltsOnlyByStore facts new.desk
@@ -145,6 +162,7 @@ module _ {S : Type 0} (facts : S → StoreFacts) (IsStored : List ℕ → Type 0
       pub used_up : HasUsedAllTurns server_nonce old middle new
       pub moment : ℕ
       pub is_now : IsNow moment
+      pub asked : IsAskedOnce moment middle new
       pub done : IsDone (hears goes_away moment) middle.desk new.desk middle.wire new.wire middle.log new.log
 
     -- a session was served: its turns ended it, or it was cut off when they were used up
@@ -168,6 +186,7 @@ module _ {S : Type 0} (facts : S → StoreFacts) (IsStored : List ℕ → Type 0
       pub used_up : HasUsedAllTurns server_nonce old middle new
       pub moment : ℕ
       pub is_now : IsNow moment
+      pub asked : IsAskedOnce moment middle new
       pub undone : IsNotDone (hears goes_away moment) middle.desk new.desk middle.wire new.wire middle.log new.log fault
 
     -- why a session was not served to its end

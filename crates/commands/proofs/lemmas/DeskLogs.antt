@@ -65,8 +65,8 @@ module _ {S : Type 0} {facts : S → StoreFacts} {IsStored : List ℕ → Type 0
         subst (λ (k : SinkFacts). IsDeskLog facts IsStored IsNow start before server_nonce new k) (sym unlogged) kept
 
     -- the log stays the desk's after a turn that was served
-    pub served_turn_keeps_log : {moment : ℕ} {input input' : SourceFacts} {wire wire' : SinkFacts}
-        → IsTurnServed facts IsStored moment (service_of old input wire log) (service_of new input' wire' log') → IsNow moment
+    pub served_turn_keeps_log : {moment : ℕ} {input input' : SourceFacts} {wire wire' : SinkFacts} {given given' : Option (List ℕ)}
+        → IsTurnServed facts IsStored moment (service_of old input wire log given) (service_of new input' wire' log' given') → IsNow moment
         → StaysDeskLog facts IsStored IsNow old log new log'
     served_turn_keeps_log served now server_nonce =
         next_call_keeps_log server_nonce _ served.done.lines now served.done.answers.stands served.done.written.by_log
@@ -120,10 +120,10 @@ module _ {S : Type 0} {facts : S → StoreFacts} {IsStored : List ℕ → Type 0
   unserved_turn_leaves_log Halted fault now same is =
       subst (λ (s : Service S). IsLogAfterFault facts IsStored IsNow old.desk old.log s.desk s.log fault) (sym same)
       (λ server_nonce. inr (λ start before l. l))
-  unserved_turn_leaves_log NoMemory fault now (read, reads, undone) is =
+  unserved_turn_leaves_log NoMemory fault now (read, reads, asked, undone) is =
       undone_turn_leaves_log (event_read read) moment old.wire new.wire path NoMemory fault now is undone
   unserved_turn_leaves_log Unwritable fault now served never = absurd never
-  unserved_turn_leaves_log WriteFault fault now (read, reads, undone) is =
+  unserved_turn_leaves_log WriteFault fault now (read, reads, asked, undone) is =
       undone_turn_leaves_log (event_read read) moment old.wire new.wire path WriteFault fault now is undone
-  unserved_turn_leaves_log LogFault fault now (read, reads, undone) is =
+  unserved_turn_leaves_log LogFault fault now (read, reads, asked, undone) is =
       undone_turn_leaves_log (event_read read) moment old.wire new.wire path LogFault fault now is undone

@@ -81,11 +81,11 @@ module _ {S : Type 0} (facts : S → StoreFacts) (IsStored : List ℕ → Type 0
   serving_fault_is_in_turn path Unwritable result served never = absurd never
   serving_fault_is_in_turn path NoMemory result served is = inr (inl (no_memory_is_unwritten path result is))
   serving_fault_is_in_turn path WriteFault result served is = inr (inl (no_memory_is_unwritten path result is))
-  serving_fault_is_in_turn path LogFault result (read, reads, undone) is = inr (inr (is, undone.log_fails))
+  serving_fault_is_in_turn path LogFault result (read, reads, asked, undone) is = inr (inr (is, undone.log_fails))
 
   -- a turn never goes unserved because what is due can't be written
   pub no_turn_is_unwritable : (fault : ServeFault) → IsTurnFault facts IsStored moment old new fault → fault ≢ Unwritable
-  no_turn_is_unwritable Unwritable (read, reads, never) same = never
+  no_turn_is_unwritable Unwritable (read, reads, asked, never) same = never
   no_turn_is_unwritable fault served same = cc same
 
 -- a fault of a turn ends the talk

@@ -17,6 +17,11 @@ impl GivenMoment for Brand {
     ghost moment = { None };
 }
 
+/// A clock that may be asked at any time.
+pub(crate) trait ReadyClock: sasl_desk::Clock {
+    ghost always: { (clock : Self) → Self.MayBeAsked clock };
+}
+
 /// A clock that stands still at a given moment; without one, the machine's clock.
 #[derive(Drop)]
 pub(crate) struct LoginClock<'a, R, G: GivenMoment> {
@@ -59,6 +64,10 @@ impl<R: Clock, G: GivenMoment> sasl_desk::Clock for LoginClock<'_, R, G> {
         };
         self.last
     }
+}
+
+impl<R: Clock, G: GivenMoment> ReadyClock for LoginClock<'_, R, G> {
+    ghost always = { λ _. tt };
 }
 
 // The moment of the machine's clock, or the start of 1970 if the clock can't be read, or is before 1970 or after the year 9999.
