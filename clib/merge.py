@@ -3,9 +3,11 @@
 
 Usage: merge.py FOLDER ARCHIVE ..
 
-They are put into FOLDER, with a link libscramotp.so to the second. Both have only the symbols scramotp_*. Needs ar, cc, ld and objcopy.
+They are put into FOLDER, and the second once more as libscramotp.so, for the linker: no link, since rt refuses links in a repository. Both
+have only the symbols scramotp_*. Needs ar, cc, ld and objcopy.
 """
 import pathlib
+import shutil
 import subprocess
 import sys
 import tempfile
@@ -47,8 +49,7 @@ def make(folder: pathlib.Path, archives: list[pathlib.Path]) -> None:
         (work / "exports").write_text(EXPORTS)
         flags = [f"-Wl,-soname,{SONAME}", f"-Wl,--version-script={work / 'exports'}", "-Wl,-z,relro,-z,now,-z,noexecstack,-z,defs"]
         run("cc", "-shared", "-o", shared, *flags, whole)
-    link.unlink(missing_ok=True)
-    link.symlink_to(SONAME)
+    shutil.copyfile(shared, link)
 
 
 if __name__ == "__main__":

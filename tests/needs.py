@@ -23,8 +23,9 @@ FOR_PARTS |= {"/usr/lib/x86_64-linux-gnu/libpam_wrapper.so": "libpam-wrapper", "
 FOR_PARTS |= {"postfix": "postfix", "dovecot": "dovecot-core", "/usr/lib/dovecot/imap-login": "dovecot-imapd", "msmtp": "msmtp"}
 FOR_PARTS |= {"gsasl": "gsasl", "curl": "curl", "openssl": "openssl", "/usr/lib/x86_64-linux-gnu/libnss_wrapper.so": "libnss-wrapper"}
 FOR_PARTS |= {"dpkg-deb": "dpkg", "lintian": "lintian", "mmdebstrap": "mmdebstrap"}
-# Exim can't be installed beside Postfix. So it is unpacked here, with the libraries that it needs.
-EXIM = Path(os.environ.get("EXIM") or Path(__file__).resolve().parent.parent / "out" / "exim")
+# Exim can't be installed beside Postfix. So it is unpacked here, with the libraries that it needs: outside the repository, in which rt
+# refuses links, and where the user as whom it runs can enter.
+EXIM = Path(os.environ.get("EXIM") or "/var/cache/scramotp/exim")
 OF_EXIM = ["exim4-daemon-heavy", "libspf2-2", "libmariadb3", "libidn12"]
 # Where servers are, which not every PATH has.
 SERVERS = "/usr/local/sbin:/usr/sbin:/sbin"
