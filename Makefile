@@ -141,10 +141,10 @@ test: needed
 
 prove: this_kit
 	$(TIMED) rt ci
-	cd crates/c_library && rt lib --jobs $(JOBS)
-	python3 tests/c_library.py $(PROGRAM)
 	@rm -f crates/scramotp/out/built_for
 	python3 tests/edits.py --built --share $(SHARE)
+	cd crates/c_library && rt lib --jobs $(JOBS)
+	python3 tests/c_library.py $(PROGRAM)
 
 test-all: needed build libscramotp
 	cd crates/bench && rt run -- hotp 1 12345678901234567890
