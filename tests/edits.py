@@ -245,11 +245,12 @@ class Count:
 
 
 class Rooms:
-    """The copies of one crate, each of which one check at a time uses. Another one is made where none is free."""
+    """The copies of one crate, each of which one check at a time uses. Another one is made where none is free: it begins with what the
+    crate's first check proved."""
 
     def __init__(self, crate: str, uses: Uses, base: Path, folder: Path) -> None:
         self.make = lambda number: Room(crate, uses, base, folder / f"{crate}-{number}")
-        self.lock, self.free, self.made = threading.Lock(), [], 0
+        self.lock, self.free, self.made, self.seed = threading.Lock(), [], 0, folder / f"{crate}-seed"
 
     @contextmanager
     def one(self) -> Iterator[Room]:
@@ -258,12 +259,30 @@ class Rooms:
             room = self.free.pop() if self.free else None
             self.made += room is None
             number = self.made
-        room = room or self.make(number)
+        if room is None:
+            room = self.make(number)
+            if self.seed.is_dir():
+                shutil.copytree(self.seed, room.folder / "kept", copy_function=proved)
         try:
             yield room
         finally:
             with self.lock:
                 self.free.append(room)
+
+
+    def keep_seed(self) -> None:
+        """Keeps what the first check proved."""
+        with self.one() as room:
+            if (room.folder / "kept").is_dir():
+                shutil.copytree(room.folder / "kept", self.seed, copy_function=proved)
+
+
+def proved(source: str, to: str) -> None:
+    """Copies a file of what was proved. A check replaces one of these, and changes none in its place, so it may be a second name."""
+    if source.endswith(".oantt"):
+        linked(source, to)
+    else:
+        shutil.copy2(source, to)
 
 
 class Trial:
@@ -321,18 +340,29 @@ class Trial:
 
 
 def try_all(trials: list[tuple[Trial, list[Edit]]], jobs: int) -> None:
-    """Tries these edits of each crate, so many checks side by side: batches first, and then each edit by itself that no batch refused."""
+    """Tries these edits of each crate, so many checks side by side: batches first, and then each edit by itself that no batch refused. The
+    first check of a crate is alone, since it proves what the others begin with."""
     with ThreadPoolExecutor(jobs) as pool:
         waiting: dict[Future[dict[str, Outcome]], tuple[Trial, list[Edit]]] = {}
+        left: dict[str, list[list[Edit]]] = {}
+
+        def submit(trial: Trial, batch: list[Edit]) -> None:
+            call = pool.submit(trial.together, batch) if batch[0].is_inside else pool.submit(trial.alone, batch[0])
+            waiting[call] = trial, batch
+
         for trial, edits in trials:
-            for batch in batches_of(it for it in edits if it.is_inside):
-                waiting[pool.submit(trial.together, batch)] = trial, batch
-        for trial, edit in ((trial, it) for trial, edits in trials for it in edits if not it.is_inside):
-            waiting[pool.submit(trial.alone, edit)] = trial, [edit]
+            batches = [*batches_of(it for it in edits if it.is_inside), *([it] for it in edits if not it.is_inside)]
+            left[trial.crate] = batches[1:]
+            if batches:
+                submit(trial, batches[0])
         while waiting:
             for done in wait(waiting, return_when=FIRST_COMPLETED).done:
                 trial, batch = waiting.pop(done)
                 outcomes = done.result()
+                if others := left.pop(trial.crate, []):
+                    trial.rooms.keep_seed()
+                    for other in others:
+                        submit(trial, other)
                 for edit in batch:
                     if edit.name not in outcomes:
                         waiting[pool.submit(trial.alone, edit)] = trial, [edit]
