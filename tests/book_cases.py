@@ -2,7 +2,7 @@
 
 Each row is a book: a file next to the table, in which `old`, which occurs once, is replaced by `new`, and then `old2` by `new2`. `\\n`,
 `\\\\` and `\\xNN` are written as in Python. `base` names the file, and `shows` says what the row is about. The answer is a fault's number,
-from docs/FAULTS.md (docs/FORMATS.md has the order of the checks), or what `unlock` prints for the account `user` in a book that it
+from docs/FORMATS.md (docs/FORMATS.md has the order of the checks), or what `unlock` prints for the account `user` in a book that it
 reads.
 """
 from typing import NamedTuple

@@ -1,6 +1,6 @@
 #!/usr/bin/env python3
 """Checks that what the documents name exists: links and their sections, paths, and the names in the sources that they cite; that no
-test is left out; that code which they show is in the sources; and that sizes are not stale.
+test is left out; and that code which they show is in the sources.
 
 Usage: documents.py [CHECK ..]
 
@@ -8,7 +8,6 @@ A check is a function below that finds faults, and says there which. CHECKS list
 by default all. Each fault has a line, and the status is then 1.
 """
 import ast
-import csv
 import functools
 import re
 import sys
@@ -21,9 +20,8 @@ import run
 from edit_sources import TOP, Unusable, edits_of, planted_edits, planted_rows, read_edit, read_planted
 
 PAGES = [TOP / "README.md", TOP / "CONTRIBUTING.md", TOP / "CHANGELOG.md", *sorted(TOP.glob("docs/*.md")), TOP / "bench" / "README.md"]
-PROMISES = ["PROMISES.md", "LOG_PROMISES.md", "COMMAND_PROMISES.md", "CONTRACTS.md"]
-MAINTAINERS = ["ARCHITECTURE.md", "DECISIONS.md", "EMBEDDING.md", "MUTATIONS.md", "PROVING.md", "FAULTS.md", "TESTING.md"]
-MAINTAINERS += ["WORDS.md", "PROVING_NOTES.md", "SECURITY.md"]
+PROMISES = ["PROMISES.md"]
+MAINTAINERS = ["ARCHITECTURE.md", "DECISIONS.md", "EMBEDDING.md", "PROVING.md", "TESTING.md", "SECURITY.md"]
 # The files besides pages whose lines may have no more columns than theirs.
 HOSTS = [file for file in sorted([*TOP.glob("hosts/*"), *TOP.glob("hosts/*/*.py")]) if file.is_file()]
 NARROWED = ["tests/*.py", "tests/*.c", "bench/*.py", "tools/*", "man/*", "completions/*", "packaging/*.py", "Makefile"]
@@ -187,45 +185,6 @@ def misplaced_names(page: Path, texts: dict[str, str]) -> Iterator[str]:
                 yield f"{page.name}:{text.count(chr(10), 0, match.start()) + 1}: {name} in {file}"
 
 
-def misplaced_laws(page: Path, texts: dict[str, str]) -> Iterator[str]:
-    """The laws in the first column of a page's tables that none of the files has which the paragraph before the table names."""
-    for files, table in re.findall(r"^\*\*[^|]*? \(((?:[^()|]*`[\w/]+\.rt`)+)[^|]*((?:\|.*\n)+)", page.read_text(encoding="utf-8"), re.M):
-        named = tuple(f"/{it}" for it in re.findall(r"`([\w/]+\.rt)`", files))
-        has = {law for path in texts if path.endswith(named) for law in re.findall(r"pub fn (\w+)", texts[path])}
-        told = [law for cell in re.findall(r"^\| (.*?) \|", table, re.M) for law in re.findall(r"`(\w+)`", cell)]
-        yield from (f"{page.name}: {law} in {' '.join(named)}" for law in told if law not in has)
-
-
-class Owners(NamedTuple):
-    """What a source has: the names of its functions, and the words in the heads of its `impl`s and the name of its module."""
-
-    functions: set[str]
-    types: set[str]
-
-
-def owners() -> list[Owners]:
-    """What each source has."""
-    found = []
-    for path, text in sources().items():
-        heads = " ".join(re.findall(r"\bimpl\b[^{]*", text))
-        module = path.rpartition("/")[2].removesuffix(".rt")
-        found.append(Owners({*re.findall(r"\bfn (\w+)", text)}, {module, *re.findall(r"\w+", heads)}))
-    return found
-
-
-def missing_functions(page: Path, sources_have: list[Owners]) -> Iterator[str]:
-    """The functions in the column *Function* of a page's tables that no source has, or, after the name of a type or a module as
-    in `Type::function`, none that has an `impl` of this type or is this module."""
-    for table in re.findall(r"^\| Function \|.*\n((?:\|.*\n)+)", page.read_text(encoding="utf-8"), re.M):
-        for cell in re.findall(r"^\| (.*?) \|", table, re.M):
-            has = sources_have
-            for of, name in re.findall(r"`(?:(\w+)::)?([a-z_]\w*)`", cell):
-                if of:
-                    has = [it for it in sources_have if of in it.types]
-                if not any(name in it.functions for it in has):
-                    yield f"{page.name}: {name} in {cell}"
-
-
 def words_of_scripts() -> set[str]:
     """The words in the tests, the benchmarks, the tools, the hosts, the Makefile and the lists of crates."""
     files = [TOP / "Makefile", TOP / "crates.txt", rattle.LISTED, *TOP.glob("tests/*.*"), *TOP.glob("bench/*.py"), *TOP.glob("tools/*")]
@@ -285,17 +244,6 @@ def left_tables() -> Iterator[str]:
                 yield f"{path.name}:{it.lineno}"
 
 
-def lines_of(*patterns: str) -> int:
-    """How many lines the files have that match these patterns, relative to the repository's top."""
-    return sum(file.read_bytes().count(b"\n") for pattern in patterns for file in TOP.glob(pattern))
-
-
-def rows_of(table: str) -> int:
-    """How many rows a table in tests/data has."""
-    with open(TOP / "tests" / "data" / table, newline="", encoding="utf-8") as file:
-        return sum(1 for _ in csv.DictReader(file))
-
-
 def tests_of_scripts() -> Iterator[tuple[str, str]]:
     """The tests in the lists of the scripts, each with its script."""
     for path in TOP.glob("tests/*.py"):
@@ -305,105 +253,6 @@ def tests_of_scripts() -> Iterator[tuple[str, str]]:
             if is_list or isinstance(it, ast.Call) and ast.unparse(it.func) == "suite.run_all":
                 lists = [part for part in ast.walk(it) if isinstance(part, ast.List)]
                 yield from ((path.name, test.id) for part in lists for test in part.elts if isinstance(test, ast.Name))
-
-
-def libraries() -> list[str]:
-    """The names of the libraries on which the program stands, as the Makefile lists them."""
-    listed = re.search(r"^LIBRARIES = ((?:.*\\\n)*.*)$", (TOP / "Makefile").read_text(encoding="utf-8"), re.MULTILINE)
-    return listed[1].replace("\\\n", " ").split()
-
-
-def stale_sizes() -> Iterator[str]:
-    """The sizes that a page does not state, or states wrongly: of the sources and of wrong bodies by more than one in fifty, of a table by
-    any."""
-    edits = len([*TOP.glob("crates/*/edits/*.edit"), *TOP.glob("crates/*/must-fail/*.edit")])
-    code = lines_of(*(f"crates/{name}/src/**/*.rt" for name in [*libraries(), "scramotp"]))
-    definitions, proofs = lines_of("crates/*/specs/**/*.antt"), lines_of("crates/*/proofs/**/*.antt")
-    for name, form, size, most_off in [
-        ("PROMISES.md", r"some (\d+) of definitions", definitions, definitions // 50),
-        ("PROMISES.md", r"some (\d+) of code", code, code // 50),
-        ("PROMISES.md", r"The (\d+) lines of proofs", proofs, proofs // 50),
-        ("PROMISES.md", r"some (\d+) wrong bodies", edits, edits // 50),
-        ("TESTING.md", r"some (\d+) lines of proofs", proofs, proofs // 50),
-        ("TESTING.md", r"some (\d+) lines of code", code, code // 50),
-        ("TESTING.md", r"some (\d+) wrong bodies", edits, edits // 50),
-        ("TESTING.md", r"(\d+) rows of keys", rows_of("vectors/keys.csv"), 0),
-        ("TESTING.md", r"(\d+) codes that oathtool made", rows_of("vectors/codes.csv"), 0),
-        ("TESTING.md", r"(\d+) books, most of them", rows_of("book_faults/cases.csv"), 0),
-        ("TESTING.md", r"(\d+) logs, most of them", rows_of("audits/cases.csv"), 0),
-    ]:
-        told = re.findall(form.replace(" ", r"\s+"), (TOP / "docs" / name).read_text(encoding="utf-8"))
-        if not told or any(abs(int(number) - size) > most_off for number in told):
-            yield f"{name}: {' '.join(told) or None}, and not {size}: {form}"
-
-
-def imported_modules(text: str) -> Iterator[tuple[str, str]]:
-    """The crate and the module of each import of definitions in this text. A name that is imported from a crate's specs/Lib.antt, which
-    passes it on, comes from the module that is named there."""
-    for crate, module, names in re.findall(r"^use Rattle\.(\w+)\.specs\.([\w.]*)(?:\{([^}]*)\})?", text, re.MULTILINE):
-        if module:
-            yield crate, module
-        else:
-            passed_on = (TOP / "crates" / crate / "specs" / "Lib.antt").read_text(encoding="utf-8")
-            for lower, of_lower, these in re.findall(r"^pub use Rattle\.(\w+)\.specs\.([\w.]+)\{([^}]*)\}", passed_on, re.MULTILINE):
-                if {*names.split(", ")} & {*these.split(", ")}:
-                    yield lower, of_lower
-
-
-def definitions_under(files: list[Path]) -> int:
-    """The lines of these files of definitions, and of all files of specs/ that they import."""
-    found, left = set(), [*files]
-    while left:
-        file = left.pop()
-        if file not in found:
-            found.add(file)
-            for crate, module in imported_modules(file.read_text(encoding="utf-8")):
-                names = module.rstrip(".").split(".")
-                paths = [TOP / "crates" / crate / "specs" / f"{'/'.join(names[:most])}.antt" for most in range(len(names), 0, -1)]
-                left += [path for path in paths if path.exists()][:1]
-    return sum(len(file.read_text(encoding="utf-8").splitlines()) for file in found)
-
-
-def stale_readings() -> Iterator[str]:
-    """The lines of definitions to be read for a promise of docs/PROMISES.md, which it states wrongly by more than one in fifty, or not; and
-    those for all of them, in README.md."""
-    text = (TOP / "docs" / "PROMISES.md").read_text(encoding="utf-8")
-    told = re.search(
-        r"some (\d+) lines for promise 1, (\d+) for 2 \((\d+) for the library alone\), (\d+) for 3 \((\d+) for the library alone\) and "
-        r"(\d+) for 4, and some (\d+) together", " ".join(text.split())
-    )
-    sizes, named = [], []
-    for promise in range(1, 5):
-        [listed] = re.findall(rf"### Promise {promise}:.*?\*Definitions, in reading order:\*(.*?)\n- \*", text, re.DOTALL)
-        files, of_library, crate = [], 0, ""
-        for word in re.findall(r"`([\w/]+(?:\.antt)?)`|(Of the command)", listed):
-            if word[1]:
-                of_library = definitions_under(files)
-            elif word[0].endswith(".antt"):
-                files.append(TOP / "crates" / crate / "specs" / word[0])
-            else:
-                crate = word[0]
-        sizes += [definitions_under(files)] + [of_library] * bool(of_library)
-        named += files
-    read_me = " ".join((TOP / "README.md").read_text(encoding="utf-8").split())
-    [of_all] = re.findall(r"(\d+) of some \d+ lines of definitions", read_me) or [0]
-    together = definitions_under(named)
-    for number, size in zip([*(told.groups() if told else [0] * 7), of_all], [*sizes, together, together], strict=True):
-        if abs(int(number) - size) > size // 50:
-            yield f"{number}, and not {size}"
-
-
-def stale_crates() -> Iterator[str]:
-    """The libraries that have no row in docs/ARCHITECTURE.md with their lines of code, definitions and proofs, in hundreds, or one that is
-    off by more than one hundred and more than a tenth; and the crates with such a row that are no libraries."""
-    row = re.compile(r"^\| `(\w+)` \| (\d+) \| (\d+) \| (\d+) \|", re.MULTILINE)
-    found = row.findall((TOP / "docs" / "ARCHITECTURE.md").read_text(encoding="utf-8"))
-    told = {name: [*map(int, sizes)] for name, *sizes in found}
-    for name in told.keys() | set(libraries()):
-        sizes = [lines_of(f"crates/{name}/{part}") for part in ("src/**/*.rt", "specs/**/*.antt", "proofs/**/*.antt")]
-        is_near = all(abs(number - size) <= max(100, size // 10) for number, size in zip(told.get(name, []), sizes))
-        if name not in told or name not in libraries() or not is_near:
-            yield f"`{name}`: {' | '.join(str(-(-size // 100) * 100) for size in sizes)}"
 
 
 def pages_of_another_kit() -> Iterator[str]:
@@ -521,11 +370,6 @@ CHECKS = [
     Check("the file beside this name does not have it", misplaced_names, PAGES, lambda: (sources() | texts_of(TOP.glob("tests/*.py")),)),
     Check("no source has this name", unknown_names, in_docs(PROMISES), lambda: ([*sources()], known())),
     Check("nothing has this name", unknown_names, in_docs(MAINTAINERS), lambda: ([*sources()], known_to_maintainers(), SKIPPED)),
-    Check("no file before its table has this law", misplaced_laws, in_docs(["LOG_PROMISES.md"]), lambda: (sources(),)),
-    Check("no source has this function, or not for the type before it", missing_functions, in_docs(PROMISES), lambda: (owners(),)),
-    Check("a stale size", stale_sizes),
-    Check("the lines of definitions to be read, in docs/PROMISES.md", stale_readings),
-    Check("the table of sizes in docs/ARCHITECTURE.md should have", stale_crates),
     Check("no public function has this signature of docs/EMBEDDING.md", unknown_signatures),
     Check("the kit of the Makefile is missing", pages_of_another_kit),
     Check("docs/PROMISES.md says that no source has this word", taken_unproved),

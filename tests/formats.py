@@ -1,6 +1,6 @@
 #!/usr/bin/env python3
-"""Checks each block of docs/FORMATS.md: the book and the logs are good ones, and the commands do what the page says they do. Checks those
-of docs/SERVING.md too: a session of a hall, which is the one of docs/FORMATS.md, and the code that decides whom to let in.
+"""Checks each block of docs/FORMATS.md: the book and the logs are good ones, and the commands do what the page says they do. Checks two of
+docs/DOORS.md too: a session of a hall, which is the one of docs/FORMATS.md, and the code that decides whom to let in.
 
 Usage: formats.py PROGRAM [TEST ..]
 
@@ -22,7 +22,7 @@ from expected import AUDITS
 from suite import PROGRAM, blocks_of, document, each, program_on_path
 
 DOCUMENT = document("docs/FORMATS.md")
-SERVING = suite.TOP / "docs" / "SERVING.md"
+DOORS = suite.TOP / "docs" / "DOORS.md"
 LOGIN, TWO_SESSIONS = "clean sessions=1 accepted=1 codes=0", "clean sessions=2 accepted=0 codes=0"
 
 
@@ -37,8 +37,8 @@ LOG = block("The lines of the protocol and of the log")
 NUMBERED = block("Numbered lines")
 COMMANDS = block("Many logs")
 GRAMMAR = block("The grammar of the lines", "abnf")
-TRANSCRIPT = block("A session", "sh", SERVING)
-LETS_IN = block("Who has logged in", "python", SERVING)
+TRANSCRIPT = block("A session", "sh", DOORS)
+LETS_IN = block("Who has logged in", "python", DOORS)
 # Before a line that a transcript shows as printed.
 SHOWN = "#> "
 
@@ -179,7 +179,7 @@ def the_grammar(folder: str) -> None:
 
 
 def a_session_of_a_hall(folder: str) -> None:
-    """The command of docs/SERVING.md prints what is shown below it: the login that this page has in a log, and a code. An audit calls it
+    """The command of docs/DOORS.md prints what is shown below it: the login that this page has in a log, and a code. An audit calls it
     clean."""
     environment = with_files(folder, book="")
     command = "".join(line for line in TRANSCRIPT.splitlines(True) if not line.startswith(SHOWN))
@@ -191,7 +191,7 @@ def a_session_of_a_hall(folder: str) -> None:
 
 
 def let_in(lines: list[str], needs_code: bool) -> list[tuple[str, tuple[str, str]]]:
-    """The lines of a session at which the code of docs/SERVING.md lets someone in, with the names that it returns."""
+    """The lines of a session at which the code of docs/DOORS.md lets someone in, with the names that it returns."""
     there = {}
     exec(LETS_IN, there)
     session = there["Session"](needs_code)
@@ -199,7 +199,7 @@ def let_in(lines: list[str], needs_code: bool) -> list[tuple[str, tuple[str, str
 
 
 def who_has_logged_in(folder: str) -> None:
-    """The code of docs/SERVING.md lets a client in at OK, or, if it needs a code, only at a PASS after it, and by the names that it
+    """The code of docs/DOORS.md lets a client in at OK, or, if it needs a code, only at a PASS after it, and by the names that it
     gave."""
     lines = [line.removeprefix(SHOWN)[2:] for line in TRANSCRIPT.splitlines() if line.startswith(f"{SHOWN}1 ")]
     [accepted] = [line for line in lines if line.startswith("S OK ")]
@@ -225,10 +225,9 @@ def who_has_logged_in(folder: str) -> None:
 
 
 def every_block(folder: str) -> None:
-    """No block of the documents is left out."""
-    for trial, (page, taken) in each([(DOCUMENT, [BOOK, LOG, NUMBERED, GRAMMAR, COMMANDS]), (SERVING, [TRANSCRIPT, LETS_IN])]):
-        with trial:
-            equal([text for *_, text in blocks_of(page) if text not in taken], [], "blocks that no test takes")
+    """No block of the document is left out."""
+    taken = [BOOK, LOG, NUMBERED, GRAMMAR, COMMANDS]
+    equal([text for *_, text in blocks_of(DOCUMENT) if text not in taken], [], "blocks that no test takes")
 
 
 suite.run_all([the_book, the_logs, many_logs, the_grammar, a_session_of_a_hall, who_has_logged_in, every_block])

@@ -1,6 +1,6 @@
 #!/usr/bin/env python3
-"""Runs each block of docs/OPERATING.md and docs/SYSTEMD.md as it stands, except `make install`, `useradd`, paths and the user, and checks
-what it leaves and prints.
+"""Runs each block of docs/OPERATING.md as it stands, except `make install`, `useradd`, paths and the user, and checks what it leaves and
+prints.
 
 Usage: recipes.py PROGRAM [TEST ..]
 
@@ -38,7 +38,6 @@ from tool_runs import (
 )
 
 DOCUMENT = document("docs/OPERATING.md")
-UNITS = TOOLS.parent / "docs" / "SYSTEMD.md"
 # The folder of the tools in the document, and the folder that it makes.
 INSTALLED = "/usr/local/share/scramotp"
 PLACE = "/var/lib/scramotp"
@@ -61,8 +60,8 @@ SERVED = "Serve logins with `serve-hall`"
 
 
 def all_blocks() -> list[tuple[str, str, str]]:
-    """Each block of the two documents except that of `serve-hall`: its section's title, its language and its text."""
-    return [block for page in (DOCUMENT, UNITS) for block in suite.blocks_of(page) if block[0] != SERVED]
+    """Each block of the document except that of `serve-hall`: its section's title, its language and its text."""
+    return [block for block in suite.blocks_of(DOCUMENT) if block[0] != SERVED]
 
 
 def blocks(title: str, language: str = "sh") -> list[str]:
@@ -662,7 +661,7 @@ def a_new_log_each_night(folder: str) -> None:
     [command] = re.findall(r"^ExecStart=(.*)$", service, re.M)
     [at] = re.findall(r"^OnCalendar=(.*)$", timer, re.M)
     equal(command, "systemctl try-restart scramotp-hall.service", "the command at night")
-    holds("`/etc/systemd/system/scramotp-hall.service`" in UNITS.read_text(encoding="utf-8"), "the page does not name the unit")
+    holds("`/etc/systemd/system/scramotp-hall.service`" in DOCUMENT.read_text(encoding="utf-8"), "the page does not name the unit")
     if not shutil.which("systemd-analyze"):
         suite.not_tested("what systemd makes of the units, since there is no systemd-analyze")
         return
@@ -742,7 +741,7 @@ def every_block(folder: str) -> None:
     equal(left_out, [(SERVED, "sh")], "the blocks that are left out")
     calls = re.findall(r'\bblocks\("([^"]+)"(?:, "(\w+)")?\)', Path(__file__).read_text(encoding="utf-8"))
     taken = {(title, language or "sh") for title, language in calls}
-    equal({block[:2] for block in all_blocks()}, taken, "the blocks of the documents, and those that a test takes")
+    equal({block[:2] for block in all_blocks()}, taken, "the blocks of the document, and those that a test takes")
 
 
 TESTS = [

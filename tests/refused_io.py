@@ -4,7 +4,7 @@
 Usage: refused_io.py PROGRAM [TEST ..]
 
 A call that fails, whether or not it was made, leaves the book whole, with each change that was reported and at most one more. The output
-is the beginning of what is due, or the log of a desk that halted. The fault is the one of docs/FAULTS.md for the file of the call, and for
+is the beginning of what is due, or the log of a desk that halted. The fault is the one of docs/FORMATS.md for the file of the call, and for
 what the command was doing with it: FAULTS has them. It is reported with status 3, except that of a call that NOT_TOLD names, which loses
 nothing. A read or a write that is interrupted, or moves only one of several bytes, changes nothing. Another call that is interrupted is
 made again, or is reported like one that fails. What the program takes from the C library can all go wrong here or in refused_memory.py, or
@@ -47,7 +47,7 @@ NOT_TOLD = {
     ("login", "unlink", "socket"): "the socket is left, and the next login at its path says so",
     ("new book", "statx", "book"): "enrol can't tell whether the new book's path is a link to nothing, at which no book can be made anyway",
 }
-# The fault of a refused call, by its file, as docs/FAULTS.md has them ("All other faults"); {} is the folder. That of a log which was
+# The fault of a refused call, by its file, as docs/FORMATS.md has them ("All other faults"); {} is the folder. That of a log which was
 # opened, and those of the book, are told by `due`.
 FAULTS = {
     "input": "cannot read input",

@@ -17,7 +17,7 @@ from expected import AUDITS
 from processes import ran
 from suite import PROGRAM, each, fault_text
 
-# What a command reports if memory runs out, whatever it needed it for (docs/FAULTS.md).
+# What a command reports if memory runs out, whatever it needed it for (docs/FORMATS.md).
 FAULT = fault_text("no memory")
 
 

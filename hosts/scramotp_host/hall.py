@@ -1,6 +1,6 @@
 """One run of `scramotp hall`: the pipes to it, its log, and the copy of the book that the log began with.
 
-The order is the point: each line is in the log's file, whole, before anyone is told what it says. docs/SERVING.md has the steps.
+The order is the point: each line is in the log's file, whole, before anyone is told what it says. docs/DOORS.md has the steps.
 """
 import contextlib
 import fcntl
