@@ -21,7 +21,7 @@ from edit_sources import TOP, Unusable, edits_of, planted_edits, planted_rows, r
 
 PAGES = [TOP / "README.md", TOP / "CONTRIBUTING.md", TOP / "CHANGELOG.md", *sorted(TOP.glob("docs/*.md")), TOP / "bench" / "README.md"]
 PROMISES = ["PROMISES.md"]
-MAINTAINERS = ["ARCHITECTURE.md", "DECISIONS.md", "EMBEDDING.md", "PROVING.md", "TESTING.md", "SECURITY.md"]
+MAINTAINERS = ["ARCHITECTURE.md", "DECISIONS.md", "EMBEDDING.md", "FORMATS.md", "PROVING.md", "TESTING.md", "SECURITY.md"]
 # The files besides pages whose lines may have no more columns than theirs.
 HOSTS = [file for file in sorted([*TOP.glob("hosts/*"), *TOP.glob("hosts/*/*.py")]) if file.is_file()]
 NARROWED = ["tests/*.py", "tests/*.c", "bench/*.py", "tools/*", "man/*", "completions/*", "packaging/*.py", "Makefile"]
@@ -32,13 +32,9 @@ KIT = re.search(r"^KIT = (.+)$", (TOP / "Makefile").read_text(encoding="utf-8"),
 
 # A comment of a source file, with what is before it in its line if that is blank.
 COMMENT = re.compile(r"(?m)(?:^|\s)(?://|--)(?: .*|$|[/!].*)")
-# What pages of promises have between backquotes although no source has it: an example of a name, words that no source may have, a word of
-# a command of the kit, and the kit's own identity.
-NOT_OF_THE_SOURCES = {"IsX", "unsafe", "extern", "axiom", "doc", *KIT.split()}
-# What the pages of MAINTAINERS have although no source or script has it: calls that are not made, types and options, the beginning of
-# some names, and a command of the system.
-NOT_OF_THE_REPOSITORY = {"shrink_to_fit", "wrapping_abs", "getxattr", "O_NOFOLLOW", "O_NONBLOCK", "read_", "read_until", "as_mut_slice"}
-NOT_OF_THE_REPOSITORY |= {"i32", "self-test", "df"}
+# What pages have between backquotes although no source or script has it: a word that no source may have, a word of a command of the kit,
+# commands of the system, and the kit's own identity.
+NOT_OF_THE_SOURCES = {"axiom", "doc", "df", "xargs", *KIT.split()}
 # What is no name there. Source files have a check of their own, and the others name no single thing that exists: commands, and paths in any
 # crate, of build results or of several files.
 SKIPPED = r"\.(rt|antt|rattle)$| |NAME|/out/|^out/|\*"
@@ -334,7 +330,7 @@ def known() -> set[str]:
 
 def known_to_maintainers() -> set[str]:
     """The names that a page for maintainers may have."""
-    return known() | words_of_scripts() | NOT_OF_THE_REPOSITORY
+    return known() | words_of_scripts()
 
 
 def edits() -> dict[str, str]:
