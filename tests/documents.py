@@ -17,6 +17,7 @@ from typing import NamedTuple
 
 import rattle
 import run
+import editions
 from edit_sources import TOP, Unusable, edits_of, planted_edits, planted_rows, read_edit, read_planted
 
 PAGES = [TOP / "README.md", TOP / "CONTRIBUTING.md", TOP / "CHANGELOG.md", *sorted(TOP.glob("docs/*.md")), TOP / "bench" / "README.md"]
@@ -323,6 +324,11 @@ def stale_edits() -> Iterator[str]:
                 yield f"{path.relative_to(TOP)}: {fault}"
 
 
+def stale_editions() -> Iterator[str]:
+    """The pages of docs/editions/ that are not what the sources give."""
+    yield from editions.stale()
+
+
 def known() -> set[str]:
     """The names that a page of promises may have."""
     return words_of(re.sub(COMMENT, "", "\n".join(sources().values()))) | NOT_OF_THE_SOURCES
@@ -369,6 +375,7 @@ CHECKS = [
     Check("no public function has this signature of docs/EMBEDDING.md", unknown_signatures),
     Check("the kit of the Makefile is missing", pages_of_another_kit),
     Check("docs/PROMISES.md says that no source has this word", taken_unproved),
+    Check("docs/editions/ has another text than the sources give", stale_editions),
     Check("run.py does not run this script, or docs/TESTING.md does not name it", untold_tests),
     Check("its script never uses this function", unused_functions),
     Check("this function has an argument without its type, or does not give that of its result", untyped_functions),
