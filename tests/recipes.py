@@ -615,13 +615,16 @@ def units(folder: str) -> None:
 
 
 def put_logs(folder: str, logs: list[str]) -> list[str]:
-    """Puts these logs into the folder instead of those there, by the names that the unit gives, each with its book. Returns their names."""
+    """Puts these logs into the folder instead of those there, by the names that the unit gives, each with its book, and all but the newest
+    with a file of its clients. Returns their names."""
     for path in Path(folder).glob("hall-*"):
         path.unlink()
     names = [f"hall-{1700000000 + number}.log" for number in range(len(logs))]
     for name, log in zip(names, logs):
         shutil.copy(AUDITS / f"{log}.log", Path(folder, name))
         shutil.copy(AUDITS / BOOKS_OF_LOGS[log], Path(folder, f"{name}.toml"))
+    for name in names[:-1]:
+        Path(folder, f"{name}.clients").touch()
     return names
 
 
@@ -643,7 +646,7 @@ def ended_logs(folder: str) -> None:
 
 
 def removed_logs(folder: str) -> None:
-    """Each clean log but the newest is removed with the book beside it. One at fault stays, and so does its book."""
+    """Each clean log but the newest is removed with the book and the file of its clients. One at fault stays, with all that it has."""
     environment = program_on_path(folder)
     _, removes = blocks("Audit a log")
     equal(suite.ran(["bash", "-c", removes], cwd=folder, env=environment), (0, "", ""), "without a log")
@@ -652,7 +655,8 @@ def removed_logs(folder: str) -> None:
     due = "".join(f"{name}: {answer}\n" for name, answer in zip(names, [clean, fault, clean]))
     equal(suite.ran(["bash", "-c", removes], cwd=folder, env=environment), (0, due, ""), "with four logs")
     left = sorted(path.name for path in Path(folder).glob("hall-*"))
-    equal(left, [name + end for name in (names[1], names[3]) for end in ("", ".toml")], "what is left")
+    due = [names[1], f"{names[1]}.clients", f"{names[1]}.toml", names[3], f"{names[3]}.toml"]
+    equal(left, due, "what is left")
 
 
 def a_new_log_each_night(folder: str) -> None:

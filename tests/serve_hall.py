@@ -8,8 +8,8 @@ hmac. A code is judged by the moment at which it comes. The tool goes on if a cl
 line in pieces or no whole line, does not read what it is sent, or sends 16 MB without the end of a line. If its hall is killed, it ends at
 the next event, and says why. It ends with status 0 at INT, TERM and HUP, and with status 1 and a fault if a code can't be saved, or if the
 log can't be written. No hall begins if the log or the socket is there already, as after a run that was killed, or if the copy of the book
-would take the book's place. If the hall does not begin, or a signal comes before it has, nothing is left. Nobody else can read the log and
-the copy of the book.
+would take the book's place. If the hall does not begin, or a signal comes before it has, nothing is left. Nobody else can read the log, the
+copy of the book, and the file that says whose the sessions were.
 """
 import contextlib
 import fcntl
@@ -24,6 +24,7 @@ import sys
 import termios
 import time
 from concurrent.futures import ThreadPoolExecutor
+from datetime import UTC, datetime
 from pathlib import Path
 
 import clients
@@ -187,6 +188,29 @@ def a_code_of_this_moment(folder: str) -> None:
         holds(found, "another answer is due to a code of so many steps after now", steps, answer, told)
         holds(before <= int(found[1]) <= time.time(), "the answer has another moment than that of its code", told, before)
     serves_until(serving, signal.SIGINT, folder, "clean sessions=1 accepted=1 codes=1")
+
+
+def clients_of_a_log(folder: str) -> None:
+    """LOG.clients has the user, the process and the moment of each session as it begins, and the moment of its end: of one that is refused,
+    one that goes away, one that is turned away, and those that are there until the end."""
+    serving = serving_hall(folder, BOOK_OF_USER)
+    began = datetime.now(UTC).replace(microsecond=0)
+    refused, away = greeted(folder), greeted(folder)
+    answers(refused, "AUTH PLAIN", "NO :")
+    equal(line_of(refused), "", "the end of a session that is refused")
+    away.close()
+    with contextlib.ExitStack() as guests:
+        for _ in range(64):
+            guests.enter_context(greeted(folder))
+        equal(line_of(connected(folder)), "BUSY", "one that is turned away")
+        serves_until(serving, signal.SIGINT, folder, "clean sessions=66 accepted=0 codes=0")
+    lines = [line.split(" ", 3) for line in Path(folder, "hall.log.clients").read_text().splitlines()]
+    moments = [datetime.fromisoformat(line[2]) for line in lines]
+    holds(began <= moments[0] and sorted(moments) == moments and moments[-1] <= datetime.now(UTC), "the moments are others", moments)
+    equal({*(it[3] for it in lines if it[1] == "open")}, {f"uid={os.getuid()} pid={os.getpid()}"}, "what is noted of the clients")
+    due = {*((str(number), what) for number in range(1, 68) for what in ("open", "end"))}
+    equal(sorted(tuple(it[:2]) for it in lines), sorted(due), "the sessions that are noted")
+    equal([it[0] for it in lines if it[1] == "end"][:3], ["1", "2", "67"], "the sessions that ended first")
 
 
 def a_full_hall(folder: str) -> None:
@@ -365,9 +389,10 @@ def begins_no_hall(folder: str, name: str) -> None:
 
 
 def a_log_that_is_there(folder: str) -> None:
-    """A log that is there already, or the copy of its book, stays as it is. So does a link that has one of these names."""
+    """A log that is there already, the copy of its book, or the file of its clients, stays as it is. So does a link that has one of these
+    names."""
     with_tools(folder, BOOK_OF_USER)
-    for trial, (name, is_link) in each(itertools.product(["hall.log", "hall.log.toml"], [False, True])):
+    for trial, (name, is_link) in each(itertools.product(["hall.log", "hall.log.toml", "hall.log.clients"], [False, True])):
         with trial:
             file, other = Path(folder, name), Path(folder, "other")
             if is_link:
@@ -400,7 +425,7 @@ def a_socket_that_is_left(folder: str) -> None:
     client.close()
     cut = ran(folder, "scramotp audit --book hall.log.toml --log hall.log")
     equal(cut, (1, "line 3: cut\n", ""), "the audit of the log of a run that was killed")
-    for name in ["hall.log", "hall.log.toml"]:
+    for name in ["hall.log", "hall.log.toml", "hall.log.clients"]:
         Path(folder, name).unlink()
     begins_no_hall(folder, "hall.sock")
     Path(folder, "hall.sock").unlink()
@@ -431,12 +456,13 @@ def signals_to_all(folder: str) -> None:
 
 
 def modes_of_its_files(folder: str) -> None:
-    """Whatever the umask is, only the user can read the log and the copy of the book. The socket has the mode that the umask leaves."""
+    """Whatever the umask is, only the user can read the log, the copy of the book and the file of the clients. The socket has the mode that
+    the umask leaves."""
     with_tools(folder, BOOK_OF_USER).chmod(0o644)
     serving = start(folder, START.replace("umask 077", "umask 007"))
     greeted(folder).close()
-    modes = {name: stat.S_IMODE(os.lstat(Path(folder, name)).st_mode) for name in ["hall.sock", "hall.log", "hall.log.toml"]}
-    equal(modes, {"hall.sock": 0o770, "hall.log": 0o600, "hall.log.toml": 0o600}, "the modes of the files")
+    due = {"hall.sock": 0o770, "hall.log": 0o600, "hall.log.toml": 0o600, "hall.log.clients": 0o600}
+    equal({name: stat.S_IMODE(os.lstat(Path(folder, name)).st_mode) for name in due}, due, "the modes of the files")
     serves_until(serving, signal.SIGINT, folder, "clean sessions=1 accepted=0 codes=0")
 
 
@@ -505,6 +531,7 @@ suite.run_all(
     [
         a_hall_of_your_own,
         a_code_of_this_moment,
+        clients_of_a_log,
         a_full_hall,
         a_hall_that_halts,
         a_log_that_cannot_be_written,

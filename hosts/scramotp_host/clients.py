@@ -20,7 +20,7 @@ class Clients:
         """Makes the file, which only its owner can read. FileExistsError if there is one."""
         with contextlib.ExitStack() as undo:
             self.file = made(name, undo)
-            undo.pop_all()
+            self.undo = undo.pop_all()
 
     def opens(self, number: int, client: Client) -> None:
         self.write(f"{number} open {moment()} {fields_of(client)}".rstrip())
@@ -35,6 +35,11 @@ class Clients:
 
     def close(self) -> None:
         self.file.close()
+
+    def discard(self) -> None:
+        """Removes the file of a log that has not begun."""
+        self.close()
+        self.undo.close()
 
 
 def moment() -> str:
