@@ -20,8 +20,8 @@ KIT = rattle-kit-13f logic dac8208d650f15bf
 LIBRARIES = mac_core otp_core scram_text scram_ends book_format account_book book_keeper book_file command_line command_words \
 	log_grammar sasl_log sasl_desk command_io account_commands commands
 # What is installed beside it.
-TOOLS = $(addprefix tools/,check-code drop-tables edit-book find-key from-verifier list-accounts list-unlike-decoys serve-hall \
-	set-password to-verifier)
+TOOLS = $(addprefix tools/,check-code drop-tables edit-book find-key from-verifier list-accounts list-unlike-decoys log-report \
+	serve-hall set-password to-verifier)
 # What serves logins, and the package of Python on which it stands.
 HOSTS = $(addprefix hosts/,check-login scramotp-host serve-dovecot-auth)
 # The documents that are installed, with the folder docs as it is here, so that their links lead to each other.

@@ -30,7 +30,7 @@ import expected
 import suite
 from book_cases import cases
 from checks import equal, holds
-from expected import AUDITS, HASHES, VECTORS, base64_of, keys_of, rows_of
+from expected import AUDITS, DATA, HASHES, VECTORS, base64_of, keys_of, rows_of
 from processes import LIMIT_OF_LINES, until
 from suite import BOOK_OF_USER, CODES, code, document, each, hotp, is_root, nobody, program_on_path, read_book, totp
 from tool_runs import (
@@ -54,6 +54,9 @@ before= status=; before=$(compgen -v)
 compgen -v | grep -vxF "$before" | sed 's/^/left: /'; [ "$(umask)" = 0022 ] || echo "left: umask $(umask)"
 exit $status
 """
+
+# The section whose block reports who got in.
+INCIDENT = "Who got in"
 
 # The section whose block runs until an interrupt.
 SERVED = "Serve logins with `serve-hall`"
@@ -565,7 +568,7 @@ def every_tool(folder: str) -> None:
             usage = f"{name} {words}: "
             holds(usage in Path(folder, "tools", name).read_text(encoding="utf-8"), "the usage is not in the tool", name, words)
             status, output, faults = ran(folder, f"tools/{name}")
-            equal((status, output), (1, ""), name, faults)
+            equal((status, output), (2 if name == "log-report" else 1, ""), name, faults)
             holds(faults.startswith(usage) and faults.count("\n") == 1, "the tool without words does not print its usage", name, faults)
 
 
@@ -576,12 +579,13 @@ def all_in_order(folder: str) -> None:
     both = texts("SCRAM-SHA-256", 4096, salt.hex(), *keys_of("sha256", b"pencil", salt, 4096))
     inputs = {"Start": "pencil\n", "Change a password": "another one\n", "Keys from PostgreSQL and Dovecot": both[0] + "\n"}
     _, *found = [(title, block) for title, language, block in all_blocks() if language == "sh"]
+    with_incident(folder)
     printed = []
     for title, block in found:
         status, output, faults = ran(folder, LEAVES_NOTHING.format(block.replace(INSTALLED, str(TOOLS))), inputs.get(title, ""))
         equal((status, faults), (0, ""), title, output)
         equal(re.findall("^left: (.*)", output, re.M), [], "what a block leaves in the shell", title)
-        printed += output.splitlines()
+        printed += output.splitlines() if title != INCIDENT else []
     added, secret, ahead, freed, *told, of_postgresql, of_dovecot = printed
     equal((added, freed), (f"enrolled {NAME}", f"unlocked {FOB}"), printed)
     equal(set(told), {f"{NAME}: sha1 keys, sha256 keys", f"{FOB}: hotp token (next 10, 0 failures)"}, printed)
@@ -612,6 +616,12 @@ def units(folder: str) -> None:
         answers.append(suite.ran(shlex.split(command), env=program_on_path(folder, **where)))
     equal(answers, [(0, "enrolled user\n", ""), (0, "clean sessions=1 accepted=1 codes=0\n", "")], "the answers of the two commands")
     has_keys_of(read_book(state / "book.toml")["accounts"]["user"], b"pencil", 4096)
+
+
+def with_incident(folder: str) -> None:
+    """Puts the log of an incident into the folder, with its book and the file of its clients, under the names that `serve-hall` gives."""
+    for end, name in [("log", "hall.log"), ("toml", "hall.log.toml"), ("log.clients", "hall.log.clients")]:
+        shutil.copy(DATA / f"reports/incident.{end}", Path(folder, name))
 
 
 def put_logs(folder: str, logs: list[str]) -> list[str]:
@@ -657,6 +667,24 @@ def removed_logs(folder: str) -> None:
     left = sorted(path.name for path in Path(folder).glob("hall-*"))
     due = [names[1], f"{names[1]}.clients", f"{names[1]}.toml", names[3], f"{names[3]}.toml"]
     equal(left, due, "what is left")
+
+
+def who_got_in(folder: str) -> None:
+    """A table of what came of each session is printed, and a page of it is written that nobody else can read. The words by which the
+    section leads through the page are on it."""
+    Path(folder, "tools").symlink_to(TOOLS)
+    with_incident(folder)
+    [block] = blocks("Who got in")
+    status, output, faults = ran(folder, block)
+    equal((status, faults), (0, ""), "the reports", output)
+    equal(output.splitlines()[-1], "clean sessions=23 accepted=5 codes=3", "the audit", output)
+    page = Path(folder, "report.html")
+    holds(page.is_file(), "no page is written", output)
+    equal(page.stat().st_mode & 0o777, 0o600, "the mode of the page")
+    section = DOCUMENT.read_text(encoding="utf-8").partition(f"## {INCIDENT}\n")[2].partition("\n## ")[0]
+    said = re.findall(r"`([a-z]+ [a-z ]+)`|(?<!\*)\*([A-Z][a-z ]+)\*(?!\*)", section)
+    missing = {one or other for one, other in said if f">{one or other}<" not in page.read_text()}
+    equal((missing, len(said)), ({"scramotp audit"}, 7), "what the section says that is not on the page", said)
 
 
 def a_new_log_each_night(folder: str) -> None:
@@ -773,6 +801,7 @@ TESTS = [
     all_in_order,
     ended_logs,
     removed_logs,
+    who_got_in,
     units,
     a_new_log_each_night,
     units_are_known,

@@ -45,6 +45,7 @@ TESTS = [
     "refused_memory.py",
     "recipes.py",
     "edit_book.py",
+    "log_report.py",
     "tools.py",
     "book_commands.py",
     "machine.py",

@@ -1,0 +1,233 @@
+"""A page for people of what a log says: one file that asks for no other, and that reads well without scripts, in the dark and on paper.
+
+Whatever stands in a log or in LOG.clients may be hostile. It comes into the page by `cell` and `picture` alone, which escape it, and the
+page allows no script or style but its own.
+"""
+import hashlib
+from base64 import b64encode
+from collections import Counter
+from collections.abc import Iterable, Iterator, Sized
+from html import escape
+from typing import NamedTuple
+
+from scramotp_host.chart import bars_in_order, bars_over_time, picture
+from scramotp_host.meanings import GUESSES, MEANINGS, NO_REFUSALS, OF_CODES
+from scramotp_host.report import Answer, Session, counted
+
+# How many sessions, the newest, and how many other rows a page shows. A browser takes long for more.
+MOST_SESSIONS, MOST_ROWS = 10000, 50
+
+STYLE = """
+:root { color-scheme: light dark; --text: #1b1f24; --dim: #57606a; --back: #fff; --line: #d0d7de; --in: #0a6e4f; --out: #b3470b;
+  --wait: #8a6100; --good: #dff5e8; --bad: #fde3d8; --partial: #fff3cd; }
+@media (prefers-color-scheme: dark) { :root { --text: #e6edf3; --dim: #9aa4ae; --back: #0d1117; --line: #30363d; --in: #4cc38a;
+  --out: #f0883e; --wait: #d4a72c; --good: #0f2e20; --bad: #3d1d10;
+  --partial: #33280b; } }
+body { margin: 0 auto; padding: 1.5rem; max-width: 70rem; font: 1rem/1.5 system-ui, sans-serif; color: var(--text);
+  background: var(--back); }
+h1 { font-size: 1.6rem; margin: 0 0 1rem; overflow-wrap: anywhere; }
+h2 { font-size: 1.2rem; margin: 2rem 0 .5rem; }
+.audit { padding: .75rem 1rem; border: 1px solid; border-left-width: .5rem; border-radius: .25rem; }
+.audit p { margin: .25rem 0; }
+.good { border-color: var(--in); background: var(--good); }
+.bad { border-color: var(--out); background: var(--bad); }
+.partial { border-color: var(--wait); background: var(--partial); }
+.totals { display: flex; flex-wrap: wrap; gap: 1rem 2.5rem; margin: 1.5rem 0 0; }
+.totals div { display: flex; flex-direction: column-reverse; }
+.totals dt, .note { color: var(--dim); }
+.totals dd { margin: 0; font-size: 1.6rem; line-height: 1.2; font-variant-numeric: tabular-nums; }
+.scroll { overflow-x: auto; }
+table { border-collapse: collapse; width: 100%; font-size: .9rem; }
+th, td { padding: .3rem .75rem .3rem 0; text-align: left; vertical-align: top; border-bottom: 1px solid var(--line); }
+th { color: var(--dim); font-weight: 600; }
+td { overflow-wrap: anywhere; }
+.number { text-align: right; font-variant-numeric: tabular-nums; white-space: nowrap; }
+.time, .how { white-space: nowrap; font-variant-numeric: tabular-nums; }
+td.in { color: var(--in); }
+td.out { color: var(--out); }
+svg { width: 100%; height: auto; font-size: 13px; }
+svg .in { fill: var(--in); }
+svg .out { fill: var(--out); }
+svg text { fill: var(--dim); }
+svg .end { text-anchor: end; }
+svg line { stroke: var(--dim); }
+input { font: inherit; padding: .25rem .5rem; width: 20rem; max-width: 100%; }
+@media print { body { max-width: none; padding: 0; font-size: 10pt; } #filter, details:not([open]) { display: none; }
+  thead { display: table-header-group; } tr, svg, .audit { break-inside: avoid; } }
+"""
+SCRIPT = """
+const name = document.getElementById("name"), rows = document.querySelectorAll("#sessions tbody tr");
+document.getElementById("filter").hidden = false;
+name.addEventListener("input", () => {
+  for (const row of rows) row.hidden = ![2, 3].some(at => row.cells[at].textContent.includes(name.value));
+});
+"""
+
+
+class Cell(NamedTuple):
+    """A cell of a table: its text, and its class."""
+
+    text: object
+    kind: str = ""
+
+
+def of_page(text: str) -> str:
+    """How the page's policy names this style or script."""
+    return f"'sha256-{b64encode(hashlib.sha256(text.encode()).digest()).decode()}'"
+
+
+def cell(name: str, it: Cell) -> str:
+    """A cell, as an element of this name."""
+    text = "" if it.text is None else escape(str(it.text))
+    return f'<{name} class="{it.kind}">{text}</{name}>' if it.kind else f"<{name}>{text}</{name}>"
+
+
+def table(head: list[Cell], rows: Iterable[list[Cell]], name: str = "") -> Iterator[str]:
+    """A table with this head."""
+    yield f'<div class="scroll"><table{f" id={name}" if name else ""}><thead><tr>'
+    yield "".join(cell("th", it) for it in head) + "</tr></thead><tbody>\n"
+    yield from ("<tr>" + "".join(cell("td", it) for it in row) + "</tr>\n" for row in rows)
+    yield "</tbody></table></div>\n"
+
+
+def number(count: int) -> Cell:
+    return Cell(count or "", "number")
+
+
+def when(session: Session | None) -> Cell:
+    return Cell(session.opened.strftime("%Y-%m-%d %H:%M:%S") if session and session.opened else "", "time")
+
+
+def page(log: str, answer: Answer, sessions: list[Session]) -> Iterator[str]:
+    """The page, in pieces."""
+    policy = f"default-src 'none'; style-src {of_page(STYLE)}" + (f"; script-src {of_page(SCRIPT)}" if sessions else "")
+    yield f"""<!DOCTYPE html>
+<html lang="en">
+<meta charset="utf-8">
+<meta http-equiv="Content-Security-Policy" content="{policy}">
+<meta name="viewport" content="width=device-width, initial-scale=1">
+<meta name="referrer" content="no-referrer">
+<title>Who got in: {escape(log)}</title>
+<style>{STYLE}</style>
+<h1>Who got in: {escape(log)}</h1>
+"""
+    yield from audited(answer)
+    if sessions:
+        yield from totals(sessions)
+        yield from chart(sessions)
+        yield from let_in(sessions)
+        yield from guessed(sessions)
+        yield from all_sessions(sessions)
+        yield from meanings(sessions)
+    else:
+        yield "<p>No login was decided.</p>\n"
+    yield '<p class="note">This page is as secret as the log. It tells which names have accounts, which no client is told. '
+    yield "From where and when a session came is what the server says of it, and no evidence.</p>\n"
+    yield f"<script>{SCRIPT}</script>\n" if sessions else ""
+
+
+def audited(answer: Answer) -> Iterator[str]:
+    """What the audit says."""
+    verdict = answer.verdict
+    yield f'<section class="audit {verdict.kind}"><p><strong>{escape(verdict.means)}</strong></p>\n'
+    yield f"<p>The audit says <code>{escape(answer.text)}</code>."
+    yield " This page has only what stands before that line.</p>\n" if answer.text.startswith("line ") else "</p>\n"
+    yield f"<p>What to do: {escape(verdict.to_do)}</p>\n" if verdict.to_do else ""
+    yield "</section>\n"
+
+
+def totals(sessions: list[Session]) -> Iterator[str]:
+    """How many sessions, logins and codes there are."""
+    counts = counted(sessions)
+    refused = len(sessions) - sum(counts[kind] for kind in NO_REFUSALS)
+    told = {"sessions": len(sessions), "let in": counts["accepted"], "refused": refused}
+    told |= {MEANINGS[kind].words: counts[kind] for kind in (*NO_REFUSALS[1:], *OF_CODES)}
+    yield '<dl class="totals">'
+    yield "".join(f"<div><dt>{escape(words)}</dt><dd>{count}</dd></div>" for words, count in told.items() if count)
+    yield "</dl>\n"
+
+
+def chart(sessions: list[Session]) -> Iterator[str]:
+    """The logins that were let in, and those that were refused: over time, or in their order if none has a time."""
+    logins = [it for it in sessions if it.outcome == "accepted" or it.outcome not in NO_REFUSALS]
+    timed = [(it.opened, it.outcome == "accepted") for it in logins if it.opened]
+    bars = bars_over_time(timed) if timed else bars_in_order([it.outcome == "accepted" for it in logins])
+    yield f"<h2>Logins {'over time' if timed else 'in their order'}</h2>\n<figure>{picture(bars)}"
+    if timed and len(timed) < len(logins):
+        yield f'<figcaption class="note">{len(logins) - len(timed)} of {len(logins)} logins have no time, and are not shown.</figcaption>'
+    yield "</figure>\n<details><summary>The chart as a table</summary>\n"
+    head = [Cell("From" if timed else "Logins"), Cell("Let in", "number"), Cell("Refused", "number")]
+    yield from table(head, ([Cell(it.label), number(it.accepted), number(it.refused)] for it in bars if it.accepted or it.refused))
+    yield "</details>\n"
+
+
+def let_in(sessions: list[Session]) -> Iterator[str]:
+    """Who was let in, as whom, how often and from where."""
+    groups: dict[tuple[str | None, str | None], list[Session]] = {}
+    for session in sessions:
+        if session.outcome == "accepted":
+            groups.setdefault((session.account, session.acts_as), []).append(session)
+    found = sorted(groups.items(), key=lambda it: -len(it[1]))
+    yield "<h2>Who was let in</h2>\n"
+    head = [Cell("Account"), Cell("Acts as"), Cell("Times", "number"), Cell("First"), Cell("Last"), Cell("From")]
+    yield from table(head, (
+        [Cell(account), Cell(acts_as), number(len(of)), when(of[0]), when(of[-1]), Cell(origins(of))]
+        for (account, acts_as), of in found[:MOST_ROWS]
+    ))
+    yield more(found)
+
+
+def origins(sessions: list[Session]) -> str:
+    """The most frequent clients of some sessions."""
+    clients = Counter(it.client for it in sessions if it.client)
+    return ", ".join(client for client, _ in clients.most_common(3)) + (f" and {len(clients) - 3} more" if len(clients) > 3 else "")
+
+
+def more(found: Sized) -> str:
+    """Says how many rows are left out."""
+    return f'<p class="note">{len(found) - MOST_ROWS} more are not shown.</p>\n' if len(found) > MOST_ROWS else ""
+
+
+def guessed(sessions: list[Session]) -> Iterator[str]:
+    """The accounts that are most guessed at."""
+    guesses: dict[str, Counter[str]] = {}
+    for session in sessions:
+        if session.account is not None:
+            counts = guesses.setdefault(session.account, Counter())
+            counts[session.outcome] += 1
+            counts.update(session.codes)
+    found = [(name, counts) for name, counts in guesses.items() if any(counts[kind] for kind in GUESSES)]
+    found.sort(key=lambda it: -sum(it[1][kind] for kind in GUESSES))
+    yield "<h2>Accounts most guessed at</h2>\n"
+    if not found:
+        yield "<p>None: no password and no code was wrong.</p>\n"
+        return
+    head = [Cell("Account"), *(Cell(MEANINGS[kind].words.capitalize(), "number") for kind in (*GUESSES, "accepted"))]
+    yield from table(head, ([Cell(name), *(number(counts[kind]) for kind in (*GUESSES, "accepted"))] for name, counts in found[:MOST_ROWS]))
+    yield more(found)
+
+
+def all_sessions(sessions: list[Session]) -> Iterator[str]:
+    """The sessions, with a field to find a name, which appears only if scripts run."""
+    yield "<h2>Sessions</h2>\n"
+    if len(sessions) > MOST_SESSIONS:
+        yield f'<p class="note">These are the newest {MOST_SESSIONS} of {len(sessions)}. log-report --csv has all.</p>\n'
+    yield '<p id="filter" hidden><label for="name">Only names with</label> <input id="name" type="search" autocomplete="off"></p>\n'
+    head = [Cell("Session", "number"), Cell("When (UTC)"), Cell("Who"), Cell("Acts as"), Cell("From"), Cell("How"), Cell("What came of it")]
+    yield from table(head, (
+        [
+            Cell(it.number, "number"), when(it), Cell(it.account), Cell(it.acts_as), Cell(it.client), Cell(it.mechanism, "how"),
+            Cell(it.words, "in" if it.outcome == "accepted" else "out"),
+        ]
+        for it in sessions[-MOST_SESSIONS:]
+    ), "sessions")
+
+
+def meanings(sessions: list[Session]) -> Iterator[str]:
+    """What the words for what came of sessions mean, and what to do."""
+    yield "<h2>What it means, and what to do</h2>\n"
+    head = [Cell("What came of it"), Cell("Times", "number"), Cell("Means"), Cell("What to do")]
+    yield from table(head, (
+        [Cell(MEANINGS[kind].words), number(count), Cell(MEANINGS[kind].means), Cell(MEANINGS[kind].to_do)]
+        for kind, count in counted(sessions).most_common()
+    ))

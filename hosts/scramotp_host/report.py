@@ -1,0 +1,136 @@
+"""What a log says of each session: when, who, as whom, from where, how, and what came of it; and what an audit has said of the log."""
+import re
+from collections import Counter
+from collections.abc import Callable, Collection, Iterable, Iterator
+from contextlib import suppress
+from dataclasses import dataclass, field
+from datetime import datetime
+from sys import intern
+from typing import NamedTuple
+
+from scramotp_host.meanings import MEANINGS, MOST_LINES, OF_CODES, VERDICTS, Verdict
+from scramotp_host.rows import Row
+
+
+class Answer(NamedTuple):
+    """What an audit has printed of a log, its status, and what that means."""
+
+    text: str
+    status: int
+    verdict: Verdict
+
+    @property
+    def judged(self) -> int:
+        """How many lines it has found right, at most. If a read has failed, it does not say how many."""
+        found = re.match(r"line (\d+): ", self.text)
+        return int(found[1]) - 1 if found else 0 if self.text == "read fault" else MOST_LINES
+
+
+def answer_of(text: str, status: int) -> Answer | None:
+    """The answer of an audit that has printed this; None if it is in no form that is known here."""
+    verdict = VERDICTS.get(re.sub(r"^line \d+: |, due .*| sessions=.*", "", text))
+    return Answer(text, status, verdict) if verdict else None
+
+
+class Opened(NamedTuple):
+    """When a session began, and its client, as LOG.clients has them."""
+
+    opened: str
+    client: str
+
+
+OPENED = re.compile(r"([1-9][0-9]{0,18}) open ([0-9]{4}-[0-9]{2}-[0-9]{2}T[0-9]{2}:[0-9]{2}:[0-9]{2}Z)(?: ([ -~]*))?\n?")
+UNKNOWN = Opened("", "")
+
+
+def opened(lines: Iterable[str]) -> dict[int, Opened]:
+    """What the lines of a file LOG.clients say of each session. A line of another form is passed over."""
+    return {int(found[1]): Opened(found[2], intern(found[3] or "")) for line in lines if (found := OPENED.fullmatch(line))}
+
+
+def moment_of(text: str) -> datetime | None:
+    """A moment in UTC, in the form of LOG.clients, or None if the text is none, or the clock was before 1970."""
+    with suppress(ValueError):
+        moment = datetime.fromisoformat(text.removesuffix("Z"))
+        return moment if moment.year >= 1970 else None
+    return None
+
+
+@dataclass(slots=True)
+class Session:
+    """A session: when it began, and its client, if that is known; what has come of the login, and how many of its codes have come to what,
+    by the keys of MEANINGS."""
+
+    number: int
+    opened: datetime | None
+    client: str
+    account: str | None = None
+    acts_as: str | None = None
+    mechanism: str | None = None
+    outcome: str = ""
+    codes: dict[str, int] = field(default_factory=dict)
+
+    def takes(self, row: Row) -> None:
+        """Takes a row of the session. What ends it after its login is not told."""
+        self.account, self.acts_as, self.mechanism = row.account, row.acts_as, row.mechanism
+        kind = kind_of(row)
+        if kind in OF_CODES:
+            self.codes[kind] = self.codes.get(kind, 0) + 1
+        elif not self.outcome:
+            self.outcome = kind
+
+    @property
+    def words(self) -> str:
+        """What has come of it."""
+        codes = (MEANINGS[kind].words + (f" ({count})" if count > 1 else "") for kind, count in self.codes.items())
+        return ", ".join([MEANINGS[self.outcome].words, *codes])
+
+
+def kind_of(row: Row) -> str:
+    """What a row has decided, by its key in MEANINGS."""
+    if row.event == "failed":
+        return "spent" if row.reason.endswith(" spent") else "failed"
+    return row.reason if row.event == "refused" else row.event
+
+
+def sessions_of(rows: Iterable[Row], clients: dict[int, Opened]) -> list[Session]:
+    """The sessions of which there is a row, in the order in which they began."""
+    found: dict[int, Session] = {}
+    for row in rows:
+        if row.session not in found:
+            when, client = clients.get(row.session, UNKNOWN)
+            found[row.session] = Session(row.session, moment_of(when), client)
+        found[row.session].takes(row)
+    return sorted(found.values(), key=lambda it: it.number)
+
+
+def counted(sessions: Iterable[Session]) -> Counter[str]:
+    """How many logins and codes have come to what, by the keys of MEANINGS."""
+    counts = Counter[str]()
+    for session in sessions:
+        counts[session.outcome] += 1
+        counts.update(session.codes)
+    return counts
+
+
+# What a table for a terminal has of a session, by its head. A longer text than the widest is not cut, and moves the rest of its line.
+COLUMNS: dict[str, Callable[[Session], str]] = {
+    "WHEN (UTC)": lambda it: it.opened.strftime("%Y-%m-%d %H:%M:%S") if it.opened else "",
+    "SESSION": lambda it: str(it.number),
+    "WHO": lambda it: it.account or "",
+    "AS": lambda it: it.acts_as or "",
+    "FROM": lambda it: it.client,
+    "HOW": lambda it: it.mechanism or "",
+    "OUTCOME": lambda it: it.words,
+}
+WIDEST = 40
+
+
+def table(sessions: Collection[Session]) -> Iterator[str]:
+    """The lines of a table of sessions, without the columns that would be empty."""
+    widths = {head: min(max((len(of(it)) for it in sessions), default=0), WIDEST) for head, of in COLUMNS.items()}
+    shown = {head: max(width, len(head)) for head, width in widths.items() if width}
+    if shown:
+        yield "  ".join(head.ljust(width) for head, width in shown.items()).rstrip()
+    for session in sessions:
+        yield "  ".join(COLUMNS[head](session).ljust(width) for head, width in shown.items()).rstrip()

@@ -1,0 +1,621 @@
+#!/usr/bin/env python3
+"""Makes reports of logs with `tools/log-report`: who was let in, who was refused and why, as rows, as a table and as a page.
+
+Usage: log_report.py PROGRAM [TEST ..]
+
+The rows of data/audits/cases.csv, in the column `rows`, and those of data/reports/incident.rows were worked out by hand, as were the
+reasons in the tables below; proofs and codes are computed with Python's hmac. The log of the incident has each event but `busy`, and each
+reason, in sessions that interleave. Pages are read with Python's html.parser, and drawn by Chromium if that is installed.
+"""
+import csv
+import hashlib
+import html.parser
+import io
+import itertools
+import json
+import os
+import re
+import shutil
+import signal
+import stat
+import sys
+import tomllib
+from collections.abc import Callable, Iterable
+from pathlib import Path
+from typing import Any
+
+import expected
+import suite
+from audit_cases import TABLE
+from checks import equal, holds
+from clients import Account, book, dealt, escaped, gone, logged_in
+from expected import AUDITS, DATA, MECHS, base64_of, decoy_salt, edited_texts, numbered
+from processes import Answer, ran
+from suite import PROGRAM, SEEDS, TOP, code, each, hotp, not_tested, program_on_path, totp
+
+sys.path.insert(0, str(TOP / "hosts"))
+from scramotp_host.rows import rows
+
+TOOL = TOP / "tools/log-report"
+INCIDENT = DATA / "reports" / "incident.log"
+ROWS_OF_INCIDENT = INCIDENT.with_suffix(".rows").read_text().splitlines()
+BOOK_OF_INCIDENT = INCIDENT.with_suffix(".toml")
+ANSWER_OF_INCIDENT = "clean sessions=23 accepted=5 codes=3"
+# What a report may have as events and as reasons, apart from moments and counters.
+EVENTS = {"accepted", "refused", "passed", "failed", "locked", "no-token", "left", "busy", "halted"}
+REASONS = {"mechanism", "grammar", "mandatory", "binding", "name", "encoding", "extensions", "nonce", "channel", "no-account", "no-keys"}
+REASONS |= {"proof", "acts-as", "aborted", "bad-line"}
+
+
+def report(folder: str | Path, *words: str | Path, **how: Any) -> Answer:
+    """Runs the tool, with the program on the PATH."""
+    return ran([TOOL, *words], env=program_on_path(folder), **how)
+
+
+def row_text(row: dict[str, Any]) -> str:
+    """A row as text: names are spelled as in a log, and `-` stands for none."""
+    names = ("-" if row[key] is None else escaped(row[key]) for key in ("account", "acts_as", "mechanism"))
+    return " ".join((str(row["line"]), str(row["session"]), row["event"], *names, row["reason"] or "-"))
+
+
+def reported(folder: str | Path, of_log: str | Path, log: str | Path) -> tuple[int, list[str], str]:
+    """The status of a report, its rows, and the answer of the audit in it."""
+    status, output, faults = report(folder, of_log, log, "--json")
+    equal(faults, "", "what a report says of faults", log)
+    *found, last = map(json.loads, output.splitlines())
+    equal(last["status"], status, "the status that a report has of the audit")
+    return status, [row_text(row) for row in found], last["audit"]
+
+
+def rows_of(of_log: str | Path, log: bytes, lines: int | None = None) -> list[str]:
+    """The rows of the first lines of a log, or of all."""
+    found = rows(tomllib.loads(Path(of_log).read_text()), io.BytesIO(log), lines)
+    return [row_text(row._asdict()) for row in found]
+
+
+def recorded_logs(folder: str) -> None:
+    """Each log that the audits are tested with has its rows, up to the line at fault. A log of version 1 has the same with numbers."""
+    log = Path(folder, "log")
+    for trial, (row, text) in each(edited_texts(TABLE, "log", ".log")):
+        with trial:
+            of_log, due = AUDITS / f"{row['book']}.toml", row["rows"].split("\\n") if row["rows"] else []
+            log.write_bytes(text)
+            is_clean = row["answer"].startswith("clean ")
+            equal(reported(folder, of_log, log), (int(not is_clean), due, row["answer"]), row["shows"])
+            if is_clean and text.startswith(b"SCRAMLOG 1\n"):
+                equal(rows_of(of_log, numbered(text.decode()).encode()), due, "with numbers", row["shows"])
+
+
+def an_incident(folder: str) -> None:
+    """A log with each event and each reason has its rows."""
+    equal(reported(folder, BOOK_OF_INCIDENT, INCIDENT), (0, ROWS_OF_INCIDENT, ANSWER_OF_INCIDENT), "the incident")
+    words = [row.split(" ") for row in ROWS_OF_INCIDENT]
+    equal({it[2] for it in words}, EVENTS - {"busy"}, "the events")
+    equal({it[6] for it in words if it[2] == "refused"}, REASONS, "the reasons")
+
+
+def cut_logs(folder: str) -> None:
+    """Of a log that ends after any of its bytes, what its whole lines have decided is reported, and nothing else."""
+    text, log = INCIDENT.read_bytes(), Path(folder, "log")
+    decided = [int(row.split(" ")[0]) for row in ROWS_OF_INCIDENT]
+    for size in range(len(text)):
+        whole = text[:size].count(b"\n")
+        equal(rows_of(BOOK_OF_INCIDENT, text[:size], whole), ROWS_OF_INCIDENT[:sum(at <= whole for at in decided)], "bytes", size)
+    lines = text.splitlines(keepends=True)
+    for trial, (at, is_whole) in each(itertools.product(decided[::6], [False, True])):
+        with trial:
+            log.write_bytes(b"".join(lines[:at]) if is_whole else b"".join(lines[:at])[:-1])
+            due = ROWS_OF_INCIDENT[:decided.index(at) + is_whole]
+            equal(reported(folder, BOOK_OF_INCIDENT, log), (1, due, f"line {at + is_whole}: cut"), "cut after line", at)
+
+
+def a_full_hall(folder: str) -> None:
+    """A session that is turned away while 64 are open has a row."""
+    log = Path(folder, "log")
+    log.write_text("SCRAMLOG 2\n" + "".join(f"{number} {MECHS}\n" for number in range(1, 65)) + "65 S BUSY\n65 E\n1 C GONE\n1 E\n")
+    equal(reported(folder, AUDITS / "keys.toml", log), (1, ["66 65 busy - - - -", "68 1 left - - - -"], "line 70: cut"), "a full hall")
+
+
+# The tags and attributes of a page.
+TAGS = set("html meta title style script h1 h2 section p strong code dl dt dd div figure figcaption svg desc rect line text".split())
+TAGS |= set("details summary table thead tbody tr th td label input".split())
+ATTRIBUTES = set("lang charset http-equiv content name id class hidden for type autocomplete viewbox role aria-labelledby x y".split())
+ATTRIBUTES |= {"width", "height", "x1", "x2", "y1", "y2"}
+USER = Account("user", "SCRAM-SHA-1")
+# Tokens that have moved on: the next counter of a fob is 1500, and the last step of a phone, whose window is two steps wide, was 101.
+FOB = hotp(look_ahead=0, limit=9).replace("next = 0", "next = 1500").replace("look_ahead = 0", "look_ahead = 0\nsync_ahead = 0")
+PHONE = totp(limit=9, function="sha256").replace("back = 0", "back = 1").replace("drift = 0", "drift = 0\nlast = 101")
+
+
+def step_code(step: int) -> str:
+    """The code of that phone for a step."""
+    return expected.code(bytes.fromhex(SEEDS["sha256"]), step, 8, "sha256")
+
+
+def hostile_log(folder: str | Path, accounts: list[Account]) -> tuple[Path, Path]:
+    """The paths of a book with these accounts, and of a log of version 2 in which each of them is let in, one after the other."""
+    of_log, log = Path(folder, "book.toml"), Path(folder, "log")
+    of_log.write_text(book(accounts, False))
+    visits = [[*logged_in(it, "fyko", "own"), gone()] for it in accounts]
+    log.write_text(dealt([number for number, visit in enumerate(visits) for _ in visit], visits)[1])
+    return of_log, log
+
+
+def session(first: str, *more: str) -> str:
+    """A log of one session, whose client begins with this message."""
+    return "\n".join(("SCRAMLOG 1", MECHS, f"C AUTH SCRAM-SHA-1 :{escaped(first)}", *more, "E\n"))
+
+
+def first_messages(folder: str) -> None:
+    """A first message is refused for the first of the reasons that hold; one that is at the edge of the grammar is taken up."""
+    log, of_log = Path(folder, "log"), Path(folder, "book.toml")
+    of_log.write_text(book([USER], False))
+    most = "a" * 255
+    for trial, (first, reason) in each([
+        ("p=x,,m=y,n=\x7f,r=a", "mandatory"),
+        ("n,,n=user,r=a,x=y,m=z", "mandatory"),
+        ("p=x,a=\x7f,n=\x7f,r=a", "binding"),
+        ("n,,n=" + most + "a,r=a", "name"),
+        ("n,a=\xe9,n=user,r=a", "name"),
+        ("n,a=,n=user,r=a", "grammar"),
+        ("n,,n=user,m=y,r=a", "grammar"),
+        ("n,,n=a=2c,r=a", "grammar"),
+        ("n,,n=user,r=", "grammar"),
+        ("n,,n=user,r=" + "a" * 257, "grammar"),
+        ("n,,n=user,r=a,", "grammar"),
+        ("n,,n=user,r=a,x=", "grammar"),
+        ("n,,n=user,r=a,x=\0", "grammar"),
+        ("n,,n=user,r=a,x=" + "y" * 2033, "grammar"),
+        ("N,,n=user,r=a", "grammar"),
+        ("p=,,n=user,r=a", "grammar"),
+    ]):
+        with trial:
+            log.write_text(session(first, "S NO :"))
+            clean = (0, [f"4 1 refused - - SCRAM-SHA-1 {reason}"], "clean sessions=1 accepted=0 codes=0")
+            equal(reported(folder, of_log, log), clean, first[:60])
+    for trial, (first, name, acts_as) in each([
+        ("n,,n=" + most + ",r=" + "a" * 256, most, "-"),
+        ("y,a=x=2Cy=3D2C,n=a b%,r=a,M=1", "a%20b%25", "x,y=2C"),
+        ("n,,n=-,r=a,x=" + "y" * 2035, "-", "-"),
+    ]):
+        with trial:
+            plain = {"a%20b%25": "a b%"}.get(name, name)
+            nonce = first.partition(",r=")[2].partition(",")[0]
+            log.write_text(session(first, f"S CONT :r={nonce}b,s={base64_of(decoy_salt(plain))},i=4096", "C GONE"))
+            clean = (0, [f"5 1 left {name} {acts_as} SCRAM-SHA-1 -"], "clean sessions=1 accepted=0 codes=0")
+            equal(reported(folder, of_log, log), clean, first[:60])
+
+
+def last_messages(folder: str) -> None:
+    """A last message is refused for the first of the reasons that hold."""
+    log, of_log = Path(folder, "log"), Path(folder, "book.toml")
+    of_log.write_text(book([USER], False))
+    it = USER.exchange("fyko", "own")
+    bare, wrong = it.first.removeprefix("n,,"), base64_of(bytes(20))
+    for trial, (name, acts_as, final, answer, reason) in each([
+        ("user", "root", "r=other", "invalid-encoding", "encoding"),
+        ("user", "root", f"c=biws,r=fykoown,p={wrong},", "invalid-encoding", "encoding"),
+        ("user", "root", f"c=biwt,r=fykoown,p={base64_of(bytes(65))}", "invalid-encoding", "encoding"),
+        ("user", "root", f"c=biws,r=other,m=1,p={wrong}", "extensions-not-supported", "extensions"),
+        ("nobody", "root", f"c=biws,r=fykoow,p={wrong}", "other-error", "nonce"),
+        ("nobody", "root", f"c=biws,r=fykoown,p={wrong}", "channel-bindings-dont-match", "channel"),
+        ("nobody", "root", f"c=bixhPXJvb3Qs,r=fykoown,p={wrong}", "invalid-proof", "no-account"),
+        ("user", "root", f"c=bixhPXJvb3Qs,r=fykoown,p={wrong}", "invalid-proof", "proof"),
+        ("user", "", f"c=biws,r=fykoown,p={base64_of(b'x')}", "invalid-proof", "proof"),
+        ("user", "", it.wrong_final, "invalid-proof", "proof"),
+    ]):
+        with trial:
+            header = f"n,{acts_as and f'a={acts_as}'},"
+            challenge = it.challenge if name == "user" else f"r=fykoown,s={base64_of(decoy_salt(name))},i=4096"
+            more = f"S CONT :{escaped(challenge)}", f"C RESP :{escaped(final)}", f"S NO :e={answer}"
+            log.write_text(session(header + bare.replace("n=user", f"n={name}"), *more))
+            due = [f"6 1 refused {name} {acts_as or '-'} SCRAM-SHA-1 {reason}"]
+            equal(reported(folder, of_log, log), (0, due, "clean sessions=1 accepted=0 codes=0"), final)
+
+
+def spent_codes(folder: str) -> None:
+    """A code that fails is told as spent if its counter is one of the thousand before the next one, or a step of the window that is not
+    after the last step that has passed. Of two codes in a row the first has to be of such a counter."""
+    log, of_log = Path(folder, "log"), Path(folder, "book.toml")
+    it = USER.exchange("fyko", "own")
+    for trial, (token, said, moment, is_spent) in each([
+        (FOB, f"CODE {code(1501)}", 5, False),
+        (FOB, f"CODE {code(1499)}", 5, True),
+        (FOB, f"CODE {code(500)}", 5, True),
+        (FOB, f"CODE {code(499)}", 5, False),
+        (FOB, f"CODE {code(1499)}x", 5, False),
+        (FOB, f"SYNC {code(1499)} {code(1500)}", 5, True),
+        (FOB, f"SYNC {code(500)} {code(501)}", 5, True),
+        (FOB, f"SYNC {code(499)} {code(500)}", 5, False),
+        (FOB, f"SYNC {code(1498)} {code(1500)}", 5, False),
+        (PHONE, f"CODE {step_code(100)}", 3000, True),
+        (PHONE, f"CODE {step_code(99)}", 3000, True),
+        (PHONE, f"CODE {step_code(98)}", 3000, False),
+        (PHONE, f"CODE {step_code(101)}", 3029, True),
+        (PHONE, f"CODE {step_code(102)}", 3029, False),
+        (PHONE, f"CODE {step_code(100)}", 3100, False),
+        (PHONE, f"SYNC {step_code(100)} {step_code(101)}", 3000, False),
+        (PHONE.replace("t0 = 0", "t0 = 3001"), f"CODE {step_code(0)}", 3000, False),
+    ]):
+        with trial:
+            of_log.write_text(book([USER], False) + token)
+            lines = f"S CONT :{it.challenge}", f"C RESP :{it.final}", f"S OK :v={it.signature}", f"C {said}", f"S FAIL {moment}", "C GONE"
+            log.write_text(session(it.first, *lines))
+            rest = f"8 1 failed user - SCRAM-SHA-1 {moment} {'spent' if is_spent else '-'}"
+            due = (0, ["6 1 accepted user - SCRAM-SHA-1 -", rest], "clean sessions=1 accepted=1 codes=0")
+            equal(reported(folder, of_log, log), due, said, moment)
+
+
+def a_table(folder: str) -> None:
+    """By default there is a table of sessions, without columns that would be empty; then how often each thing has come to pass, and at last
+    what the audit says."""
+    log = Path(folder, "log")
+    log.write_bytes((AUDITS / "interleaved.log").read_bytes())
+    clean = "The log is clean: nobody was let in, and nobody refused, against the rules.\nclean sessions=2 accepted=1 codes=1\n"
+    totals = "      1  let in\n      1  code passed\n      1  mechanism not offered\n"
+    equal(report(folder, AUDITS / "hotp.toml", log), (0, f"""\
+SESSION  WHO   HOW          OUTCOME
+1        user  SCRAM-SHA-1  let in, code passed
+2              PLAIN        mechanism not offered
+
+{totals}
+{clean}""", ""), "without clients")
+    Path(folder, "log.clients").write_text("2 open 2026-11-30T04:10:00Z rip=192.0.2.7\n1 open 2026-11-30T04:09:59Z uid=7 pid=8\n")
+    equal(report(folder, AUDITS / "hotp.toml", log), (0, f"""\
+WHEN (UTC)           SESSION  WHO   FROM           HOW          OUTCOME
+2026-11-30 04:09:59  1        user  uid=7 pid=8    SCRAM-SHA-1  let in, code passed
+2026-11-30 04:10:00  2              rip=192.0.2.7  PLAIN        mechanism not offered
+
+{totals}
+{clean}""", ""), "with clients")
+    log.write_bytes(log.read_bytes().replace(b"1 S PASS 3 0", b"1 S PASS 3 1"))
+    status, output, _ = report(folder, AUDITS / "hotp.toml", log)
+    equal((status, output.splitlines()[-1]), (1, "line 12: reply, due PASS 3 0"), "the end for a log at fault", output)
+    holds("code passed" not in output, "a code at fault is told", output)
+
+
+def for_other_programs(folder: str) -> None:
+    """A table and objects for other programs have the names as they are, whatever is in them, and what is known of the client."""
+    names = ['=1+1', 'a,"b" %2C', "-", "<b>"]
+    accounts = [Account(name, "SCRAM-SHA-256") for name in names]
+    of_log, log = hostile_log(folder, accounts)
+    Path(f"{log}.clients").write_text('2 open 2026-11-30T04:10:00Z rip=192.0.2.7 name="a, b"\n')
+    status, output, faults = report(folder, of_log, log, "--csv")
+    equal((status, faults), (0, ""), "the table")
+    found = [*csv.DictReader(io.StringIO(output))]
+    equal([it["account"] for it in found], names, "the accounts of the table")
+    due = {"line": "13", "session": "2", "event": "accepted", "account": names[1], "acts_as": "", "mechanism": "SCRAM-SHA-256"}
+    due |= {"reason": "", "opened": "2026-11-30T04:10:00Z", "client": 'rip=192.0.2.7 name="a, b"'}
+    equal(found[1], due, "a row of the table")
+    status, output, faults = report(folder, of_log, log, "--json")
+    objects = [json.loads(line) for line in output.splitlines()]
+    equal((status, objects[-1]), (0, {"audit": "clean sessions=4 accepted=4 codes=0", "status": 0}), "the last object", faults)
+    equal([it["account"] for it in objects[:-1]], names, "the accounts of the objects")
+    due = {"line": 20, "session": 3, "event": "accepted", "account": "-", "acts_as": None, "mechanism": "SCRAM-SHA-256", "reason": None}
+    equal(objects[2], due | {"opened": None, "client": None}, "an object")
+
+
+class Page(html.parser.HTMLParser):
+    """What a page has: its tags, their attributes, the text within each tag, and its tables by the title before them."""
+
+    def __init__(self, text: str) -> None:
+        super().__init__()
+        self.tags, self.attributes = list[str](), list[tuple[str, str | None]]()
+        self.texts, self.tables = dict[str, list[str]](), dict[str, list[list[str]]]()
+        self.open, self.title, self.table = "", "", list[list[str]]()
+        self.feed(text)
+        self.close()
+
+    def handle_starttag(self, tag: str, attributes: list[tuple[str, str | None]]) -> None:
+        self.tags.append(tag)
+        self.attributes += attributes
+        self.open = tag
+        self.texts.setdefault(tag, []).append("")
+        if tag == "table":
+            self.table = self.tables[self.title] = []
+        elif tag == "tr":
+            self.table.append([])
+        elif tag in ("td", "th"):
+            self.table[-1].append("")
+
+    def handle_endtag(self, tag: str) -> None:
+        if tag in ("h2", "summary"):
+            self.title = self.texts[tag][-1]
+        self.open = ""
+
+    def handle_data(self, data: str) -> None:
+        if self.open:
+            self.texts[self.open][-1] += data
+        if self.open in ("td", "th"):
+            self.table[-1][-1] += data
+
+
+def page_of(folder: str | Path, of_log: str | Path, log: str | Path, status: int = 0) -> Page:
+    """The page of a log, which asks for nothing else and runs nothing but its own script."""
+    file = Path(folder, "page.html")
+    answer = report(folder, of_log, log, "-o", file)
+    equal((answer.status, answer.faults), (status, ""), "a page")
+    text = file.read_text(encoding="utf-8")
+    page = Page(text)
+    holds(page.texts["code"] == [answer.output.removesuffix("\n")], "the page does not have the audit's answer", answer.output)
+    equal(sorted({*page.tags} - TAGS), [], "the tags that no page has")
+    equal(sorted({name for name, _ in page.attributes} - ATTRIBUTES), [], "the attributes that no page has")
+    equal(re.findall(r"https?:|//|url\(|@import", text), [], "what leads out of the page")
+    [policy, *_] = [it for name, it in page.attributes if name == "content"]
+    own = [(tag, it) for tag in ("style", "script") for it in page.texts.get(tag, [])]
+    due = [f"{tag}-src 'sha256-{base64_of(hashlib.sha256(it.encode()).digest())}'" for tag, it in own]
+    equal(policy, "; ".join(["default-src 'none'", *due]), "the page's policy")
+    equal([tag for tag, _ in own], ["style", "script"] if "Sessions" in page.tables else ["style"], "the styles and scripts")
+    return page
+
+
+def a_page(folder: str) -> None:
+    """The page of the incident says who was let in and how often, whom someone has guessed at, what came of each session, and when."""
+    log = Path(folder, "incident.log")
+    for end in ("", ".clients"):
+        shutil.copy(f"{INCIDENT}{end}", f"{log}{end}")
+    page = page_of(folder, BOOK_OF_INCIDENT, log)
+    equal(stat.S_IMODE(os.stat(Path(folder, "page.html")).st_mode), 0o600, "the mode of the page")
+    day, home = "2026-11-30 04:", "service=smtp rip=192.0.2.7"
+    equal(page.tables["Who was let in"][1:], [
+        ["user", "", "2", f"{day}10:00", f"{day}11:35", home],
+        ["user", "list owner", "1", f"{day}10:25", f"{day}10:25", home],
+        ["a b%c", "", "1", f"{day}10:58", f"{day}10:58", "service=imap rip=2001:db8::7"],
+        ["phone", "", "1", f"{day}10:59", f"{day}10:59", "service=imap rip=192.0.2.33"],
+    ], "who was let in")
+    equal(page.tables["Accounts most guessed at"][1:], [
+        ["user", "1", "", "1", "2", "3"], ["phone", "", "", "1", "1", "1"], ["nobody", "", "1", "", "", ""],
+    ], "who was guessed at")
+    sessions = page.tables["Sessions"][1:]
+    equal([it[0] for it in sessions], [str(number) for number in range(1, 24) if number != 22], "the sessions that were decided")
+    first = ["1", f"{day}10:00", "user", "", home, "SCRAM-SHA-1", "let in, code passed (2), code used before (2), wrong code"]
+    equal(sessions[0], first, "the first session")
+    equal(sessions[9][2:], ["user", "root", "service=imap rip=192.0.2.7", "SCRAM-SHA-1", "may not act as that name"], "the tenth session")
+    equal(sessions[18][:5], ["19", "", "", "", ""], "a session of which the clients' file has nothing")
+    equal(page.tables["The chart as a table"][1:], [
+        [f"{day}10:00", "1", "4"], [f"{day}10:05", "", "2"], [f"{day}10:10", "", "1"], [f"{day}10:15", "", "1"], [f"{day}10:20", "", "1"],
+        [f"{day}10:25", "1", "1"], [f"{day}10:30", "", "1"], [f"{day}10:35", "", "3"], [f"{day}10:40", "", "1"], [f"{day}10:55", "2", ""],
+        [f"{day}11:35", "1", ""],
+    ], "the chart")
+    chart = f"From {day}10:00 to {day}11:35, 5 let in above the axis and 15 refused below it. Most were refused at {day}10:00: 4."
+    equal((page.texts["desc"], page.tags.count("rect")), ([chart], 13), "the chart's text, and how many bars it has")
+    told = {it[0]: it[1] for it in page.tables["What it means, and what to do"][1:]}
+    equal((len(told), told["let in"], told["code used before"], told["wrong password"]), (23, "5", "3", "1"), "what is explained")
+
+
+HOSTILE = ["<script>alert(1)</script>", '"><img src=x onerror=alert(1)>', "%3Cscript%3E&lt;b&gt;", "</title></style>'", "x" * 255]
+
+
+def hostile_names(folder: str) -> None:
+    """Names, clients and the name of a log that are made to break a page out of its form stand in it as text."""
+    of_log, log = hostile_log(folder, [Account(name, "SCRAM-SHA-256") for name in HOSTILE])
+    lines = [f"{number} open 2026-11-30T04:10:00Z name={json.dumps(it)}\n" for number, it in enumerate(HOSTILE, 1)]
+    named = Path(folder, '"><script>"')
+    log.rename(named)
+    Path(f"{named}.clients").write_text("".join(lines))
+    page = page_of(folder, of_log, named)
+    equal(page.texts["h1"], [f"Who got in: {named}"], "the title")
+    equal([it[2] for it in page.tables["Sessions"][1:]], HOSTILE, "the names")
+    equal([it[4] for it in page.tables["Sessions"][1:]], [f"name={json.dumps(it)}" for it in HOSTILE], "the clients")
+    equal([it[0] for it in page.tables["Who was let in"][1:]], HOSTILE, "the names that were let in")
+
+
+def pages_of_faulty_logs(folder: str) -> None:
+    """A log at fault gets a page of what stands before the fault. It says what the fault is, and what to do."""
+    log = Path(folder, "log")
+    for trial, (kind, look, says) in each([
+        ("cut", "partial", "the server still writes it, or was stopped"),
+        ("not a line", "bad", "the file was damaged or edited"),
+        ("order", "bad", "the file was damaged or edited"),
+        ("mechs", "bad", "it is at fault, or another program wrote the log"),
+        ("challenge", "bad", "the server sent a wrong challenge, or the book is another one"),
+        ("outcome", "bad", "treat it as a break-in until you know better"),
+        ("reply", "bad", "A code was taken that is used, too old or wrong"),
+    ]):
+        with trial:
+            of_kind = [it for it in edited_texts(TABLE, "log", ".log") if re.match(rf"line \d+: {kind}\b", it[0]["answer"])]
+            row, text = max(of_kind, key=lambda it: len(it[0]["rows"]))
+            log.write_bytes(text)
+            page = page_of(folder, AUDITS / f"{row['book']}.toml", log, 1)
+            equal(page.texts["code"], [row["answer"]], "the audit's answer")
+            equal([it for name, it in page.attributes if name == "class"][0], f"audit {look}", "how the answer looks", kind)
+            told = " ".join(page.texts["strong"] + page.texts["p"])
+            holds(says.lower() in told.lower() and "What to do: " in told, "the page does not say what the fault is", kind, told)
+            decided = {it.split(" ")[1] for it in row["rows"].split("\\n") if it}
+            equal({it[0] for it in page.tables.get("Sessions", [])[1:]}, decided, "the sessions before the fault", kind)
+
+
+def clients_that_are_not_known(folder: str) -> None:
+    """A file of clients may be missing, damaged or hostile: what is not a line of it is passed over, and a moment that is none is left
+    out."""
+    log, file = Path(folder, "incident.log"), Path(folder, "incident.log.clients")
+    shutil.copy(INCIDENT, log)
+    for trial, (text, when, client) in each([
+        (None, "", ""),
+        (b"", "", ""),
+        (b"1 open 2026-11-30T04:10:00Z\n", "2026-11-30 04:10:00", ""),
+        (b"1 open 2026-11-30T04:10:00Z uid=1 pid=2", "2026-11-30 04:10:00", "uid=1 pid=2"),
+        (b"2 open 2026-11-30T04:10:00Z uid=1\n1 end 2026-11-30T04:10:00Z\n", "", ""),
+        (b"1 open 2026-11-31T04:10:00Z uid=1\n", "", "uid=1"),
+        (b"1 open 0001-01-01T00:00:00Z uid=1\n", "", "uid=1"),
+        (b"1 open yesterday uid=1\n", "", ""),
+        (b"1 open 2026-11-30T04:10:00Z \x1b[31m\n", "", ""),
+        (b"1 open 2026-11-30T04:10:00Z \xff\n", "", ""),
+        (b"01 open 2026-11-30T04:10:00Z uid=1\n9" + b"9" * 5000 + b" open 2026-11-30T04:10:00Z uid=1\n", "", ""),
+        (b"1 open 9999-12-31T23:59:59Z uid=1\n2 open 1970-01-01T00:00:00Z uid=2\n", "9999-12-31 23:59:59", "uid=1"),
+    ]):
+        with trial:
+            if text is not None:
+                file.write_bytes(text)
+            page = page_of(folder, BOOK_OF_INCIDENT, log)
+            first = page.tables["Sessions"][1]
+            equal((first[1], first[4]), (when, client), "the first session", text)
+            holds(len(page.tables["The chart as a table"]) <= 61, "the chart has too many bars", text)
+            status, output, faults = report(folder, BOOK_OF_INCIDENT, log, "--csv")
+            equal((status, faults, output.count("\n")), (0, "", len(ROWS_OF_INCIDENT) + 1), "the table", text)
+
+
+def faults(folder: str) -> None:
+    """What can't be read or written is told, with the status that an audit has."""
+    log, nothing, fifo = Path(folder, "log"), Path(folder, "nothing"), Path(folder, "fifo")
+    log.write_bytes((AUDITS / "sha1.log").read_bytes())
+    of_log = AUDITS / "keys.toml"
+    os.mkfifo(fifo)
+    for trial, (words, status, fault) in each([
+        ([nothing, log], 3, f"scramotp: cannot read {nothing}\n"),
+        ([of_log, nothing], 3, f"scramotp: cannot read {nothing}\n"),
+        ([log, log], 1, "scramotp: bad book: 60\n"),
+        ([of_log, folder], 3, f"log-report: {folder} is read twice, so it has to be a file\n"),
+        ([of_log, fifo], 3, f"log-report: {fifo} is read twice, so it has to be a file\n"),
+        ([of_log, log, "-o", nothing / "page"], 3, f"log-report: [Errno 2] No such file or directory: '{nothing}/page'\n"),
+        ([of_log, log, "-o", "/dev/full"], 3, "log-report: [Errno 28] No space left on device\n"),
+        (["-h"], 0, ""),
+        ([of_log], 2, "log-report: error: the following arguments are required: LOG\n"),
+        ([of_log, log, "--csv", "--json"], 2, "log-report: error: argument --json: not allowed with argument --csv\n"),
+    ]):
+        with trial:
+            answer = report(folder, *words)
+            equal((answer.status, answer.faults[-len(fault):] if fault else answer.faults), (status, fault), words)
+            equal(answer.output == "", status != 0, "whether nothing is printed", words)
+    with open("/dev/full", "w") as full:
+        status, _, told = report(folder, of_log, log, stdout=full)
+    equal((status, told), (3, "log-report: [Errno 28] No space left on device\n"), "a full device")
+    closed = ran(["sh", "-c", f'"{TOOL}" "{of_log}" "{log}" >&-'], env=program_on_path(folder))
+    equal(closed, (3, "", "log-report: standard output is closed\n"), "an output that is closed")
+    none = ran([sys.executable, TOOL, of_log, log], env={"PATH": folder})
+    equal(none, (3, "", "log-report: [Errno 2] No such file or directory: 'scramotp'\n"), "no program")
+
+
+def a_page_in_the_place_of_another(folder: str) -> None:
+    """A page that replaces another file can only be read by its owner. A reader who ends early ends the tool, without a word."""
+    page = Path(folder, "page.html")
+    page.write_text("old text\n" * 10000)
+    page.chmod(0o644)
+    page_of(folder, BOOK_OF_INCIDENT, INCIDENT)
+    equal(stat.S_IMODE(page.stat().st_mode), 0o600, "the mode of the page")
+    holds("old text" not in page.read_text(), "the other file's text is left")
+    log = Path(folder, "log")
+    log.write_bytes(many_sessions(3000))
+    piped = f'"{TOOL}" "{AUDITS}/keys.toml" "{log}" | head -n 1; echo "${{PIPESTATUS[0]}}"'
+    early = ran(["bash", "-c", piped], env=program_on_path(folder))
+    equal(early, (0, f"SESSION  OUTCOME\n{128 + signal.SIGPIPE}\n", ""), "a reader that ends early")
+
+
+def many_sessions(count: int) -> bytes:
+    """A log of so many sessions, all left at once."""
+    return b"SCRAMLOG 2\n" + b"".join(b"%d %b\n%d C GONE\n%d E\n" % (it, MECHS.encode(), it, it) for it in range(1, count + 1))
+
+
+def other_audits(folder: str) -> None:
+    """If the log grows after the audit has begun, what is added is not told. If it is no longer what was audited, or the audit's answer is
+    one that is not known, the tool says so; if a read failed, it tells nothing of the log."""
+    log, other = Path(folder, "log"), Path(folder, "other", "scramotp")
+    other.parent.mkdir()
+    text = (AUDITS / "sha1.log").read_bytes()
+    added = text.partition(b"\n")[2]
+    changed = "log-report: the book or the log has changed since the audit: the log takes up what is no client-first message\n"
+    one = ["6 1 accepted user - SCRAM-SHA-1 -"]
+    for trial, (script, status, due, fault) in each([
+        (f'{PROGRAM} "$@"; cat {folder}/added >>{log}', 0, one, ""),
+        (f'{PROGRAM} "$@"; sed -i "s/n,,n=/n,,m=/" {log}', 3, [], changed),
+        (f'{PROGRAM} "$@"; : >{log}', 0, [], ""),
+        ("echo read fault; exit 3", 3, [], ""),
+        ("echo line 7: odd; exit 1", 3, [], "log-report: scramotp audit answers in an unknown form: line 7: odd\n"),
+        ("kill -KILL $$", 3, [], ""),
+    ]):
+        with trial:
+            log.write_bytes(text)
+            Path(folder, "added").write_bytes(added)
+            other.write_text(f"#!/bin/sh\n{script}\n")
+            other.chmod(0o755)
+            answer = ran([TOOL, AUDITS / "keys.toml", log, "--json"], env={**os.environ, "PATH": f"{other.parent}:{os.environ['PATH']}"})
+            found = [row_text(row) for row in map(json.loads, answer.output.splitlines()) if "audit" not in row]
+            equal((answer.status, found, answer.faults), (status, due, fault), script)
+
+
+# Runs a tool, whose path and words follow, and prints on standard error how many kilobytes of memory it has taken at most.
+MEASURES = """import re, runpy, sys
+sys.argv.pop(0)
+try:
+    runpy.run_path(sys.argv[0], run_name="__main__")
+finally:
+    print(re.search(r"VmHWM:\\s+(\\d+)", open("/proc/self/status").read())[1], file=sys.stderr)
+"""
+
+
+def most_memory(folder: str | Path, log: Path) -> int:
+    """The most kilobytes of memory that a report takes."""
+    words = [sys.executable, "-c", MEASURES, TOOL, AUDITS / "keys.toml", log, "--csv"]
+    answer = ran(words, env=program_on_path(folder))
+    equal(answer.status, 0, "the status of the report", answer.faults)
+    return int(answer.faults)
+
+
+def long_logs(folder: str) -> None:
+    """A report of many sessions takes little more memory than one of few, and its page lists the newest and counts all."""
+    log = Path(folder, "log")
+    log.write_bytes(many_sessions(100))
+    few = most_memory(folder, log)
+    log.write_bytes(many_sessions(50000))
+    many = most_memory(folder, log)
+    holds(many < few + 4000, "the kilobytes that a report of 50000 sessions takes, and one of 100", many, few)
+    page = page_of(folder, AUDITS / "keys.toml", log)
+    sessions = page.tables["Sessions"][1:]
+    equal((len(sessions), sessions[0][0], sessions[-1][0]), (10000, "40001", "50000"), "the sessions that are listed")
+    equal(page.tables["What it means, and what to do"][1][:2], ["left before the end", "50000"], "how many are counted")
+    holds(os.path.getsize(Path(folder, "page.html")) < 4_000_000, "the page is too long")
+
+
+def in_browser(folder: str | Path, page: Path, *words: str) -> str:
+    """What Chromium makes of a page: its document, after its scripts have run."""
+    start = ["chromium", "--headless", "--no-sandbox", "--disable-gpu", f"--user-data-dir={folder}/chromium", *words]
+    answer = ran([*start, "--dump-dom", page.as_uri()], env={**os.environ, "HOME": str(folder)})
+    equal(answer.status, 0, "the status of Chromium", answer.faults)
+    return answer.output
+
+
+def pages_in_a_browser(folder: str) -> None:
+    """In a browser the page's script shows the field for names, and a name leaves the rows of its sessions. Without scripts all is there
+    but the field. Hostile names make no other element."""
+    if not shutil.which("chromium"):
+        return not_tested("how a browser draws a page, since there is no chromium")
+    page = Path(folder, "page.html")
+    page_of(folder, BOOK_OF_INCIDENT, INCIDENT)
+    without = in_browser(folder, page, "--blink-settings=scriptEnabled=false")
+    fields = ['<p id="filter" hidden="">' in it for it in (in_browser(folder, page), without)]
+    equal(fields, [False, True], "whether the field is hidden, with scripts and without")
+    equal(Page(without).tables["Sessions"], Page(page.read_text()).tables["Sessions"], "the sessions without scripts")
+    typed = 'name.value = "nobody"; name.dispatchEvent(new Event("input"));'
+    text = re.sub('<meta http-equiv="Content-Security-Policy"[^>]*>', "", page.read_text()).replace("</script>", f"{typed}</script>")
+    page.write_text(text)
+    table = in_browser(folder, page).partition('id="sessions"')[2].partition("</table>")[0]
+    equal(re.findall(r'<tr><td class="number">(\d+)</td>', table), ["7"], "the sessions that a name leaves")
+    of_log, log = hostile_log(folder, [Account(name, "SCRAM-SHA-256") for name in HOSTILE])
+    page_of(folder, of_log, log)
+    made = Page(in_browser(folder, page))
+    equal((sorted({*made.tags} - TAGS), made.tags.count("script")), (["body", "head"], 1), "the elements of a page with hostile names")
+    return None
+
+
+suite.run_all(
+    [
+        recorded_logs,
+        an_incident,
+        cut_logs,
+        a_full_hall,
+        first_messages,
+        last_messages,
+        spent_codes,
+        a_table,
+        for_other_programs,
+        a_page,
+        hostile_names,
+        pages_of_faulty_logs,
+        clients_that_are_not_known,
+        faults,
+        a_page_in_the_place_of_another,
+        other_audits,
+        long_logs,
+        pages_in_a_browser,
+    ]
+)
