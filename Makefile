@@ -31,6 +31,9 @@ SOURCES = crates.txt HANDLES $(shell find $(wildcard $(addprefix crates/,$(LIBRA
 	\( -name '*.rt' -o -name '*.antt' \) -print)
 # Succeeds where the program is built and newer than its sources.
 IS_FRESH = test -x $(PROGRAM) && test -z "$$(find $(SOURCES) -newer $(PROGRAM))"
+# Where make libscramotp leaves the library for C, and make plugin the plug-in for Cyrus SASL.
+CLIB_FOLDER = clib/out
+PLUGIN_FOLDER = plugins/cyrus/out
 # The example of RFC 5802, section 5; its password is pencil.
 EXAMPLE = keys --mechanism SCRAM-SHA-1 --salt 4125c247e43ab1e93c6dff76 --count 4096
 # The processors that make last built the program for. rt ci builds it for the default ones, and make test then removes this note.
@@ -39,7 +42,8 @@ BUILT_FOR := $(shell cat crates/scramotp/out/built_for 2>/dev/null || echo x86-6
 TIMED = $(if $(TIMES),python3 tests/timed.py --crates $(TIMES) 'rt ci')
 export TIMES
 
-.PHONY: help run build libraries libscramotp install deb setup test prove test-all time coverage fuzz bench clean kit this_kit needed FORCE
+.PHONY: help run build libraries libscramotp plugin install deb setup test prove test-all time coverage fuzz bench clean
+.PHONY: kit this_kit needed FORCE
 
 help:
 	@echo 'make run        prints the keys of the example in RFC 5802, also before anything is built'
@@ -47,6 +51,7 @@ help:
 	@echo '                CPU=x86-64-v3 builds it for newer processors'
 	@echo 'make libraries  proves the libraries, for a server of your own'
 	@echo 'make libscramotp proves the library for C, and leaves it in clib/out'
+	@echo 'make plugin     compiles the plug-in for Cyrus SASL, with that library in it'
 	@echo 'make install    copies the built program to $$(DESTDIR)$$(PREFIX)/bin,'
 	@echo '                its tools to $$(DESTDIR)$$(PREFIX)/share/scramotp, its documents to share/doc/scramotp there,'
 	@echo '                and its man pages and completions to where man, bash, zsh and fish look for them'
@@ -95,9 +100,17 @@ libraries: $(foreach it,$(LIBRARIES),crates/$(it)/out/built)
 libscramotp: kit $(foreach it,mac_core otp_core scram_text scram_ends,crates/$(it)/out/built)
 	@echo "$$(date +%T) c_library" && mkdir -p crates/c_library/out && cd crates/c_library && \
 		{ rt lib --jobs $(JOBS) >out/build.log 2>&1 || { cat out/build.log; exit 1; }; }
-	python3 clib/merge.py clib/out crates/c_library/out/libc_library.a
-	cp clib/scramotp.h clib/out
-	sed 's|@PREFIX@|$(PREFIX)|' clib/scramotp.pc.in >clib/out/scramotp.pc
+	python3 clib/merge.py $(CLIB_FOLDER) crates/c_library/out/libc_library.a
+	cp clib/scramotp.h $(CLIB_FOLDER)
+	sed 's|@PREFIX@|$(PREFIX)|' clib/scramotp.pc.in >$(CLIB_FOLDER)/scramotp.pc
+
+# The plug-in has only the symbol that Cyrus looks for.
+plugin:
+	@test -f $(CLIB_FOLDER)/libscramotp.a || { echo 'There is no library for C yet: run make libscramotp first.' >&2; exit 1; }
+	mkdir -p $(PLUGIN_FOLDER)
+	$(CC) -std=c11 -O2 $(CFLAGS) -Wall -Wextra -Wpedantic -Wconversion -Wshadow -Werror -fPIC -fvisibility=hidden -shared -I clib \
+		-o $(PLUGIN_FOLDER)/libscramotp-cyrus.so plugins/cyrus/scramotp.c $(CLIB_FOLDER)/libscramotp.a \
+		-Wl,--exclude-libs,ALL -Wl,-z,relro,-z,now,-z,noexecstack $(LDFLAGS)
 
 $(PROGRAM): $(SOURCES)
 	@$(MAKE) --no-print-directory kit
@@ -185,7 +198,7 @@ bench: build
 	python3 bench/door.py $(PROGRAM)
 
 clean:
-	rm -rf out crates/*/out tests/__pycache__ bench/__pycache__ hosts/scramotp_host/__pycache__
+	rm -rf out clib/out plugins/*/out crates/*/out tests/__pycache__ bench/__pycache__ hosts/scramotp_host/__pycache__
 
 kit:
 	@command -v rt >/dev/null || { echo 'rt, the command of the Rattle kit, is not on your PATH' >&2; exit 1; }

@@ -7,32 +7,25 @@ PROGRAM is not run. The environment's CLIB names the folder with the archives of
 in crates/c_library/out. Each example is compiled with warnings as errors, and logs users in with messages that are in RFC 5802 and RFC
 7677, or were made here with Python's hmac and hashlib. Needs cc; c++, rustc and go for the examples in their languages.
 """
-import base64
 import ctypes
 import functools
-import hashlib
-import hmac
 import os
 import pathlib
 import re
 import shutil
 import subprocess
 import sys
-import tempfile
 from collections.abc import Callable, Iterator
 from typing import Any, NamedTuple
 
 import suite
+from c_support import ARCHIVES, DECOY_KEY, FUNCTIONS, MADE, WARNINGS, answer_to, base64_of, decoy_salt, library
 from checks import equal, holds
-from expected import DATA, VECTORS, code, login_keys, rows_of
+from expected import DATA, VECTORS, code, rows_of
 from processes import ran
 from suite import CODES, SEEDS, TOP, each, not_tested
 
-CLIB = pathlib.Path(os.environ.get("CLIB") or TOP / "crates/c_library/out").resolve()
-ARCHIVES = sorted(CLIB.glob("lib*.a"))
 EXAMPLES = TOP / "clib/examples"
-# What the compilers of C and C++ take as errors.
-WARNINGS = ["-Wall", "-Wextra", "-Wpedantic", "-Wconversion", "-Wshadow", "-Werror"]
 
 # The two published exchanges: RFC 5802, section 5, and RFC 7677, section 3. The password is pencil, and the count 4096.
 SHA1 = {
@@ -53,49 +46,17 @@ SHA256 = {
     "final": "c=biws,r=rOprNGfwEbeRWgbNEkqO%hvYDpWUa2RaTCAfuxFIlj)hNlF$k0,p=dHzbZapWIk4jUhN+Ute9ytag9zjfMHgsqmmiz7AndVQ=",
     "verdict": "v=6rriTRBi23WpRR/wtup+mMhUZUn/dB5nLTJRsjl95G4=",
 }
-# The hash function of each mechanism, and its number in C.
-FUNCTIONS = {"SCRAM-SHA-1": ("sha1", 1), "SCRAM-SHA-256": ("sha256", 256)}
-# The decoy key of the examples.
-DECOY_KEY = bytes([1, 2, 3]).ljust(32, b"\0")
-
-
-def base64_of(data: bytes) -> str:
-    """The base64 text of some bytes."""
-    return base64.b64encode(data).decode()
 
 
 def final_for(login: dict[str, str], first: str, password: bytes = b"pencil", **changed: str) -> tuple[str, str, str]:
     """The challenge to a first message, the final message of a client that has this password, and the server's signature for it. Parts of
-    the final message may be changed: the channel field, the nonce, and what is between the nonce and the proof."""
-    function = FUNCTIONS[login["mechanism"]][0]
-    header, _, bare = re.match(r"([^,]*,[^,]*,)()(.*)", first).groups()
+    the final message may be changed, as those of answer_to."""
     nonce = re.search(r",r=([^,]*)", first)[1] + login["nonce"]
     challenge = f"r={nonce},s={base64_of(bytes.fromhex(login['salt']))},i=4096"
-    channel = changed.get("channel", base64_of(header.encode()))
-    unproved = f"c={channel},r={changed.get('nonce', nonce)}{changed.get('more', '')}"
-    auth = f"{bare},{challenge},{unproved}".encode()
-    client_key, server_key = login_keys(function, password, bytes.fromhex(login["salt"]), 4096)
-    signature = hmac.digest(hashlib.new(function, client_key).digest(), auth, function)
-    proof = bytes(a ^ b for a, b in zip(client_key, signature))
-    return challenge, f"{unproved},p={base64_of(proof)}", f"v={base64_of(hmac.digest(server_key, auth, function))}"
-
-
-def decoy_salt(mechanism: str, name: str) -> bytes:
-    """The salt of a decoy under the examples' key."""
-    return hmac.digest(DECOY_KEY, mechanism.encode() + b"\0" + name.encode(), "sha256")[:16]
+    return challenge, *answer_to(login["mechanism"], first, challenge, password, **changed)
 
 
 # ---- the library, and the programs that use it
-
-MADE = tempfile.TemporaryDirectory(prefix="c_library-")
-
-
-@functools.cache
-def library() -> pathlib.Path:
-    """The folder with libscramotp.a and libscramotp.so.0, made of the archives."""
-    folder = pathlib.Path(MADE.name, "lib")
-    subprocess.run([sys.executable, TOP / "clib/merge.py", folder, *ARCHIVES], check=True)
-    return folder
 
 
 def compiled(source: pathlib.Path, to: str, *words: str | pathlib.Path, compiler: str = "cc", standard: str = "c11") -> pathlib.Path:
