@@ -70,6 +70,8 @@ static void tell(sasl_conn_t *conn, int result, const char *answer, unsigned len
 {
     const void *user = NULL, *authid = NULL;
     printf("%d ", result);
+    if (result != SASL_OK && result != SASL_CONTINUE)
+        answer = NULL; /* Cyrus may have freed it */
     for (unsigned i = 0; answer != NULL && i < len; i++)
         printf("%02x", (unsigned char)answer[i]);
     printf("%s", answer == NULL ? "-" : len == 0 ? "''" : "");
