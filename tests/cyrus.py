@@ -234,7 +234,69 @@ def options(folder: str) -> None:
             equal(server.run.end().faults, f"scramotp: {said}\n" * 3)
 
 
-TESTS = [logins, acts_as, decoys, forms, options]
+def sanitizes() -> bool:
+    """Whether the compiler has the sanitizers. If not, the script says what is then not tested."""
+    has = ran(["cc", *SANITIZERS, "-x", "c", "-", "-o", "/dev/null"], "int main(void) { return 0; }").status == 0
+    if not has:
+        not_tested("the plug-in's memory, since cc has no sanitizers")
+    return has
+
+
+def hostile(folder: str) -> None:
+    """A message that is cut, changed, too long, or not due is refused, and no access is outside of it."""
+    flags = (*SANITIZERS,) if sanitizes() else ()
+    server = Server(folder, plugin("cc", *flags), flags=flags)
+    server.store("alice", "userPassword", "pencil")
+    first = b"n,,n=alice,r=the+client"
+    for trial, (want, sent) in each([
+        (BADPROT, b"\0"), (BADPROT, first[:-1] + b"\0"), (BADPROT, b"n,,n=al\0ice,r=x"), (BADPROT, b"n,,n=\xe9,r=x"), (BADPROT, b"n,,n=,r=x"),
+        (CONTINUE, b"n,,n=" + b"a" * 255 + b",r=x"), (BADPROT, b"n,,n=" + b"a" * 256 + b",r=x"),
+        (CONTINUE, b"n,,n=a,r=" + b"x" * 256), (BADPROT, b"n,,n=a,r=" + b"x" * 257),
+        (CONTINUE, (first + b",x=").ljust(2048, b"x")), (BADPROT, (first + b",x=").ljust(2049, b"x")), (BADPROT, b"n" * 9000),
+        *((BADPROT, first[:size]) for size in range(1, 13)),
+    ]):
+        with trial:
+            equal(server.begins("SCRAM-SHA-256", sent)[0], want)
+    _, challenge = server.begins("SCRAM-SHA-256", first)
+    size = len(answer_to("SCRAM-SHA-256", first.decode(), challenge.decode(), b"pencil")[0])
+    for trial, change in each([
+        *(lambda text, at=at: text[:at] for at in range(size)), *(lambda text, more=more: text + more for more in (b"\0", b",", b"=", b"A" * 8000)),
+        *(lambda text, at=at: text[:at] + bytes([text[at] ^ 1 << at % 7]) + text[at + 1:] for at in range(size)), lambda text: text * 99,
+    ]):
+        with trial:
+            _, challenge = server.begins("SCRAM-SHA-256", first)
+            sent = change(answer_to("SCRAM-SHA-256", first.decode(), challenge.decode(), b"pencil")[0].encode())
+            holds(server.goes_on(sent)[0] in (BADPROT, BADAUTH), sent)
+            equal(server.goes_on(sent)[0], BADPROT, "a second answer")
+    answer = server.run.end()
+    holds(re.fullmatch(r"(SCRAM-SHA-256: refused, number \d+(: e=[a-z-]+)?\n)+", answer.faults), "what is logged", answer.faults)
+    equal(answer.status, 0)
+
+
+def order(folder: str) -> None:
+    """The first message may come after an empty challenge. What comes after the end of a login is refused, and so is a second empty one."""
+    server = Server(folder)
+    server.store("alice", "userPassword", "pencil")
+    for trial, mechanism in each(SCRAMS):
+        with trial:
+            for empty in ["", " "]:
+                server.ask("new")
+                equal(server.ask(f"start {mechanism}{empty}"), [CONTINUE, "''"])
+                equal(server.ask("step"), [BADPROT, "-"])
+                equal(server.goes_on("n,,n=alice,r=x"), [BADPROT, "-"])
+            server.ask("new")
+            server.ask(f"start {mechanism}")
+            result, challenge = message(server.goes_on("n,,n=alice,r=x"))
+            final, verdict = answer_to(mechanism, "n,,n=alice,r=x", challenge.decode(), b"pencil")
+            equal([result, server.goes_on(final)], [CONTINUE, [OK, hexed(verdict), "alice", "alice"]])
+            equal(server.goes_on(final)[0], FAIL)
+            server.begins(mechanism, "n,,n=alice,r=x")
+            equal([server.goes_on(final)[0], server.goes_on(final)[0]], [BADPROT] * 2, "the answer to another challenge")
+            server.begins(mechanism, "n,,n=alice,r=x")
+            equal(server.goes_on("n,,n=alice,r=x")[0], BADPROT, "a first message for a final one")
+
+
+TESTS = [logins, acts_as, decoys, forms, options, order, hostile]
 
 if not ARCHIVES:
     not_tested("the plug-in for Cyrus SASL, since there is no archive of the library for C")

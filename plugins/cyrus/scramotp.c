@@ -228,7 +228,8 @@ static int find_account(login *it, sasl_server_params_t *params, const settings 
 /* Notes why a message is refused: the number of scramotp.h, and the verdict, if there is one. */
 static int refused(const login *it, const sasl_utils_t *utils, uint32_t number)
 {
-    utils->seterror(utils->conn, 0, "%s: refused, number %d %s", it->of->name, (int)number, it->verdict);
+    const char *verdict = it->verdict;
+    utils->seterror(utils->conn, 0, "%s: refused, number %d%s%s", it->of->name, (int)number, *verdict != '\0' ? ": " : "", verdict);
     return number == SCRAMOTP_INVALID_PROOF ? SASL_BADAUTH : SASL_BADPROT;
 }
 
