@@ -7,17 +7,18 @@ PROGRAM is not run. `make plugin` compiles the plug-in, with the library for C t
 on any message at any moment; its accounts are in a store of Cyrus's, the file of libsasldb. What a client says is computed here with
 Python's hmac and hashlib, or said by a real client.
 """
-import contextlib
 import ctypes
 import ctypes.util
 import functools
 import hashlib
+import itertools
 import os
 import re
 import shutil
 import socket
 import subprocess
 import sys
+import tempfile
 from base64 import b64decode, b64encode
 from collections.abc import Callable, Iterator
 from pathlib import Path
@@ -69,6 +70,11 @@ def folder_of(folder: str, *files: Path) -> Path:
     for it in [*files, CYRUS / "libsasldb.so"]:
         made.joinpath(it.name).symlink_to(it)
     return made
+
+
+def fresh(folder: str) -> str:
+    """A new folder in this one."""
+    return tempfile.mkdtemp(dir=folder)
 
 
 class Server:
@@ -175,10 +181,8 @@ def decoys(folder: str) -> None:
                 equal(salt_and_count(challenge), (decoy_salt(mechanism, name), "5000"), name)
                 equal(server.login(mechanism, name, "pencil")[0], OK if name == "alice" else BADAUTH, name)
     salts = set()
-    for number in range(2):
-        other = Path(folder, str(number))
-        other.mkdir()
-        server = Server(str(other))
+    for _ in range(2):
+        server = Server(fresh(folder))
         server.store("alice", "userPassword", "pencil")
         salts |= {salt_and_count(server.begins("SCRAM-SHA-1", f"n,,n={name},r=x")[1])[0] for name in ["alice", "carol"] * 2}
     equal(len(salts), 4, "the salts of two names in two processes")
@@ -214,9 +218,7 @@ def forms(folder: str) -> None:
 def options(folder: str) -> None:
     """With `scramotp_store: keys` no plain password is read. An option that is wrong is logged, and nobody logs in."""
     def server_with(text: str) -> Server:
-        made = Path(folder, str(len(os.listdir(folder))))
-        made.mkdir()
-        server = Server(str(made), options=f"{text}\n")
+        server = Server(fresh(folder), options=f"{text}\n")
         server.store("alice", "userPassword", "pencil")
         server.store("bob", "authPassword", stored_keys("SCRAM-SHA-1", "pencil"))
         return server
@@ -296,7 +298,85 @@ def order(folder: str) -> None:
             equal(server.goes_on("n,,n=alice,r=x")[0], BADPROT, "a first message for a final one")
 
 
-TESTS = [logins, acts_as, decoys, forms, options, order, hostile]
+# ---- real servers and clients
+
+
+def has(what: str, *needed: str) -> bool:
+    """Whether these commands and files are there. If not, the script says what it does not test, and why."""
+    if missing := needs.lacking(needed):
+        not_tested(f"{what}, since {' and '.join(missing)} is not installed")
+    return not missing
+
+
+class Sample:
+    """A run of one of Cyrus's sample programs, and what it has printed."""
+
+    def __init__(self, program: str, mechanism: str, *words: str, text: str = "", **environment: str) -> None:
+        common = ["stdbuf", "-oL", f"sasl-sample-{program}", "-m", mechanism, "-s", "test", *words]
+        ways = {"env": {**os.environ, **environment}, "stderr": subprocess.STDOUT, "start_new_session": True}
+        self.run, self.side, self.printed = Running(common, text, **ways), f"{program[0].upper()}: ", ""
+
+    def next(self) -> str | None:
+        """The next message that it sends, in base64, or None if it ends."""
+        while line := self.run.next_lines(1):
+            self.printed += line
+            if line.startswith(self.side):
+                return line.removeprefix(self.side).strip()
+        return None
+
+    def end(self) -> int:
+        """Waits for its end. Returns its status."""
+        answer = self.run.end()
+        self.printed += answer.output
+        return answer.status
+
+
+def by_cyrus(server: Sample, mechanism: str, name: str, password: str) -> bool:
+    """Logs in at the sample server by Cyrus's own client. Returns whether the client takes the server's signature."""
+    # Without a terminal it reads the password from its input.
+    words = ["-a", name, "-u", "", "-n", "localhost"]
+    client = Sample("client", mechanism, *words, text=f"S: {server.next()}\n{password}\n")
+    while (sent := client.next()) is not None:
+        server.run.send(f"C: {sent}\n")
+        if (answer := server.next()) is not None:
+            client.run.send(f"S: {answer}\n")
+        elif f"Username: {name}\n" not in server.printed:
+            return False
+    return client.end() == 0
+
+
+def by_gsasl(server: Sample, mechanism: str, name: str, password: str) -> bool:
+    """Logs in at the sample server by GNU SASL's client. Returns whether the client takes the server's signature."""
+    client = Running(["gsasl", "--client", "-m", mechanism, "-a", name, "-p", password, "--no-cb", "--quiet"])
+    begun = f"{mechanism}\0".encode() + b64decode(client.next_lines(2).split()[-1])
+    server.next()
+    server.run.send(f"C: {base64_of(begun)}\n")
+    client.send(f"{server.next()}\n")
+    server.run.send(f"C: {client.next_lines(1)}")
+    if (verdict := server.next()) is None:
+        return False
+    server.run.send("C: \n")
+    return client.end(f"{verdict}\n\n").status == 0
+
+
+def clients(folder: str) -> None:
+    """Cyrus's sample server takes the right password, and no other, from Cyrus's own client and from GNU SASL's."""
+    rows = [(*it, who, password) for it in itertools.product([by_cyrus, by_gsasl], SCRAMS, ["userPassword", "authPassword"])
+            for who, password in [("alice", "wonder land"), ("alice", "wonderland"), ("carol", "wonder land")]]
+    for trial, (client, mechanism, kind, name, password) in each(rows):
+        with trial:
+            command = {by_cyrus: "sasl-sample-client", by_gsasl: "gsasl"}[client]
+            if has(f"logins at Cyrus's sample server by {command}", command, "sasl-sample-server", "stdbuf"):
+                own, is_right = fresh(folder), (name, password) == ("alice", "wonder land")
+                Server(own).store("alice", kind, "wonder land" if kind == "userPassword" else stored_keys(mechanism, "wonder land"))
+                server = Sample("server", mechanism, "-d", "localhost", "-p", f"{own}/plugins", SASL_CONF_PATH=own)
+                equal(client(server, mechanism, name, password), is_right)
+                server.end()
+                told = f"Username: {name}\n" if is_right else f"{mechanism}: refused, number 36: e=invalid-proof\n"
+                holds(told in server.printed, "what the server says", server.printed)
+
+
+TESTS = [logins, acts_as, decoys, forms, options, order, hostile, clients]
 
 if not ARCHIVES:
     not_tested("the plug-in for Cyrus SASL, since there is no archive of the library for C")
