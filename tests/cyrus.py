@@ -96,19 +96,20 @@ class Server:
         """Gives an account a secret."""
         equal(self.ask(f"store {name} {kind} {value}"), [OK])
 
-    def begins(self, mechanism: str, first: str | bytes) -> tuple[str, bytes]:
-        """Begins a login with a first message. Returns the result and the answer."""
-        self.ask("new")
+    def begins(self, mechanism: str, first: str | bytes, is_new: bool = True) -> tuple[str, bytes]:
+        """Begins a login with a first message, in a new connection or not. Returns the result and the answer."""
+        if is_new:
+            self.ask("new")
         return message(self.ask(f"start {mechanism} {hexed(first)}"))
 
     def goes_on(self, final: str | bytes) -> list[str]:
         """Sends a message. Returns the result, the answer in hex, and the names if the login is complete."""
         return self.ask(f"step {hexed(final)}")
 
-    def login(self, mechanism: str, name: str, password: str, header: str = "n,,") -> list[str]:
+    def login(self, mechanism: str, name: str, password: str, header: str = "n,,", is_new: bool = True) -> list[str]:
         """Logs in. Returns the last result, and the two names if the login is complete; the server's signature then has to be right."""
         first = f"{header}n={name},r=the+client"
-        result, challenge = self.begins(mechanism, first)
+        result, challenge = self.begins(mechanism, first, is_new)
         if result != CONTINUE:
             return [result]
         final, verdict = answer_to(mechanism, first, challenge.decode(), password.encode())
@@ -298,6 +299,19 @@ def order(folder: str) -> None:
             equal(server.goes_on("n,,n=alice,r=x")[0], BADPROT, "a first message for a final one")
 
 
+def one_connection(folder: str) -> None:
+    """Logins in one connection know nothing of each other: what was found for a name is not taken for the next one."""
+    server = Server(folder)
+    server.store("alice", "userPassword", "pencil")
+    server.store("bob", "authPassword", stored_keys("SCRAM-SHA-256", "wonder land"))
+    for before, name, password, want in [
+        ("alice", "carol", "pencil", BADAUTH), ("bob", "carol", "wonder land", BADAUTH), ("alice", "bob", "pencil", BADAUTH),
+        ("alice", "bob", "wonder land", OK), ("carol", "alice", "pencil", OK), ("bob", "alice", "pencil", OK),
+    ]:
+        server.begins("SCRAM-SHA-256", f"n,,n={before},r=x")
+        equal(server.login("SCRAM-SHA-256", name, password, is_new=False)[0], want, before, name)
+
+
 # ---- real servers and clients
 
 
@@ -376,7 +390,60 @@ def clients(folder: str) -> None:
                 holds(told in server.printed, "what the server says", server.printed)
 
 
-TESTS = [logins, acts_as, decoys, forms, options, order, hostile, clients]
+# What slapd is told: each name has an entry below dc=example, one of them with a name that is not in ASCII.
+SLAPD = """include /etc/ldap/schema/core.schema
+pidfile {0}/pid
+sasl-host localhost
+authz-regexp "^uid=olaf,cn=[^,]+,cn=auth$" "cn=Ólafur,dc=example"
+authz-regexp "^uid=([^,]+),cn=[^,]+,cn=auth$" "cn=$1,dc=example"
+database ldif
+directory {0}/entries
+suffix dc=example
+"""
+ENTRY = """
+dn: cn={0},dc=example
+objectClass: person
+cn: {0}
+sn: {0}
+userPassword: {1}
+"""
+ENTRIES = "dn: dc=example\nobjectClass: dcObject\nobjectClass: organization\ndc: example\no: example\n"
+
+
+def free_port() -> int:
+    """A port of the loopback at which nobody listens."""
+    with socket.socket() as found:
+        found.bind(("127.0.0.1", 0))
+        return found.getsockname()[1]
+
+
+def directory(folder: str) -> None:
+    """OpenLDAP's server, with the plug-in, lets in who has the right password, as Cyrus's own client shows it; ldapwhoami says the same of a
+    wrong password and of a name without an entry."""
+    slapd, slapadd = needs.found("slapd"), needs.found("slapadd")
+    if not has("binds at OpenLDAP's server", "slapd", "slapadd", "ldapwhoami"):
+        return
+    Path(folder, "entries").mkdir()
+    Path(folder, "slapd.conf").write_text(SLAPD.format(folder))
+    Path(folder, "ldif").write_text(ENTRIES + ENTRY.format("alice", "wonder land") + ENTRY.format("Ólafur", "snowman"))
+    equal(ran([slapadd, "-f", f"{folder}/slapd.conf", "-l", f"{folder}/ldif"]).status, 0, "slapadd")
+    url = f"ldap://127.0.0.1:{free_port()}"
+    plugins = {"SASL_PATH": str(folder_of(folder, plugin()))}
+    server = Running([slapd, "-f", f"{folder}/slapd.conf", "-h", url, "-d", "0"], env={**os.environ, **plugins})
+    until(lambda: server.process.poll() is not None or ran(["ldapwhoami", "-x", "-H", url]).status == 0, "slapd does not answer")
+    for trial, mechanism in each(SCRAMS):
+        with trial:
+            def bind(name: str, password: str) -> tuple[int, str]:
+                answer = ran(["ldapwhoami", "-Q", "-H", url, "-Y", mechanism, "-U", name, "-w", password])
+                return answer.status, answer.output + answer.faults
+            equal(bind("alice", "wonder land"), (0, "dn:cn=alice,dc=example\n"))
+            equal(bind("olaf", "snowman"), (0, "dn:cn=\u00f3lafur,dc=example\n"))
+            refusal = f"authentication failure: {mechanism}: refused, number 36: e=invalid-proof"
+            for name, password in [("alice", "wonderland"), ("carol", "wonder land"), ("olaf", "wonder land"), ("alice", "snowman")]:
+                equal(bind(name, password), (49, f"ldap_sasl_interactive_bind: Invalid credentials (49)\n\tadditional info: SASL(-13): {refusal}\n"))
+
+
+TESTS = [logins, acts_as, decoys, forms, options, order, one_connection, hostile, clients, directory]
 
 if not ARCHIVES:
     not_tested("the plug-in for Cyrus SASL, since there is no archive of the library for C")

@@ -189,38 +189,45 @@ static void take_secret(login *it, const sasl_server_params_t *params, const set
         utils->log(utils->conn, SASL_LOG_ERR, "scramotp: the store has no secret of %s that %s can use", it->names.name, it->of->name);
 }
 
-/* Looks up the names of the first message. Returns SASL_OK if there is an account, SASL_NOUSER if there is none, or a fault. */
-static int look_up(const login *it, sasl_server_params_t *params, const char **wanted, sasl_out_params_t *out)
+/* Looks up the names of the first message. Returns whether there is such an account; what else went wrong is logged. */
+static int look_up(const login *it, sasl_server_params_t *params, sasl_out_params_t *out)
 {
-    sasl_conn_t *conn = params->utils->conn;
-    int acts_as_itself = it->names.act_as[0] == '\0';
-    int result = params->utils->prop_request(params->propctx, wanted);
-    out->authid = NULL;
-    if (result == SASL_OK)
-        result = params->canon_user(conn, it->names.name, 0, SASL_CU_AUTHID | (acts_as_itself ? SASL_CU_AUTHZID : 0u), out);
-    if ((result == SASL_OK || result == SASL_NOUSER) && !acts_as_itself) {
-        int other = params->canon_user(conn, it->names.act_as, 0, SASL_CU_AUTHZID, out);
-        result = other == SASL_OK || other == SASL_NOUSER ? result : other;
-    }
-    return result;
+    const sasl_utils_t *utils = params->utils;
+    const char *act_as = it->names.act_as;
+    unsigned flags = *act_as == '\0' ? SASL_CU_AUTHID | SASL_CU_AUTHZID : SASL_CU_AUTHID;
+    int result = params->canon_user(utils->conn, it->names.name, 0, flags, out);
+    if (result == SASL_OK && *act_as != '\0')
+        result = params->canon_user(utils->conn, act_as, 0, SASL_CU_AUTHZID, out);
+    if (result != SASL_OK && result != SASL_NOUSER)
+        utils->log(utils->conn, SASL_LOG_FAIL, "scramotp: %s cannot be looked up, result %d", it->names.name, result);
+    return result == SASL_OK;
 }
 
-/* Makes the entry of the account, or a decoy if there is none: no message may tell which. */
+/* Wipes what a lookup has found: Cyrus else takes it for the next name of the connection. */
+static void forget(const sasl_server_params_t *params, const char **wanted)
+{
+    for (; *wanted != NULL; wanted++)
+        params->utils->prop_erase(params->propctx, *wanted);
+}
+
+/* Makes the entry of the account, or a decoy if there is none or it cannot be looked up: no message may tell which. The name of a decoy is
+ * what Cyrus makes of the client's, so that all spellings of a name have the same, unless that is a text that can't be one. */
 static int find_account(login *it, sasl_server_params_t *params, const settings *set, sasl_out_params_t *out)
 {
-    int result = look_up(it, params, set->wanted, out);
-    if (result == SASL_OK || result == SASL_NOUSER) {
-        const char *name = out->authid != NULL ? out->authid : it->names.name;
-        if (scramotp_decoy(set->decoy_key, it->of->number, set->count, name, strlen(name), &it->entry) != SCRAMOTP_OK)
-            result = SASL_BADPROT;
-        else if (result == SASL_OK)
-            take_secret(it, params, set);
-        else if (set->wanted == properties)
-            take_password(it->of, NULL, &it->entry);
-    }
-    for (const char **property = set->wanted; *property != NULL; property++)
-        params->utils->prop_erase(params->propctx, *property);
-    return result == SASL_NOUSER ? SASL_OK : result;
+    if (params->utils->prop_request(params->propctx, set->wanted) != SASL_OK)
+        return SASL_FAIL;
+    out->authid = NULL;
+    forget(params, set->wanted);
+    int is_found = look_up(it, params, out);
+    const char *name = out->authid != NULL ? out->authid : "", *sent = it->names.name;
+    if (scramotp_decoy(set->decoy_key, it->of->number, set->count, name, strlen(name), &it->entry) != SCRAMOTP_OK)
+        scramotp_decoy(set->decoy_key, it->of->number, set->count, sent, strlen(sent), &it->entry);
+    if (is_found)
+        take_secret(it, params, set);
+    else if (set->wanted == properties)
+        take_password(it->of, NULL, &it->entry);
+    forget(params, set->wanted);
+    return SASL_OK;
 }
 
 /* ---- the two messages */
