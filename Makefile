@@ -42,8 +42,8 @@ BUILT_FOR := $(shell cat crates/scramotp/out/built_for 2>/dev/null || echo x86-6
 TIMED = $(if $(TIMES),python3 tests/timed.py --crates $(TIMES) 'rt ci')
 export TIMES
 
-.PHONY: help run build libraries libscramotp plugin install deb setup test prove test-all time coverage fuzz bench clean
-.PHONY: kit this_kit needed FORCE
+.PHONY: help run build libraries libscramotp plugin install install_library install_plugin deb setup
+.PHONY: test prove test-all time coverage fuzz bench clean kit this_kit needed FORCE
 
 help:
 	@echo 'make run        prints the keys of the example in RFC 5802, also before anything is built'
@@ -54,7 +54,8 @@ help:
 	@echo 'make plugin     compiles the plug-in for Cyrus SASL, with that library in it'
 	@echo 'make install    copies the built program to $$(DESTDIR)$$(PREFIX)/bin,'
 	@echo '                its tools to $$(DESTDIR)$$(PREFIX)/share/scramotp, its documents to share/doc/scramotp there,'
-	@echo '                and its man pages and completions to where man, bash, zsh and fish look for them'
+	@echo '                and its man pages and completions to where man, bash, zsh and fish look for them;'
+	@echo '                also the library for C and the plug-in, if they are built'
 	@echo 'make deb        makes a package for Debian of the built program, and prints its path'
 	@echo 'make setup      installs what the tests need, on Debian and as root'
 	@echo 'make test       compiles the program and all tests without proofs, and runs them: some 10 minutes'
@@ -135,12 +136,26 @@ install:
 	install -D -m 644 -t "$(DESTDIR)$(PREFIX)/share/doc/scramotp" $(DOCUMENTS)
 	install -D -m 644 -t "$(DESTDIR)$(PREFIX)/share/doc/scramotp/docs" docs/*.md
 	install -D -m 644 -t "$(DESTDIR)$(PREFIX)/share/doc/scramotp/bench" bench/README.md
+	install -D -m 644 -t "$(DESTDIR)$(PREFIX)/share/doc/scramotp/plugins/cyrus" plugins/cyrus/README.md
 	install -D -m 644 -t "$(DESTDIR)$(PREFIX)/share/man/man1" man/*.1
 	install -D -m 644 -t "$(DESTDIR)$(PREFIX)/share/man/man5" man/*.5
 	install -D -m 644 -t "$(DESTDIR)$(PREFIX)/share/man/man8" man/*.8
 	install -D -m 644 completions/scramotp.bash "$(DESTDIR)$(PREFIX)/share/bash-completion/completions/scramotp"
 	install -D -m 644 -t "$(DESTDIR)$(PREFIX)/$(ZSH_FOLDER)" completions/_scramotp
 	install -D -m 644 -t "$(DESTDIR)$(PREFIX)/share/fish/vendor_completions.d" completions/scramotp.fish
+	@test ! -f "$(CLIB_FOLDER)/libscramotp.a" || $(MAKE) --no-print-directory install_library
+	@test ! -f "$(PLUGIN_FOLDER)/libscramotp-cyrus.so" || $(MAKE) --no-print-directory install_plugin
+
+install_library:
+	install -D -m 644 -t "$(DESTDIR)$(PREFIX)/lib" "$(CLIB_FOLDER)/libscramotp.a" "$(CLIB_FOLDER)/libscramotp.so.0"
+	ln -sf libscramotp.so.0 "$(DESTDIR)$(PREFIX)/lib/libscramotp.so"
+	install -D -m 644 -t "$(DESTDIR)$(PREFIX)/include" clib/scramotp.h
+	install -D -m 644 clib/scramotp.pc.in "$(DESTDIR)$(PREFIX)/lib/pkgconfig/scramotp.pc"
+	sed -i 's|@PREFIX@|$(PREFIX)|' "$(DESTDIR)$(PREFIX)/lib/pkgconfig/scramotp.pc"
+
+# Not among the plug-ins of Cyrus, which prefers its own for the same mechanisms.
+install_plugin:
+	install -D -m 644 -t "$(DESTDIR)$(PREFIX)/lib/scramotp/sasl2" "$(PLUGIN_FOLDER)/libscramotp-cyrus.so"
 
 # The time of its files is that of the last commit, so that the same commit gives the same bytes.
 deb:

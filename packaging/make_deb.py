@@ -65,6 +65,8 @@ def installed(program: Path, root: Path) -> None:
     """Installs the program and all that belongs to it below a folder, as in /usr."""
     environment = {name: value for name, value in os.environ.items() if name not in OF_MAKE}
     words = ["make", "--silent", "install", f"PROGRAM={program}", f"DESTDIR={root}", "PREFIX=/usr", f"ZSH_FOLDER={ZSH_FOLDER}"]
+    # The library for C is not in the package.
+    words += ["CLIB_FOLDER=none", "PLUGIN_FOLDER=none"]
     subprocess.run(words, cwd=TOP, env=environment, check=True)
 
 

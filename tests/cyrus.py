@@ -1,138 +1,35 @@
 #!/usr/bin/env python3
-"""Tests the plug-in for Cyrus SASL: logins in Cyrus's own library, in its sample server and in OpenLDAP's, by Cyrus's and GNU SASL's clients.
+"""Tests the plug-in for Cyrus SASL: logins in Cyrus's library, in its sample server and in OpenLDAP's, by Cyrus's and GNU SASL's clients.
 
 Usage: cyrus.py PROGRAM [TEST ..]
 
-PROGRAM is not run. `make plugin` compiles the plug-in, with the library for C that c_library.py tests. cyrus_server.c is a server that hands
-on any message at any moment; its accounts are in a store of Cyrus's, the file of libsasldb. What a client says is computed here with
+PROGRAM is not run. `make plugin` compiles the plug-in, with the library for C that c_library.py tests. cyrus_server.c is a server that
+hands on any message at any moment; its accounts are in a store of Cyrus's, the file of libsasldb. What a client says is computed here with
 Python's hmac and hashlib, or said by a real client.
 """
-import ctypes
-import ctypes.util
-import functools
-import hashlib
 import itertools
 import os
 import re
-import shutil
 import socket
 import subprocess
 import sys
-import tempfile
-from base64 import b64decode, b64encode
-from collections.abc import Callable, Iterator
+from base64 import b64decode
+from collections.abc import Callable
 from pathlib import Path
-from typing import NamedTuple
 
 import needs
 import suite
-from c_support import ARCHIVES, DECOY_KEY, MADE, WARNINGS, answer_to, base64_of, decoy_salt, library
+from c_support import ARCHIVES, DECOY_KEY, answer_to, base64_of, decoy_salt
 from checks import equal, holds
-from expected import VECTORS, login_keys, rows_of
+from cyrus_support import BADAUTH, BADPROT, CONTINUE, CYRUS, FAIL, OK, GnuServer, Server
+from cyrus_support import folder_of, fresh, hexed, message, plugin, stored_keys
+from expected import VECTORS, rows_of
 from processes import Running, ran, until
-from suite import TOP, each, not_tested
+from suite import each, not_tested
 
-# Where Debian has the plug-ins of Cyrus.
-CYRUS = Path("/usr/lib/x86_64-linux-gnu/sasl2")
 SCRAMS = ["SCRAM-SHA-256", "SCRAM-SHA-1"]
-HASHES = {"SCRAM-SHA-256": "sha256", "SCRAM-SHA-1": "sha1"}
-# Results of Cyrus's calls: sasl.h.
-OK, CONTINUE, FAIL, BADPROT, BADAUTH = "0", "1", "-1", "-5", "-13"
 SANITIZERS = ["-g", "-fsanitize=address,undefined", "-fno-sanitize-recover=all"]
 PAGE = suite.document("plugins/cyrus/README.md")
-
-
-# ---- the plug-in, and servers that load it
-
-
-@functools.cache
-def plugin(compiler: str = "cc", *flags: str) -> Path:
-    """The plug-in as `make plugin` makes it, with these flags."""
-    folder = Path(MADE.name, f"plugin-{compiler}-{len(flags)}")
-    words = [f"CLIB_FOLDER={library()}", f"PLUGIN_FOLDER={folder}", f"CC={compiler}", f"CFLAGS={' '.join(flags)}"]
-    equal(ran(["make", "-s", "-C", TOP, "plugin", *words]), (0, "", ""), compiler)
-    return folder / "libscramotp-cyrus.so"
-
-
-@functools.cache
-def server_program(*flags: str) -> Path:
-    """The program of cyrus_server.c."""
-    program = Path(MADE.name, f"cyrus_server-{len(flags)}")
-    words = ["cc", "-std=c11", "-O1", *WARNINGS, *flags, TOP / "tests/cyrus_server.c", "-o", program, "-lsasl2"]
-    equal(ran(words), (0, "", ""))
-    return program
-
-
-def folder_of(folder: str, *files: Path) -> Path:
-    """A folder with links to these plug-ins, and to that of the store."""
-    made = Path(folder, "plugins")
-    made.mkdir(exist_ok=True)
-    for it in [*files, CYRUS / "libsasldb.so"]:
-        made.joinpath(it.name).symlink_to(it)
-    return made
-
-
-def fresh(folder: str) -> str:
-    """A new folder in this one."""
-    return tempfile.mkdtemp(dir=folder)
-
-
-class Server:
-    """A run of cyrus_server.c, with a store of its own."""
-
-    def __init__(self, folder: str, *plugins: Path, options: str = "", flags: tuple[str, ...] = ()) -> None:
-        text = f"sasldb_path: {folder}/store\nauxprop_plugin: sasldb\n{options}"
-        for name in ("test", "sample"):
-            Path(folder, f"{name}.conf").write_text(text)
-        environment = {**os.environ, "SASL_CONF_PATH": folder, "ASAN_OPTIONS": "detect_leaks=1"}
-        self.run = Running([server_program(*flags), folder_of(folder, *(plugins or (plugin(),)))], env=environment)
-
-    def ask(self, line: str) -> list[str]:
-        """The words that answer a line."""
-        self.run.send(f"{line}\n")
-        return self.run.next_lines(1).split()
-
-    def store(self, name: str, kind: str, value: str) -> None:
-        """Gives an account a secret."""
-        equal(self.ask(f"store {name} {kind} {value}"), [OK])
-
-    def begins(self, mechanism: str, first: str | bytes, is_new: bool = True) -> tuple[str, bytes]:
-        """Begins a login with a first message, in a new connection or not. Returns the result and the answer."""
-        if is_new:
-            self.ask("new")
-        return message(self.ask(f"start {mechanism} {hexed(first)}"))
-
-    def goes_on(self, final: str | bytes) -> list[str]:
-        """Sends a message. Returns the result, the answer in hex, and the names if the login is complete."""
-        return self.ask(f"step {hexed(final)}")
-
-    def login(self, mechanism: str, name: str, password: str, header: str = "n,,", is_new: bool = True) -> list[str]:
-        """Logs in. Returns the last result, and the two names if the login is complete; the server's signature then has to be right."""
-        first = f"{header}n={name},r=the+client"
-        result, challenge = self.begins(mechanism, first, is_new)
-        if result != CONTINUE:
-            return [result]
-        final, verdict = answer_to(mechanism, first, challenge.decode(), password.encode())
-        result, answer, *names = self.goes_on(final)
-        equal(answer, hexed(verdict) if result == OK else "-")
-        return [result, *names]
-
-
-def hexed(text: str | bytes) -> str:
-    """A message as a line for cyrus_server.c has it."""
-    return (text.encode() if isinstance(text, str) else text).hex()
-
-
-def message(words: list[str]) -> tuple[str, bytes]:
-    """The result and the answer in a line of cyrus_server.c."""
-    return words[0], bytes.fromhex(words[1].strip("'-"))
-
-
-def stored_keys(mechanism: str, password: str, salt: bytes = b"sixteen bytes ..", count: int = 4096) -> str:
-    """The keys of a password as RFC 5803 writes them."""
-    client_key, server_key = login_keys(HASHES[mechanism], password.encode(), salt, count)
-    digest = hashlib.new(HASHES[mechanism], client_key).digest()
-    return f"{mechanism}${count}:{base64_of(salt)}${base64_of(digest)}:{base64_of(server_key)}"
 
 
 def logins(folder: str) -> None:
@@ -145,7 +42,7 @@ def logins(folder: str) -> None:
             server.store("bob", "authPassword", stored_keys(mechanism, "wonder land"))
             equal(server.login(mechanism, "alice", "pencil"), [OK, "alice", "alice"])
             equal(server.login(mechanism, "bob", "wonder land"), [OK, "bob", "bob"])
-            for name, password in [("alice", "pencil "), ("alice", "wonder land"), ("bob", "pencil"), ("carol", "pencil"), ("carol", "none")]:
+            for name, password in [("alice", "pencils"), ("bob", "pencil"), ("carol", "pencil"), ("carol", "none")]:
                 equal(server.login(mechanism, name, password), [BADAUTH], name)
     equal(server.run.end().status, 0)
 
@@ -159,6 +56,19 @@ def acts_as(folder: str) -> None:
     for header in ["n,a=root,", "n,a=a,", "n,a=a=2Cb=3Dd,"]:
         equal(server.login("SCRAM-SHA-256", "a=2Cb=3Dc", "pencil", header), [BADAUTH], header)
         equal(server.login("SCRAM-SHA-256", "a=2Cb=3Dc", "pencils", header), [BADAUTH], header)
+
+
+def realms(folder: str) -> None:
+    """In a realm Cyrus makes a name of it and of what the client sends; also one that is too long to be a client's."""
+    server = Server(folder)
+    for name in ["alice", "a" * 250]:
+        server.store(f"{name}@example.org", "userPassword", "pencil")
+        full = f"{name}@example.org"
+        equal(server.login("SCRAM-SHA-256", name, "pencil", connection="new example.org"), [OK, full, full])
+        equal(server.login("SCRAM-SHA-256", full[:255], "pencil", connection="new example.net")[0], OK if name == "alice" else BADAUTH)
+        equal(server.login("SCRAM-SHA-256", name, "pencil", connection="new example.net"), [BADAUTH])
+        salts = [salt_and_count(server.begins("SCRAM-SHA-256", f"n,,n={it},r=x", "new example.org")[1]) for it in (name, full[:255])]
+        equal(salts[0] == salts[1], name == "alice", "whether both spellings of a name have the same salt")
 
 
 def salt_and_count(challenge: bytes) -> tuple[bytes, str]:
@@ -195,17 +105,17 @@ def forms(folder: str) -> None:
     server = Server(folder)
     right = stored_keys("SCRAM-SHA-256", "pencil")
     scheme, info, keys = right.split("$")
-    good = [right, f" {scheme} $ {info} $ {keys} ", *(stored_keys("SCRAM-SHA-256", "pencil", b"s" * size, 1 + size) for size in (1, 63, 64))]
+    good = [right, f" {scheme} $ {info} $ {keys} "]
+    good += [stored_keys("SCRAM-SHA-256", "pencil", b"s" * size, 1 + size) for size in (1, 63, 64)]
     count, salt = info.split(":")
     stored, own = keys.split(":")
-    bad = [
-        "", " ", scheme, f"{scheme}$", f"{scheme}${info}", f"{scheme}${info}$", f"{scheme}${info}${stored}", f"{right},x", f"{right} x", f"{right}$",
-        f"{scheme}{right}", right.replace("256", "1"), right.replace("SCRAM", "scram"), f"{scheme}-PLUS${info}${keys}",
-        *(f"{scheme}${it}:{salt}${keys}" for it in ("", "0", "-1", "+4096", "04096", "4096x", "4294967296", "18446744073709555712", "4 096")),
-        *(f"{scheme}${count}:{it}${keys}" for it in ("", "=", "AA", "A===", "AA==A", f"{salt}AAAA", base64_of(b"s" * 65), "AAAA" * 500)),
-        *(f"{scheme}${info}${it}:{own}" for it in ("", own[:-4], base64_of(b"k" * 31), base64_of(b"k" * 33), "AAAA" * 500, stored + "AAAA")),
-        *(f"{scheme}${info}${stored}:{it}" for it in ("", own[:-4], base64_of(b"k" * 31), base64_of(b"k" * 33), "AAAA" * 500, own + "!")),
-    ]
+    counts = ["", "0", "-1", "+4096", "04096", "4096x", "4 096", "4294967296", "18446744073709555712"]
+    salts = ["", "=", "AA", "A===", "AA==A", f"{salt}AAAA", base64_of(b"s" * 65), "AAAA" * 500]
+    other = ["", base64_of(b"k" * 31), base64_of(b"k" * 33), "AAAA" * 500]
+    bad = ["", " ", scheme, f"{scheme}$", f"{scheme}${info}", f"{scheme}${info}$", f"{scheme}${info}${stored}", f"{scheme}{right}"]
+    bad += [f"{right},x", f"{right} x", f"{right}$", f"{right}!", right.replace("256", "1"), right.lower(), f"{scheme}-PLUS${info}${keys}"]
+    bad += [f"{scheme}${it}:{salt}${keys}" for it in counts] + [f"{scheme}${count}:{it}${keys}" for it in salts]
+    bad += [f"{scheme}${info}${it}:{own}" for it in other] + [f"{scheme}${info}${stored}:{it}" for it in other]
     for trial, (want, text) in each([*((OK, it) for it in good), *((BADAUTH, it) for it in bad)]):
         with trial:
             server.store("alice", "authPassword", text)
@@ -228,8 +138,8 @@ def options(folder: str) -> None:
     equal([server.login("SCRAM-SHA-1", name, "pencil")[0] for name in ("alice", "bob", "carol")], [BADAUTH, OK, BADAUTH])
     for trial, (text, said) in each([
         ("scramotp_store: both", "scramotp_store is neither passwords nor keys"),
-        *((f"scramotp_decoy_key: {it}", "scramotp_decoy_key is not 64 of 0 to 9 and a to f") for it in ("00", "0" * 63, "0" * 65, "A" * 64)),
-        *((f"scram_iteration_counter: {it}", "scram_iteration_counter is not 1 to 4294967295") for it in ("0", "4096x", "-1", "4294967296")),
+        *((f"scramotp_decoy_key: {it}", "scramotp_decoy_key is not 64 of 0 to 9 and a to f") for it in ("00", "0" * 63, "A" * 64)),
+        *((f"scram_iteration_counter: {it}", "scram_iteration_counter is not 1 to 4294967295") for it in ("0", "4096x", "4294967296")),
     ]):
         with trial:
             server = server_with(text)
@@ -252,7 +162,7 @@ def hostile(folder: str) -> None:
     server.store("alice", "userPassword", "pencil")
     first = b"n,,n=alice,r=the+client"
     for trial, (want, sent) in each([
-        (BADPROT, b"\0"), (BADPROT, first[:-1] + b"\0"), (BADPROT, b"n,,n=al\0ice,r=x"), (BADPROT, b"n,,n=\xe9,r=x"), (BADPROT, b"n,,n=,r=x"),
+        (BADPROT, b"\0"), (BADPROT, first[:-1] + b"\0"), (BADPROT, b"n,,n=al\0ice,r=x"), (BADPROT, b"n,,n=\xe9,r=x"),
         (CONTINUE, b"n,,n=" + b"a" * 255 + b",r=x"), (BADPROT, b"n,,n=" + b"a" * 256 + b",r=x"),
         (CONTINUE, b"n,,n=a,r=" + b"x" * 256), (BADPROT, b"n,,n=a,r=" + b"x" * 257),
         (CONTINUE, (first + b",x=").ljust(2048, b"x")), (BADPROT, (first + b",x=").ljust(2049, b"x")), (BADPROT, b"n" * 9000),
@@ -263,7 +173,8 @@ def hostile(folder: str) -> None:
     _, challenge = server.begins("SCRAM-SHA-256", first)
     size = len(answer_to("SCRAM-SHA-256", first.decode(), challenge.decode(), b"pencil")[0])
     for trial, change in each([
-        *(lambda text, at=at: text[:at] for at in range(size)), *(lambda text, more=more: text + more for more in (b"\0", b",", b"=", b"A" * 8000)),
+        *(lambda text, at=at: text[:at] for at in range(size)),
+        *(lambda text, more=more: text + more for more in (b"\0", b",", b"=", b"A" * 8000)),
         *(lambda text, at=at: text[:at] + bytes([text[at] ^ 1 << at % 7]) + text[at + 1:] for at in range(size)), lambda text: text * 99,
     ]):
         with trial:
@@ -309,7 +220,7 @@ def one_connection(folder: str) -> None:
         ("alice", "bob", "wonder land", OK), ("carol", "alice", "pencil", OK), ("bob", "alice", "pencil", OK),
     ]:
         server.begins("SCRAM-SHA-256", f"n,,n={before},r=x")
-        equal(server.login("SCRAM-SHA-256", name, password, is_new=False)[0], want, before, name)
+        equal(server.login("SCRAM-SHA-256", name, password, connection="")[0], want, before, name)
 
 
 # ---- real servers and clients
@@ -418,8 +329,8 @@ def free_port() -> int:
 
 
 def directory(folder: str) -> None:
-    """OpenLDAP's server, with the plug-in, lets in who has the right password, as Cyrus's own client shows it; ldapwhoami says the same of a
-    wrong password and of a name without an entry."""
+    """OpenLDAP's server lets in who has the right password, by Cyrus's own client. It says the same of a wrong password and of a name
+    without an entry."""
     slapd, slapadd = needs.found("slapd"), needs.found("slapadd")
     if not has("binds at OpenLDAP's server", "slapd", "slapadd", "ldapwhoami"):
         return
@@ -438,14 +349,118 @@ def directory(folder: str) -> None:
                 return answer.status, answer.output + answer.faults
             equal(bind("alice", "wonder land"), (0, "dn:cn=alice,dc=example\n"))
             equal(bind("olaf", "snowman"), (0, "dn:cn=\u00f3lafur,dc=example\n"))
-            refusal = f"authentication failure: {mechanism}: refused, number 36: e=invalid-proof"
+            refusal = f"SASL(-13): authentication failure: {mechanism}: refused, number 36: e=invalid-proof"
             for name, password in [("alice", "wonderland"), ("carol", "wonder land"), ("olaf", "wonder land"), ("alice", "snowman")]:
-                equal(bind(name, password), (49, f"ldap_sasl_interactive_bind: Invalid credentials (49)\n\tadditional info: SASL(-13): {refusal}\n"))
+                equal(bind(name, password), (49, f"ldap_sasl_interactive_bind: Invalid credentials (49)\n\tadditional info: {refusal}\n"))
 
 
-TESTS = [logins, acts_as, decoys, forms, options, order, one_connection, hostile, clients, directory]
+# ---- the same messages, three servers
+
+# The client of the table in README.md: the password of each account, its nonce, and what it changes in its messages.
+PASSWORDS = {"user": "pencil", "us,er=x": "p=w,d", "\u00fcser": "pencil"}
+FIRST = "n,,n=user,r=the+client"
+
+
+def with_other_bits(final: str) -> str:
+    """A final message whose last two bits before the padding of the proof are not 0."""
+    letters = "ABCDEFGHIJKLMNOPQRSTUVWXYZabcdefghijklmnopqrstuvwxyz0123456789+/"
+    return f"{final[:-2]}{letters[letters.index(final[-2]) + 1]}="
+
+
+def outcome(server: Server | GnuServer, first: str, change: Callable[[str], str], password: str = "pencil", **changed: str) -> str:
+    """What a server does with a login whose client changes its final message: the words of the table in README.md."""
+    result, challenge = server.begins("SCRAM-SHA-256", first)
+    if result != CONTINUE:
+        return "no, at once"
+    final, verdict = answer_to("SCRAM-SHA-256", first, challenge.decode(), password.encode(), **changed)
+    result, answer, *_ = server.goes_on(change(final))
+    holds(result != OK or bytes.fromhex(answer).decode() == verdict, "the server's signature")
+    return "in" if result == OK else "no"
+
+
+def same(final: str) -> str:
+    """A final message as it is."""
+    return final
+
+
+# The rows of the table: the first message, the change of the final one, and other changes as those of answer_to.
+ROWS: dict[str, tuple[str, Callable[[str], str], dict[str, str]]] = {
+    "the right proof": (FIRST, same, {}),
+    "a wrong proof": (FIRST, same, {"password": "pencils"}),
+    "a name without an account": ("n,,n=nobody,r=the+client", same, {}),
+    "an optional extension, `x=1`, in each message": (f"{FIRST},x=1", same, {"more": ",x=1"}),
+    "the flag `y`: it has channel binding, and the server has not": ("y,,n=user,r=the+client", same, {}),
+    "the flag `p=tls-unique`: it wants channel binding": ("p=tls-unique,,n=user,r=the+client", same, {}),
+    "a mandatory extension, `m=1`, before its name": ("n,,m=1,n=user,r=the+client", same, {}),
+    "the same after its nonce": (f"{FIRST},m=1", same, {}),
+    "the same in the final message": (FIRST, same, {"more": ",m=1"}),
+    "a word that is no extension, `junk`, after its nonce": (f"{FIRST},junk", same, {}),
+    "the same in the final message, before the proof": (FIRST, same, {"more": ",junk"}),
+    "an extension after the proof": (FIRST, lambda final: f"{final},x=1", {}),
+    "an empty name to act as, `a=`": ("n,a=,n=user,r=the+client", same, {}),
+    "a channel field that goes on after the header": (FIRST, same, {"channel": base64_of(b"n,,more")}),
+    "a channel field of another header": (FIRST, same, {"channel": base64_of(b"y,,")}),
+    "its own nonce instead of the challenge's": (FIRST, same, {"nonce": "the+client"}),
+    "an empty nonce": ("n,,n=user,r=", same, {}),
+    "a space in its nonce": ("n,,n=user,r=the client", same, {}),
+    "a line end in its nonce": ("n,,n=user,r=the\nclient", same, {}),
+    "a NUL after its nonce": (f"{FIRST}\0", same, {}),
+    "a proof in base64 whose unused bits are not 0": (FIRST, with_other_bits, {}),
+    "a nonce of 257 bytes": (f"n,,n=user,r={'x' * 257}", same, {}),
+    "a name that is not in ASCII": ("n,,n=\u00fcser,r=the+client", same, {}),
+}
+
+
+def three(folder: str) -> list[Server | GnuServer]:
+    """The plug-in, Cyrus's own and GNU SASL, each with the same accounts; or none where one of the others is missing, or another version
+    than those of which README.md speaks."""
+    said = PAGE.read_text(encoding="utf-8")
+    try:
+        servers = [Server(fresh(folder)), Server(fresh(folder), CYRUS / "libscram.so"), GnuServer(PASSWORDS)]
+    except OSError:
+        not_tested("the table of three servers, since libgsasl.so.18 is not installed")
+        return []
+    there = f"Cyrus SASL {servers[0].ask('version')[0]} and GNU SASL {servers[2].library.gsasl_check_version(None).decode()}"
+    if there not in said or not (CYRUS / "libscram.so").exists():
+        not_tested(f"the table of three servers, which speaks of others than {there}")
+        return []
+    for server, (name, password) in itertools.product(servers[:2], PASSWORDS.items()):
+        server.store(name, "userPassword", password)
+    return servers
+
+
+def table(folder: str) -> None:
+    """What each server does is what the table in README.md says."""
+    if servers := three(folder):
+        found = {name: [outcome(it, first, change, **more) for it in servers] for name, (first, change, more) in ROWS.items()}
+        lines = re.findall(r"^\| (.*) \| (.*) \| (.*) \| (.*) \| .* \|$", PAGE.read_text(encoding="utf-8"), re.M)
+        equal({name: cells for name, *cells in lines if name in ROWS}, found)
+
+
+def recorded(folder: str) -> None:
+    """The clients of sixteen recorded logins, of GNU SASL and of Cyrus: each server answers their first messages, byte for byte, and their
+    final ones, with the nonce and the salt that it gave."""
+    if servers := three(folder):
+        for trial, row in each(rows_of(VECTORS / "exchanges.csv")):
+            with trial:
+                first, password = row["client_first"].replace("%25", "%"), row["password"]
+                servers[2] = GnuServer({row["name"]: password})
+                for server in servers:
+                    if isinstance(server, Server):
+                        server.store(row["name"], "userPassword", password)
+                    result, challenge = server.begins(row["mechanism"], first)
+                    equal(result, CONTINUE)
+                    final, verdict = answer_to(row["mechanism"], first, challenge.decode(), row["client_password"].encode())
+                    shape = re.compile(r"c=([^,]*),r=[^,]*,p=[^,]*")
+                    equal(shape.fullmatch(final)[1], shape.fullmatch(row["client_final"])[1])
+                    result, answer, *_ = server.goes_on(final)
+                    equal((result == OK, row["final_by_papers"][:2]), (row["tag"] == "ok", "OK" if row["tag"] == "ok" else "NO"))
+                    holds(result != OK or bytes.fromhex(answer).decode() == verdict, "the server's signature")
+
+
+TESTS = [logins, acts_as, realms, decoys, forms, options, order, one_connection, hostile, clients, directory, table, recorded]
 
 if not ARCHIVES:
-    not_tested("the plug-in for Cyrus SASL, since there is no archive of the library for C")
-    sys.exit()
-suite.run_all(TESTS)
+    not_tested("the plug-in for Cyrus SASL, since there is no archive of the library for C, which rt lib makes")
+elif has("the plug-in for Cyrus SASL", "/usr/include/sasl/saslplug.h", str(CYRUS / "libsasldb.so")):
+    suite.run_all(TESTS)

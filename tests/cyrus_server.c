@@ -2,9 +2,9 @@
  *
  * Usage: cyrus_server FOLDERS     where plug-ins are; SASL_CONF_PATH in the environment names the folder with test.conf
  *
- * Lines: `store NAME PROPERTY VALUE`, `new`, `start MECHANISM`, `start MECHANISM HEX`, `step HEX`. Each gets a line: the result of the call;
- * of a message also the answer in hex, or - if there is none; and the two names if the login is complete. A message is a copy that is
- * exactly as long, so that a sanitizer sees any access outside of it. */
+ * Lines: `version`, `store NAME PROPERTY VALUE`, `new`, `new REALM`, `start MECHANISM`, `start MECHANISM HEX`, `step HEX`. Each gets a
+ * line: the result of the call; of a message also the answer in hex, or - if there is none; and the two names if the login is complete. A
+ * message is a copy that is exactly as long, so that a sanitizer sees any access outside of it. */
 #define _DEFAULT_SOURCE
 #include <stdio.h>
 #include <stdlib.h>
@@ -80,11 +80,11 @@ static void tell(sasl_conn_t *conn, int result, const char *answer, unsigned len
     puts("");
 }
 
-static sasl_conn_t *made(sasl_conn_t *before)
+static sasl_conn_t *made(sasl_conn_t *before, const char *realm)
 {
     sasl_conn_t *conn = NULL;
     sasl_dispose(&before);
-    if (sasl_server_new("test", "localhost", NULL, NULL, NULL, NULL, SASL_SUCCESS_DATA, &conn) != SASL_OK)
+    if (sasl_server_new("test", "localhost", realm, NULL, NULL, NULL, SASL_SUCCESS_DATA, &conn) != SASL_OK)
         exit(2);
     return conn;
 }
@@ -95,15 +95,19 @@ int main(int count, char **words)
     folders = count == 2 ? words[1] : "";
     if (sasl_server_init(calls, "test") != SASL_OK)
         return 2;
-    sasl_conn_t *conn = made(NULL);
+    sasl_conn_t *conn = made(NULL, NULL);
     while (fgets(line, sizeof line, stdin) != NULL) {
         char *rest = line, *word[4] = {NULL};
         line[strcspn(line, "\n")] = '\0';
         for (int i = 0; i < 4; i++)
             word[i] = i < 3 ? strsep(&rest, " ") : rest;
         if (strcmp(word[0], "new") == 0) {
-            conn = made(conn);
+            conn = made(conn, word[1]);
             printf("%d\n", SASL_OK);
+        } else if (strcmp(word[0], "version") == 0) {
+            int version = 0;
+            sasl_version(NULL, &version);
+            printf("%d.%d.%d\n", version >> 24, version >> 16 & 255, version & 65535);
         } else if (strcmp(word[0], "store") == 0) {
             printf("%d\n", store(conn, word[1], word[2], word[3]));
         } else {

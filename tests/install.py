@@ -47,12 +47,31 @@ def installed(folder: str) -> None:
     ]):
         with trial:
             to = pathlib.Path(folder, name)
-            done = made("install", program, **{variable: value.format(to) for variable, value in folders.items()})
+            variables = {variable: value.format(to) for variable, value in folders.items()}
+            done = made("install", program, **variables, CLIB_FOLDER="none", PLUGIN_FOLDER="none")
             equal((done.status, done.faults), (0, ""), name)
             due = {to / place / path: file for path, file in files.items()}
             equal(sorted(files_of(to)), sorted(due), name)
             equal(modes_of(due), {str(path): oct(mode) for path, (_, mode) in due.items()}, name)
             equal([path for path, (text, _) in due.items() if path.read_bytes() != text], [], name, "where another file is")
+
+
+def library_for_c(folder: str) -> None:
+    """The library for C and the plug-in for Cyrus SASL are installed if they are built: here files stand in for them."""
+    built, to = pathlib.Path(folder, "built"), pathlib.Path(folder, "to")
+    built.mkdir()
+    due = {"lib/libscramotp.a": "a", "lib/libscramotp.so.0": "so", "lib/scramotp/sasl2/libscramotp-cyrus.so": "plug-in"}
+    for path, text in due.items():
+        (built / pathlib.Path(path).name).write_text(text)
+    due["lib/libscramotp.so"] = "so"
+    due["include/scramotp.h"] = (TOP / "clib/scramotp.h").read_text()
+    due["lib/pkgconfig/scramotp.pc"] = (TOP / "clib/scramotp.pc.in").read_text().replace("@PREFIX@", "/opt/it")
+    done = made("install", shutil.copy(PROGRAM, folder), DESTDIR=to, PREFIX="/opt/it", CLIB_FOLDER=built, PLUGIN_FOLDER=built)
+    equal((done.status, done.faults), (0, ""))
+    found = {str(path.relative_to(to / "opt/it")) for path in files_of(to)} - {*due_files()}
+    equal(found, {*due})
+    equal({path: (to / "opt/it" / path).read_text() for path in due}, due)
+    equal({*modes_of(to / "opt/it" / path for path in due).values()}, {"0o644"})
 
 
 def refused(folder: str) -> None:
@@ -111,4 +130,4 @@ def run_from_sources(folder: str) -> None:
                 equal(done, answer, "what make run prints")
 
 
-suite.run_all([installed, refused, shown, run_from_sources])
+suite.run_all([installed, library_for_c, refused, shown, run_from_sources])

@@ -29,7 +29,8 @@ def made(
 
 def due_files() -> dict[str, tuple[bytes, int]]:
     """The bytes and the mode of each file of an installation, by its path below the folder that PREFIX names."""
-    pages = [TOP / name for name in ["README.md", "CHANGELOG.md", "CONTRIBUTING.md", "LICENSE", "HANDLES", "bench/README.md"]]
+    names = ["README.md", "CHANGELOG.md", "CONTRIBUTING.md", "LICENSE", "HANDLES", "bench/README.md", "plugins/cyrus/README.md"]
+    pages = [TOP / name for name in names]
     commands = [path for path in [*(TOP / "tools").iterdir(), *(TOP / "hosts").iterdir()] if path.is_file()]
     files = {f"share/scramotp/{path.name}": (path, 0o755) for path in commands}
     files |= {f"share/scramotp/{path.relative_to(TOP / 'hosts')}": (path, 0o644) for path in (TOP / "hosts/scramotp_host").glob("*.py")}

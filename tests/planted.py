@@ -63,7 +63,7 @@ SUMS = TOP / "tests/data/planted.sums"
 # Makes the program's calls of the C library as they are, unless a bug is planted in it.
 CALLS = "tests/pass_calls.c"
 # What a copy of the repository has besides its crates, with those of tests.
-COPIED = ["bench", "clib", "tests", "tools", "hosts", "man", "completions", "packaging", "docs", "Makefile", "LICENSE"]
+COPIED = ["bench", "clib", "plugins", "tests", "tools", "hosts", "man", "completions", "packaging", "docs", "Makefile", "LICENSE"]
 COPIED += ["README.md", "CHANGELOG.md", "CONTRIBUTING.md"]
 # How many characters are shown of what a test says.
 SHOWN = 3000

@@ -74,6 +74,7 @@ TESTS = [
     "story.py",
     "formats.py",
     "c_library.py",
+    "cyrus.py",
 ]
 # How many random choices a script makes with --unproved: enough for each of its planted bugs. By default it makes more.
 FEWER = {"hall.py": "250", "login_kill.py": "700", "hall_kill.py": "700"}

@@ -203,13 +203,6 @@ static int look_up(const login *it, sasl_server_params_t *params, sasl_out_param
     return result == SASL_OK;
 }
 
-/* Wipes what a lookup has found: Cyrus else takes it for the next name of the connection. */
-static void forget(const sasl_server_params_t *params, const char **wanted)
-{
-    for (; *wanted != NULL; wanted++)
-        params->utils->prop_erase(params->propctx, *wanted);
-}
-
 /* Makes the entry of the account, or a decoy if there is none or it cannot be looked up: no message may tell which. The name of a decoy is
  * what Cyrus makes of the client's, so that all spellings of a name have the same, unless that is a text that can't be one. */
 static int find_account(login *it, sasl_server_params_t *params, const settings *set, sasl_out_params_t *out)
@@ -217,7 +210,6 @@ static int find_account(login *it, sasl_server_params_t *params, const settings 
     if (params->utils->prop_request(params->propctx, set->wanted) != SASL_OK)
         return SASL_FAIL;
     out->authid = NULL;
-    forget(params, set->wanted);
     int is_found = look_up(it, params, out);
     const char *name = out->authid != NULL ? out->authid : "", *sent = it->names.name;
     if (scramotp_decoy(set->decoy_key, it->of->number, set->count, name, strlen(name), &it->entry) != SCRAMOTP_OK)
@@ -226,7 +218,8 @@ static int find_account(login *it, sasl_server_params_t *params, const settings 
         take_secret(it, params, set);
     else if (set->wanted == properties)
         take_password(it->of, NULL, &it->entry);
-    forget(params, set->wanted);
+    for (const char **property = set->wanted; *property != NULL; property++)
+        params->utils->prop_erase(params->propctx, *property);
     return SASL_OK;
 }
 
