@@ -50,6 +50,9 @@
 extern "C" {
 #endif
 
+/* 0.1.0, as 10000 times the first number, 100 times the second, and the third. */
+#define SCRAMOTP_VERSION 100
+
 /* The mechanisms are SCRAM-SHA-1, whose keys have 20 bytes, and SCRAM-SHA-256, whose keys have 32. A TOTP token can also use SHA-512. */
 enum { SCRAMOTP_SHA_1 = 1, SCRAMOTP_SHA_256 = 256, SCRAMOTP_SHA_512 = 512 };
 

@@ -147,6 +147,38 @@ def published(folder: str) -> None:
     logins_are([Login(it["mechanism"], it, [], it["first"], it["final"], [it["challenge"], it["verdict"]], said) for it in (SHA1, SHA256)])
 
 
+# The words for the example of codes, and what it has to print: RFC 4226, appendix D, and RFC 6238, appendix B.
+CODE_RUNS = [
+    (["hotp", "0", CODES[0], CODES[1], CODES[1], CODES[2]], "0\n0\n43\n0\nnext 3, failures 0\n"),
+    (["sync", "0", CODES[8], CODES[9]], "0\nnext 10, failures 0\n"),
+    (["totp", "59", "94287082", "94287082"], "0\n43\nlast 1, drift 0, failures 1\n"),
+]
+
+
+def code_example(folder: str) -> None:
+    """The example of codes judges published ones, each of which passes once."""
+    program = compiled(EXAMPLES / "code.c", "code")
+    for trial, (words, output) in each(CODE_RUNS):
+        with trial:
+            equal(ran([program, *words]), (0, output, ""))
+
+
+def under_valgrind(folder: str) -> None:
+    """Valgrind finds no fault in the examples in C."""
+    if not shutil.which("valgrind"):
+        not_tested("the examples in C under valgrind, which is not installed")
+        return
+    watched, login = ["valgrind", "-q", "--error-exitcode=9"], in_c()
+    for trial, of in each([SHA1, SHA256]):
+        with trial:
+            for final, status, said in [(of["final"], 0, "user is logged in as user\n"), (of["final"][:-4] + "AAA=", 1, "refused: 36\n")]:
+                answer = ran([*watched, *login, of["mechanism"], of["salt"], of["nonce"]], f"{of['first']}\n{final}\n")
+                equal((answer.status, answer.faults), (status, said))
+    for trial, (words, output) in each(CODE_RUNS):
+        with trial:
+            equal(ran([*watched, compiled(EXAMPLES / "code.c", "code"), *words]), (0, output, ""))
+
+
 def refusals_of(of: dict[str, str]) -> Iterator[Login]:
     """Logins that are refused after a challenge: the message and the number for each."""
     first = of["first"]
@@ -430,7 +462,7 @@ def size_line(row: dict[str, str]) -> str:
 
 def interface(folder: str) -> None:
     """Both libraries have the symbols of data/c_library.csv and no others, need only memcpy, memmove, memset and memcmp, and the header's
-    structures, and what they hold, have the places and sizes of that table."""
+    structures, and what they hold, have the places and sizes of that table. The header has the version of the program."""
     rows = rows_of(DATA / "c_library.csv")
     symbols = {row["name"] for row in rows if row["kind"] == "call"}
     for words in ["nm", "-D", library() / "libscramotp.so.0"], ["nm", "-g", library() / "libscramotp.a"]:
@@ -444,7 +476,12 @@ def interface(folder: str) -> None:
     source = pathlib.Path(folder, "sizes.c")
     source.write_text(f'#include "scramotp.h"\n#include <stdio.h>\n\nint main(void)\n{{\n{lines}    return 0;\n}}\n')
     equal(dict(line.split(" ", 1) for line in ran([compiled(source, "sizes")]).output.splitlines()), want)
-    declared = set(re.findall(r"\bscramotp_\w+(?=\()", re.sub(r"/\*.*?\*/", "", (TOP / "clib/scramotp.h").read_text(), flags=re.S)))
+    version = re.search(r'\.version\("(.*)"\)', (TOP / "crates/command_words/src/commands.rt").read_text())[1]
+    equal(re.search("Version: (.*)", (TOP / "clib/scramotp.pc.in").read_text())[1], version)
+    major, minor, patch = map(int, version.split("."))
+    header = (TOP / "clib/scramotp.h").read_text()
+    equal(re.search("define SCRAMOTP_VERSION (.*)", header)[1], str(10000 * major + 100 * minor + patch), "the version in the header")
+    declared = set(re.findall(r"\bscramotp_\w+(?=\()", re.sub(r"/\*.*?\*/", "", header, flags=re.S)))
     equal(declared, symbols)
 
 
@@ -477,4 +514,6 @@ def threads(folder: str) -> None:
 if not ARCHIVES:
     not_tested("the library for C, since there is no archive in crates/c_library/out, which rt lib makes, or in CLIB")
     sys.exit()
-suite.run_all([published, refused, acts_as, keys, decoys, rooms, faults, codes, tokens, interface, fuzzed, threads])
+suite.run_all([
+    published, code_example, under_valgrind, refused, acts_as, keys, decoys, rooms, faults, codes, tokens, interface, fuzzed, threads
+])
