@@ -10,7 +10,7 @@ Python's hmac and hashlib, or said by a real client.
 import itertools
 import os
 import re
-import socket
+import shutil
 import subprocess
 import sys
 from base64 import b64decode
@@ -24,6 +24,7 @@ from checks import equal, holds
 from cyrus_support import BADAUTH, BADPROT, CONTINUE, CYRUS, FAIL, OK, GnuServer, Server
 from cyrus_support import folder_of, fresh, hexed, message, plugin, stored_keys
 from expected import VECTORS, rows_of
+from mail_servers import free_port, postfix
 from processes import Running, ran, until
 from suite import each, not_tested
 
@@ -321,13 +322,6 @@ userPassword: {1}
 ENTRIES = "dn: dc=example\nobjectClass: dcObject\nobjectClass: organization\ndc: example\no: example\n"
 
 
-def free_port() -> int:
-    """A port of the loopback at which nobody listens."""
-    with socket.socket() as found:
-        found.bind(("127.0.0.1", 0))
-        return found.getsockname()[1]
-
-
 def directory(folder: str) -> None:
     """OpenLDAP's server lets in who has the right password, by Cyrus's own client. It says the same of a wrong password and of a name
     without an entry."""
@@ -352,6 +346,44 @@ def directory(folder: str) -> None:
             refusal = f"SASL(-13): authentication failure: {mechanism}: refused, number 36: e=invalid-proof"
             for name, password in [("alice", "wonderland"), ("carol", "wonder land"), ("olaf", "wonder land"), ("alice", "snowman")]:
                 equal(bind(name, password), (49, f"ldap_sasl_interactive_bind: Invalid credentials (49)\n\tadditional info: {refusal}\n"))
+
+
+def mail_server(folder: str) -> None:
+    """Postfix, with the settings of README.md, lets in who has the right password, by GNU SASL's client, and nobody else."""
+    if not has("logins at Postfix", "postfix", "gsasl") or not suite.is_root():
+        return
+    Server(folder).store("alice", "userPassword", "wonder land")
+    shutil.chown(f"{folder}/store", "postfix")
+    Path(folder).chmod(0o755)
+    Path(folder, "postfix/sasl").mkdir(parents=True)
+    Path(folder, "test.conf").rename(Path(folder, "postfix/sasl/smtpd.conf"))
+    settings = re.search("^```\n(smtpd_sasl.*?)^```", PAGE.read_text(encoding="utf-8"), re.M | re.S)[1]
+    with postfix(folder, settings.replace("/usr/local/lib/scramotp/sasl2", f"{folder}/plugins")) as port:
+        for trial, mechanism in each(SCRAMS):
+            with trial:
+                for name, password in [("alice", "wonder land"), ("alice", "wonderland"), ("carol", "wonder land")]:
+                    words = ["timeout", "20", "gsasl", "--client", "--smtp", "--no-cb", "--no-starttls", "--connect", f"localhost:{port}"]
+                    answer = ran([*words, "-m", mechanism, "-a", name, f"--password={password}"]).output
+                    code = re.findall(r"^(235|535) ", answer, re.M)
+                    equal(code, ["235" if (name, password) == ("alice", "wonder land") else "535"], name, password, answer)
+    log = Path(folder, "postfix/log").read_text()
+    equal(re.findall(r"SASL authentication failure: (SCRAM-SHA-\S+: refused.*)", log), [
+        f"{mechanism}: refused, number 36: e=invalid-proof" for mechanism in SCRAMS for _ in range(2)
+    ])
+
+
+def keys_by_cyrus(folder: str) -> None:
+    """Keys that Cyrus's own plug-in has made of a password, as README.md says, let in who has it."""
+    if has("keys that Cyrus has made", "saslpasswd2"):
+        for trial, mechanism in each(SCRAMS):
+            with trial:
+                own = fresh(folder)
+                server = Server(own, options="scramotp_store: keys\n")
+                settings = f"sasldb_path: {own}/store\nscram_secret_generate: yes\nmech_list: {mechanism}\n"
+                Path(own, "saslpasswd.conf").write_text(settings)
+                words = [needs.found("saslpasswd2"), "-p", "-n", "-c", "-u", "localhost", "alice"]
+                equal(ran(words, "pencil", env={**os.environ, "SASL_CONF_PATH": own}), (0, "", ""))
+                equal([server.login(mechanism, "alice", it)[0] for it in ("pencil", "pencils")], [OK, BADAUTH])
 
 
 # ---- the same messages, three servers
@@ -458,7 +490,8 @@ def recorded(folder: str) -> None:
                     holds(result != OK or bytes.fromhex(answer).decode() == verdict, "the server's signature")
 
 
-TESTS = [logins, acts_as, realms, decoys, forms, options, order, one_connection, hostile, clients, directory, table, recorded]
+TESTS = [logins, acts_as, realms, decoys, forms, options, order, one_connection, hostile]
+TESTS += [clients, directory, mail_server, keys_by_cyrus, table, recorded]
 
 if not ARCHIVES:
     not_tested("the plug-in for Cyrus SASL, since there is no archive of the library for C, which rt lib makes")

@@ -10,12 +10,9 @@ is missing is not tested, and said.
 """
 import contextlib
 import os
-import shutil
 import smtplib
-import socket
 import ssl
 import subprocess
-import time
 from base64 import b64encode
 from collections.abc import Iterator
 from pathlib import Path
@@ -24,7 +21,7 @@ import needs
 import suite
 from checks import equal, holds
 from clients import Account, book
-from mail_servers import Door, Server, dovecot_auth
+from mail_servers import Door, Server, dovecot_auth, free_port, listens, postfix
 from needs import EXIM
 from processes import Answer, ran, until
 from suite import PROGRAM, TOP, blocks_of
@@ -45,20 +42,6 @@ def has(what: str, *needed: str) -> bool:
     if missing:
         suite.not_tested(f"{what}, since {' and '.join(missing)}")
     return not missing
-
-
-def free_port() -> int:
-    """A port of the loopback at which nobody listens."""
-    with socket.socket() as found:
-        found.bind(("127.0.0.1", 0))
-        return found.getsockname()[1]
-
-
-def listens(port: int) -> bool:
-    """Whether a server listens at a port."""
-    with contextlib.suppress(OSError), socket.create_connection(("127.0.0.1", port), 1):
-        return True
-    return False
 
 
 def configuration(title: str, changes: dict[str, str]) -> str:
@@ -108,42 +91,6 @@ def process(words: list, port: int, log: Path, **how: object) -> Iterator[None]:
         finally:
             run.terminate()
             run.wait(20)
-
-
-@contextlib.contextmanager
-def postfix(folder: str) -> Iterator[int]:
-    """Postfix, with the settings of the page, from a folder of its own. Gives its port."""
-    place, files, port = Path(folder, "postfix"), certificate(folder), free_port()
-    for name in ["", "queue", "data"]:
-        (place / name).mkdir()
-        (place / name).chmod(0o755)
-    shutil.chown(place / "data", "postfix")
-    own = f"""compatibility_level = 3.6
-queue_directory = {place}/queue
-data_directory = {place}/data
-maillog_file_prefixes = {place}
-maillog_file = {place}/log
-inet_interfaces = 127.0.0.1
-inet_protocols = ipv4
-myhostname = localhost
-mydestination =
-local_recipient_maps =
-alias_maps =
-default_transport = discard:
-smtpd_relay_restrictions = permit_sasl_authenticated, reject
-smtpd_tls_security_level = may
-smtpd_tls_chain_files = {files["key.pem"]}, {files["cert.pem"]}
-smtpd_client_connection_count_limit = 0
-smtpd_client_connection_rate_limit = 0
-"""
-    (place / "main.cf").write_text(own + configuration("Postfix", {"scramotp/auth": f"{folder}/auth"}))
-    (place / "master.cf").write_text(f"127.0.0.1:{port} inet n - n - - smtpd\n{MASTER}")
-    equal(ran(["/usr/sbin/postfix", "-c", place, "start"]).status, 0, "the start of Postfix")
-    try:
-        until(lambda: listens(port), "Postfix should listen")
-        yield port
-    finally:
-        ran(["/usr/sbin/postfix", "-c", place, "stop"])
 
 
 def exim_words() -> tuple[list[str], dict[str, str]]:
@@ -292,19 +239,6 @@ def smtp_answers(folder: str, port: int, door: Door, refused: int, gone: int) ->
     equal(told(right), 235, "the answer once it is back")
 
 
-# What smtpd needs to take a mail.
-MASTER = """postlog unix-dgram n - n - 1 postlogd
-cleanup unix n - n - 0 cleanup
-qmgr unix n - n 300 1 qmgr
-rewrite unix - - n - - trivial-rewrite
-bounce unix - - n - 0 bounce
-defer unix - - n - 0 bounce
-trace unix - - n - 0 bounce
-discard unix - - n - - discard
-anvil unix - - n - 1 anvil
-tlsmgr unix - - n 1000? 1 tlsmgr
-"""
-
 def told(path: Path, *lines: str) -> str:
     """What a service says to these lines at once: the words of its first line without the login's number and a challenge, or that it
     closes the connection, or says nothing in three seconds."""
@@ -370,7 +304,10 @@ CLIENTS = ["msmtp", "gsasl", "curl", "openssl"]
 def logins_at_postfix(folder: str) -> None:
     """Postfix."""
     if has("Postfix", "postfix", *CLIENTS):
-        with door_in(folder, 11) as door, postfix(folder) as port:
+        files = certificate(folder)
+        tls = f"smtpd_tls_security_level = may\nsmtpd_tls_chain_files = {files['key.pem']}, {files['cert.pem']}\n"
+        settings = tls + configuration("Postfix", {"scramotp/auth": f"{folder}/auth"})
+        with door_in(folder, 11) as door, postfix(folder, settings) as port:
             try_clients(folder, port, door, OF_SMTP)
             smtp_answers(folder, port, door, 535, 454)
 

@@ -1,8 +1,9 @@
 """Mail servers as a door of hosts/ knows them: what Postfix, Exim and Dovecot say to it by Dovecot's authentication protocol. Also how a
-door is started, what its journal says, and the audit of the logs that it leaves."""
+door is started, what its journal says, and the audit of the logs that it leaves; and Postfix itself."""
 import contextlib
 import os
 import re
+import shutil
 import signal
 import socket
 import subprocess
@@ -13,7 +14,7 @@ from pathlib import Path
 import processes
 from checks import equal, holds
 from clients import Account
-from processes import Running, until
+from processes import Running, ran, until
 from suite import PROGRAM, TOP, program_on_path
 
 # The lines with which a door greets a server, without those that differ each time.
@@ -225,3 +226,67 @@ service auth {{
     finally:
         run.terminate()
         run.wait(SECONDS)
+
+
+# ---- Postfix itself
+
+# What smtpd needs to take a mail.
+MASTER = """postlog unix-dgram n - n - 1 postlogd
+cleanup unix n - n - 0 cleanup
+qmgr unix n - n 300 1 qmgr
+rewrite unix - - n - - trivial-rewrite
+bounce unix - - n - 0 bounce
+defer unix - - n - 0 bounce
+trace unix - - n - 0 bounce
+discard unix - - n - - discard
+anvil unix - - n - 1 anvil
+tlsmgr unix - - n 1000? 1 tlsmgr
+"""
+
+
+def free_port() -> int:
+    """A port of the loopback at which nobody listens."""
+    with socket.socket() as found:
+        found.bind(("127.0.0.1", 0))
+        return found.getsockname()[1]
+
+
+def listens(port: int) -> bool:
+    """Whether a server listens at a port."""
+    with contextlib.suppress(OSError), socket.create_connection(("127.0.0.1", port), 1):
+        return True
+    return False
+
+
+@contextlib.contextmanager
+def postfix(folder: str, settings: str) -> Iterator[int]:
+    """Postfix, with these settings, from a folder of its own. Gives its port."""
+    place, port = Path(folder, "postfix"), free_port()
+    for name in ["", "queue", "data"]:
+        (place / name).mkdir(exist_ok=True)
+        (place / name).chmod(0o755)
+    shutil.chown(place / "data", "postfix")
+    own = f"""compatibility_level = 3.6
+queue_directory = {place}/queue
+data_directory = {place}/data
+maillog_file_prefixes = {place}
+maillog_file = {place}/log
+inet_interfaces = 127.0.0.1
+inet_protocols = ipv4
+myhostname = localhost
+mydestination =
+local_recipient_maps =
+alias_maps =
+default_transport = discard:
+smtpd_relay_restrictions = permit_sasl_authenticated, reject
+smtpd_client_connection_count_limit = 0
+smtpd_client_connection_rate_limit = 0
+"""
+    (place / "main.cf").write_text(own + settings)
+    (place / "master.cf").write_text(f"127.0.0.1:{port} inet n - n - - smtpd\n{MASTER}")
+    equal(ran(["/usr/sbin/postfix", "-c", place, "start"]).status, 0, "the start of Postfix")
+    try:
+        until(lambda: listens(port), "Postfix should listen")
+        yield port
+    finally:
+        ran(["/usr/sbin/postfix", "-c", place, "stop"])
