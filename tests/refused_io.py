@@ -47,7 +47,7 @@ NOT_TOLD = {
     ("login", "unlink", "socket"): "the socket is left, and the next login at its path says so",
     ("new book", "statx", "book"): "enrol can't tell whether the new book's path is a link to nothing, at which no book can be made anyway",
 }
-# The fault of a refused call, by its file, as docs/FORMATS.md has them ("All other faults"); {} is the folder. That of a log which was
+# The fault of a refused call, by its file, as docs/FORMATS.md has them; {} is the folder. That of a log which was
 # opened, and those of the book, are told by `due`.
 FAULTS = {
     "input": "cannot read input",
