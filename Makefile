@@ -65,7 +65,7 @@ help:
 	@echo 'make time       does test and prove, and writes what each part took to out/times.csv'
 	@echo 'make coverage   measures how much of the built program the tests run; needs objdump and readelf too'
 	@echo 'make fuzz       gives the built program random input, for some minutes'
-	@echo 'make bench      compares speeds with OpenSSL, with Python, and with oathtool'
+	@echo 'make bench      compares speeds with OpenSSL, Python, oathtool, GNU SASL and others'
 	@echo 'make clean      removes what was built'
 
 # A program that is not built is compiled from its sources first, which proves nothing. It stays where make install does not look.
@@ -173,6 +173,7 @@ prove: this_kit
 	python3 tests/edits.py --built --share $(SHARE)
 	cd crates/c_library && rt lib --jobs $(JOBS)
 	python3 tests/c_library.py $(PROGRAM)
+	python3 tests/cyrus.py $(PROGRAM)
 
 test-all: needed build libscramotp
 	cd crates/bench && rt run -- hotp 1 12345678901234567890
@@ -201,7 +202,7 @@ fuzz: needed build
 	SEED=$(SEED) COUNT=$(COUNT) python3 tests/fuzz.py $(PROGRAM)
 	SEED=$(SEED) JOBS=$(JOBS) python3 tests/run.py $(PROGRAM) $(RANDOM)
 
-bench: build
+bench: build libscramotp
 	cd crates/bench && rt run -- hotp 1 12345678901234567890
 	python3 bench/keys.py $(PROGRAM)
 	python3 bench/messages.py crates/bench/out/bench
@@ -211,6 +212,7 @@ bench: build
 	python3 bench/hall.py $(PROGRAM) crates/bench/out/bench
 	python3 bench/audit.py $(PROGRAM)
 	python3 bench/door.py $(PROGRAM)
+	python3 bench/c_library.py
 
 clean:
 	rm -rf out clib/out plugins/*/out crates/*/out tests/__pycache__ bench/__pycache__ hosts/scramotp_host/__pycache__

@@ -21,11 +21,13 @@ import editions
 from edit_sources import TOP, Unusable, edits_of, planted_edits, planted_rows, read_edit, read_planted
 
 PAGES = [TOP / "README.md", TOP / "CONTRIBUTING.md", TOP / "CHANGELOG.md", *sorted(TOP.glob("docs/*.md")), TOP / "bench" / "README.md"]
+PAGES += sorted(TOP.glob("plugins/*/README.md"))
 PROMISES = ["PROMISES.md"]
 MAINTAINERS = ["ARCHITECTURE.md", "DECISIONS.md", "EMBEDDING.md", "FORMATS.md", "PROVING.md", "TESTING.md", "SECURITY.md"]
 # The files besides pages whose lines may have no more columns than theirs.
 HOSTS = [file for file in sorted([*TOP.glob("hosts/*"), *TOP.glob("hosts/*/*.py")]) if file.is_file()]
-NARROWED = ["tests/*.py", "tests/*.c", "bench/*.py", "tools/*", "man/*", "completions/*", "packaging/*.py", "Makefile"]
+NARROWED = ["tests/*.py", "tests/*.c", "bench/*.py", "bench/*.c", "clib/*.*", "clib/examples/*", "plugins/*/*.c", "tools/*", "man/*"]
+NARROWED += ["completions/*", "packaging/*.py", "Makefile"]
 NARROW = [file for pattern in NARROWED for file in sorted(TOP.glob(pattern))] + HOSTS
 
 # The kit with which everything was proved: its name, and the checksum of its logic.
