@@ -2,8 +2,8 @@
  *
  * Usage: c_logins COUNT MECHANISM SALT NONCE FIRST CHALLENGE FINAL VERDICT STORED SERVER
  *
- * The password is pencil, and the count 4096. SALT, STORED and SERVER are in base64, as libgsasl has them, and NONCE is what 18 bytes have in
- * base64. Each answer is compared. Prints the least seconds of processor time of both for COUNT logins, in five turns. */
+ * The password is pencil, and the count 4096. SALT, STORED and SERVER are in base64, as libgsasl has them, and NONCE is the base64 of 18
+ * bytes. Each answer is compared. Prints the least seconds of processor time of both for COUNT logins, in five turns. */
 #include "scramotp.h"
 
 #include <gsasl.h>
@@ -91,7 +91,8 @@ int main(int words, char **given)
     char *salt;
     size_t salt_len, nonce_len;
     word = given;
-    if (words != WORDS || gsasl_init(&context) != GSASL_OK || gsasl_base64_from(word[SALT], strlen(word[SALT]), &salt, &salt_len) != GSASL_OK
+    if (words != WORDS || gsasl_init(&context) != GSASL_OK
+        || gsasl_base64_from(word[SALT], strlen(word[SALT]), &salt, &salt_len) != GSASL_OK
         || gsasl_base64_from(word[NONCE], strlen(word[NONCE]), &nonce_bytes, &nonce_len) != GSASL_OK || nonce_len != 18)
         end("another word is due");
     gsasl_callback_set(context, asked);
