@@ -29,6 +29,9 @@ from limits import limit
 FOLDER = Path(__file__).resolve().parent
 # Where what is compiled without a proof is kept.
 MADE = FOLDER.parent / "out" / "unproved"
+# The library for C, whose archive is found by the name that `rt lib` gives it.
+C_LIBRARY = "c_library"
+ARCHIVE = MADE / "clib" / f"lib{C_LIBRARY}.a"
 # After how many seconds a test is stopped.
 LIMIT = limit(1800)
 # What a script prints, after its name, before a part that this machine can't test.
@@ -76,6 +79,8 @@ TESTS = [
     "c_library.py",
     "cyrus.py",
 ]
+# What works with the library for C.
+OF_C_LIBRARY = {"c_library.py", "cyrus.py", "planted.py"}
 # How many random choices a script makes with --unproved: enough for each of its planted bugs. By default it makes more.
 FEWER = {"hall.py": "250", "login_kill.py": "700", "hall_kill.py": "700"}
 # The crates of tests that take longest to compile and to run come first.
@@ -173,12 +178,13 @@ def scripts(program: str | Path, names: list[str]) -> list[Job]:
 
 def made(crate: str) -> Job:
     """What compiles a crate, or the tests of one."""
-    return Job(f"{crate} is compiled", [sys.executable, FOLDER / "unproved.py", crate, MADE / crate], is_test=False)
+    to = ARCHIVE if crate == C_LIBRARY else MADE / crate
+    return Job(f"{crate} is compiled", [sys.executable, FOLDER / "unproved.py", crate, to], is_test=False)
 
 
 def all_unproved() -> list[Job]:
     """All tests of what is compiled without a proof, and what compiles it."""
-    programs = [made("scramotp"), made("bench")]
+    programs, library = [made("scramotp"), made("bench")], made(C_LIBRARY)
     checks = [Job("documents.py", [sys.executable, FOLDER / "documents.py"])]
     checks.append(Job("rattle.py layout", [sys.executable, FOLDER / "rattle.py", "layout"]))
     crates = LONG_CRATES + [it for it in rattle.test_crates() if it not in LONG_CRATES]
@@ -186,11 +192,11 @@ def all_unproved() -> list[Job]:
     compiled = [made(it) for it in crates]
     tests = [*scripts(MADE / "scramotp", TESTS), Job("planted.py", [sys.executable, "-u", FOLDER / "planted.py", "--changed"])]
     for job in tests:
-        job.after = [it.name for it in programs]
-        job.environment = {"PROGRAM": str(MADE / "scramotp"), "BENCH": str(MADE / "bench")}
+        job.after = [it.name for it in [*programs, *[library] * (job.name in OF_C_LIBRARY)]]
+        job.environment = {"PROGRAM": str(MADE / "scramotp"), "BENCH": str(MADE / "bench"), "CLIB": str(ARCHIVE.parent)}
         job.environment |= {"RUNS": FEWER[job.name]} if job.name in FEWER else {}
     first = len(LONG_CRATES)
-    return [*programs, *checks, *compiled[:first], *runs[:first], *tests, *compiled[first:], *runs[first:]]
+    return [*programs, library, *checks, *compiled[:first], *runs[:first], *tests, *compiled[first:], *runs[first:]]
 
 
 def chosen(jobs: list[Job], names: list[str]) -> list[Job]:
