@@ -399,9 +399,11 @@ def with_other_bits(final: str) -> str:
     return f"{final[:-2]}{letters[letters.index(final[-2]) + 1]}="
 
 
-def outcome(server: Server | GnuServer, first: str, change: Callable[[str], str], password: str = "pencil", **changed: str) -> str:
+def outcome(
+    server: Server | GnuServer, first: str, change: Callable[[str], str], password: str = "pencil", plus: str = "", **changed: str
+) -> str:
     """What a server does with a login whose client changes its final message: the words of the table in README.md."""
-    result, challenge = server.begins("SCRAM-SHA-256", first)
+    result, challenge = server.begins(f"SCRAM-SHA-256{plus}", first)
     if result != CONTINUE:
         return "no, at once"
     final, verdict = answer_to("SCRAM-SHA-256", first, challenge.decode(), password.encode(), **changed)
@@ -423,6 +425,7 @@ ROWS: dict[str, tuple[str, Callable[[str], str], dict[str, str]]] = {
     "an optional extension, `x=1`, in each message": (f"{FIRST},x=1", same, {"more": ",x=1"}),
     "the flag `y`: it has channel binding, and the server has not": ("y,,n=user,r=the+client", same, {}),
     "the flag `p=tls-unique`: it wants channel binding": ("p=tls-unique,,n=user,r=the+client", same, {}),
+    "the mechanism SCRAM-SHA-256-PLUS, without channel binding": (FIRST, same, {"plus": "-PLUS"}),
     "a mandatory extension, `m=1`, before its name": ("n,,m=1,n=user,r=the+client", same, {}),
     "the same after its nonce": (f"{FIRST},m=1", same, {}),
     "the same in the final message": (FIRST, same, {"more": ",m=1"}),

@@ -14,10 +14,10 @@ all that were tried are refused, that file gets the checksums as they are now. E
   crate of tests/rattle/, and `rt try --test` runs it with all others of that crate; or it is in a script of tests/, and is run on a program
   that unproved.py makes of the edited sources. Nothing is proved.
 - in tests/planted/: of a tool, of a host, of a man page, of completions, of the script that makes the package for Debian, of a page in
-  docs/, of the Makefile, of what is around the library for C, or of what a script makes runs and their calls go wrong with, a C file or
-  power_model.py: it then makes nothing go wrong, or in another way. Or of pass_calls.c: the program itself then has the bug, in how it
-  calls the C library. The test is in a script, and is run on the programs and the library for C that are built already, or on those that
-  PROGRAM, BENCH and CLIB in the environment name.
+  docs/, of the Makefile, of what is around the library for C or is the plug-in with it, or of what a script makes runs and their calls go
+  wrong with, a C file or power_model.py: it then makes nothing go wrong, or in another way. Or of pass_calls.c: the program itself then has
+  the bug, in how it calls the C library. The test is in a script, and is run on the programs and the library for C that are built already,
+  or on those that PROGRAM, BENCH and CLIB in the environment name.
 
 The script works in temporary copies of the repository, whose sources must not change meanwhile. Without an edit, each test has to pass. A
 test may say that this machine can't test all of it. If it passes with the bug then, the bug counts as not tested.

@@ -294,6 +294,9 @@ static int step(void *context, sasl_server_params_t *params, const char *text, u
         *answer = it->verdict;
         *answer_len = (unsigned)verdict_len;
         out->doneflag = 1;
+        out->mech_ssf = 0; /* what follows the login is not encoded */
+        out->encode = NULL;
+        out->decode = NULL;
     }
     return result;
 }
