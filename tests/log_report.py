@@ -53,8 +53,8 @@ def report(folder: str | Path, *words: str | Path, **how: Any) -> Answer:
 
 
 def row_text(row: dict[str, Any]) -> str:
-    """A row as text: names are spelled as in a log, and `-` stands for none."""
-    names = ("-" if row[key] is None else escaped(row[key]) for key in ("account", "acts_as", "mechanism"))
+    """A row as text: names are spelled as in a log, but one that is `-` by its number, since that stands for none."""
+    names = ({None: "-", "-": "%2D"}.get(row[key]) or escaped(row[key]) for key in ("account", "acts_as", "mechanism"))
     return " ".join((str(row["line"]), str(row["session"]), row["event"], *names, row["reason"] or "-"))
 
 
@@ -147,43 +147,47 @@ def session(first: str, *more: str) -> str:
 
 
 def first_messages(folder: str) -> None:
-    """A first message is refused for the first of the reasons that hold; one that is at the edge of the grammar is taken up."""
+    """A first message is refused for the first of the reasons that hold; one that is at the edge of the grammar is taken up. The names in
+    it are told if they are plain, also if it is refused."""
     log, of_log = Path(folder, "log"), Path(folder, "book.toml")
     of_log.write_text(book([USER], False))
     most = "a" * 255
-    for trial, (first, reason) in each([
-        ("p=x,,m=y,n=\x7f,r=a", "mandatory"),
-        ("n,,n=user,r=a,x=y,m=z", "mandatory"),
-        ("p=x,a=\x7f,n=\x7f,r=a", "binding"),
-        ("n,,n=" + most + "a,r=a", "name"),
-        ("n,a=\xe9,n=user,r=a", "name"),
-        ("n,a=,n=user,r=a", "grammar"),
-        ("n,,n=user,m=y,r=a", "grammar"),
-        ("n,,n=a=2c,r=a", "grammar"),
-        ("n,,n=user,r=", "grammar"),
-        ("n,,n=user,r=" + "a" * 257, "grammar"),
-        ("n,,n=user,r=a,", "grammar"),
-        ("n,,n=user,r=a,x=", "grammar"),
-        ("n,,n=user,r=a,x=\0", "grammar"),
-        ("n,,n=user,r=a,x=" + "y" * 2033, "grammar"),
-        ("N,,n=user,r=a", "grammar"),
-        ("p=,,n=user,r=a", "grammar"),
+    for trial, (first, names, reason) in each([
+        ("p=x,,m=y,n=\x7f,r=a", "- -", "mandatory"),
+        ("n,,n=user,r=a,x=y,m=z", "user -", "mandatory"),
+        ("p=x,a=\x7f,n=us=2Cer,r=a", "us,er -", "binding"),
+        ("n,,n=" + most + "a,r=a", "- -", "name"),
+        ("n,a=\xe9,n=user,r=a", "user -", "name"),
+        ("n,a=root,n=\x7f,r=a", "- root", "name"),
+        ("n,a=,n=user,r=a", "- -", "grammar"),
+        ("n,,n=user,m=y,r=a", "- -", "grammar"),
+        ("n,,n=a=2c,r=a", "- -", "grammar"),
+        ("n,,n=user,r=", "- -", "grammar"),
+        ("n,,n=user,r=" + "a" * 257, "- -", "grammar"),
+        ("n,,n=user,r=a,", "- -", "grammar"),
+        ("n,,n=user,r=a,x=", "- -", "grammar"),
+        ("n,,n=user,r=a,x=\0", "- -", "grammar"),
+        ("n,,n=user,r=a,x=" + "y" * 2033, "- -", "grammar"),
+        ("N,,n=user,r=a", "- -", "grammar"),
+        ("p=,,n=user,r=a", "- -", "grammar"),
     ]):
         with trial:
             log.write_text(session(first, "S NO :"))
-            clean = (0, [f"4 1 refused - - SCRAM-SHA-1 {reason}"], "clean sessions=1 accepted=0 codes=0")
+            clean = (0, [f"4 1 refused {names} SCRAM-SHA-1 {reason}"], "clean sessions=1 accepted=0 codes=0")
             equal(reported(folder, of_log, log), clean, first[:60])
-    for trial, (first, name, acts_as) in each([
-        ("n,,n=" + most + ",r=" + "a" * 256, most, "-"),
-        ("y,a=x=2Cy=3D2C,n=a b%,r=a,M=1", "a%20b%25", "x,y=2C"),
-        ("n,,n=-,r=a,x=" + "y" * 2035, "-", "-"),
+    for trial, (first, account, names) in each([
+        ("n,,n=" + most + ",r=" + "a" * 256, most, f"{most} -"),
+        ("y,a=x=2Cy=3D2C,n=a b%,r=a,M=1", "a b%", "a%20b%25 x,y=2C"),
+        ("n,a=--,n=-,r=a,x=" + "y" * 2031, "-", "%2D --"),
     ]):
         with trial:
-            plain = {"a%20b%25": "a b%"}.get(name, name)
             nonce = first.partition(",r=")[2].partition(",")[0]
-            log.write_text(session(first, f"S CONT :r={nonce}b,s={base64_of(decoy_salt(plain))},i=4096", "C GONE"))
-            clean = (0, [f"5 1 left {name} {acts_as} SCRAM-SHA-1 -"], "clean sessions=1 accepted=0 codes=0")
+            log.write_text(session(first, f"S CONT :r={nonce}b,s={base64_of(decoy_salt(account))},i=4096", "C GONE"))
+            clean = (0, [f"5 1 left {names} SCRAM-SHA-1 -"], "clean sessions=1 accepted=0 codes=0")
             equal(reported(folder, of_log, log), clean, first[:60])
+    log.write_text(session("n,,n=user,r=a", "S NO :").replace("SCRAM-SHA-1 :", "SCRAM-SHA-512 :"))
+    clean = (0, ["4 1 refused user - SCRAM-SHA-512 mechanism"], "clean sessions=1 accepted=0 codes=0")
+    equal(reported(folder, of_log, log), clean, "a mechanism that is not offered")
 
 
 def last_messages(folder: str) -> None:
@@ -513,7 +517,7 @@ def other_audits(folder: str) -> None:
     other.parent.mkdir()
     text = (AUDITS / "sha1.log").read_bytes()
     added = text.partition(b"\n")[2]
-    changed = "log-report: the book or the log has changed since the audit: the log takes up what is no client-first message\n"
+    changed = "log-report: the book or the log has changed since the audit: the log accepts a login without a name\n"
     one = ["6 1 accepted user - SCRAM-SHA-1 -"]
     for trial, (script, status, due, fault) in each([
         (f'{PROGRAM} "$@"; cat {folder}/added >>{log}', 0, one, ""),
