@@ -117,10 +117,10 @@ def a_full_hall(folder: str) -> None:
 
 
 # The tags and attributes of a page.
-TAGS = set("html meta title style script h1 h2 section p strong code dl dt dd div figure figcaption svg desc rect line text".split())
+TAGS = set("html meta title style script main h1 h2 section p strong code dl dt dd div figure figcaption svg desc rect line text".split())
 TAGS |= set("details summary table thead tbody tr th td label input".split())
 ATTRIBUTES = set("lang charset http-equiv content name id class hidden for type autocomplete viewbox role aria-labelledby x y".split())
-ATTRIBUTES |= {"width", "height", "x1", "x2", "y1", "y2"}
+ATTRIBUTES |= {"scope", "width", "height", "x1", "x2", "y1", "y2"}
 USER = Account("user", "SCRAM-SHA-1")
 # Tokens that have moved on: the next counter of a fob is 1500, and the last step of a phone, whose window is two steps wide, was 101.
 FOB = hotp(look_ahead=0, limit=9).replace("next = 0", "next = 1500").replace("look_ahead = 0", "look_ahead = 0\nsync_ahead = 0")
@@ -362,10 +362,10 @@ def a_page(folder: str) -> None:
     equal(stat.S_IMODE(os.stat(Path(folder, "page.html")).st_mode), 0o600, "the mode of the page")
     day, home = "2026-11-30 04:", "service=smtp rip=192.0.2.7"
     equal(page.tables["Who was let in"][1:], [
-        ["user", "", "2", f"{day}10:00", f"{day}11:35", home],
-        ["user", "list owner", "1", f"{day}10:25", f"{day}10:25", home],
         ["a b%c", "", "1", f"{day}10:58", f"{day}10:58", "service=imap rip=2001:db8::7"],
         ["phone", "", "1", f"{day}10:59", f"{day}10:59", "service=imap rip=192.0.2.33"],
+        ["user", "", "2", f"{day}10:00", f"{day}11:35", home],
+        ["user", "list owner", "1", f"{day}10:25", f"{day}10:25", home],
     ], "who was let in")
     equal(page.tables["Accounts most guessed at"][1:], [
         ["user", "1", "", "1", "2", "3"], ["phone", "", "", "1", "1", "1"], ["nobody", "", "1", "", "", ""],
@@ -401,7 +401,7 @@ def hostile_names(folder: str) -> None:
     equal(page.texts["h1"], [f"Who got in: {named}"], "the title")
     equal([it[2] for it in page.tables["Sessions"][1:]], HOSTILE, "the names")
     equal([it[4] for it in page.tables["Sessions"][1:]], [f"name={json.dumps(it)}" for it in HOSTILE], "the clients")
-    equal([it[0] for it in page.tables["Who was let in"][1:]], HOSTILE, "the names that were let in")
+    equal([it[0] for it in page.tables["Who was let in"][1:]], sorted(HOSTILE), "the names that were let in")
 
 
 def pages_of_faulty_logs(folder: str) -> None:

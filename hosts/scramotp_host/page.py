@@ -6,7 +6,7 @@ page allows no script or style but its own.
 import hashlib
 from base64 import b64encode
 from collections import Counter
-from collections.abc import Iterable, Iterator, Sized
+from collections.abc import Iterable, Iterator
 from html import escape
 from typing import NamedTuple
 
@@ -14,8 +14,8 @@ from scramotp_host.chart import bars_in_order, bars_over_time, picture
 from scramotp_host.meanings import GUESSES, MEANINGS, NO_REFUSALS, OF_CODES
 from scramotp_host.report import Answer, Session, counted
 
-# How many sessions, the newest, and how many other rows a page shows. A browser takes long for more.
-MOST_SESSIONS, MOST_ROWS = 10000, 50
+# How many rows a table shows, of sessions the newest, since a browser takes long for more; and how many accounts that are guessed at.
+MOST_ROWS, MOST_GUESSED = 10000, 50
 
 STYLE = """
 :root { color-scheme: light dark; --text: #1b1f24; --dim: #57606a; --back: #fff; --line: #d0d7de; --in: #0a6e4f; --out: #b3470b;
@@ -71,21 +71,21 @@ class Cell(NamedTuple):
     kind: str = ""
 
 
-def of_page(text: str) -> str:
-    """How the page's policy names this style or script."""
+def allowed(text: str) -> str:
+    """How the page's policy names a style or a script."""
     return f"'sha256-{b64encode(hashlib.sha256(text.encode()).digest()).decode()}'"
 
 
-def cell(name: str, it: Cell) -> str:
-    """A cell, as an element of this name."""
+def cell(start: str, it: Cell) -> str:
+    """A cell, as an element that starts so."""
     text = "" if it.text is None else escape(str(it.text))
-    return f'<{name} class="{it.kind}">{text}</{name}>' if it.kind else f"<{name}>{text}</{name}>"
+    kind = f' class="{it.kind}"' if it.kind else ""
+    return f"<{start}{kind}>{text}</{start[:2]}>"
 
 
-def table(head: list[Cell], rows: Iterable[list[Cell]], name: str = "") -> Iterator[str]:
-    """A table with this head."""
-    yield f'<div class="scroll"><table{f" id={name}" if name else ""}><thead><tr>'
-    yield "".join(cell("th", it) for it in head) + "</tr></thead><tbody>\n"
+def table(head: list[Cell], rows: Iterable[list[Cell]], name: str = "table") -> Iterator[str]:
+    """A table with this head, as an element that starts so."""
+    yield f'<div class="scroll"><{name}><thead><tr>' + "".join(cell('th scope="col"', it) for it in head) + "</tr></thead><tbody>\n"
     yield from ("<tr>" + "".join(cell("td", it) for it in row) + "</tr>\n" for row in rows)
     yield "</tbody></table></div>\n"
 
@@ -94,13 +94,13 @@ def number(count: int) -> Cell:
     return Cell(count or "", "number")
 
 
-def when(session: Session | None) -> Cell:
-    return Cell(session.opened.strftime("%Y-%m-%d %H:%M:%S") if session and session.opened else "", "time")
+def when(session: Session) -> Cell:
+    return Cell(session.opened.strftime("%Y-%m-%d %H:%M:%S") if session.opened else "", "time")
 
 
 def page(log: str, answer: Answer, sessions: list[Session]) -> Iterator[str]:
     """The page, in pieces."""
-    policy = f"default-src 'none'; style-src {of_page(STYLE)}" + (f"; script-src {of_page(SCRIPT)}" if sessions else "")
+    policy = f"default-src 'none'; style-src {allowed(STYLE)}" + (f"; script-src {allowed(SCRIPT)}" if sessions else "")
     yield f"""<!DOCTYPE html>
 <html lang="en">
 <meta charset="utf-8">
@@ -109,6 +109,7 @@ def page(log: str, answer: Answer, sessions: list[Session]) -> Iterator[str]:
 <meta name="referrer" content="no-referrer">
 <title>Who got in: {escape(log)}</title>
 <style>{STYLE}</style>
+<main>
 <h1>Who got in: {escape(log)}</h1>
 """
     yield from audited(answer)
@@ -122,7 +123,7 @@ def page(log: str, answer: Answer, sessions: list[Session]) -> Iterator[str]:
     else:
         yield "<p>No login was decided.</p>\n"
     yield '<p class="note">This page is as secret as the log. It tells which names have accounts, which no client is told. '
-    yield "From where and when a session came is what the server says of it, and no evidence.</p>\n"
+    yield "From where and when a session came is what the server says of it, and no evidence.</p>\n</main>\n"
     yield f"<script>{SCRIPT}</script>\n" if sessions else ""
 
 
@@ -167,14 +168,17 @@ def let_in(sessions: list[Session]) -> Iterator[str]:
     for session in sessions:
         if session.outcome == "accepted":
             groups.setdefault((session.account, session.acts_as), []).append(session)
-    found = sorted(groups.items(), key=lambda it: -len(it[1]))
+    found = sorted(groups.items(), key=lambda it: (it[0][0] or "", it[0][1] or ""))
     yield "<h2>Who was let in</h2>\n"
+    if not found:
+        yield "<p>Nobody.</p>\n"
+        return
     head = [Cell("Account"), Cell("Acts as"), Cell("Times", "number"), Cell("First"), Cell("Last"), Cell("From")]
     yield from table(head, (
         [Cell(account), Cell(acts_as), number(len(of)), when(of[0]), when(of[-1]), Cell(origins(of))]
         for (account, acts_as), of in found[:MOST_ROWS]
     ))
-    yield more(found)
+    yield left_out(len(found) - MOST_ROWS)
 
 
 def origins(sessions: list[Session]) -> str:
@@ -183,9 +187,9 @@ def origins(sessions: list[Session]) -> str:
     return ", ".join(client for client, _ in clients.most_common(3)) + (f" and {len(clients) - 3} more" if len(clients) > 3 else "")
 
 
-def more(found: Sized) -> str:
-    """Says how many rows are left out."""
-    return f'<p class="note">{len(found) - MOST_ROWS} more are not shown.</p>\n' if len(found) > MOST_ROWS else ""
+def left_out(count: int) -> str:
+    """Says how many rows are left out, if there are any."""
+    return f'<p class="note">{count} more are not shown.</p>\n' if count > 0 else ""
 
 
 def guessed(sessions: list[Session]) -> Iterator[str]:
@@ -202,16 +206,17 @@ def guessed(sessions: list[Session]) -> Iterator[str]:
     if not found:
         yield "<p>None: no password and no code was wrong.</p>\n"
         return
-    head = [Cell("Account"), *(Cell(MEANINGS[kind].words.capitalize(), "number") for kind in (*GUESSES, "accepted"))]
-    yield from table(head, ([Cell(name), *(number(counts[kind]) for kind in (*GUESSES, "accepted"))] for name, counts in found[:MOST_ROWS]))
-    yield more(found)
+    shown = (*GUESSES, "accepted")
+    head = [Cell("Account"), *(Cell(MEANINGS[kind].words.capitalize(), "number") for kind in shown)]
+    yield from table(head, ([Cell(name), *(number(counts[kind]) for kind in shown)] for name, counts in found[:MOST_GUESSED]))
+    yield left_out(len(found) - MOST_GUESSED)
 
 
 def all_sessions(sessions: list[Session]) -> Iterator[str]:
     """The sessions, with a field to find a name, which appears only if scripts run."""
     yield "<h2>Sessions</h2>\n"
-    if len(sessions) > MOST_SESSIONS:
-        yield f'<p class="note">These are the newest {MOST_SESSIONS} of {len(sessions)}. log-report --csv has all.</p>\n'
+    if len(sessions) > MOST_ROWS:
+        yield f'<p class="note">These are the newest {MOST_ROWS} of {len(sessions)}. log-report --csv has all.</p>\n'
     yield '<p id="filter" hidden><label for="name">Only names with</label> <input id="name" type="search" autocomplete="off"></p>\n'
     head = [Cell("Session", "number"), Cell("When (UTC)"), Cell("Who"), Cell("Acts as"), Cell("From"), Cell("How"), Cell("What came of it")]
     yield from table(head, (
@@ -219,8 +224,8 @@ def all_sessions(sessions: list[Session]) -> Iterator[str]:
             Cell(it.number, "number"), when(it), Cell(it.account), Cell(it.acts_as), Cell(it.client), Cell(it.mechanism, "how"),
             Cell(it.words, "in" if it.outcome == "accepted" else "out"),
         ]
-        for it in sessions[-MOST_SESSIONS:]
-    ), "sessions")
+        for it in sessions[-MOST_ROWS:]
+    ), 'table id="sessions"')
 
 
 def meanings(sessions: list[Session]) -> Iterator[str]:
