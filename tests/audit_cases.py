@@ -2,7 +2,8 @@
 
 A row names a log and a book in that folder. In the log, `old`, which occurs once, is replaced by `new`, and then `old2` by `new2`;
 `\\n` is written as in Python. The answer is the line that an audit has to print, by docs/FORMATS.md. The signatures are those that the
-RFCs print, and the codes those of RFC 4226 and RFC 6238. `shows` says what is right or wrong in the log.
+RFCs print, and the codes those of RFC 4226 and RFC 6238. `rows` are those that a report has of the log, each with `\\n` before the next.
+`shows` says what is right or wrong in the log.
 """
 import pathlib
 from typing import NamedTuple
