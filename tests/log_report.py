@@ -368,7 +368,9 @@ def a_page(folder: str) -> None:
         ["user", "list owner", "1", f"{day}10:25", f"{day}10:25", home],
     ], "who was let in")
     equal(page.tables["Accounts most guessed at"][1:], [
-        ["user", "1", "", "1", "2", "3"], ["phone", "", "", "1", "1", "1"], ["nobody", "", "1", "", "", ""],
+        ["user", "1", "", "1", "3", f"{home}, service=imap rip=203.0.113.9"],
+        ["nobody", "", "1", "", "", "service=imap rip=203.0.113.9"],
+        ["phone", "", "", "1", "1", "service=imap rip=192.0.2.33"],
     ], "who was guessed at")
     sessions = page.tables["Sessions"][1:]
     equal([it[0] for it in sessions], [str(number) for number in range(1, 24) if number != 22], "the sessions that were decided")

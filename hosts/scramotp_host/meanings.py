@@ -54,7 +54,7 @@ MEANINGS = {
 # What comes of a login that is no refusal, what comes of a code, and what is counted as a guess at an account.
 NO_REFUSALS = ("accepted", "left", "busy")
 OF_CODES = ("passed", "failed", "spent", "locked", "no-token", "halted")
-GUESSES = ("proof", "no-account", "failed", "spent")
+GUESSES = ("proof", "no-account", "failed")
 
 
 class Verdict(NamedTuple):

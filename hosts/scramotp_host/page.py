@@ -193,22 +193,24 @@ def left_out(count: int) -> str:
 
 
 def guessed(sessions: list[Session]) -> Iterator[str]:
-    """The accounts that are most guessed at."""
-    guesses: dict[str, Counter[str]] = {}
+    """The accounts that are most guessed at, how often they were let in, and from where the guesses came."""
+    counts, guesses = dict[str | None, Counter[str]](), dict[str | None, list[Session]]()
     for session in sessions:
-        if session.account is not None:
-            counts = guesses.setdefault(session.account, Counter())
-            counts[session.outcome] += 1
-            counts.update(session.codes)
-    found = [(name, counts) for name, counts in guesses.items() if any(counts[kind] for kind in GUESSES)]
-    found.sort(key=lambda it: -sum(it[1][kind] for kind in GUESSES))
+        of = counts.setdefault(session.account, Counter())
+        of[session.outcome] += 1
+        of.update(session.codes)
+        if any(kind in (session.outcome, *session.codes) for kind in GUESSES):
+            guesses.setdefault(session.account, []).append(session)
     yield "<h2>Accounts most guessed at</h2>\n"
-    if not found:
+    if not guesses:
         yield "<p>None: no password and no code was wrong.</p>\n"
         return
+    found = sorted(guesses, key=lambda name: -sum(counts[name][kind] for kind in GUESSES))
     shown = (*GUESSES, "accepted")
-    head = [Cell("Account"), *(Cell(MEANINGS[kind].words.capitalize(), "number") for kind in shown)]
-    yield from table(head, ([Cell(name), *(number(counts[kind]) for kind in shown)] for name, counts in found[:MOST_GUESSED]))
+    head = [Cell("Account"), *(Cell(MEANINGS[kind].words.capitalize(), "number") for kind in shown), Cell("Guessed at from")]
+    yield from table(head, (
+        [Cell(name), *(number(counts[name][kind]) for kind in shown), Cell(origins(guesses[name]))] for name in found[:MOST_GUESSED]
+    ))
     yield left_out(len(found) - MOST_GUESSED)
 
 
