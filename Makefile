@@ -135,6 +135,7 @@ install:
 	install -D -m 644 -t "$(DESTDIR)$(PREFIX)/lib/systemd/system" hosts/units/*
 	install -D -m 644 -t "$(DESTDIR)$(PREFIX)/share/doc/scramotp" $(DOCUMENTS)
 	install -D -m 644 -t "$(DESTDIR)$(PREFIX)/share/doc/scramotp/docs" docs/*.md
+	install -D -m 644 -t "$(DESTDIR)$(PREFIX)/share/doc/scramotp/docs/editions" docs/editions/*.txt
 	install -D -m 644 -t "$(DESTDIR)$(PREFIX)/share/doc/scramotp/bench" bench/README.md
 	install -D -m 644 -t "$(DESTDIR)$(PREFIX)/share/doc/scramotp/plugins/cyrus" plugins/cyrus/README.md
 	install -D -m 644 -t "$(DESTDIR)$(PREFIX)/share/man/man1" man/*.1

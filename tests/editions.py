@@ -15,7 +15,8 @@ EDITIONS = TOP / "docs" / "editions"
 PROMISES = {
     "headline": ("An audit finds the first line at fault", [("sasl_log", "auditor.rt", "audit", "clean counts fault")]),
     "service": ("A code that has passed is spent", [
-        ("sasl_desk", "laws.rt", "told_counters_are_saved", ""), ("sasl_desk", "laws.rt", "no_counter_passes_twice", "")]),
+        ("sasl_desk", "laws.rt", "told_counters_are_saved", ""), ("sasl_desk", "laws.rt", "no_counter_passes_twice", ""),
+        ("book_keeper", "keeper.rt", "judge", "")]),
     "login": ("A login is accepted exactly if RFC 5802 makes it valid", [("scram_ends", "laws.rt", "accepts_exactly_valid", "")]),
     "code": ("Each code has the reply that RFC 4226 and RFC 6238 give", [("otp_core", "token.rt", "attempt", "")]),
     "book": ("A text is read as a book exactly if it has a book's form", [("account_book", "book/text.rt", "read", "")]),
@@ -25,12 +26,12 @@ Names = dict[str, tuple[str, str]]  # as a text calls it: the module, and the na
 
 HEAD = re.compile(r"^\s*(?:pub )?(abbrev|unfoldable|record|data) (?:pub )?(\S+)")
 WORD = re.compile(r"[^\s(){}<>,;.\"]+")
-TYPE = r"^((?:///.*\n|#\[.*\n)*)pub(?:\(crate\))? (?:enum|struct|type) {}\b[^;{{]*(?:;|\{{\n(?:.*\n)*?\}})"
+TYPE = r"^((?:///.*\n|#\[.*\n)*)pub(?:\(crate\))? (?:enum|struct|type|trait) {}\b[^;{{]*(?:;|\{{\n(?:.*\n)*?\}})"
 
 
 @dataclass(frozen=True)
 class Declaration:
-    """A definition, a type or a contract with the words above it; the head of the module in its file that it stands in, if any; and the
+    """A definition, a type, a trait or a contract with the words above it; the head of the module in its file that it stands in, if any; and the
     names that its file imports."""
 
     file: Path
@@ -78,13 +79,13 @@ def definitions_in(file: Path) -> dict[str, Declaration]:
 
 @cache
 def type_of(crate: str, name: str) -> Declaration | None:
-    """A type of the code of a crate, as its source declares it."""
+    """A type or a trait of the code of a crate, as its source declares it."""
     for file in sorted((CRATES / crate / "src").rglob("*.rt")):
         text = file.read_text(encoding="utf-8")
         if shown := re.search(TYPE.format(name), text, re.MULTILINE):
             used = re.findall(r"^use (\w+)::(?:[\w:]*::)?(?:\{([^}]*)\}|(\w+));", text, re.MULTILINE)
             lower = {each: (f"{of}.declared.{each}", each) for of, many, one in used for each in (many or one).split(", ")}
-            return Declaration(file, re.sub(r"(?m)^ *#\[.*\n", "", shown[0]), "", lower)
+            return Declaration(file, re.sub(r"(?m)^ *#\[.*\n", "", shown[0]), "", lower | imports_of(text))
     return None
 
 

@@ -36,7 +36,7 @@ def due_files() -> dict[str, tuple[bytes, int]]:
     files |= {f"share/scramotp/{path.relative_to(TOP / 'hosts')}": (path, 0o644) for path in (TOP / "hosts/scramotp_host").glob("*.py")}
     files |= {f"lib/systemd/system/{path.name}": (path, 0o644) for path in (TOP / "hosts/units").iterdir()}
     files |= {f"share/man/man8/{path.name}": (path, 0o644) for path in (TOP / "hosts/man").iterdir()}
-    files |= {f"share/doc/scramotp/{path.relative_to(TOP)}": (path, 0o644) for path in [*pages, *(TOP / "docs").glob("*.md")]}
+    files |= {f"share/doc/scramotp/{path.relative_to(TOP)}": (path, 0o644) for path in [*pages, *(TOP / "docs").rglob("*.*")]}
     files |= {f"share/man/man{path.suffix[1:]}/{path.name}": (path, 0o644) for path in (TOP / "man").iterdir()}
     files |= {place: (TOP / "completions" / name, 0o644) for name, place in COMPLETIONS.items()}
     files["bin/scramotp"] = (pathlib.Path(PROGRAM), 0o755)
