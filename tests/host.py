@@ -111,8 +111,8 @@ def logins_over_changes(folder: str) -> None:
     hall.MOST_LINES = most
     found = audits(folder)
     equal(sum(accepted for _, accepted in found), 800, "the accepted logins in all logs", found)
-    # A login has 7 lines, and 64 can be open when the limit is reached.
-    holds(max(sessions for sessions, _ in found) <= 500 // 7 + 64 + 1, "a log has much more than its limit", found)
+    # A login has 7 lines. When the limit is seen to be reached, up to two more lines of each of 64 have come at once, and 64 can be open.
+    holds(max(sessions for sessions, _ in found) <= (500 + 2 * 64) // 7 + 64 + 1, "a log has much more than its limit", found)
 
 
 def files_of_a_log(folder: str) -> None:
@@ -351,7 +351,7 @@ def limited_addresses(folder: str) -> None:
     count = PerMinute(1)
     count.add("x", 2)
     count.minute -= 1
-    equal((count.is_over("x"), count.counts), (False, {"x": 0}), "the next minute")
+    equal((count.is_over("x"), count.counts), (False, {}), "the next minute")
     equal([origin({"rip": "::1"}), origin({"uid": 5, "pid": 6})], ["::/64", "uid 5"], "by what a client is counted")
 
 
@@ -429,7 +429,8 @@ def an_operator_at_work(folder: str) -> None:
 
 
 def faults_of_a_hall(folder: str) -> None:
-    """If the hall is killed, or can't save a code, the login gets a fault, and the host has it as what it failed by."""
+    """If the hall is killed, can't save a code, or answers another session, the login gets a fault, and the host has it as what it failed
+    by."""
     async def killed(host: Host) -> None:
         login = await host.login(HOME)
         os.kill(host.hall.process.pid, signal.SIGKILL)
@@ -445,7 +446,12 @@ def faults_of_a_hall(folder: str) -> None:
         await refused(login.code(USER.code(0)), HallFault)
         equal(str(host.failed.exception()), "the book can't be saved", "what the host failed by")
 
-    for trial, does in each([killed, halted]):
+    async def miscounted(host: Host) -> None:
+        host.hall.sessions += 1
+        await refused((await host.login(HOME)).begin("SCRAM-SHA-256", None), HallFault)
+        equal(str(host.failed.exception()), "the answer to session 2 is of session 1", "what the host failed by")
+
+    for trial, does in each([killed, halted, miscounted]):
         with trial:
             place = Path(folder, does.__name__)
             place.mkdir()

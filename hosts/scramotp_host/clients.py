@@ -4,6 +4,8 @@
     1 end 2026-11-30T04:10:01Z
 """
 import contextlib
+import functools
+import time
 from datetime import UTC, datetime
 
 from scramotp_host.hall import made
@@ -16,22 +18,30 @@ Client = dict[str, object]
 class Clients:
     """The file of one log."""
 
-    def __init__(self, name: str) -> None:
-        """Makes the file, which only its owner can read. FileExistsError if there is one."""
+    def __init__(self, name: str, at_once: bool = True) -> None:
+        """Makes the file, which only its owner can read. FileExistsError if there is one. A line is written at once, or else by `write`."""
+        self.lines, self.at_once = list[str](), at_once
         with contextlib.ExitStack() as undo:
             self.file = made(name, undo)
             self.undo = undo.pop_all()
 
     def opens(self, number: int, client: Client) -> None:
-        self.write(f"{number} open {moment()} {fields_of(client)}".rstrip())
+        self.add(f"{number} open {moment()} {fields_of(client)}".rstrip())
 
     def ends(self, number: int) -> None:
-        self.write(f"{number} end {moment()}")
+        self.add(f"{number} end {moment()}")
 
-    def write(self, line: str) -> None:
-        """Writes a line. A file that can't be written ends no login: the log is what counts."""
+    def add(self, line: str) -> None:
+        self.lines.append(f"{line}\n")
+        if self.at_once:
+            self.write()
+
+    def write(self) -> None:
+        """Writes the lines that are left. A file that can't be written ends no login: the log is what counts."""
+        text = "".join(self.lines).encode()
+        self.lines.clear()
         with contextlib.suppress(OSError):
-            self.file.write(line.encode() + b"\n")
+            self.file.write(text)
 
     def close(self) -> None:
         self.file.close()
@@ -44,4 +54,9 @@ class Clients:
 
 def moment() -> str:
     """The time in UTC, as RFC 3339 writes it."""
-    return datetime.now(UTC).strftime("%Y-%m-%dT%H:%M:%SZ")
+    return at(int(time.time()))
+
+
+@functools.lru_cache(1)
+def at(moment: int) -> str:
+    return datetime.fromtimestamp(moment, UTC).strftime("%Y-%m-%dT%H:%M:%SZ")

@@ -15,15 +15,16 @@ import contextlib
 import os
 import secrets
 import socket
-from base64 import b64decode, b64encode
-from collections.abc import AsyncIterator
+from base64 import b64encode
+from binascii import a2b_base64
+from collections.abc import AsyncIterator, Callable, Coroutine
 from typing import cast
 
 from scramotp_host import journal, plain
 from scramotp_host.clients import Client
 from scramotp_host.hall import HallFault
 from scramotp_host.host import Host
-from scramotp_host.login import MECHANISMS, Login, LoginLimited, LoginLost, Names
+from scramotp_host.login import MECHANISMS, Answer, Login, LoginLimited, LoginLost, Names
 from scramotp_host.master import Accepted
 from scramotp_host.sockets import credentials
 
@@ -40,88 +41,111 @@ class Malformed(Exception):
     """What a client has sent is no message: it is refused as if the password were wrong."""
 
 
+# What a fault of a login makes of it.
+OUTCOMES = {Malformed: "refused", LoginLost: "lost", LoginLimited: "limited", HallFault: "failed"}
+FAULTS = tuple(OUTCOMES)
+
+
 class Request:
-    """One AUTH: a login with the messages that come for it. It ends with one OK or FAIL."""
+    """One AUTH: a login with the messages that come for it. It ends with one OK or FAIL. Each step is taken when a line comes from the
+    server or from the hall, without a task of its own, unless it has to wait for its place, or computes what a password makes."""
 
     def __init__(self, connection: "Connection", ident: bytes, mechanism: str, settings: dict[str, str]) -> None:
         self.connection, self.host, self.ident, self.mechanism = connection, connection.door.host, ident, mechanism
         self.settings, self.user = settings, ""
         self.login: Login | None = None
         self.client: Client = {name: settings[key][:LONGEST_KEPT] for key, name in KEPT.items() if key in settings} or connection.client
-        self.is_asked, self.messages = False, asyncio.Queue[bytes | None]()
-        self.task = asyncio.create_task(self.run())
-        self.task.add_done_callback(connection.sees_end)
+        self.is_over = False
+        self.next_step: Callable[[bytes], None] | None = None  # what the response is for that is due
+        self.later: asyncio.Task[None] | asyncio.TimerHandle | None = None  # what is done later, unless the login is given up
 
-    async def run(self) -> None:
-        """Serves the login, and tells the journal and the server what came of it."""
-        outcome, answer = "failed", b""
+    def takes_step(self, step: Callable[..., None], *given: object) -> None:
+        """Takes a step, unless the login is over. A fault of the login ends it, and one of this program takes its connection along, so that
+        nobody waits for an answer."""
         try:
-            async with asyncio.timeout(self.host.limits.patience):
-                outcome, answer = await self.outcome()
-        except TimeoutError:
-            outcome = "late"
-        except LoginLost:
-            outcome = "lost"
-        except LoginLimited:
-            outcome = "limited"
-        except HallFault:
-            outcome = "failed"
-        except asyncio.CancelledError:
-            outcome = "abandoned"
-            raise
-        finally:
-            self.end(outcome)
-        await self.tell(outcome, answer)
+            if not self.is_over:
+                step(*given)
+        except FAULTS as fault:
+            self.ends(OUTCOMES[type(fault)])
+        except Exception as fault:
+            self.connection.cut_off(repr(fault))
 
-    def end(self, outcome: str) -> None:
-        """Gives the place back, and notes what came of the login."""
-        fields: dict[str, object] = {"outcome": outcome, "mechanism": self.mechanism[:LONGEST_KEPT]}
-        if login := self.login:
-            login.leave()
-            names = login.names if outcome == "accepted" else Names(login.claimed or "", login.claimed or "")
-            self.user = names.act_as
-            fields |= {"name": names.name or None, "act_as": names.act_as if names.act_as != names.name else None}
-            fields |= {"log": login.hall.log, "session": login.number}
-        journal.note("login", **fields, **self.client)
-
-    async def tell(self, outcome: str, answer: bytes) -> None:
-        """Sends the last line of the login. A refusal comes late, so that guesses take time."""
-        if outcome == "accepted":
-            self.connection.end(self)
-            self.connection.door.accepted.add(self.connection.process, self.ident, self.connection.cookie, self.user)
-            return self.connection.send(b"OK\t%s\tuser=%s%s" % (self.ident, self.user.encode(), answer))
-        await asyncio.sleep(self.host.limits.delay if outcome in ("refused", "limited") else 0)
-        self.connection.end(self)
-        self.connection.send_fail(self, is_final=outcome == "refused")
-
-    async def outcome(self) -> tuple[str, bytes]:
-        """Judges the login. Returns the outcome, and what OK has after the name."""
+    def begins(self) -> None:
+        """The first step."""
         if self.mechanism not in self.connection.offered(self.settings):
-            return "refused", b""
-        try:
-            first = message_of(self.settings["resp"]) if self.settings.get("resp") else None
-            if self.mechanism in MECHANISMS:
-                return await self.by_scram(first)
-            return "accepted" if await self.by_password(first) else "refused", b""
-        except Malformed:
-            return "refused", b""
+            return self.ends("refused")
+        first = message_of(self.settings["resp"]) if self.settings.get("resp") else None
+        if self.mechanism in PASSWORDS:
+            self.waits(self.by_password(first))
+        elif login := self.host.login_at_once(self.client, self.loses_place):
+            self.by_scram(login, first)
+        else:
+            self.waits(self.by_waiting(first))
 
-    async def by_scram(self, message: bytes | None) -> tuple[str, bytes]:
-        """Hands the messages on between the client and the hall."""
-        login = await self.begun()
-        word, told = await login.begin(self.mechanism, message)
-        while word == "CONT":
-            word, told = await login.respond(await self.response(told))
-        login.leave()
-        if word != "OK":
-            return "refused", b""
-        if "final-resp-ok" in self.settings:
-            return "accepted", b"\tresp=" + b64encode(told)
-        # The client checks the server by this message, and answers with an empty one (RFC 5802, section 5; RFC 4422, section 3.6).
-        return "refused" if await self.response(told) else "accepted", b""
+    def waits(self, steps: Coroutine[None, None, None]) -> None:
+        """Takes steps that have to wait for something."""
+        async def all_of_them() -> None:
+            try:
+                await steps
+            except FAULTS as fault:
+                self.ends(OUTCOMES[type(fault)])
 
-    async def by_password(self, message: bytes | None) -> bool:
-        """Whether the name and the password are right. They come as RFC 4616 has them, or by LOGIN one after the other."""
+        self.later = asyncio.create_task(all_of_them())
+        self.later.add_done_callback(self.connection.sees_end)
+
+    async def by_waiting(self, message: bytes | None) -> None:
+        self.by_scram(await self.host.login(self.client, self.loses_place), message)
+
+    def by_scram(self, login: Login, message: bytes | None) -> None:
+        """Hands the client's first message to the hall."""
+        self.login = login
+        login.sends(b"AUTH " + self.mechanism.encode(), message, self.hears_answer)
+
+    def hears_answer(self, answer: Answer | HallFault) -> None:
+        self.takes_step(self.goes_on, answer)
+
+    def goes_on(self, answer: Answer | HallFault) -> None:
+        """Hands the hall's answer on."""
+        if isinstance(answer, HallFault):
+            raise answer
+        word, told = answer
+        if word == "CONT":
+            self.asks(told, self.responds)
+        elif word != "OK":
+            self.ends("refused")
+        elif "final-resp-ok" in self.settings:
+            self.ends("accepted", b"\tresp=" + b64encode(told))
+        else:
+            cast(Login, self.login).leave()
+            # The client checks the server by this message, and answers with an empty one (RFC 5802, section 5; RFC 4422, section 3.6).
+            self.asks(told, self.hears_check)
+
+    def responds(self, message: bytes) -> None:
+        cast(Login, self.login).sends(b"RESP", message, self.hears_answer)
+
+    def hears_check(self, message: bytes) -> None:
+        self.ends("refused" if message else "accepted")
+
+    def asks(self, challenge: bytes, next_step: Callable[[bytes], None]) -> None:
+        """Sends the client a challenge. Its response is for this step."""
+        self.next_step = next_step
+        self.connection.send(b"CONT\t%s\t%s" % (self.ident, b64encode(challenge)))
+
+    def hears(self, text: bytes) -> bool:
+        """Takes a response. False if none is due."""
+        step, self.next_step = self.next_step, None
+        if step:
+            self.takes_step(lambda: step(message_of(text.decode("latin-1"))))
+        return step is not None
+
+    async def response(self, challenge: bytes) -> bytes:
+        """Sends the client a challenge, and returns its response."""
+        found: asyncio.Future[bytes] = asyncio.get_running_loop().create_future()
+        self.asks(challenge, found.set_result)
+        return await found
+
+    async def by_password(self, message: bytes | None) -> None:
+        """Judges a name and a password. They come as RFC 4616 has them, or by LOGIN one after the other."""
         if self.mechanism == "LOGIN":
             name = message if message is not None else await self.response(b"Username:")
             parts = [b"", name, await self.response(b"Password:")]
@@ -130,33 +154,57 @@ class Request:
         if len(parts) != 3:
             raise Malformed
         act_as, name, password = parts
-        return await plain.accepts(await self.begun(), name, password, act_as)
+        self.login = await self.host.login(self.client, self.loses_place)
+        self.ends("accepted" if await plain.accepts(self.login, name, password, act_as) else "refused")
 
-    def hears(self, text: bytes) -> bool:
-        """Takes a response. False if none is due."""
-        was_asked, self.is_asked = self.is_asked, False
-        if was_asked:
-            self.messages.put_nowait(text)
-        return was_asked
+    def loses_place(self) -> None:
+        """The login has given its place away."""
+        self.ends("lost")
 
-    async def begun(self) -> Login:
-        login = self.login = await self.host.login(self.client, lambda: self.messages.put_nowait(None))
-        return login
+    def ends(self, outcome: str, more: bytes = b"") -> None:
+        """Ends the login, unless it is over: gives its place back, and tells the journal and the server what came of it. OK has this more
+        after the name."""
+        if self.is_over:
+            return
+        self.is_over, self.next_step = True, None
+        self.connection.door.open_ones.pop(self, None)
+        fields: dict[str, object] = {"outcome": outcome, "mechanism": self.mechanism[:LONGEST_KEPT]}
+        if login := self.login:
+            self.login = None  # so that Python need not look for objects that know each other
+            login.leave()
+            names = login.names if outcome == "accepted" else Names(login.claimed or "", login.claimed or "")
+            self.user = names.act_as
+            fields |= {"name": names.name or None, "act_as": names.act_as if names.act_as != names.name else None}
+            fields |= {"log": login.hall.log, "session": login.number}
+        journal.note("login", **fields, **self.client)
+        if self.later:
+            self.later.cancel()
+        self.tell(outcome, more)
 
-    async def response(self, challenge: bytes) -> bytes:
-        """Sends the client a challenge, and returns its response. LoginLost if the login has given its place away meanwhile."""
-        self.is_asked = True
-        self.connection.send(b"CONT\t%s\t%s" % (self.ident, b64encode(challenge)))
-        text = await self.messages.get()
-        if text is None:
-            raise LoginLost
-        return message_of(text.decode("latin-1"))
+    def tell(self, outcome: str, more: bytes) -> None:
+        """Sends the last line of the login. A refusal comes late, so that guesses take time."""
+        if outcome == "accepted":
+            self.connection.end(self)
+            if self.connection.door.accepted:
+                self.connection.door.accepted.add(self.connection.process, self.ident, self.connection.cookie, self.user)
+            self.connection.send(b"OK\t%s\tuser=%s%s" % (self.ident, self.user.encode(), more))
+        elif outcome in ("refused", "limited"):
+            loop = asyncio.get_running_loop()
+            self.later = loop.call_later(self.host.limits.delay, self.connection.send_fail, self, outcome == "refused")
+        elif outcome != "abandoned":
+            self.connection.send_fail(self, is_final=False)
+
+    def gives_up(self) -> None:
+        """Its server has gone away, or has no more use for it."""
+        self.ends("abandoned")
+        if self.later:
+            self.later.cancel()
 
 
 def message_of(text: str) -> bytes:
     """What a text in base64 stands for; `=` is the empty message."""
     try:
-        return b"" if text == "=" else b64decode(text, validate=True)
+        return b"" if text == "=" else a2b_base64(text, strict_mode=True)
     except ValueError:
         raise Malformed from None
 
@@ -183,7 +231,7 @@ class Connection(asyncio.Protocol):
 
     def connection_lost(self, _: Exception | None) -> None:
         for request in self.requests.values():
-            request.task.cancel()
+            request.gives_up()
         self.door.connections.pop(self, None)
 
     def send(self, line: bytes) -> None:
@@ -215,20 +263,18 @@ class Connection(asyncio.Protocol):
     def takes(self, words: list[bytes]) -> bool:
         """Does what a line asks. False if it is not of the protocol. What a later minor version may add is passed over."""
         match words:
-            case [b"VERSION", b"1", minor] if minor.isdigit() and not self.is_greeted:
-                self.is_greeted = True
-            case [b"VERSION", *_]:
-                return False
-            case [b"CPID", process]:
-                self.process = process
-            case [b"AUTH", ident, mechanism, *settings]:
-                return self.begins(ident, mechanism, settings)
-            case [b"AUTH", *_]:
-                return False
             case [b"CONT", ident, *text] if ident in self.requests:
                 return self.requests[ident].hears(b"\t".join(text))
+            case [b"AUTH", ident, mechanism, *settings]:
+                return self.begins(ident, mechanism, settings)
             case [b"CANCEL", ident] if ident in self.requests:
-                self.requests.pop(ident).task.cancel()
+                self.requests.pop(ident).gives_up()
+            case [b"VERSION", b"1", minor] if minor.isdigit() and not self.is_greeted:
+                self.is_greeted = True
+            case [b"CPID", process]:
+                self.process = process
+            case [b"VERSION" | b"AUTH", *_]:
+                return False
         return True
 
     def begins(self, ident: bytes, mechanism: bytes, settings: list[bytes]) -> bool:
@@ -237,8 +283,11 @@ class Connection(asyncio.Protocol):
             return False
         if len(self.requests) >= self.door.host.limits.logins:
             return False
-        pairs = (setting.decode("utf-8", "replace").partition("=") for setting in settings)
-        self.requests[ident] = Request(self, ident, mechanism.decode("latin-1").upper(), {name: it for name, _, it in pairs})
+        pairs = [it.partition("=") for it in b"\t".join(settings).decode("utf-8", "replace").split("\t")]
+        request = Request(self, ident, mechanism.decode("latin-1").upper(), {name: it for name, _, it in pairs})
+        self.requests[ident] = request
+        self.door.watches(request)
+        request.takes_step(request.begins)
         return True
 
     def offered(self, settings: dict[str, str]) -> tuple[str, ...]:
@@ -246,7 +295,7 @@ class Connection(asyncio.Protocol):
         return MECHANISMS + PASSWORDS if self.door.has_passwords and "secured" in settings else MECHANISMS
 
     def sees_end(self, task: asyncio.Task[None]) -> None:
-        """A login that has ended by a fault of this program takes its connection along, so that nobody waits for its answer."""
+        """A fault of this program in a login takes the connection along, so that nobody waits for an answer."""
         if not task.cancelled() and (fault := task.exception()):
             self.cut_off(repr(fault))
 
@@ -256,6 +305,7 @@ class Connection(asyncio.Protocol):
     def send_fail(self, request: Request, is_final: bool) -> None:
         """Refuses a login; if that is not final, for now. Postfix and Exim overlook the word `temp`, and say that the client should try
         again only if the connection is lost: so it is, if it has no other login."""
+        self.end(request)
         if not is_final and not self.requests:
             self.flush()
             return self.transport.close()
@@ -268,16 +318,32 @@ class Connection(asyncio.Protocol):
 class Door:
     """The servers that are connected to a host by this protocol."""
 
-    def __init__(self, host: Host, has_passwords: bool) -> None:
-        self.host, self.has_passwords, self.count = host, has_passwords, 0
+    def __init__(self, host: Host, has_passwords: bool, accepted: Accepted | None = None) -> None:
+        self.host, self.has_passwords, self.accepted, self.count = host, has_passwords, accepted, 0
         self.connections: dict[Connection, int] = {}
-        self.accepted = Accepted()
+        # The logins that go on, each with the moment at which it has taken too long: the first of them first.
+        self.open_ones: dict[Request, float] = {}
+        self.timer: asyncio.TimerHandle | None = None
 
     def admits(self, connection: Connection, user: int) -> bool:
         """Whether this user of this machine may have one more connection."""
         self.count += 1
         self.connections[connection] = user
         return sum(1 for it in self.connections.values() if it == user) <= self.host.limits.connections
+
+    def watches(self, request: Request) -> None:
+        """Ends a login once it has taken too long."""
+        loop = asyncio.get_running_loop()
+        self.open_ones[request] = loop.time() + self.host.limits.patience
+        if not self.timer:
+            self.timer = loop.call_at(self.open_ones[request], self.end_late_ones)
+
+    def end_late_ones(self) -> None:
+        loop, self.timer = asyncio.get_running_loop(), None
+        for request in [it for it, moment in self.open_ones.items() if moment <= loop.time()]:
+            request.ends("late")
+        if self.open_ones:
+            self.timer = loop.call_at(next(iter(self.open_ones.values())), self.end_late_ones)
 
     @contextlib.asynccontextmanager
     async def open(self, listener: socket.socket) -> AsyncIterator[None]:
@@ -287,9 +353,7 @@ class Door:
             yield
         finally:
             server.close()
-            tasks = [request.task for connection in self.connections for request in connection.requests.values()]
-            for task in tasks:
-                task.cancel()
+            for request in list(self.open_ones):
+                request.gives_up()
             for connection in list(self.connections):
                 connection.transport.abort()
-            await asyncio.gather(*tasks, return_exceptions=True)

@@ -13,6 +13,7 @@ from base64 import b64encode
 from io import FileIO
 from typing import IO, NamedTuple, NoReturn, cast
 
+AT_ONCE = 1 << 16  # bytes that are read
 LONGEST = 6201  # one byte more than a line of a client may have: the hall then ends the session
 # A run takes 16 MiB of events, and an audit 1000000 lines. What is above these is left for the sessions that are open then.
 MOST_BYTES, MOST_LINES = 15 << 20, 900_000
@@ -50,12 +51,14 @@ class Hall:
     def __init__(self, book: str, log: str) -> None:
         """Makes the files LOG and LOG.toml, and starts the run, which then waits for the book. OSError if a file can't be made or there is
         no program; no file is left then."""
-        self.book, self.log, self.bytes, self.lines = book, log, 0, 0
+        self.book, self.log, self.bytes, self.lines, self.sessions = book, log, 0, 0, 0
+        # What the hall has printed of a line that has not come whole, and what the client is to be sent whose `E` is the next line.
+        self.rest, self.told = b"", b""
         with contextlib.ExitStack() as undo:
             self.written, self.copy = made(log, undo), made(log + ".toml", undo)
             # A signal such as that of Ctrl-C is for the host alone, which ends the hall's sessions first.
             words = ["scramotp", "hall", "--book", book]
-            self.process = subprocess.Popen(words, stdin=subprocess.PIPE, stdout=subprocess.PIPE, start_new_session=True)
+            self.process = subprocess.Popen(words, 0, stdin=subprocess.PIPE, stdout=subprocess.PIPE, start_new_session=True)
             self.undo = undo.pop_all()
         self.events, self.printed = cast(IO[bytes], self.process.stdin), cast(IO[bytes], self.process.stdout)
         # What the pipe holds while the hall itself waits until its lines are read.
@@ -69,7 +72,7 @@ class Hall:
         """Waits until the hall holds the book, and copies that to LOG.toml. HallFault if the hall ends before that, or OSError if there can
         be no copy; no file is left then."""
         try:
-            self.keep([self.printed.readline() or fail("the hall did not start")])
+            self.keep([self.printed.readline().rstrip(b"\n") or fail("the hall did not start")])
             with open(self.book, "rb") as begun, self.copy:
                 shutil.copyfileobj(begun, self.copy)
         except BaseException:
@@ -84,9 +87,9 @@ class Hall:
         self.undo.close()
 
     def keep(self, lines: list[bytes]) -> None:
-        """Writes lines to the log, whole. HallFault if it can't."""
+        """Writes lines to the log, whole, each with its LF. HallFault if it can't."""
         self.lines += len(lines)
-        left = memoryview(b"".join(lines))
+        left = memoryview(b"\n".join([*lines, b""]))
         try:
             while left:
                 left = left[self.written.write(left):]
@@ -94,43 +97,44 @@ class Hall:
             fail(f"the log can't be written: {fault.strerror}")
 
     def hear(self, *events: bytes) -> list[Heard]:
-        """Gives the hall events, none of which has an LF in it, and which together have no more than `most_at_once` bytes unless there is
-        only one. Returns what each has led to, or up to HALT, once the log has it all: after far less than a millisecond for each, unless a
-        code is saved. HallFault if the hall has ended, or if the log can't be written: then nobody may be told anything."""
-        self.give(b"".join(event + b"\n" for event in events))
-        lines, found = list[bytes](), list[Heard]()
-        try:
-            while len(found) < len(events) and not (found and found[-1].told == HALT):
-                found.append(self.answer(lines))
-        finally:
-            self.keep(lines)
+        """Gives the hall events, as `give` does, and returns what each has led to, or up to HALT, once the log has it all: after far less
+        than a millisecond for each, unless a code is saved. HallFault as of `give` and `receive`."""
+        self.give(*events)
+        found = list[Heard]()
+        while len(found) < len(events) and not (found and found[-1].told == HALT):
+            found += self.receive()
         return found
 
-    def give(self, text: bytes) -> None:
-        """Writes to the hall."""
-        self.bytes += len(text)
+    def give(self, *events: bytes) -> None:
+        """Gives the hall events, none of which has an LF in it, and which together have no more than `most_at_once` bytes unless there is
+        only one. What they lead to has to be received before more are given. HallFault if the hall has ended."""
+        left = memoryview(b"\n".join([*events, b""]))
+        self.bytes += len(left)
         try:
-            self.events.write(text)
-            self.events.flush()
-        except (BrokenPipeError, ValueError):  # the second, if the pipe is closed since the first
-            with contextlib.suppress(BrokenPipeError):
-                self.events.close()  # or Python would try to send the rest at its end
+            while left:
+                left = left[self.events.write(left):]
+        except (BrokenPipeError, ValueError):  # the second, if the pipe is closed
             fail("the hall has ended")
 
-    def answer(self, lines: list[bytes]) -> Heard:
-        """What the next event has led to. Adds its lines to these."""
-        def line() -> bytes:
-            lines.append(self.printed.readline() or fail("the hall has ended"))
-            return lines[-1].removesuffix(b"\n")
-
-        number, _, what = line().partition(b" ")
-        if what.startswith(b"C ") and what != b"C GONE":
-            what = line().partition(b" ")[2]
-        told = what[2:] if what.startswith(b"S ") else b""
-        is_over = told.startswith((b"NO :", b"BUSY")) or not told
-        if is_over:
-            line()
-        return Heard(int(number), told, is_over or told == HALT)
+    def receive(self) -> list[Heard]:
+        """Waits until the hall prints something. Returns what events have led to, in their order, once the log has it all. HallFault if
+        the hall has ended, or if the log can't be written: then nobody may be told anything."""
+        came = os.read(self.printed.fileno(), AT_ONCE) or fail("the hall has ended")
+        *lines, self.rest = (self.rest + came).split(b"\n")
+        self.keep(lines)
+        found = list[Heard]()
+        for line in lines:
+            number, _, what = line.partition(b" ")
+            is_over = what == b"E"
+            if what.startswith(b"S "):
+                self.told = what[2:]
+                if self.told.startswith((b"NO :", b"BUSY")):
+                    continue  # its `E` is the next line
+            elif not is_over:
+                continue  # what the client has said
+            found.append(Heard(int(number), self.told, is_over or self.told == HALT))
+            self.told = b""
+        return found
 
     @property
     def is_full(self) -> bool:
@@ -139,8 +143,7 @@ class Hall:
 
     def end(self) -> int:
         """Ends the run, and returns its status. Sessions that are open then leave a log that is cut."""
-        with contextlib.suppress(BrokenPipeError):
-            self.events.close()
+        self.events.close()
         status = self.process.wait()
         self.printed.close()
         self.written.close()

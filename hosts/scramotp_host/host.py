@@ -8,7 +8,7 @@ import contextlib
 import os
 import time
 from collections import OrderedDict, deque
-from collections.abc import AsyncIterator, Callable, Sequence
+from collections.abc import AsyncIterator, Callable
 from datetime import UTC, datetime
 from typing import IO
 
@@ -43,7 +43,9 @@ class Host:
         self.failed: asyncio.Future[None] = asyncio.get_running_loop().create_future()
         # The open logins, those first that have been idle for longer.
         self.logins: OrderedDict[Login, None] = OrderedDict()
-        self.events: deque[tuple[bytes, Take]] = deque()
+        # The events that the hall is to be given, and those that it has not answered: the numbers of their sessions, and what is done then.
+        self.events: deque[tuple[bytes, int, Take]] = deque()
+        self.given: deque[tuple[bytes, int, Take]] = deque()
         # Logins pass the turnstile in the order in which they come, and then the gate, which a change of halls shuts. So a change waits for
         # one login at most.
         self.turnstile, self.gate, self.changed = asyncio.Lock(), asyncio.Lock(), asyncio.Event()
@@ -78,25 +80,36 @@ class Host:
             raise
         hall.begin()
         try:
-            self.clients = Clients(log + ".clients")
+            self.clients = Clients(log + ".clients", at_once=False)
         except OSError:
             hall.end()
             raise
         self.hall = hall
+        asyncio.get_running_loop().add_reader(hall.printed, self.take_answers)
         journal.note("begin", log=log)
 
     def end_hall(self) -> None:
         """Ends the logins that are open, and the run."""
         if hall := self.hall:
-            self.hand_over()
             for login in list(self.logins):
                 login.give_way()
             self.hand_over()
-            self.events.clear()  # those of a hall that has failed
+            while self.given:
+                self.take_answers()
             self.hall = None
+            self.events.clear()  # those of a hall that has failed
+            self.stop_hearing(hall)
             hall.end()
+            self.clients.write()
             self.clients.close()
             self.audits.begin(hall.log)
+
+    def stop_hearing(self, hall: Hall) -> None:
+        """Closes the pipes to a run."""
+        if not hall.printed.closed:
+            asyncio.get_running_loop().remove_reader(hall.printed)
+            hall.events.close()
+            hall.printed.close()
 
     async def change(self, seconds: float) -> None:
         """Waits until a login ends, and at most so long. Only who holds the gate waits."""
@@ -107,7 +120,7 @@ class Host:
 
     async def make_place(self) -> None:
         """Lets the login that has been idle for longest give way, or waits until it has been so for long enough, or a login ends."""
-        oldest = next((it for it in self.logins if not it.is_busy), None)
+        oldest = next((it for it in self.logins if it.is_open and not it.is_busy), None)
         left = self.limits.idle + (oldest.seen - time.monotonic() if oldest else 0)
         if oldest and left <= 0:
             oldest.give_way()
@@ -119,67 +132,88 @@ class Host:
         if self.guesses.is_over(origin(client)) or self.sent.is_over(origin(client)):
             raise LoginLimited
 
+    def login_at_once(self, client: Client, when_lost: Callable[[], None] = lambda: None) -> Login | None:
+        """As `login`, but None if the login would have to wait."""
+        self.check(client)
+        if self.turnstile.locked() or self.gate.locked() or len(self.logins) >= self.limits.places:
+            return None
+        if self.hall is None:
+            raise HallFault("the host has ended")
+        self.hall.sessions += 1
+        login = Login(self, self.hall, client, when_lost)
+        self.logins[login] = None
+        return login
+
     async def login(self, client: Client, when_lost: Callable[[], None] = lambda: None) -> Login:
         """A login of this client, once there is a place for it. `when_lost` is called if it has to give its place to others. LoginLimited
         if its address has failed or sent too much."""
-        self.check(client)
-        async with self.turnstile, self.gate:
-            while len(self.logins) >= self.limits.places:
-                await self.make_place()
-            self.check(client)  # others of its address may have failed meanwhile
-            if self.hall is None:
-                raise HallFault("the host has ended")
-            login = Login(self, self.hall, client, when_lost)
-            self.logins[login] = None
-        try:
-            await login.open()
-        except asyncio.CancelledError:
-            login.leave()
-            raise
+        while not (login := self.login_at_once(client, when_lost)):
+            async with self.turnstile, self.gate:
+                while len(self.logins) >= self.limits.places:
+                    await self.make_place()
         return login
 
-    def hear(self, event: bytes, take: Take) -> None:
-        """Hands the hall an event of a login, together with all others of this turn of the event loop. `take` is given the answer."""
-        if not self.events:
+    def hear(self, event: bytes, number: int, take: Take) -> None:
+        """Hands the hall an event of the session of this number, together with all others that come until it has answered those before.
+        `take` is given the answer."""
+        if not self.events and not self.given:
             asyncio.get_running_loop().call_soon(self.hand_over)
-        self.events.append((event, take))
+        self.events.append((event, number, take))
 
     def hand_over(self) -> None:
-        """Hands over the events that are there. What their answers lead to may add others."""
-        while self.events and self.hall:
-            size, batch = 0, list[tuple[bytes, Take]]()
-            while self.events and (not batch or size + len(self.events[0][0]) < self.hall.most_at_once):
-                size += len(self.events[0][0]) + 1
-                batch.append(self.events.popleft())
-            answers = self.answers([event for event, _ in batch])
-            for (_, take), answer in zip(batch, answers):
-                take(answer)
-
-    def answers(self, events: list[bytes]) -> Sequence[Heard | HallFault]:
-        """What the hall answers to each of these events, or why it can't go on. The host learns of that."""
+        """Hands the hall the events that are there, if it has answered all before them."""
+        if self.given or not self.events or not self.hall:
+            return
+        self.given, self.events = self.events, self.given
+        size = sum([len(event) + 1 for event, _, _ in self.given])
+        while size > self.hall.most_at_once and len(self.given) > 1:
+            self.events.appendleft(self.given.pop())
+            size -= len(self.events[0][0]) + 1
         try:
-            heard = self.hall.hear(*events) if self.hall else []
-            if not heard or heard[-1].told == HALT:
-                raise HallFault("the book can't be saved")
-            return heard
+            self.hall.give(*[event for event, _, _ in self.given])
         except HallFault as fault:
-            self.fail(fault)
-            return [fault] * len(events)
+            self.breaks_off(self.hall, fault)
+
+    def take_answers(self) -> None:
+        """Takes what the hall has printed. What an answer leads to may add events."""
+        if not self.hall:
+            return
+        try:
+            for heard in self.hall.receive():
+                if heard.told == HALT:
+                    raise HallFault("the book can't be saved")
+                _, number, take = self.given.popleft()
+                if heard.number != number:
+                    raise HallFault(f"the answer to session {number} is of session {heard.number}")
+                take(heard)
+        except HallFault as fault:
+            self.breaks_off(self.hall, fault)
+        if self.clients.lines:
+            self.clients.write()
+        self.hand_over()
+
+    def breaks_off(self, hall: Hall, fault: HallFault) -> None:
+        """The run can't go on: all logins that wait for it are told so."""
+        self.fail(fault)
+        self.stop_hearing(hall)
+        takes = [take for _, _, take in [*self.given, *self.events]]
+        self.given.clear()
+        self.events.clear()
+        for take in takes:
+            take(fault)
 
     def has_heard(self, login: Login, heard: Heard) -> None:
         """A login tells its host what it was told. The login that was heard last is the last that has to give way."""
-        if not login.number:
-            login.number = heard.number
-            self.clients.opens(login.number, login.client)
-        self.guesses.add(origin(login.client), heard.told.startswith(b"NO "))
-        self.logins.move_to_end(login)
+        if heard.told.startswith(b"NO "):
+            self.guesses.add(login.origin)
+        if login in self.logins:
+            self.logins.move_to_end(login)
         if login.hall.is_full:
             self.renew()
 
     def has_ended(self, login: Login) -> None:
         del self.logins[login]
-        if login.number:
-            self.clients.ends(login.number)
+        self.clients.ends(login.number)
         self.changed.set()
 
     def renew(self) -> None:

@@ -68,15 +68,18 @@ class PerMinute:
     """Counts for each key, and begins anew each minute, so that it forgets who is gone."""
 
     def __init__(self, most: int) -> None:
-        self.most, self.minute, self.counts = most, 0, dict[str, int]()
+        self.most, self.minute, self.counts = most, 0.0, dict[str, int]()
 
     def add(self, key: str, count: int = 1) -> None:
-        if (minute := int(time.monotonic() // 60)) != self.minute:
+        self.counts[key] = self.count(key) + count
+
+    def count(self, key: str) -> int:
+        """What is counted for the key in this minute."""
+        if (minute := time.monotonic() // 60) != self.minute:
             self.minute = minute
             self.counts.clear()
-        self.counts[key] = self.counts.get(key, 0) + count
+        return self.counts.get(key, 0)
 
     def is_over(self, key: str) -> bool:
         """Whether the key has come to more than the most in this minute."""
-        self.add(key, 0)
-        return self.counts[key] > self.most
+        return self.count(key) > self.most

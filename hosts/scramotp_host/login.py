@@ -17,6 +17,7 @@ if TYPE_CHECKING:
 MECHANISMS = ("SCRAM-SHA-256", "SCRAM-SHA-1")
 # The bytes of a message that stand in a line as they are; quote takes letters, digits and some others so in any case.
 PLAIN = "".join(map(chr, range(33, 127))).replace("%", "")
+BYTES_OF_PLAIN = PLAIN.encode()
 CODE = re.compile(r"[!-~]{1,16}")
 
 
@@ -35,6 +36,10 @@ class Answer(NamedTuple):
     message: bytes
 
 
+# What is done with the answer that the client is to be told.
+Tell = Callable[[Answer | HallFault], None]
+
+
 class Names(NamedTuple):
     """The name of the account, and the name that the client acts as, in most cases the same."""
 
@@ -51,86 +56,107 @@ def names_in(client_first: bytes) -> Names:
     return Names(name, act_as or name)
 
 
+def as_in_a_line(message: bytes) -> bytes:
+    """A message as it stands in a line of the hall. What is above the limit of a line is left out."""
+    return quote(message[:LONGEST], safe=PLAIN).encode() if message.translate(None, BYTES_OF_PLAIN) else message
+
+
 class Login:
     """One session of a hall. `Host.login` begins it. Each call raises LoginLost once the login has given its place away, and HallFault if
-    the hall has failed, which ends the host too."""
+    the hall has failed, which ends the host too. `sends` is what `begin` and `respond` do for a caller that does not await."""
 
     def __init__(self, host: "Host", hall: Hall, client: Client, when_lost: Callable[[], None]) -> None:
         self.host, self.hall, self.client, self.when_lost = host, hall, client, when_lost
-        self.number, self.seen, self.first = 0, time.monotonic(), b""
-        self.is_open, self.is_accepted, self.is_busy = True, False, False
-        self.is_pending = False  # an event is handed in, and not answered
-        self.answer: asyncio.Future[Heard]
+        self.number, self.origin, self.seen, self.first = hall.sessions, origin(client), time.monotonic(), b""
+        # It has its place in the hall until that has answered all events of it, which may be after it is left.
+        self.is_open, self.is_accepted, self.is_busy, self.unanswered = True, False, False, 1
+        self.tell: Tell = lambda _: None
+        host.hear(opening(), self.number, self.opens)
 
-    async def happens(self, event: bytes) -> Heard:
-        """Hands in an event, and returns what the hall says."""
-        self.is_pending, self.answer = True, asyncio.get_running_loop().create_future()
-        self.host.hear(event, self.take)
-        return await self.answer
-
-    def take(self, heard: Heard | HallFault) -> None:
-        """The hall has answered, or failed. Who has waited for it may have been cancelled meanwhile."""
-        self.is_pending = False
+    def opens(self, heard: Heard | HallFault) -> None:
+        """The session has begun."""
         if isinstance(heard, Heard):
-            self.host.has_heard(self, heard)
-            if heard.is_over:
-                self.end()
-        if self.answer.done():
-            return
-        if isinstance(heard, HallFault):
-            self.answer.set_exception(heard)
-        else:
-            self.answer.set_result(heard)
+            self.host.clients.opens(self.number, self.client)
+        self.counts_answer(isinstance(heard, HallFault) or heard.is_over)
 
-    async def open(self) -> None:
-        """Begins the session."""
-        if (await self.happens(opening())).is_over:
-            raise LoginLost  # more than 64 places were asked for
+    def counts_answer(self, is_over: bool) -> None:
+        """The hall has answered an event, and said whether the session is over."""
+        self.unanswered -= 1
+        if is_over:
+            self.end()
+        elif not self.is_open:
+            self.goes()
 
-    async def say(self, line: bytes) -> Answer:
-        """The client says this line."""
+    def leave(self) -> None:
+        """Ends the session. Call it as soon as the login is over, whatever came of it: its place is then for others."""
+        if self.is_open:
+            self.is_open = False
+            self.goes()
+
+    def goes(self) -> None:
+        """Tells the hall that the client is gone, once that has answered all else: it may have ended the session meanwhile."""
+        if not self.unanswered:
+            self.host.hear(going(self.number), self.number, lambda _: None)
+            self.end()
+
+    def end(self) -> None:
+        self.is_open = False
+        if self in self.host.logins:
+            self.host.has_ended(self)
+
+    def sends(self, word: bytes, message: bytes | None, tell: Tell) -> None:
+        """The client sends this word, and a message if there is one, after the last answer has come. `tell` is given the answer."""
         if not self.is_open:
             raise LoginLost
-        self.seen = time.monotonic()
-        self.host.sent.add(origin(self.client), len(line))
-        heard = await self.happens(saying(self.number, line))
-        words, _, message = heard.told.partition(b" :")
-        return Answer(words.partition(b" ")[0].decode(), unquote_to_bytes(message))
+        self.first = self.first or message or b""
+        line = word if message is None else b"%s :%s" % (word, as_in_a_line(message))
+        self.tell, self.seen = tell, time.monotonic()
+        self.unanswered += 1
+        self.host.sent.add(self.origin, len(line))
+        self.host.hear(saying(self.number, line), self.number, self.hears)
 
-    async def send(self, line: str, message: bytes) -> Answer:
-        self.first = self.first or message
-        answer = await self.say(f"{line} :{quote(message[:LONGEST], safe=PLAIN)}".encode())
-        self.is_accepted = self.is_accepted or answer.word == "OK"
-        return answer
+    def hears(self, heard: Heard | HallFault) -> None:
+        """The hall has answered the client."""
+        if isinstance(heard, HallFault):
+            self.counts_answer(True)
+            return self.tell(heard)
+        self.host.has_heard(self, heard)
+        self.counts_answer(heard.is_over)
+        words, _, message = heard.told.partition(b" :")
+        self.is_accepted = self.is_accepted or words == b"OK"
+        self.tell(Answer(words.partition(b" ")[0].decode(), unquote_to_bytes(message)))
+
+    async def send(self, word: bytes, message: bytes | None) -> Answer:
+        """As `sends`, but returns the answer."""
+        found: asyncio.Future[Answer] = asyncio.get_running_loop().create_future()
+
+        def tell(answer: Answer | HallFault) -> None:
+            if found.cancelled():
+                return
+            if isinstance(answer, HallFault):
+                found.set_exception(answer)
+            else:
+                found.set_result(answer)
+
+        self.sends(word, message, tell)
+        return await found
 
     async def begin(self, mechanism: str, message: bytes | None) -> Answer:
         """The client begins by one of MECHANISMS, with its first message, or with None if that comes later. ValueError for another
         mechanism."""
         if mechanism not in MECHANISMS:
             raise ValueError(mechanism)
-        return await (self.say(f"AUTH {mechanism}".encode()) if message is None else self.send(f"AUTH {mechanism}", message))
+        return await self.send(b"AUTH " + mechanism.encode(), message)
 
     async def respond(self, message: bytes) -> Answer:
         """The client sends its next message."""
-        return await self.send("RESP", message)
+        return await self.send(b"RESP", message)
 
     async def code(self, text: str) -> Answer:
         """The client, once it is accepted, sends a one-time code. ValueError if it has other than 1 to 16 characters from `!` to `~`."""
         if not CODE.fullmatch(text):
             raise ValueError("not the text of a code")
-        return await self.say(b"CODE " + text.encode())
-
-    def leave(self) -> None:
-        """Ends the session. Call it as soon as the login is over, whatever came of it: its place is then for others."""
-        if self.is_pending:
-            self.host.hand_over()  # the answer may be that the session is over
-        if self.is_open:
-            self.host.hear(going(self.number), lambda _: None)
-            self.end()
-
-    def end(self) -> None:
-        self.is_open = False
-        self.host.has_ended(self)
+        return await self.send(b"CODE " + text.encode(), None)
 
     @contextlib.contextmanager
     def busy(self) -> Iterator[None]:
@@ -142,9 +168,10 @@ class Login:
             self.is_busy, self.seen = False, time.monotonic()
 
     def give_way(self) -> None:
-        """Ends the session for others, and says so to who began it."""
-        self.leave()
-        self.when_lost()
+        """Ends the session for others, and says so to who began it, unless that has left it."""
+        if self.is_open:
+            self.leave()
+            self.when_lost()
 
     @property
     def names(self) -> Names:

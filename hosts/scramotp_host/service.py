@@ -2,6 +2,7 @@
 import argparse
 import asyncio
 import contextlib
+import gc
 import os
 import signal
 import socket
@@ -75,6 +76,7 @@ async def serve(given: argparse.Namespace, opens: Opens) -> None:
         if given.daily:
             daily = asyncio.create_task(renew_daily(host, given.daily))
             open_ones.callback(daily.cancel)
+        gc.freeze()  # what there is now stays, so Python need not look through it for garbage
         journal.note("ready", socket=given.socket)
         tell_manager("READY=1")
         open_ones.callback(tell_manager, "STOPPING=1")
@@ -90,6 +92,8 @@ def run(given: argparse.Namespace, opens: Opens) -> int:
     except (HallFault, OSError, LookupError) as fault:  # the last, if there is no such group
         journal.note("end", level="error", fault=fault)
         return 1
+    finally:
+        journal.write()
     return 0
 
 
