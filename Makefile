@@ -131,8 +131,8 @@ install:
 	install -D -m 755 $(PROGRAM) "$(DESTDIR)$(PREFIX)/bin/scramotp"
 	install -D -m 755 -t "$(DESTDIR)$(PREFIX)/share/scramotp" $(TOOLS) $(HOSTS)
 	install -D -m 644 -t "$(DESTDIR)$(PREFIX)/share/scramotp/scramotp_host" hosts/scramotp_host/*.py
-	install -D -m 644 -t "$(DESTDIR)$(PREFIX)/share/man/man8" hosts/man/*.8
-	install -D -m 644 -t "$(DESTDIR)$(PREFIX)/lib/systemd/system" hosts/units/*
+	for it in $(notdir $(wildcard hosts/units/*)); do sed 's|/usr/local/|$(PREFIX)/|' "hosts/units/$$it" | \
+		install -D -m 644 /dev/stdin "$(DESTDIR)$(PREFIX)/lib/systemd/system/$$it" || exit 1; done
 	install -D -m 644 -t "$(DESTDIR)$(PREFIX)/share/doc/scramotp" $(DOCUMENTS)
 	install -D -m 644 -t "$(DESTDIR)$(PREFIX)/share/doc/scramotp/docs" docs/*.md
 	install -D -m 644 -t "$(DESTDIR)$(PREFIX)/share/doc/scramotp/docs/editions" docs/editions/*.txt

@@ -102,7 +102,7 @@ def contents(folder: str) -> None:
     entries = entries_of(package)
     files = {name: (it, text) for name, (it, text) in entries.items() if it.isfile()}
     due = {}
-    for place, (text, mode) in due_files().items():
+    for place, (text, mode) in due_files("/usr").items():
         name, text = in_debian(place, text)
         due[name] = text, mode
     names = {*due, *MORE}

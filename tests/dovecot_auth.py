@@ -383,8 +383,8 @@ def halls_that_fail(folder: str) -> None:
 
 
 def sockets(folder: str) -> None:
-    """A socket that a killed door has left is replaced, and one at which another listens is not. A socket of the service manager is served,
-    and stays."""
+    """A socket that a killed door has left is replaced, and one at which another listens is not. The sockets of the service manager are
+    served, also those that the command line does not name, and stay."""
     door = Door(folder, BOOK)
     door.run.killed()
     holds(door.socket.exists(), "a killed door has removed its socket")
@@ -400,17 +400,19 @@ def sockets(folder: str) -> None:
         equal(server.logs_in(1, USER), OK.format(1), "a login at the first door")
     door.run.process.send_signal(signal.SIGTERM)
     equal(door.run.end().status, 0, "the status of the door")
-    with socket.socket(socket.AF_UNIX) as listener:
-        listener.bind(str(door.socket))
-        listener.listen()
-        script = 'exec 3<&"$0"; LISTEN_PID=$$ LISTEN_FDS=1 exec "$@"'
-        given = os.dup(listener.fileno())
-        how = {"pass_fds": [given], "env": program_on_path(folder), "stderr": subprocess.DEVNULL}
-        run = subprocess.Popen(["bash", "-c", script, str(given), *map(str, words)], **how)
-        with Server(door) as server:
-            equal(server.logs_in(1, USER), OK.format(1), "a login at a socket of the service manager")
-        run.terminate()
-        equal((run.wait(20), door.socket.exists()), (0, True), "the status of the door, and whether the socket stays")
+    paths = [door.socket, Path(folder, "more")]
+    with socket.socket(socket.AF_UNIX) as one, socket.socket(socket.AF_UNIX) as more:
+        for listener, path in zip([one, more], paths):
+            listener.bind(str(path))
+            listener.listen()
+        script = 'exec 3<&"$0" 4<&"$1"; shift; LISTEN_PID=$$ LISTEN_FDS=2 exec "$@"'
+        given = [os.dup(it.fileno()) for it in [one, more]]
+        run = Running(["bash", "-c", script, *map(str, [*given, *words])], pass_fds=given, env=program_on_path(folder))
+        for path in paths:
+            with Server(path) as server:
+                equal(server.logs_in(1, USER), OK.format(1), "a login at a socket of the service manager")
+        run.process.send_signal(signal.SIGTERM)
+        equal((run.end().status, *map(Path.exists, paths)), (0, True, True), "the status of the door, and whether the sockets stay")
 
 
 def new_log_each_day(folder: str) -> None:
@@ -495,17 +497,13 @@ def units(folder: str) -> None:
 
 
 def manuals(folder: str) -> None:
-    """The manual pages have the options that the commands' help has, and are well-formed where mandoc is there to say so."""
+    """The manual pages have the options that the commands' help has."""
     for name, words in ("serve-dovecot-auth", []), ("scramotp-host", ["ctl"]):
-        page = (TOP / "hosts/man" / f"{name}.8").read_text()
+        page = (TOP / "man" / f"{name}.8").read_text()
         told = {*re.findall(r"^\.It Fl -(\w+)", page, re.M)}
         command = [TOP / "hosts" / name, *words]
         helps = ran([*command, "--help"]).output + (ran([*command, "enrol", "--help"]).output if words else "")
         equal(told, {*re.findall(r"--(\w+)", helps)} - {"help"}, "the options of", name)
-        if shutil.which("mandoc"):
-            equal(ran(["mandoc", "-Tlint", "-Wwarning", TOP / "hosts/man" / f"{name}.8"]), (0, "", ""), name)
-        else:
-            suite.not_tested("the form of the manual pages, since there is no mandoc")
 
 
 suite.run_all(

@@ -38,7 +38,7 @@ def modes_of(paths: Iterable[pathlib.Path]) -> dict[str, str]:
 def installed(folder: str) -> None:
     """All files of an installation are there, with the right bytes, and no other file is. All users may run the program, the tools and the
     hosts, and read all, and only their owner may write them."""
-    program, files = shutil.copy(PROGRAM, folder), due_files()
+    program = shutil.copy(PROGRAM, folder)
     for trial, (name, folders, place) in each([
         ("plain", {"DESTDIR": "{}"}, "usr/local"),
         ("with a space", {"DESTDIR": "{}"}, "usr/local"),
@@ -50,7 +50,8 @@ def installed(folder: str) -> None:
             variables = {variable: value.format(to) for variable, value in folders.items()}
             done = made("install", program, **variables, CLIB_FOLDER="none", PLUGIN_FOLDER="none")
             equal((done.status, done.faults), (0, ""), name)
-            due = {to / place / path: file for path, file in files.items()}
+            prefix = folders.get("PREFIX", "/usr/local").format(to)
+            due = {to / place / path: file for path, file in due_files(prefix).items()}
             equal(sorted(files_of(to)), sorted(due), name)
             equal(modes_of(due), {str(path): oct(mode) for path, (_, mode) in due.items()}, name)
             equal([path for path, (text, _) in due.items() if path.read_bytes() != text], [], name, "where another file is")

@@ -27,17 +27,19 @@ def made(
     return ran(words, cwd=top, env={**ENVIRONMENT, **({"PATH": str(path)} if path else {})})
 
 
-def due_files() -> dict[str, tuple[bytes, int]]:
-    """The bytes and the mode of each file of an installation, by its path below the folder that PREFIX names."""
+def due_files(prefix: str | pathlib.Path) -> dict[str, tuple[bytes, int]]:
+    """The bytes and the mode of each file of an installation, by its path below the folder that PREFIX names. Units have that folder's
+    path in them."""
     names = ["README.md", "CHANGELOG.md", "CONTRIBUTING.md", "LICENSE", "HANDLES", "bench/README.md", "plugins/cyrus/README.md"]
     pages = [TOP / name for name in names]
     commands = [path for path in [*(TOP / "tools").iterdir(), *(TOP / "hosts").iterdir()] if path.is_file()]
     files = {f"share/scramotp/{path.name}": (path, 0o755) for path in commands}
     files |= {f"share/scramotp/{path.relative_to(TOP / 'hosts')}": (path, 0o644) for path in (TOP / "hosts/scramotp_host").glob("*.py")}
-    files |= {f"lib/systemd/system/{path.name}": (path, 0o644) for path in (TOP / "hosts/units").iterdir()}
-    files |= {f"share/man/man8/{path.name}": (path, 0o644) for path in (TOP / "hosts/man").iterdir()}
     files |= {f"share/doc/scramotp/{path.relative_to(TOP)}": (path, 0o644) for path in [*pages, *(TOP / "docs").rglob("*.*")]}
     files |= {f"share/man/man{path.suffix[1:]}/{path.name}": (path, 0o644) for path in (TOP / "man").iterdir()}
     files |= {place: (TOP / "completions" / name, 0o644) for name, place in COMPLETIONS.items()}
     files["bin/scramotp"] = (pathlib.Path(PROGRAM), 0o755)
-    return {place: (path.read_bytes(), mode) for place, (path, mode) in files.items()}
+    found = {place: (path.read_bytes(), mode) for place, (path, mode) in files.items()}
+    for path in (TOP / "hosts/units").iterdir():
+        found[f"lib/systemd/system/{path.name}"] = path.read_bytes().replace(b"/usr/local/", f"{prefix}/".encode()), 0o644
+    return found

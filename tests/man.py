@@ -22,6 +22,8 @@ from suite import TOP, audit_says, each, not_tested, prints
 PAGES = sorted(Path(TOP, "man").iterdir())
 # The pages that are of no command.
 OTHERS = {"scramotp.1", "scramotp-book.5", "scramotp-log.5", "serve-hall.8"}
+# The pages of hosts. What they would show, docs/DOORS.md has, and dovecot_auth.py runs it.
+OF_HOSTS = {"serve-dovecot-auth.8", "scramotp-host.8"}
 # How far the text of a section, and a display in it, are from the margin.
 INDENT, DEEP = " " * 5, " " * 11
 
@@ -59,10 +61,10 @@ def lint(folder: str) -> None:
 
 
 def names(folder: str) -> None:
-    """Each command has a page, and each page there is of a command or of OTHERS. A page's title is its file's name. A command is described
-    in the same words on its page, in the list of scramotp(1), and in the help. At its foot a page has the program's version."""
+    """Each command has a page, and each page there is of a command, of OTHERS or of a host. A page's title is its file's name. A command is
+    described in the same words on its page, in the list of scramotp(1), and in the help. At its foot a page has the program's version."""
     commands = listed_commands()
-    equal({page.name for page in PAGES}, OTHERS | {page_of(it).name for it in commands}, "the pages in man/")
+    equal({page.name for page in PAGES}, OTHERS | OF_HOSTS | {page_of(it).name for it in commands}, "the pages in man/")
     listed = dict(items(shown(TOP / "man" / "scramotp.1")["DESCRIPTION"]))
     equal({it: listed.get(it) for it in commands}, commands, "the commands that scramotp(1) lists")
     _, version, _ = ran([suite.PROGRAM, "--version"])
@@ -141,7 +143,7 @@ def asked_for(page: Path) -> list[Path]:
 
 def examples(folder: str) -> None:
     """The examples of each page do what it says, after those of the pages that it names."""
-    for trial, page in each([it for it in PAGES if not it.name.endswith(".5")]):
+    for trial, page in each([it for it in PAGES if not it.name.endswith(".5") and it.name not in OF_HOSTS]):
         with trial:
             place = Path(folder, page.name)
             place.mkdir()

@@ -22,6 +22,7 @@ FOR_PARTS = {"systemd-analyze": "systemd", "pamtester": "pamtester", "sshd": "op
 FOR_PARTS |= {"/usr/lib/x86_64-linux-gnu/libpam_wrapper.so": "libpam-wrapper", "mandoc": "mandoc", "fish": "fish", "zsh": "zsh"}
 FOR_PARTS |= {"postfix": "postfix", "dovecot": "dovecot-core", "/usr/lib/dovecot/imap-login": "dovecot-imapd", "msmtp": "msmtp"}
 FOR_PARTS |= {"gsasl": "gsasl", "curl": "curl", "openssl": "openssl", "/usr/lib/x86_64-linux-gnu/libnss_wrapper.so": "libnss-wrapper"}
+FOR_PARTS |= {"/lib/systemd/systemd": "systemd", "ip": "iproute2", "nsenter": "util-linux", "unshare": "util-linux"}
 FOR_PARTS |= {"dpkg-deb": "dpkg", "lintian": "lintian", "mmdebstrap": "mmdebstrap"}
 FOR_PARTS |= {"/usr/include/sasl/saslplug.h": "libsasl2-dev", "/usr/lib/x86_64-linux-gnu/sasl2/libscram.so": "libsasl2-modules"}
 FOR_PARTS |= {"/usr/lib/x86_64-linux-gnu/sasl2/libsasldb.so": "libsasl2-modules-db", "sasl-sample-server": "sasl2-bin"}

@@ -62,6 +62,7 @@ TESTS = [
     "pam.py",
     "dovecot_auth.py",
     "doors.py",
+    "systemd.py",
     "login.py",
     "audits.py",
     "upgrades.py",

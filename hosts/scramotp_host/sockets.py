@@ -15,15 +15,11 @@ def remove(path: str, made: os.stat_result) -> None:
             os.unlink(path)
 
 
-def given(path: str) -> socket.socket | None:
-    """The socket with this path that the service manager has handed to this process (sd_listen_fds(3)), if there is one."""
+def handed() -> dict[str, socket.socket]:
+    """The Unix sockets that the service manager has handed to this process (sd_listen_fds(3)), by their paths."""
     count = int(os.environ.get("LISTEN_FDS", "0")) if os.environ.get("LISTEN_PID") == str(os.getpid()) else 0
-    for descriptor in range(3, 3 + count):
-        found = socket.socket(fileno=os.dup(descriptor))
-        if found.family == socket.AF_UNIX and found.getsockname() == path:
-            return found
-        found.close()
-    return None
+    found = [socket.socket(fileno=os.dup(descriptor)) for descriptor in range(3, 3 + count)]
+    return {it.getsockname(): it for it in found if it.family == socket.AF_UNIX}
 
 
 def is_left(path: str) -> bool:
@@ -42,9 +38,9 @@ def is_left(path: str) -> bool:
 def listening(path: str, mode: int, group: str | None = None) -> Iterator[socket.socket]:
     """A Unix socket that listens, with this mode and group, at a path where nobody else does. A file that a killed run has left there is
     replaced. The file is removed at the end of the context. If the service manager has made a socket with this path, it is that one."""
-    if handed := given(path):
-        with handed:
-            yield handed
+    if found := handed().get(path):
+        with found:
+            yield found
             return
     if is_left(path):
         os.unlink(path)
