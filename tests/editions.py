@@ -31,8 +31,8 @@ TYPE = r"^((?:///.*\n|#\[.*\n)*)pub(?:\(crate\))? (?:enum|struct|type|trait) {}\
 
 @dataclass(frozen=True)
 class Declaration:
-    """A definition, a type, a trait or a contract with the words above it; the head of the module in its file that it stands in, if any; and
-    the names that its file imports."""
+    """A definition, a type, a trait or a contract with the words above it; the head of the module in its file that it stands in, if any;
+    and the names that its file imports."""
 
     file: Path
     text: str
