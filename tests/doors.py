@@ -3,10 +3,10 @@
 
 Usage: doors.py PROGRAM [TEST ..]
 
-Postfix, Exim and Dovecot serve on the loopback, over TLS, configured as docs/DOORS.md says. msmtp, gsasl and curl log in by SCRAM-SHA-256,
-SCRAM-SHA-1, PLAIN and LOGIN, with the right password, a wrong one, and a name that has no account. The journal of the door has to say the
-same as the client. `needs.py --install` installs these servers and clients; Exim, which can't be installed beside Postfix, it unpacks. What
-is missing is not tested, and said.
+Postfix, Exim and Dovecot serve on the loopback, over TLS, configured as docs/DOORS.md says. msmtp, gsasl, curl, swaks and mbsync log in by
+SCRAM-SHA-256, SCRAM-SHA-1, PLAIN and LOGIN, with the right password, a wrong one, and names that have no account or are odd. The journal of
+the door has to say the same as the client. `needs.py --install` installs these servers and clients; Exim, which can't be installed beside
+Postfix, it unpacks. What is missing is not tested, and said.
 """
 import contextlib
 import os
@@ -14,7 +14,7 @@ import smtplib
 import ssl
 import subprocess
 from base64 import b64encode
-from collections.abc import Iterator
+from collections.abc import Callable, Iterator
 from pathlib import Path
 
 import needs
@@ -29,6 +29,8 @@ from suite import PROGRAM, TOP, blocks_of
 # Gives Exim a user that the machine has not.
 WRAPPER = "/usr/lib/x86_64-linux-gnu/libnss_wrapper.so"
 NAME, PASSWORD = "alice@example.org", "wonder land"
+# Who she may act as, and a name with the characters that SCRAM escapes.
+OTHER, ODD = "bob@example.org", "x=y,z"
 SCRAMS = ["SCRAM-SHA-256", "SCRAM-SHA-1"]
 BY_PASSWORD = ["PLAIN", "LOGIN"]
 PAGE = suite.document("docs/DOORS.md")
@@ -65,9 +67,9 @@ def certificate(folder: str) -> dict[str, Path]:
 def book_of_users(folder: str) -> str:
     """A book with two users, each with keys for both mechanisms."""
     path = Path(folder, "users.toml")
-    for name, password in [(NAME, PASSWORD), ("x=y,z", "comma")]:
+    for name, password in [(NAME, PASSWORD), (ODD, "comma")]:
         equal(ran([PROGRAM, "enrol", "--book", path, "--name", name], f"{password}\n").status, 0, "enrol")
-    return path.read_text()
+    return path.read_text().replace("act_as = []", f'act_as = ["{OTHER}"]', 1)
 
 
 @contextlib.contextmanager
@@ -151,15 +153,15 @@ none:
 
 
 @contextlib.contextmanager
-def dovecot(folder: str) -> Iterator[int]:
-    """Dovecot's IMAP server, with the settings of the page. Gives its port."""
-    place, files, port = Path(folder, "dovecot"), certificate(folder), free_port()
+def dovecot(folder: str) -> Iterator[tuple[int, int]]:
+    """Dovecot's servers of IMAP and POP3, with the settings of the page. Gives their ports."""
+    place, files, port, other = Path(folder, "dovecot"), certificate(folder), free_port(), free_port()
     place.mkdir()
     place.chmod(0o755)
     own = f"""base_dir = {place}/run
 state_dir = {place}/state
 log_path = {place}/log
-protocols = imap
+protocols = imap{" pop3" if Path(POP3).exists() else ""}
 listen = 127.0.0.1
 ssl = required
 ssl_cert = <{files["cert.pem"]}
@@ -174,11 +176,19 @@ service imap-login {{
     port = 0
   }}
 }}
+service pop3-login {{
+  inet_listener pop3 {{
+    port = {other}
+  }}
+  inet_listener pop3s {{
+    port = 0
+  }}
+}}
 """
     page = configuration("Dovecot", {"/run/scramotp/auth": f"{folder}/auth", "/run/scramotp/master": f"{folder}/master"})
     (place / "conf").write_text(own + page)
     with process(["/usr/sbin/dovecot", "-F", "-c", place / "conf"], port, place / "output"):
-        yield port
+        yield port, other
 
 
 def by_msmtp(folder: str, port: int, mechanism: str, name: str, password: str) -> Answer:
@@ -189,26 +199,45 @@ def by_msmtp(folder: str, port: int, mechanism: str, name: str, password: str) -
     return ran([*words, "--from=alice@example.org", "bob@example.org"], "Subject: x\n\nx\n")
 
 
-def by_gsasl(folder: str, port: int, mechanism: str, name: str, password: str, protocol: str = "smtp") -> Answer:
+def by_gsasl(folder: str, port: int, mechanism: str, name: str, password: str, protocol: str = "smtp", act_as: str = "") -> Answer:
     """Logs in with gsasl, which leaves then."""
     words = ["timeout", "20", "gsasl", "--client", f"--{protocol}", "--connect", f"localhost:{port}"]
     words += ["--no-cb", f"--x509-ca-file={folder}/cert.pem"]
+    words += [f"--authorization-id={act_as}"] if act_as else []
     return ran([*words, "-m", mechanism, "-a", name, f"--password={password}"])
 
 
-def by_curl(folder: str, port: int, mechanism: str, name: str, password: str, protocol: str = "smtp") -> Answer:
-    """Sends a mail, or lists mailboxes, with curl."""
+def by_curl(folder: str, port: int, mechanism: str, name: str, password: str, protocol: str = "smtp", act_as: str = "") -> Answer:
+    """Sends a mail, or lists mailboxes or mails, with curl."""
     words = ["timeout", "20", "curl", "--silent", "--ssl-reqd", "--cacert", f"{folder}/cert.pem", "--user", f"{name}:{password}"]
     words += ["--login-options", f"AUTH={mechanism}", f"{protocol}://localhost:{port}/"]
     if protocol == "smtp":
         words += ["--mail-from", "alice@example.org", "--mail-rcpt", "bob@example.org", "--upload-file", "-"]
-    return ran(words, "Subject: x\n\nx\n")
+    return ran([*words, *(["--sasl-authzid", act_as] if act_as else [])], "Subject: x\n\nx\n")
+
+
+def by_swaks(folder: str, port: int, mechanism: str, name: str, password: str) -> Answer:
+    """Sends a mail with swaks."""
+    words = ["timeout", "20", "swaks", "--server", f"localhost:{port}", "--tls", "--tls-verify", "--tls-ca-path", f"{folder}/cert.pem"]
+    words += ["--auth", mechanism, "--auth-user", name, "--auth-password", password]
+    return ran([*words, "--from", "alice@example.org", "--to", "bob@example.org"])
+
+
+def by_mbsync(folder: str, port: int, mechanism: str, name: str, password: str) -> Answer:
+    """Fetches new mails into a folder for this user with mbsync."""
+    fetched, settings = Path(folder, "fetched", name), Path(folder, "mbsyncrc")
+    fetched.mkdir(parents=True, exist_ok=True)
+    account = f'IMAPAccount a\nHost localhost\nPort {port}\nSSLType STARTTLS\nCertificateFile {folder}/cert.pem\nAuthMechs {mechanism}\n'
+    account += f'User "{name}"\nPass "{password}"\n\nIMAPStore far\nAccount a\n\n'
+    near = f"MaildirStore near\nInbox {fetched}/inbox\n\nChannel c\nFar :far:\nNear :near:\nPatterns INBOX\nCreate Near\nSyncState *\n"
+    settings.write_text(account + near)
+    return ran(["timeout", "20", "mbsync", "--config", settings, "c"])
 
 
 def try_clients(folder: str, port: int, door: Door, clients: list) -> None:
     """Each of these clients logs in by each of its mechanisms, with the right password, a wrong one, and an unknown name. The client and
     the journal have to say the same."""
-    people = [(NAME, PASSWORD, True), (NAME, "wonder lan", False), ("nobody@example.org", PASSWORD, False)]
+    people = [(NAME, PASSWORD, True), (NAME, "wonder lan", False), ("nobody@example.org", PASSWORD, False), (ODD, "comma", True)]
     # At the first fault the rest is not tried: the door would not outlive a row of `each`.
     for client, mechanism, (name, password, is_right) in [(it, by, who) for it, several in clients for by in several for who in people]:
         before = len(door.notes("login"))
@@ -216,7 +245,8 @@ def try_clients(folder: str, port: int, door: Door, clients: list) -> None:
         equal(answer.status == 0, is_right, "whether the client is let in", client.__name__, mechanism, name, answer)
         until(lambda: len(door.notes("login")) > before, "the journal should have the login")
         line = door.notes("login")[before]
-        due = f"outcome={'accepted' if is_right else 'refused'} mechanism={mechanism} name={name} "
+        quoted = f'"{name}"' if name == ODD else name
+        due = f"outcome={'accepted' if is_right else 'refused'} mechanism={mechanism} name={quoted} "
         holds(due in line and "rip=127.0.0.1" in line, "the journal does not say so", due, line)
 
 
@@ -297,17 +327,22 @@ def differences_from_dovecot(folder: str) -> None:
             equal(told(other, *lines), theirs, "Dovecot's answer to", what)
 
 
-OF_SMTP = [(by_msmtp, SCRAMS + BY_PASSWORD), (by_gsasl, SCRAMS + ["PLAIN"]), (by_curl, BY_PASSWORD)]
-CLIENTS = ["msmtp", "gsasl", "curl", "openssl"]
+OF_SMTP = [(by_msmtp, SCRAMS + BY_PASSWORD), (by_gsasl, SCRAMS + ["PLAIN"]), (by_curl, BY_PASSWORD), (by_swaks, BY_PASSWORD)]
+CLIENTS = ["openssl", "gsasl", "curl", "msmtp", "swaks"]
+POP3 = "/usr/lib/dovecot/pop3-login"
+
+
+def postfix_settings(folder: str) -> str:
+    """The settings of the page for Postfix, with TLS and the door in this folder."""
+    files = certificate(folder)
+    tls = f"smtpd_tls_security_level = may\nsmtpd_tls_chain_files = {files['key.pem']}, {files['cert.pem']}\n"
+    return tls + configuration("Postfix", {"scramotp/auth": f"{folder}/auth"})
 
 
 def logins_at_postfix(folder: str) -> None:
     """Postfix."""
     if has("Postfix", "postfix", *CLIENTS):
-        files = certificate(folder)
-        tls = f"smtpd_tls_security_level = may\nsmtpd_tls_chain_files = {files['key.pem']}, {files['cert.pem']}\n"
-        settings = tls + configuration("Postfix", {"scramotp/auth": f"{folder}/auth"})
-        with door_in(folder, 11) as door, postfix(folder, settings) as port:
+        with door_in(folder, 24) as door, postfix(folder, postfix_settings(folder)) as port:
             try_clients(folder, port, door, OF_SMTP)
             smtp_answers(folder, port, door, 535, 454)
 
@@ -318,24 +353,79 @@ def logins_at_exim(folder: str) -> None:
     if not is_installed and not (EXIM / "usr/sbin/exim4").exists():
         suite.not_tested("Exim, since it is neither installed nor unpacked")
     elif has("Exim", *CLIENTS, *([] if is_installed else [WRAPPER])):
-        with door_in(folder, 11) as door, exim(folder) as port:
+        with door_in(folder, 24) as door, exim(folder) as port:
             try_clients(folder, port, door, OF_SMTP)
             smtp_answers(folder, port, door, 535, 435)
 
 
+def over(protocol: str, by: Callable[..., Answer]) -> Callable[..., Answer]:
+    """A client that speaks this protocol."""
+    def client(*given: object) -> Answer:
+        return by(*given, protocol=protocol)
+
+    client.__name__ = f"{by.__name__} over {protocol}"
+    return client
+
+
+@contextlib.contextmanager
+def mailboxes(folder: str, accepted: int) -> Iterator[tuple[Door, Path, int, int]]:
+    """Dovecot over a door. Gives that, the folder in which each user has one, and the ports of IMAP and POP3."""
+    homes = Path(folder, "homes")
+    homes.mkdir()
+    homes.chmod(0o777)
+    userdb = f"uid=65534 gid=65534 home={homes}/%u"
+    with door_in(folder, accepted, "--master", f"{folder}/master", "--userdb", userdb) as door, dovecot(folder) as (imap, pop3):
+        yield door, homes, imap, pop3
+
+
 def logins_at_dovecot(folder: str) -> None:
     """Dovecot's IMAP server: a user who is let in has a mailbox in the folder that the door names."""
-    if has("Dovecot", "dovecot", "/usr/lib/dovecot/imap-login", *CLIENTS[1:]):
-        homes = Path(folder, "homes")
-        homes.mkdir()
-        homes.chmod(0o777)
-        userdb = f"uid=65534 gid=65534 home={homes}/%u"
-        with door_in(folder, 5, "--master", f"{folder}/master", "--userdb", userdb) as door, dovecot(folder) as port:
-            over_imap = [(lambda *given, by=by: by(*given, protocol="imap")) for by in (by_gsasl, by_curl)]
-            for it, by in zip(over_imap, ["gsasl", "curl"]):
-                it.__name__ = by
-            try_clients(folder, port, door, [(over_imap[0], SCRAMS + ["PLAIN"]), (over_imap[1], BY_PASSWORD)])
+    if has("Dovecot", "dovecot", "/usr/lib/dovecot/imap-login", *CLIENTS[:3]):
+        with mailboxes(folder, 10) as (door, homes, port, _):
+            try_clients(folder, port, door, [(over("imap", by_gsasl), SCRAMS + ["PLAIN"]), (over("imap", by_curl), BY_PASSWORD)])
         holds((homes / NAME / "mail").is_dir(), "the mailbox is not where it should be", [*homes.rglob("*")])
 
 
-suite.run_all([logins_at_postfix, logins_at_exim, logins_at_dovecot, differences_from_dovecot])
+def logins_by_pop3(folder: str) -> None:
+    """Dovecot's POP3 server."""
+    if has("Dovecot's POP3", "dovecot", POP3, "openssl", "curl"):
+        with mailboxes(folder, 4) as (door, _, _, port):
+            try_clients(folder, port, door, [(over("pop3", by_curl), BY_PASSWORD)])
+
+
+def mails_by_imap(folder: str) -> None:
+    """mbsync logs in and fetches a mail from the user's own mailbox."""
+    if has("mbsync", "dovecot", "/usr/lib/dovecot/imap-login", "openssl", "mbsync"):
+        with mailboxes(folder, 6) as (door, homes, port, _):
+            new = homes / NAME / "mail/new"
+            for place in [*reversed(new.parents[:3]), new, new.with_name("cur"), new.with_name("tmp")]:
+                place.mkdir(exist_ok=True)
+                os.chown(place, 65534, 65534)
+            (new / "1.here").write_text("Subject: of Alice\n\nHere.\n")
+            (new / "1.here").chmod(0o644)
+            try_clients(folder, port, door, [(by_mbsync, SCRAMS + ["PLAIN"])])
+        found = [path.read_text() for path in Path(folder, "fetched", NAME).rglob("*") if path.is_file()]
+        equal(sum("Subject: of Alice" in text for text in found), 1, "the mails that were fetched", found)
+
+
+def logins_as_another(folder: str) -> None:
+    """A user acts at Postfix as another, if the book says that she may. The journal has both names, and Postfix takes a mail as from the
+    other."""
+    if not has("a login as another", "postfix", *CLIENTS[:3]):
+        return
+    with door_in(folder, 4) as door, postfix(folder, postfix_settings(folder)) as port:
+        for by, mechanism in [*((by_gsasl, it) for it in [*SCRAMS, "PLAIN"]), (by_curl, "PLAIN")]:
+            for act_as in OTHER, "root":
+                before = len(door.notes("login"))
+                answer = by(folder, port, mechanism, NAME, PASSWORD, act_as=act_as)
+                equal(answer.status == 0, act_as == OTHER, "whether the client is let in", by.__name__, mechanism, act_as, answer)
+                until(lambda: len(door.notes("login")) > before, "the journal should have the login")
+                due = f"name={NAME} act_as={OTHER} " if act_as == OTHER else f"outcome=refused mechanism={mechanism} name={NAME} "
+                holds(due in door.notes("login")[before], "the journal does not say so", due, door.notes("login")[before])
+        log = Path(folder, "postfix/log")
+        until(lambda: f"sasl_method=PLAIN, sasl_username={OTHER}\n" in log.read_text(), "Postfix should take the mail as from the other")
+
+
+TESTS = [logins_at_postfix, logins_at_exim, logins_at_dovecot, logins_by_pop3, mails_by_imap, logins_as_another, differences_from_dovecot]
+
+suite.run_all(TESTS)

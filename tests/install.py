@@ -66,13 +66,13 @@ def library_for_c(folder: str) -> None:
         (built / pathlib.Path(path).name).write_text(text)
     due["lib/libscramotp.so"] = "so"
     due["include/scramotp.h"] = (TOP / "clib/scramotp.h").read_text()
-    due["lib/pkgconfig/scramotp.pc"] = (TOP / "clib/scramotp.pc.in").read_text().replace("@PREFIX@", "/opt/it")
-    done = made("install", shutil.copy(PROGRAM, folder), DESTDIR=to, PREFIX="/opt/it", CLIB_FOLDER=built, PLUGIN_FOLDER=built)
+    due["lib/pkgconfig/scramotp.pc"] = (TOP / "clib/scramotp.pc.in").read_text().replace("@PREFIX@", "/it")
+    done = made("install", shutil.copy(PROGRAM, folder), DESTDIR=to, PREFIX="/it", CLIB_FOLDER=built, PLUGIN_FOLDER=built)
     equal((done.status, done.faults), (0, ""))
-    found = {str(path.relative_to(to / "opt/it")) for path in files_of(to)} - {*due_files()}
+    found = {str(path.relative_to(to / "it")) for path in files_of(to)} - {*due_files("/it")}
     equal(found, {*due})
-    equal({path: (to / "opt/it" / path).read_text() for path in due}, due)
-    equal({*modes_of(to / "opt/it" / path for path in due).values()}, {"0o644"})
+    equal({path: (to / "it" / path).read_text() for path in due}, due)
+    equal({*modes_of(to / "it" / path for path in due).values()}, {"0o644"})
 
 
 def refused(folder: str) -> None:

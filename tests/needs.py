@@ -21,6 +21,8 @@ COMMANDS = {"bash": "bash", "cc": "gcc", "flock": "util-linux", "git": "git", "m
 FOR_PARTS = {"systemd-analyze": "systemd", "pamtester": "pamtester", "sshd": "openssh-server", "ssh": "openssh-client"}
 FOR_PARTS |= {"/usr/lib/x86_64-linux-gnu/libpam_wrapper.so": "libpam-wrapper", "mandoc": "mandoc", "fish": "fish", "zsh": "zsh"}
 FOR_PARTS |= {"postfix": "postfix", "dovecot": "dovecot-core", "/usr/lib/dovecot/imap-login": "dovecot-imapd", "msmtp": "msmtp"}
+FOR_PARTS |= {"/usr/lib/dovecot/pop3-login": "dovecot-pop3d", "mbsync": "isync libsasl2-modules"}
+FOR_PARTS |= {"swaks": "swaks libnet-ssleay-perl"}
 FOR_PARTS |= {"gsasl": "gsasl", "curl": "curl", "openssl": "openssl", "/usr/lib/x86_64-linux-gnu/libnss_wrapper.so": "libnss-wrapper"}
 FOR_PARTS |= {"/lib/systemd/systemd": "systemd", "ip": "iproute2", "nsenter": "util-linux", "unshare": "util-linux"}
 FOR_PARTS |= {"dpkg-deb": "dpkg", "lintian": "lintian", "mmdebstrap": "mmdebstrap"}
@@ -52,7 +54,7 @@ def lacking(commands: Iterable[str]) -> list[str]:
 
 def install() -> None:
     """Installs the packages of what is lacking, and fails with what apt-get says."""
-    packages = sorted({(COMMANDS | FOR_PARTS)[it] for it in lacking([*COMMANDS, *FOR_PARTS])})
+    packages = sorted({package for it in lacking([*COMMANDS, *FOR_PARTS]) for package in (COMMANDS | FOR_PARTS)[it].split()})
     if not packages and EXIM.exists():
         return
     if not shutil.which("apt-get") or os.geteuid():
