@@ -35,12 +35,12 @@ ip link set lo up
 : >etc/fstab
 rm -rf etc/systemd/system/*.wants var/log/journal
 printf '[Unit]\nAllowIsolate=yes\n' >etc/systemd/system/nothing.target
-cp -- "$2" root/scramotp.deb
+cp -- "$2" srv/scramotp.deb
 mkdir here
 pivot_root . here
 cd /
 umount --lazy /here
-dpkg --no-triggers --install /root/scramotp.deb
+dpkg --no-triggers --install /srv/scramotp.deb
 exec env -i container=other PATH=/usr/sbin:/usr/bin:/sbin:/bin /lib/systemd/systemd --unit=nothing.target --log-target=journal
 """
 
