@@ -21,7 +21,7 @@ import needs
 import suite
 from c_support import ARCHIVES, DECOY_KEY, answer_to, base64_of, decoy_salt
 from checks import equal, holds
-from cyrus_support import BADAUTH, BADPROT, CONTINUE, CYRUS, FAIL, OK, GnuServer, Server
+from cyrus_support import BADAUTH, BADPROT, CONTINUE, CYRUS, FAIL, NOUSER, OK, GnuServer, Server
 from cyrus_support import folder_of, fresh, hexed, message, plugin, stored_keys
 from expected import VECTORS, rows_of
 from mail_servers import free_port, postfix
@@ -57,6 +57,14 @@ def acts_as(folder: str) -> None:
     for header in ["n,a=root,", "n,a=a,", "n,a=a=2Cb=3Dd,"]:
         equal(server.login("SCRAM-SHA-256", "a=2Cb=3Dc", "pencil", header), [BADAUTH], header)
         equal(server.login("SCRAM-SHA-256", "a=2Cb=3Dc", "pencils", header), [BADAUTH], header)
+
+
+def beside_cyrus_own(folder: str) -> None:
+    """Of this plug-in and Cyrus's own in one folder Cyrus takes its own, which refuses a name without an account at once."""
+    if has("the plug-in beside Cyrus's own", str(CYRUS / "libscram.so")):
+        rows = {"alone": (plugin(),), "Cyrus's own": (CYRUS / "libscram.so",), "both": (plugin(), CYRUS / "libscram.so")}
+        found = {name: Server(fresh(folder), *files).login("SCRAM-SHA-256", "carol", "pencil") for name, files in rows.items()}
+        equal(found, {"alone": [BADAUTH], "Cyrus's own": [NOUSER], "both": [NOUSER]})
 
 
 def realms(folder: str) -> None:
@@ -493,7 +501,7 @@ def recorded(folder: str) -> None:
                     holds(result != OK or bytes.fromhex(answer).decode() == verdict, "the server's signature")
 
 
-TESTS = [logins, acts_as, realms, decoys, forms, options, order, one_connection, hostile]
+TESTS = [logins, acts_as, beside_cyrus_own, realms, decoys, forms, options, order, one_connection, hostile]
 TESTS += [clients, directory, mail_server, keys_by_cyrus, table, recorded]
 
 if not ARCHIVES:

@@ -18,7 +18,7 @@ from suite import TOP
 # Where Debian has the plug-ins of Cyrus.
 CYRUS = Path("/usr/lib/x86_64-linux-gnu/sasl2")
 # Results of Cyrus's calls: sasl.h.
-OK, CONTINUE, FAIL, BADPROT, BADAUTH = "0", "1", "-1", "-5", "-13"
+OK, CONTINUE, FAIL, BADPROT, BADAUTH, NOUSER = "0", "1", "-1", "-5", "-13", "-20"
 
 
 # ---- the plug-in, and servers that load it
