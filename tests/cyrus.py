@@ -310,9 +310,9 @@ def clients(folder: str) -> None:
                 holds(told in server.printed, "what the server says", server.printed)
 
 
-# What slapd is told: each name has an entry below dc=example, one of them with a name that is not in ASCII.
+# What slapd is told besides the settings of README.md: each name has an entry below dc=example, and one is not in ASCII there.
 SLAPD = """include /etc/ldap/schema/core.schema
-pidfile {0}/pid
+{1}pidfile {0}/pid
 sasl-host localhost
 authz-regexp "^uid=olaf,cn=[^,]+,cn=auth$" "cn=Ólafur,dc=example"
 authz-regexp "^uid=([^,]+),cn=[^,]+,cn=auth$" "cn=$1,dc=example"
@@ -323,9 +323,10 @@ suffix dc=example
 ENTRY = """
 dn: cn={0},dc=example
 objectClass: person
+objectClass: authPasswordObject
 cn: {0}
 sn: {0}
-userPassword: {1}
+{1}
 """
 ENTRIES = "dn: dc=example\nobjectClass: dcObject\nobjectClass: organization\ndc: example\no: example\n"
 
@@ -337,13 +338,18 @@ def directory(folder: str) -> None:
     if not has("binds at OpenLDAP's server", "slapd", "slapadd", "ldapwhoami"):
         return
     Path(folder, "entries").mkdir()
-    Path(folder, "slapd.conf").write_text(SLAPD.format(folder))
-    Path(folder, "ldif").write_text(ENTRIES + ENTRY.format("alice", "wonder land") + ENTRY.format("Ólafur", "snowman"))
+    settings = re.search("^```\n(attributetype.*?)^```", PAGE.read_text(encoding="utf-8"), re.M | re.S)[1]
+    Path(folder, "slapd.conf").write_text(SLAPD.format(folder, settings))
+    both = "\n".join(f"authPassword: {stored_keys(it, 'pencil')}" for it in SCRAMS)
+    secrets = {"alice": "userPassword: wonder land", "\u00d3lafur": "userPassword: snowman", "bob": both}
+    Path(folder, "ldif").write_text(ENTRIES + "".join(ENTRY.format(*it) for it in secrets.items()))
     equal(ran([slapadd, "-f", f"{folder}/slapd.conf", "-l", f"{folder}/ldif"]).status, 0, "slapadd")
     url = f"ldap://127.0.0.1:{free_port()}"
     plugins = {"SASL_PATH": str(folder_of(folder, plugin()))}
     server = Running([slapd, "-f", f"{folder}/slapd.conf", "-h", url, "-d", "0"], env={**os.environ, **plugins})
     until(lambda: server.process.poll() is not None or ran(["ldapwhoami", "-x", "-H", url]).status == 0, "slapd does not answer")
+    found = ran(["ldapsearch", "-x", "-LLL", "-H", url, "-b", "dc=example", "cn", "authPassword", "userPassword"]).output
+    equal(("cn: bob\n" in found, "Password" in found), (True, False), "what anyone can read")
     for trial, mechanism in each(SCRAMS):
         with trial:
             def bind(name: str, password: str) -> tuple[int, str]:
@@ -351,8 +357,9 @@ def directory(folder: str) -> None:
                 return answer.status, answer.output + answer.faults
             equal(bind("alice", "wonder land"), (0, "dn:cn=alice,dc=example\n"))
             equal(bind("olaf", "snowman"), (0, "dn:cn=\u00f3lafur,dc=example\n"))
+            equal(bind("bob", "pencil"), (0, "dn:cn=bob,dc=example\n"))
             refusal = f"SASL(-13): authentication failure: {mechanism}: refused, number 36: e=invalid-proof"
-            for name, password in [("alice", "wonderland"), ("carol", "wonder land"), ("olaf", "wonder land"), ("alice", "snowman")]:
+            for name, password in [("alice", "wonderland"), ("carol", "wonder land"), ("olaf", "wonder land"), ("bob", "pencils")]:
                 equal(bind(name, password), (49, f"ldap_sasl_interactive_bind: Invalid credentials (49)\n\tadditional info: {refusal}\n"))
 
 
