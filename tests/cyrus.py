@@ -35,17 +35,18 @@ PAGE = suite.document("plugins/cyrus/README.md")
 
 def logins(folder: str) -> None:
     """A right password logs in, by both mechanisms, from a plain password in the store and from keys; a wrong one, that of another, and a
-    name without an account do not."""
-    server = Server(folder)
-    server.store("alice", "userPassword", "pencil")
-    for trial, mechanism in each(SCRAMS):
+    name without an account do not. So it is with each compiler."""
+    for trial, (compiler, mechanism) in each(itertools.product(["cc", "clang"], SCRAMS)):
         with trial:
-            server.store("bob", "authPassword", stored_keys(mechanism, "wonder land"))
-            equal(server.login(mechanism, "alice", "pencil"), [OK, "alice", "alice"])
-            equal(server.login(mechanism, "bob", "wonder land"), [OK, "bob", "bob"])
-            for name, password in [("alice", "pencils"), ("bob", "pencil"), ("carol", "pencil"), ("carol", "none")]:
-                equal(server.login(mechanism, name, password), [BADAUTH], name)
-    equal(server.run.end().status, 0)
+            if has(f"the plug-in as {compiler} compiles it", compiler):
+                server = Server(fresh(folder), plugin(compiler))
+                server.store("alice", "userPassword", "pencil")
+                server.store("bob", "authPassword", stored_keys(mechanism, "wonder land"))
+                equal(server.login(mechanism, "alice", "pencil"), [OK, "alice", "alice"])
+                equal(server.login(mechanism, "bob", "wonder land"), [OK, "bob", "bob"])
+                for name, password in [("alice", "pencils"), ("bob", "pencil"), ("carol", "pencil"), ("carol", "none")]:
+                    equal(server.login(mechanism, name, password), [BADAUTH], name)
+                equal(server.run.end().status, 0)
 
 
 def acts_as(folder: str) -> None:

@@ -28,7 +28,7 @@ FOR_PARTS |= {"/lib/systemd/systemd": "systemd", "ip": "iproute2", "nsenter": "u
 FOR_PARTS |= {"dpkg-deb": "dpkg", "lintian": "lintian", "mmdebstrap": "mmdebstrap"}
 FOR_PARTS |= {"/usr/include/sasl/saslplug.h": "libsasl2-dev", "/usr/lib/x86_64-linux-gnu/sasl2/libscram.so": "libsasl2-modules"}
 FOR_PARTS |= {"/usr/lib/x86_64-linux-gnu/sasl2/libsasldb.so": "libsasl2-modules-db", "sasl-sample-server": "sasl2-bin"}
-FOR_PARTS |= {"slapd": "slapd", "ldapwhoami": "ldap-utils", "valgrind": "valgrind"}
+FOR_PARTS |= {"slapd": "slapd", "ldapwhoami": "ldap-utils", "valgrind": "valgrind", "clang": "clang"}
 # Exim can't be installed beside Postfix. So it is unpacked here, with the libraries that it needs: outside the repository, in which rt
 # refuses links, and where the user as whom it runs can enter.
 EXIM = Path(os.environ.get("EXIM") or "/var/cache/scramotp/exim")
