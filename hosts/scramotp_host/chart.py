@@ -8,8 +8,8 @@ from typing import NamedTuple
 WIDTHS = [1, 5, 10, 30, 60, 300, 600, 1800, 3600, 10800, 21600, 43200, 86400, 604800, 2592000, 31536000]
 MOST_BARS = 60
 EPOCH = datetime(1970, 1, 1)
-# The picture, in points: all of it, and half of the height of the bars.
-WIDE, HALF, EDGE = 960, 90, 24
+# The picture, in points: its width, half of the height of the bars, the height of a line of text, and the least side of a bar.
+WIDE, HALF, EDGE, LEAST = 960, 90, 24, 1.5
 
 
 class Bar(NamedTuple):
@@ -21,13 +21,11 @@ class Bar(NamedTuple):
 
 
 def bars_over_time(logins: Iterable[tuple[datetime, bool]]) -> list[Bar]:
-    """The bars of logins, each with its moment and whether it was let in."""
+    """The bars of logins, each with its moment and whether it was let in. There is at least one."""
     counts: dict[int, list[int]] = {}
     for moment, is_accepted in logins:
         second = counts.setdefault(int((moment - EPOCH).total_seconds()), [0, 0])
         second[not is_accepted] += 1
-    if not counts:
-        return []
     first, last = min(counts), max(counts)
     width = next((it for it in WIDTHS if last // it - first // it < MOST_BARS), (last - first) // (MOST_BARS - 1) + 1)
     bars = [[0, 0] for _ in range(first // width, last // width + 1)]
@@ -41,36 +39,35 @@ def bars_over_time(logins: Iterable[tuple[datetime, bool]]) -> list[Bar]:
 
 def bars_in_order(logins: list[bool]) -> list[Bar]:
     """The bars of logins of which only the order is known: as many logins in each."""
-    size = -(-len(logins) // MOST_BARS) or 1
+    size = -(-len(logins) // MOST_BARS)
     parts = [(at, logins[at:at + size]) for at in range(0, len(logins), size)]
     return [Bar(f"login {at + 1} to {at + len(it)}" if len(it) > 1 else f"login {at + 1}", sum(it), len(it) - sum(it)) for at, it in parts]
 
 
 def picture(bars: list[Bar]) -> str:
-    """The bars as an SVG, with a title and a description for those who do not see it."""
-    most = max((max(it.accepted, it.refused) for it in bars), default=0) or 1
-    step, scale, axis = WIDE / max(len(bars), 1), HALF / most, EDGE + HALF
+    """The bars as an SVG, with a title and a description for those who do not see it. There is at least one login in them."""
+    accepted, refused = max(it.accepted for it in bars), max(it.refused for it in bars)
+    step, scale, axis = WIDE / len(bars), HALF / max(accepted, refused), EDGE + HALF
     shapes = []
     for at, bar in enumerate(bars):
-        for kind, count, top in (("in", bar.accepted, axis - bar.accepted * scale), ("out", bar.refused, axis)):
+        for kind, count, words in (("in", bar.accepted, "let in"), ("out", bar.refused, "refused")):
             if count:
-                told = f"{bar.label}: {count} {'let in' if kind == 'in' else 'refused'}"
-                place = f'x="{at * step + 1:.1f}" y="{top:.1f}" width="{max(step - 2, 1):.1f}" height="{count * scale:.1f}"'
-                shapes.append(f'<rect class="{kind}" {place}><title>{escape(told)}</title></rect>')
-    labels = [f'<text x="0" y="14">{most} let in</text>', f'<text x="0" y="{axis + HALF + 16}">{most} refused</text>']
-    if bars:
-        labels += [f'<text class="end" x="{WIDE}" y="14">{escape(bars[0].label)} to {escape(bars[-1].label)}</text>']
+                height = max(count * scale, LEAST)
+                top = axis - height if kind == "in" else axis
+                place = f'x="{at * step + 1:.1f}" y="{top:.1f}" width="{max(step - 2, LEAST):.1f}" height="{height:.1f}"'
+                shapes.append(f'<rect class="{kind}" {place}><title>{escape(bar.label)}: {count} {words}</title></rect>')
+    labels = f'<text x="0" y="14">let in, at most {accepted} in a bar</text>'
+    labels += f'<text x="0" y="{axis + HALF + 16}">refused, at most {refused} in a bar</text>'
+    labels += f'<text class="end" x="{WIDE}" y="14">{escape(bars[0].label)} to {escape(bars[-1].label)}</text>'
     return (
         f'<svg viewBox="0 0 {WIDE} {2 * (EDGE + HALF)}" role="img" aria-labelledby="chart-title chart-text">'
         f'<title id="chart-title">Logins let in and refused</title><desc id="chart-text">{escape(described(bars))}</desc>'
-        f'{"".join(shapes)}<line x1="0" x2="{WIDE}" y1="{axis}" y2="{axis}"/>{"".join(labels)}</svg>'
+        f'{"".join(shapes)}<line x1="0" x2="{WIDE}" y1="{axis}" y2="{axis}"/>{labels}</svg>'
     )
 
 
 def described(bars: list[Bar]) -> str:
     """The chart in words."""
-    if not bars:
-        return "No login was decided."
     worst = max(bars, key=lambda it: it.refused)
     text = f"From {bars[0].label} to {bars[-1].label}, {sum(it.accepted for it in bars)} let in above the axis and "
     text += f"{sum(it.refused for it in bars)} refused below it."

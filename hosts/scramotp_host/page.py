@@ -152,6 +152,9 @@ def chart(sessions: list[Session]) -> Iterator[str]:
     """The logins that were let in, and those that were refused: over time, or in their order if none has a time."""
     logins = [it for it in sessions if it.outcome == "accepted" or it.outcome not in NO_REFUSALS]
     timed = [(it.opened, it.outcome == "accepted") for it in logins if it.opened]
+    if not logins:
+        yield "<p>No login was decided.</p>\n"
+        return
     bars = bars_over_time(timed) if timed else bars_in_order([it.outcome == "accepted" for it in logins])
     yield f"<h2>Logins {'over time' if timed else 'in their order'}</h2>\n<figure>{picture(bars)}"
     if timed and len(timed) < len(logins):
