@@ -433,9 +433,12 @@ def pages_of_faulty_logs(folder: str) -> None:
 
 def clients_that_are_not_known(folder: str) -> None:
     """A file of clients may be missing, damaged or hostile: what is not a line of it is passed over, and a moment that is none is left
-    out."""
+    out. Without moments the chart has the logins in their order."""
     log, file = Path(folder, "incident.log"), Path(folder, "incident.log.clients")
     shutil.copy(INCIDENT, log)
+    is_let_in = [True, *[False] * 9, True, *[False] * 6, *[True] * 3]
+    due = [[f"login {number}", "1" if it else "", "" if it else "1"] for number, it in enumerate(is_let_in, 1)]
+    equal(page_of(folder, BOOK_OF_INCIDENT, log).tables["The chart as a table"][1:], due, "the chart without moments")
     for trial, (text, when, client) in each([
         (None, "", ""),
         (b"", "", ""),
