@@ -123,7 +123,7 @@ def page(log: str, answer: Answer, sessions: list[Session]) -> Iterator[str]:
     else:
         yield "<p>No login was decided.</p>\n"
     yield '<p class="note">This page is as secret as the log. It tells which names have accounts, which no client is told. '
-    yield "From where and when a session came is what the server says of it, and no evidence.</p>\n</main>\n"
+    yield "When, in UTC, and from where a session came is what the server says, and no evidence.</p>\n</main>\n"
     yield f"<script>{SCRIPT}</script>\n" if sessions else ""
 
 
