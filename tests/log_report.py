@@ -20,7 +20,6 @@ import signal
 import stat
 import sys
 import tomllib
-from collections.abc import Callable, Iterable
 from pathlib import Path
 from typing import Any
 
