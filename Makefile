@@ -201,7 +201,7 @@ COUNT ?= 5000
 fuzz: needed build
 	@echo 'SEED=$(SEED) COUNT=$(COUNT)'
 	SEED=$(SEED) COUNT=$(COUNT) python3 tests/fuzz.py $(PROGRAM)
-	SEED=$(SEED) JOBS=$(JOBS) python3 tests/run.py $(PROGRAM) $(RANDOM)
+	SEED=$(SEED) DURATION=60 JOBS=$(JOBS) python3 tests/run.py $(PROGRAM) $(RANDOM)
 
 bench: build libscramotp
 	cd crates/bench && rt run -- hotp 1 12345678901234567890

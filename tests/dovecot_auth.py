@@ -79,12 +79,12 @@ def hostile_lines(folder: str) -> None:
 
 
 def random_bytes(folder: str) -> None:
-    """Servers that send random bytes, or lines of the protocol with random words, for some seconds hold up nobody, and no log is at
+    """Servers that send random bytes, or lines of the protocol with random words, for DURATION seconds hold up nobody, and no log is at
     fault."""
     words = ["VERSION", "AUTH", "CONT", "CANCEL", "CPID", "1", "0", "2", "SCRAM-SHA-256", "PLAIN", "secured", "=", "A" * 9000]
     first = [b"n,,n=user,r=x", b"n,a=\xff,n=user,r=x", b"n,,n=us\ner,r=x", b"\nopen x\n", b"\0user\0x", b"\0" * 3]
     words += ["resp=", "resp==", *(f"resp={b64encode(it).decode()}" for it in first)]
-    ends = time.monotonic() + 4
+    ends = time.monotonic() + float(os.environ.get("DURATION") or 4)
 
     def line(source: random.Random) -> str:
         if source.random() < 0.5:

@@ -1,11 +1,13 @@
 #!/usr/bin/env python3
-"""Runs the units of hosts/units, as the package for Debian installs them, by a real systemd.
+"""Runs the units of hosts/units, as the package for Debian installs them, by a real systemd, and what docs/DOORS.md types in ten minutes.
 
 Usage: systemd.py PROGRAM [TEST ..]
 
 It is that of a machine of the test's own, which booted.py makes of this one: so root has to run this, where systemd and dpkg-deb are
 installed, and namespaces can be made.
 """
+import re
+
 import suite
 from booted import Machine, booted
 from checks import equal, holds
@@ -16,6 +18,7 @@ from processes import ran, until
 
 USER = Account("user", "SCRAM-SHA-256")
 NAME = "scramotp-dovecot-auth"
+PAGE = suite.document("docs/DOORS.md")
 # How the program is started that a machine needs.
 NEEDED = ["dpkg-deb", "ip", "nsenter", "unshare", "/lib/systemd/systemd"]
 
@@ -72,9 +75,63 @@ def a_unit_at_work(folder: str) -> None:
         equal(notes.count("event=login outcome=accepted"), 2, "the logins in the journal", notes)
 
 
+def typed(title: str) -> str:
+    """The commands of a section of the page, but for the installation of what is installed here. The lines that an editor is to add are
+    those of the section's other block, and the one that the comment names."""
+    blocks = {language: text for section, language, text in suite.blocks_of(PAGE) if section == title}
+
+    def added(found: re.Match[str]) -> str:
+        lines = blocks[""] + (found[2] + "\n" if found[2] else "")
+        return f"cat >>{found[1]} <<'END'\n{lines}END"
+
+    script = re.sub(r"^editor (\S+) +# add the lines above(?:, and: (.*))?$", added, blocks["sh"], flags=re.M)
+    return re.sub(r"^apt install .*\n", "", script, flags=re.M)
+
+
+def in_ten_minutes(folder: str, title: str, before: str, after: str = "") -> tuple[str, str]:
+    """What the page types for a server, after commands that do what the server's package does where systemd runs, and before others that
+    look at what has come of it. Returns what is printed, and the journal."""
+    with booted(folder) as machine:
+        machine.does(before)
+        output = machine.does(typed("In ten minutes") + typed(title) + after, "correct horse\n")
+        return output, machine.does(f"journalctl --unit {NAME} --output cat")
+
+
+# Makes the certificate that Debian's package ssl-cert makes.
+SNAKEOIL = """key=/etc/ssl/private/ssl-cert-snakeoil.key
+openssl req -x509 -days 2 -newkey rsa:2048 -nodes -subj /CN=localhost -keyout $key -out /etc/ssl/certs/ssl-cert-snakeoil.pem 2>/dev/null
+"""
+
+
+def postfix_in_ten_minutes(folder: str) -> None:
+    """What the page types for Postfix ends with a login."""
+    if can_boot("Postfix in ten minutes") and has("Postfix in ten minutes", "postfix", "swaks", "openssl"):
+        before = SNAKEOIL + "postconf -e smtpd_tls_cert_file=/etc/ssl/certs/ssl-cert-snakeoil.pem smtpd_tls_key_file=$key\n"
+        output, notes = in_ten_minutes(folder, "Postfix", before + "postconf -e smtpd_tls_security_level=may; systemctl start postfix")
+        holds("~> AUTH PLAIN " in output and "<~  235 2.7.0 Authentication successful\n" in output, "swaks shows no login", output)
+        holds("outcome=accepted mechanism=PLAIN name=user " in notes, "the journal has no login", notes)
+
+
+def dovecot_in_ten_minutes(folder: str) -> None:
+    """What the page types for Dovecot ends with a login, and the user has a mailbox."""
+    if can_boot("Dovecot in ten minutes") and has("Dovecot in ten minutes", "dovecot", "/usr/lib/dovecot/imap-login", "curl", "openssl"):
+        links = "cp /etc/ssl/certs/ssl-cert-snakeoil.pem /etc/dovecot/private/dovecot.pem; cp $key /etc/dovecot/private/dovecot.key"
+        before = f"{SNAKEOIL}{links}; systemctl start dovecot"
+        output, notes = in_ten_minutes(folder, "Dovecot", before, "ls -d /srv/mail/user/mail")
+        holds("INBOX" in output, "curl shows no mailbox", output)
+        holds("outcome=accepted mechanism=PLAIN name=user " in notes, "the journal has no login", notes)
+
+
+def has(what: str, *commands: str) -> bool:
+    """Whether these commands and files are there. If not, the script says what it does not test."""
+    if missing := lacking(commands):
+        suite.not_tested(f"{what}, since there is no {', '.join(missing)}")
+    return not missing
+
+
 def logs_of(machine: Machine) -> list[str]:
     """The logs of the unit, the oldest first."""
     return machine.does("ls /var/lib/scramotp/logs/*.log").split()
 
 
-suite.run_all([a_unit_at_work])
+suite.run_all([a_unit_at_work, postfix_in_ten_minutes, dovecot_in_ten_minutes])
