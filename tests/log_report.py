@@ -5,7 +5,7 @@ Usage: log_report.py PROGRAM [TEST ..]
 
 The rows of data/audits/cases.csv, in the column `rows`, and those of data/reports/incident.rows were worked out by hand, as were the
 reasons in the tables below; proofs and codes are computed with Python's hmac. The log of the incident has each event but `busy`, and each
-reason, in sessions that interleave. Pages are read with Python's html.parser, and drawn by Chromium if that is installed.
+reason, in sessions that interleave. Pages are read with Python's html.parser, and opened in Chromium if that is installed.
 """
 import csv
 import hashlib
@@ -574,10 +574,12 @@ def long_logs(folder: str) -> None:
     holds(os.path.getsize(Path(folder, "page.html")) < 4_000_000, "the page is too long")
 
 
-def in_browser(folder: str | Path, page: Path, *words: str) -> str:
-    """What Chromium makes of a page: its document, after its scripts have run."""
-    start = ["chromium", "--headless", "--no-sandbox", "--disable-gpu", f"--user-data-dir={folder}/chromium", *words]
-    answer = ran([*start, "--dump-dom", page.as_uri()], env={**os.environ, "HOME": str(folder)})
+def in_browser(folder: str | Path, text: str) -> str:
+    """What Chromium makes of a page with this text: its document, after its scripts have run."""
+    page = Path(folder, "opened.html")
+    page.write_text(text, encoding="utf-8")
+    words = ["chromium", "--headless", "--no-sandbox", "--disable-gpu", f"--user-data-dir={folder}/chromium", "--dump-dom", page.as_uri()]
+    answer = ran(words, env={**os.environ, "HOME": str(folder)})
     equal(answer.status, 0, "the status of Chromium", answer.faults)
     return answer.output
 
@@ -586,21 +588,22 @@ def pages_in_a_browser(folder: str) -> None:
     """In a browser the page's script shows the field for names, and a name leaves the rows of its sessions. Without scripts all is there
     but the field. Hostile names make no other element."""
     if not shutil.which("chromium"):
-        return not_tested("how a browser draws a page, since there is no chromium")
-    page = Path(folder, "page.html")
+        return not_tested("how a browser takes a page, since there is no chromium")
+    page, hidden = Path(folder, "page.html"), '<p id="filter" hidden="">'
     page_of(folder, BOOK_OF_INCIDENT, INCIDENT)
-    without = in_browser(folder, page, "--blink-settings=scriptEnabled=false")
-    fields = ['<p id="filter" hidden="">' in it for it in (in_browser(folder, page), without)]
-    equal(fields, [False, True], "whether the field is hidden, with scripts and without")
-    equal(Page(without).tables["Sessions"], Page(page.read_text()).tables["Sessions"], "the sessions without scripts")
+    text = page.read_text()
+    holds(hidden not in in_browser(folder, text), "the field for names is hidden, although scripts run")
+    without = in_browser(folder, re.sub("; script-src '[^']*'", "", text))
+    holds(hidden in without, "the field for names is shown, although no script may run")
+    equal(Page(without).tables, Page(text).tables, "the tables without scripts")
     typed = 'name.value = "nobody"; name.dispatchEvent(new Event("input"));'
-    text = re.sub('<meta http-equiv="Content-Security-Policy"[^>]*>', "", page.read_text()).replace("</script>", f"{typed}</script>")
-    page.write_text(text)
-    table = in_browser(folder, page).partition('id="sessions"')[2].partition("</table>")[0]
-    equal(re.findall(r'<tr><td class="number">(\d+)</td>', table), ["7"], "the sessions that a name leaves")
+    open_to_all = re.sub('<meta http-equiv="Content-Security-Policy"[^>]*>', "", text)
+    found = in_browser(folder, open_to_all.replace("</script>", f"{typed}</script>"))
+    rows = found.partition('id="sessions"')[2].partition("</table>")[0]
+    equal(re.findall(r'<tr><td class="number">(\d+)</td>', rows), ["7"], "the sessions that a name leaves")
     of_log, log = hostile_log(folder, [Account(name, "SCRAM-SHA-256") for name in HOSTILE])
     page_of(folder, of_log, log)
-    made = Page(in_browser(folder, page))
+    made = Page(in_browser(folder, page.read_text()))
     equal((sorted({*made.tags} - TAGS), made.tags.count("script")), (["body", "head"], 1), "the elements of a page with hostile names")
     return None
 

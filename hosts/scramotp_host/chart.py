@@ -56,8 +56,8 @@ def picture(bars: list[Bar]) -> str:
                 top = axis - height if kind == "in" else axis
                 place = f'x="{at * step + 1:.1f}" y="{top:.1f}" width="{max(step - 2, LEAST):.1f}" height="{height:.1f}"'
                 shapes.append(f'<rect class="{kind}" {place}><title>{escape(bar.label)}: {count} {words}</title></rect>')
-    labels = f'<text x="0" y="14">let in, at most {accepted} in a bar</text>'
-    labels += f'<text x="0" y="{axis + HALF + 16}">refused, at most {refused} in a bar</text>'
+    labels = f'<text x="0" y="14">{f"let in, at most {accepted} in a bar" if accepted else "nobody let in"}</text>'
+    labels += f'<text x="0" y="{axis + HALF + 16}">{f"refused, at most {refused} in a bar" if refused else "nobody refused"}</text>'
     labels += f'<text class="end" x="{WIDE}" y="14">{escape(bars[0].label)} to {escape(bars[-1].label)}</text>'
     return (
         f'<svg viewBox="0 0 {WIDE} {2 * (EDGE + HALF)}" role="img" aria-labelledby="chart-title chart-text">'

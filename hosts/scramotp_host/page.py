@@ -39,13 +39,14 @@ h2 { font-size: 1.2rem; margin: 2rem 0 .5rem; }
 .scroll { overflow-x: auto; }
 table { border-collapse: collapse; width: 100%; font-size: .9rem; }
 th, td { padding: .3rem .75rem .3rem 0; text-align: left; vertical-align: top; border-bottom: 1px solid var(--line); }
-th { color: var(--dim); font-weight: 600; }
-td { overflow-wrap: anywhere; }
-.number { text-align: right; font-variant-numeric: tabular-nums; white-space: nowrap; }
+th { color: var(--dim); font-weight: 600; white-space: nowrap; }
+td { max-width: 22rem; overflow-wrap: break-word; }
+th.number, td.number { padding-right: 1.5rem; text-align: right; font-variant-numeric: tabular-nums; white-space: nowrap; }
 .time, .how { white-space: nowrap; font-variant-numeric: tabular-nums; }
 td.in { color: var(--in); }
 td.out { color: var(--out); }
-svg { width: 100%; height: auto; font-size: 13px; }
+figure { margin: 0; overflow-x: auto; }
+svg { width: 100%; min-width: 40rem; height: auto; font-size: 13px; }
 svg .in { fill: var(--in); }
 svg .out { fill: var(--out); }
 svg text { fill: var(--dim); }
@@ -141,7 +142,7 @@ def totals(sessions: list[Session]) -> Iterator[str]:
     """How many sessions, logins and codes there are."""
     counts = counted(sessions)
     refused = len(sessions) - sum(counts[kind] for kind in NO_REFUSALS)
-    told = {"sessions": len(sessions), "let in": counts["accepted"], "refused": refused}
+    told = {"sessions decided": len(sessions), "let in": counts["accepted"], "refused": refused}
     told |= {MEANINGS[kind].words: counts[kind] for kind in (*NO_REFUSALS[1:], *OF_CODES)}
     yield '<dl class="totals">'
     yield "".join(f"<div><dt>{escape(words)}</dt><dd>{count}</dd></div>" for words, count in told.items() if count)
@@ -227,7 +228,7 @@ def all_sessions(sessions: list[Session]) -> Iterator[str]:
     yield from table(head, (
         [
             Cell(it.number, "number"), when(it), Cell(it.account), Cell(it.acts_as), Cell(it.client), Cell(it.mechanism, "how"),
-            Cell(it.words, "in" if it.outcome == "accepted" else "out"),
+            Cell(it.words, "in" if it.outcome == "accepted" else "" if it.outcome in NO_REFUSALS else "out"),
         ]
         for it in sessions[-MOST_ROWS:]
     ), 'table id="sessions"')
