@@ -121,7 +121,7 @@ def service(folder: str, name: str, block: int) -> dict[str, str]:
     path = f"/usr/bin/env PATH={program_on_path(folder)['PATH']} "
     text = SERVICES[block].replace("/usr/local/share/scramotp/check-login", f"{path}{LOGIN}")
     text = text.replace("/usr/local/share/scramotp/check-code", f"{path}{CODE}").replace("/run/scramotp/socket", f"{folder}/socket")
-    (services / name).write_text(text.replace("/var/lib/scramotp/book.toml", f"{folder}/book.toml"))
+    (services / name).write_text(text.replace("/etc/scramotp/codes.toml", f"{folder}/book.toml"))
     return {**os.environ, "LD_PRELOAD": WRAPPER, "PAM_WRAPPER": "1", "PAM_WRAPPER_SERVICE_DIR": str(services)}
 
 
