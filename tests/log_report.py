@@ -590,9 +590,14 @@ def pages_in_a_browser(folder: str) -> None:
     if not shutil.which("chromium"):
         return not_tested("how a browser takes a page, since there is no chromium")
     page, hidden = Path(folder, "page.html"), '<p id="filter" hidden="">'
+    of_log, log = hostile_log(folder, [Account(name, "SCRAM-SHA-256") for name in HOSTILE])
+    page_of(folder, of_log, log)
+    made = in_browser(folder, page.read_text())
+    tags = Page(made).tags
+    equal((sorted({*tags} - TAGS), tags.count("script")), (["body", "head"], 1), "the elements of a page with hostile names")
+    holds(hidden not in made, "the field for names is hidden, although the page's script may run")
     page_of(folder, BOOK_OF_INCIDENT, INCIDENT)
     text = page.read_text()
-    holds(hidden not in in_browser(folder, text), "the field for names is hidden, although scripts run")
     without = in_browser(folder, re.sub("; script-src '[^']*'", "", text))
     holds(hidden in without, "the field for names is shown, although no script may run")
     equal(Page(without).tables, Page(text).tables, "the tables without scripts")
@@ -601,10 +606,6 @@ def pages_in_a_browser(folder: str) -> None:
     found = in_browser(folder, open_to_all.replace("</script>", f"{typed}</script>"))
     rows = found.partition('id="sessions"')[2].partition("</table>")[0]
     equal(re.findall(r'<tr><td class="number">(\d+)</td>', rows), ["7"], "the sessions that a name leaves")
-    of_log, log = hostile_log(folder, [Account(name, "SCRAM-SHA-256") for name in HOSTILE])
-    page_of(folder, of_log, log)
-    made = Page(in_browser(folder, page.read_text()))
-    equal((sorted({*made.tags} - TAGS), made.tags.count("script")), (["body", "head"], 1), "the elements of a page with hostile names")
     return None
 
 
