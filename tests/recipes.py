@@ -56,7 +56,7 @@ exit $status
 """
 
 # The section whose block reports who got in.
-INCIDENT = "Who got in"
+INCIDENT = "After an incident"
 
 # The section whose block runs until an interrupt.
 SERVED = "Serve logins with `serve-hall`"
@@ -674,7 +674,7 @@ def who_got_in(folder: str) -> None:
     section leads through the page are on it."""
     Path(folder, "tools").symlink_to(TOOLS)
     with_incident(folder)
-    [block] = blocks("Who got in")
+    [block] = blocks("After an incident")
     status, output, faults = ran(folder, block)
     equal((status, faults), (0, ""), "the reports", output)
     equal(output.splitlines()[-1], "clean sessions=23 accepted=5 codes=3", "the audit", output)
