@@ -19,7 +19,7 @@ TOP = Path(__file__).resolve().parent.parent
 FOLDERS = ("must-fail", "edits")
 # Where in a crate an edit may make changes; and where in the repository one in tests/planted/ may.
 EDITED = ("src/", "specs/")
-EDITED_BY_TESTS = ("tools/", "hosts/", "man/", "completions/", "packaging/", "docs/", "clib/", "plugins/", "Makefile", "tests/refuse_")
+EDITED_BY_TESTS = ("tools/", "hosts/", "man/", "completions/", "packaging/", "docs/", "clib/", "Makefile", "tests/refuse_")
 EDITED_BY_TESTS += ("tests/note_files.c", "tests/turn_clock.c", "tests/pass_calls.c", "tests/power_model.py", "tests/c_library_")
 
 FUNCTION = re.compile(r"( *)(?:pub(?:\([a-z ]+\))? )?(?:(?:const|unsafe) )*fn (\w+)")
