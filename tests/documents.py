@@ -18,12 +18,7 @@ from typing import NamedTuple
 import rattle
 import run
 import editions
-import edit_sources
 from edit_sources import TOP, Unusable, edits_of, planted_edits, planted_rows, read_edit, read_planted
-
-# Edits in tests/planted/ may change plug-ins too. That stands here, since the checksum of edit_sources.py chooses which wrong bodies a gate
-# tries.
-edit_sources.EDITED_BY_TESTS += ("plugins/",)
 
 PAGES = [TOP / "README.md", TOP / "CONTRIBUTING.md", TOP / "CHANGELOG.md", *sorted(TOP.glob("docs/*.md")), TOP / "bench" / "README.md"]
 PAGES += sorted(TOP.glob("plugins/*/README.md"))
@@ -322,13 +317,13 @@ def unplanted_tests() -> Iterator[str]:
 
 
 def stale_edits() -> Iterator[str]:
-    """Finds the edits in must-fail/ and edits/ that do not apply."""
+    """Finds the edits of crates that do not apply."""
     for crate in sorted(TOP.glob("crates/*")):
-        for path in edits_of(crate):
+        for name, text in edits_of(crate).items():
             try:
-                read_edit(path, crate, [])
+                read_edit(name, text, crate, [])
             except Unusable as fault:
-                yield f"{path.relative_to(TOP)}: {fault}"
+                yield f"{crate.name}/{name}: {fault}"
 
 
 def stale_editions() -> Iterator[str]:
@@ -348,7 +343,7 @@ def known_to_maintainers() -> set[str]:
 
 def edits() -> dict[str, str]:
     """The text of each edit, by its path from the repository's top."""
-    return texts_of([*TOP.glob("crates/*/*/*.edit"), *TOP.glob("tests/planted/*.edit")])
+    return texts_of([*TOP.glob("crates/*/*/*.edit"), *TOP.glob("crates/*/edits.txt"), *TOP.glob("tests/planted/*.edit")])
 
 
 def in_docs(names: list[str]) -> list[Path]:

@@ -1,8 +1,9 @@
 """For edits.py, planted.py and documents.py: where the functions of a crate are in its sources, what edits change, and which tests have to
 refuse planted bugs.
 
-An edit has the form that `rt help` describes. That of a crate changes src/ or specs/, and one of a definition in specs/ belongs to no
-function. The edits in tests/planted/ change what no crate has: a tool, the package of hosts/, a man page, completions, the script that
+An edit has the form that `rt help` describes. Those of a crate are the files in its must-fail/, and the blocks of its edits.txt, each of
+which begins with a line `edit: NAME`. They change src/ or specs/, and one of a definition in specs/ belongs to no function. The edits in
+tests/planted/ change what no crate has: a tool, the package of hosts/, a man page, completions, the script that
 makes the package for Debian, a page with blocks that a test runs, what is around the library for C, the Makefile, a C file through which
 the program makes calls, or power_model.py.
 """
@@ -15,14 +16,15 @@ from typing import NamedTuple
 
 # The repository's top.
 TOP = Path(__file__).resolve().parent.parent
-# Where the edits of a crate are that edits.py tries.
-FOLDERS = ("must-fail", "edits")
+# What a line begins with that names the edit whose lines follow it, in the file of a crate's edits.
+NAMES = "edit: "
 # Where in a crate an edit may make changes; and where in the repository one in tests/planted/ may.
 EDITED = ("src/", "specs/")
-EDITED_BY_TESTS = ("tools/", "hosts/", "man/", "completions/", "packaging/", "docs/", "clib/", "Makefile", "tests/refuse_")
+EDITED_BY_TESTS = ("tools/", "hosts/", "man/", "completions/", "packaging/", "docs/", "clib/", "plugins/", "Makefile", "tests/refuse_")
 EDITED_BY_TESTS += ("tests/note_files.c", "tests/turn_clock.c", "tests/pass_calls.c", "tests/power_model.py", "tests/c_library_")
 
 FUNCTION = re.compile(r"( *)(?:pub(?:\([a-z ]+\))? )?(?:(?:const|unsafe) )*fn (\w+)")
+NAME = re.compile(r"[\w'-]+")
 IMPL = re.compile(r"impl(?:<.*?>)? (?:(?:\w+::)*(\w+)(?:<(.*?)>)? for )?(?:\w+::)*(\w+)")
 
 
@@ -109,12 +111,13 @@ def last_line(lines: list[str], at: int, indent: str) -> int:
     return len(lines)
 
 
-def read_edit(path: Path, crate: Path, functions: list[Function], edited: tuple[str, ...] = EDITED) -> Edit:
-    """Reads an edit and applies it to the files in a crate, or in another folder, which it may change where `edited` says; or raises
-    Unusable."""
-    file, old, whole = "", "", path.read_text(encoding="utf-8")
+def read_edit(name: str, whole: str, crate: Path, functions: list[Function], edited: tuple[str, ...] = EDITED) -> Edit:
+    """Applies the edit of this name and text to the files in a crate, or in another folder, which it may change where `edited` says; or
+    raises Unusable."""
+    file, old = "", ""
     texts: dict[str, str] = {}
     places: set[tuple[str, int]] = set()
+    pairs: list[tuple[str, str, str]] = []
     for line in whole.split("\n"):
         if line.startswith("file: "):
             file = line.removeprefix("file: ").strip()
@@ -130,16 +133,32 @@ def read_edit(path: Path, crate: Path, functions: list[Function], edited: tuple[
             if len(others) != 1:
                 raise Unusable(f"an 'old:' text is in {file} {len(others)} times, and not once")
             places.add((file, before.count("\n") + 1))
-            texts[file] = before + line.removeprefix("new:").removeprefix(" ") + others[0]
+            new = line.removeprefix("new:").removeprefix(" ")
+            texts[file] = before + new + others[0]
+            pairs.append((file, old, new))
             old = ""
         elif line:
             raise Unusable(f"a line begins with none of 'file:', 'old:' and 'new:': {line.strip()[:60]}")
     if not places:
         raise Unusable("it has no pair of 'old:' and 'new:'")
+    clauses = (it for it in pairs if it[0].startswith("specs/"))
+    if bound := next((it for file, *pair in clauses if (it := name_bound(*pair, texts[file]))), ""):
+        raise Unusable(f"{bound} is no constructor where one stood, so that it fits any value")
     # no text contains the end of a line, so lines keep their numbers
     lines = {(file, at): texts[file].split("\n")[at - 1] for file, at in places}
     owners = {it for it in functions for place in between(places) if it.holds(*place)}
-    return Edit(path.stem, lines, owners, all(any(it.holds(*place) for it in functions) for place in places), whole)
+    return Edit(name, lines, owners, all(any(it.holds(*place) for it in functions) for place in places), whole)
+
+
+def name_bound(old: str, new: str, text: str) -> str:
+    """Returns a name that stands in a clause of a definition where a constructor stood, and that the file, whose text this is, neither
+    imports nor declares: such a name fits any value. Returns no text if there is none."""
+    if " = " not in old or " = " not in new:
+        return ""
+    imported = (name for names in re.findall(r"^use [^{]*\{(.*)\}", text, re.MULTILINE) for name in NAME.findall(names))
+    known = {*imported, *re.findall(r"^ *(?:pub )?([\w'-]+) : ", text, re.MULTILINE)}
+    was, now = (NAME.findall(it.split(" = ")[0]) for it in (old, new))
+    return next((it for before, it in zip(was, now) if before in known and it not in known), "")
 
 
 def between(places: set[tuple[str, int]]) -> Iterable[tuple[str, int]]:
@@ -165,7 +184,7 @@ def read_planted(top: Path, of: str, bug: str) -> Edit:
     path = planted_edits(top).get((of, bug))
     if path is None:
         raise Unusable("there is no such edit")
-    return read_edit(path, top / root_of(of), [], EDITED_BY_TESTS if of == "tests" else EDITED)
+    return read_edit(bug, path.read_text(encoding="utf-8"), top / root_of(of), [], EDITED_BY_TESTS if of == "tests" else EDITED)
 
 
 class PlantedRow(NamedTuple):
@@ -189,6 +208,16 @@ def planted_rows(top: Path) -> list[PlantedRow]:
         return [PlantedRow(**it) for it in csv.DictReader(file)]
 
 
-def edits_of(crate: Path) -> list[Path]:
-    """Returns the files of a crate's edits."""
-    return [it for folder in FOLDERS for it in sorted((crate / folder).glob("*.edit"))]
+def edits_of(crate: Path) -> dict[str, str]:
+    """Returns the texts of a crate's edits, by their names."""
+    found = {path.stem: path.read_text(encoding="utf-8") for path in sorted((crate / "must-fail").glob("*.edit"))}
+    file = crate / "edits.txt"
+    blocks = file.read_text(encoding="utf-8").split(NAMES) if file.is_file() else [""]
+    if blocks[0]:
+        raise Unusable(f"{file.relative_to(TOP)} does not begin with '{NAMES}'")
+    for block in blocks[1:]:
+        name, _, text = block.partition("\n")
+        if name in found:
+            raise Unusable(f"two edits of {crate.name} are named {name}")
+        found[name] = text.rstrip("\n") + "\n"
+    return found

@@ -1,6 +1,6 @@
 #!/usr/bin/env python3
-"""Tries the wrong bodies in crates/NAME/must-fail/ and crates/NAME/edits/: the contract of what each one changes has to refuse it.
-By default it takes the crates that have a folder edits/. rt ci tries those in must-fail/ one by one.
+"""Tries the wrong bodies in crates/NAME/must-fail/ and crates/NAME/edits.txt: the contract of what each one changes has to refuse it.
+By default it takes the crates that have a file edits.txt. rt ci tries those in must-fail/ one by one.
 
 Usage: edits.py [--jobs N] [--anew] [--built] [--share N] [--self-test] [CRATE..]
 
@@ -23,8 +23,10 @@ this script, the edit, and the sources of its crate and of those below. A later 
 With --share N a run tries about one of N edits, and sees of the others only that they apply. The same checksums choose them, so the same
 sources have the same share, and a change of a crate gives another share to it and to the crates above it.
 
+An edit that puts a name where a clause had a constructor, and that is no constructor there, is unusable: it would fit any value.
+
 Each run begins with a test of the script in the smallest of its crates, unless that has only edits of definitions: an edit without a
-change is let through, and an edit whose text is gone, or with a line that would not be read, is unusable.
+change is let through, and an edit whose text is gone, with a line that would not be read, or with such a name, is unusable.
 """
 import argparse
 import hashlib
@@ -302,11 +304,11 @@ class Trial:
     def edits(self) -> list[Edit]:
         """Reads the edits of the crate, and returns those that can be tried. Tells of each other one why it can't."""
         usable: dict[tuple[tuple[tuple[str, int], str], ...], Edit] = {}
-        for path in edits_of(self.source):
+        for name, text in edits_of(self.source).items():
             try:
-                edit = read_edit(path, self.source, self.functions)
+                edit = read_edit(name, text, self.source, self.functions)
             except Unusable as fault:
-                self.tell(path.stem, Outcome(False, f"DOES NOT APPLY: {fault}"))
+                self.tell(name, Outcome(False, f"DOES NOT APPLY: {fault}"))
                 continue
             earlier = usable.setdefault(tuple(sorted(edit.lines.items())), edit)
             if earlier is not edit:
@@ -373,8 +375,8 @@ def try_all(trials: list[tuple[Trial, list[Edit]]], jobs: int) -> None:
 
 
 def self_test(room: Room, edits: list[Edit]) -> None:
-    """Ends the run unless an edit without a change is let through, and an edit whose text is gone, or with a line that is not read, is
-    unusable. The test needs a crate with a method and with an edit of a function."""
+    """Ends the run unless an edit without a change is let through, and an edit whose text is gone, with a line that is not read, or with a
+    name that fits any value, is unusable. The test needs a crate with a method and with an edit of a function."""
     wrong = next((it for it in edits if it.is_inside), None)
     # a method of a type has a body; one of a trait may have none
     other = next((it for it in room.functions if wrong and it.of and it not in wrong.owners), None)
@@ -383,14 +385,20 @@ def self_test(room: Room, edits: list[Edit]) -> None:
         return
     nothing = Edit("nothing", {}, {other}, True)
     together, alone = try_together(room, [wrong, nothing]), try_alone(room, nothing)
-    if [*together] != [wrong.name] or alone != Outcome(False, f"{other}: LET THROUGH"):
+    if not wrong.name or [*together] != [wrong.name] or alone != Outcome(False, f"{other}: LET THROUGH"):
         sys.exit(f"edits.py: its own test fails with {wrong.name} in {room.crate}: {together}, {alone}")
     gone = f"file: {other.file}\nold: a text that no file has\nnew: another\n"
-    for what, text in (("whose text is gone", gone), ("with a line that is not read", f"{wrong.text}and one line more\n")):
-        unusable = room.folder / "unusable.edit"
-        unusable.write_text(text, encoding="utf-8")
+    made = room.folder / "made/specs"
+    made.mkdir(parents=True)
+    (made / "Ends.antt").write_text("use Rattle.made.specs.Places.{between, halted}\nMayEnd halted = Unit {0}\n", encoding="utf-8")
+    bound = "file: specs/Ends.antt\nold: MayEnd halted = Unit\nnew: MayEnd over = Unit\n"
+    for what, crate, text in (
+        ("whose text is gone", room.source, gone),
+        ("with a line that is not read", room.source, f"{wrong.text}and one line more\n"),
+        ("with a name that fits any value where a constructor stood", made.parent, bound),
+    ):
         try:
-            read_edit(unusable, room.source, room.functions)
+            read_edit("unusable", text, crate, room.functions)
         except Unusable:
             continue
         sys.exit(f"edits.py: its own test fails: an edit applies {what}")
@@ -460,18 +468,18 @@ def default_jobs() -> int:
 
 def main() -> int:
     """Tries the edits, prints a line for each, and returns the exit status."""
-    parser = argparse.ArgumentParser(description="Tries the wrong bodies of each crate's must-fail/ and edits/.")
+    parser = argparse.ArgumentParser(description="Tries the wrong bodies of each crate's must-fail/ and edits.txt.")
     parser.add_argument("--jobs", type=int, default=default_jobs(), metavar="N", help="checks side by side (%(default)s)")
     parser.add_argument("--anew", action="store_true", help="also what an earlier run refused with the same sources")
     parser.add_argument("--built", action="store_true", help="the libraries in out/ are those of these sources: rt ci has just left them")
     parser.add_argument("--share", type=int, default=1, metavar="N", help="about one of N edits, chosen by the sources (all)")
     parser.add_argument("--self-test", action="store_true", help="only the test of this script, in the smallest crate")
-    parser.add_argument("crates", nargs="*", metavar="CRATE", help="the edits of these crates (those of each that has a folder edits/)")
+    parser.add_argument("crates", nargs="*", metavar="CRATE", help="the edits of these crates (those of each that has a file edits.txt)")
     options = parser.parse_args()
     if options.share < 1:
         parser.error("--share takes a number from 1")
     uses = read_uses(TOP / "crates.txt")
-    listed = options.crates or [it for it in uses if (TOP / "crates" / it / "edits").is_dir()]
+    listed = options.crates or [it for it in uses if (TOP / "crates" / it / "edits.txt").is_file()]
     edits = {it: len(edits_of(TOP / "crates" / it)) for it in listed}
     if without := [it for it in listed if not edits[it]]:
         parser.error(f"no edits of {', '.join(without)}")

@@ -42,7 +42,6 @@ from concurrent.futures import ThreadPoolExecutor
 from pathlib import Path
 from typing import Any
 
-import edit_sources
 from edit_sources import TOP, PlantedRow, Unusable, planted_rows, read_planted, root_of
 from limits import limit
 from run import NOT_TESTED
@@ -51,9 +50,6 @@ import rattle
 import shims
 import unproved
 
-# Edits in tests/planted/ may change plug-ins too. That stands here, since the checksum of edit_sources.py chooses which wrong bodies a gate
-# tries.
-edit_sources.EDITED_BY_TESTS += ("plugins/",)
 # The built programs, from the repository's top: the one that is tested, and the one whose library calls a script tests.
 PROGRAM = "crates/scramotp/out/scramotp"
 BENCH = "crates/bench/out/bench"
