@@ -6,6 +6,7 @@ pub mod LineLaws
 pub mod Histories
 pub mod KindLaws
 pub mod LogLaws
+pub mod Completions
 pub mod Logins
 pub mod Outcomes
 pub mod Replies
@@ -19,6 +20,4 @@ pub mod NumberedBySessions
 pub mod NumberedReasons
 pub mod NumberedReplies
 pub mod NumberedLogins
-pub mod NumberedExamples
 pub mod UpgradedLogs
-pub mod UpgradedExamples

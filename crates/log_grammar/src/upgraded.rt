@@ -1,4 +1,3 @@
 //! Laws of logs of version 1 and of the same logs with numbers, which are logs of version 2.
-pub mod examples;
 pub mod logins;
 pub mod logs;

@@ -11,5 +11,6 @@ pub mod VersionOne
 pub mod VersionTwo
 pub mod AllVersions
 pub mod OneAnswer
+pub mod Completed
 pub mod ShownByLines
 pub mod FirstLinesDiffer

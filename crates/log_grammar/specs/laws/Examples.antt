@@ -1,4 +1,4 @@
--- Small logs, by the texts of their lines.
+-- The first lines of logs, by their texts.
 use Rattle.std.specs.Prelude.{ℕ, List, [], ◌∷◌, codes}
 use Rattle.std.specs.List.{AllByRecursion, AllZip}
 use Rattle.scram_text.specs.SplitLines.{LacksLf, ended_by_lf}
@@ -15,14 +15,6 @@ offer_text = codes "S MECHS SCRAM-SHA-256 SCRAM-SHA-1"
 -- a log of only the first line
 abbrev pub first_alone : List ℕ
 first_alone = ended_by_lf (header_one_text ∷ [])
-
--- a log of one session, from the lines after the first of the session
-abbrev pub one_session : List (List ℕ) → List ℕ
-one_session texts = ended_by_lf (header_one_text ∷ offer_text ∷ texts)
-
--- `S NO` with nothing after its colon, and the end of the session
-abbrev pub bare_no : List (List ℕ)
-bare_no = codes "S NO :" ∷ codes "E" ∷ []
 
 -- the texts are these lines, with no LF in them
 abbrev pub AreWhole : List (List ℕ) → List LogLine → Type 0

@@ -1,5 +1,4 @@
-//! Small logs, judged by the definitions: which are clean, and where a log is at fault and why. Each is a theorem, on lines that
-//! need no hash.
+//! How logs end, what is counted in them, and two codes in a row: each is a theorem of many logs.
 ghost use Rattle.std.specs.Prelude.{ℕ, ◌≡◌, ◌<◌, ◌≤◌, ◌+◌, List, [], ◌∷◌, ◌++◌, length, codes, flat_map, Some};
 ghost use Rattle.otp_core.specs.Ranges.{IsDigitCount, IsMoment, IsCounter};
 ghost use Rattle.otp_core.specs.declared.token.reply.Reply.TheVariants.{Pass, Fail};
@@ -17,76 +16,11 @@ ghost use Rattle.log_grammar.specs.Demands.{Accounts, demands};
 ghost use Rattle.log_grammar.specs.Sessions.{RecordedSession, session_lines};
 ghost use Rattle.log_grammar.specs.Begins.{Begins};
 ghost use Rattle.log_grammar.specs.Versions.{IsClean, IsWhy};
-ghost use Rattle.log_grammar.specs.Why.{LineClass, IsClassDue, is_cut, no_line, out_of_order, other_mechs, other_challenge, other_outcome};
-ghost use Rattle.log_grammar.specs.Why.{other_reply, refused_with};
+ghost use Rattle.log_grammar.specs.Why.{LineClass, IsClassDue, is_cut, no_line, out_of_order};
+ghost use Rattle.log_grammar.specs.Why.{other_reply};
 ghost use Rattle.log_grammar.specs.laws.Logins.{Exchange, IsLoginTo, login_session, original_bytes};
 ghost use Rattle.log_grammar.specs.laws.Replies.{pass_line, next_two};
-ghost use Rattle.log_grammar.specs.laws.Examples.{header_one_text, offer_text, first_alone, one_session, bare_no, AreWhole};
-
-/// These logs are clean: only the first line; sessions that the client ends with `ABORT`, with a line that was not due, or by going
-/// away; one with a mechanism that is not offered; one whose first message is refused; one that ends after the empty challenge; and
-/// two sessions, one after the other.
-pub fn clean_logs()
-    ensures first { (accounts : Accounts) → IsClean accounts first_alone }
-    ensures aborted { (accounts : Accounts) → IsClean accounts (one_session (codes "C ABORT" ∷ bare_no)) }
-    ensures bad { (accounts : Accounts) → IsClean accounts (one_session (codes "C BAD" ∷ bare_no)) }
-    ensures gone { (accounts : Accounts) → IsClean accounts (one_session (codes "C GONE" ∷ codes "E" ∷ [])) }
-    ensures not_offered { (accounts : Accounts) → IsClean accounts (one_session (codes "C AUTH PLAIN" ∷ bare_no)) }
-    ensures refused { (accounts : Accounts) → IsClean accounts (one_session (codes "C AUTH SCRAM-SHA-1 :" ∷ bare_no)) }
-    ensures invited { (accounts : Accounts) → IsClean accounts
-        (one_session (codes "C AUTH SCRAM-SHA-1" ∷ codes "S CONT :" ∷ codes "C GONE" ∷ codes "E" ∷ [])) }
-    ensures two_sessions { (accounts : Accounts) → IsClean accounts
-        (one_session (codes "C GONE" ∷ codes "E" ∷ offer_text ∷ codes "C ABORT" ∷ bare_no)) }
-{}
-
-/// A log is cut if it is empty, or if a session of the clean logs above stops before its last line.
-pub fn cut_logs()
-    ensures empty { (accounts : Accounts) → IsWhy accounts [] 1 is_cut }
-    ensures offer { (accounts : Accounts) → IsWhy accounts (one_session []) 3 is_cut }
-    ensures aborted { (accounts : Accounts) → IsWhy accounts (one_session (codes "C ABORT" ∷ [])) 4 is_cut }
-    ensures aborted_no { (accounts : Accounts) → IsWhy accounts (one_session (codes "C ABORT" ∷ codes "S NO :" ∷ [])) 5 is_cut }
-    ensures gone { (accounts : Accounts) → IsWhy accounts (one_session (codes "C GONE" ∷ [])) 4 is_cut }
-    ensures auth { (accounts : Accounts) → IsWhy accounts (one_session (codes "C AUTH SCRAM-SHA-1" ∷ [])) 4 is_cut }
-    ensures invited { (accounts : Accounts) → IsWhy accounts
-        (one_session (codes "C AUTH SCRAM-SHA-1" ∷ codes "S CONT :" ∷ [])) 5 is_cut }
-    ensures bad { (accounts : Accounts) → IsWhy accounts
-        (one_session (codes "C BAD" ∷ [])) 4 is_cut }
-    ensures bad_no { (accounts : Accounts) → IsWhy accounts
-        (one_session (codes "C BAD" ∷ codes "S NO :" ∷ [])) 5 is_cut }
-    ensures not_offered { (accounts : Accounts) → IsWhy accounts
-        (one_session (codes "C AUTH PLAIN" ∷ [])) 4 is_cut }
-    ensures not_offered_no { (accounts : Accounts) → IsWhy accounts
-        (one_session (codes "C AUTH PLAIN" ∷ codes "S NO :" ∷ [])) 5 is_cut }
-    ensures refused { (accounts : Accounts) → IsWhy accounts
-        (one_session (codes "C AUTH SCRAM-SHA-1 :" ∷ [])) 4 is_cut }
-    ensures refused_no { (accounts : Accounts) → IsWhy accounts
-        (one_session (codes "C AUTH SCRAM-SHA-1 :" ∷ codes "S NO :" ∷ [])) 5 is_cut }
-    ensures invited_gone { (accounts : Accounts) → IsWhy accounts
-        (one_session (codes "C AUTH SCRAM-SHA-1" ∷ codes "S CONT :" ∷ codes "C GONE" ∷ [])) 6 is_cut }
-{}
-
-/// These lines are at fault: another first line; a line whose class is not due, such as a session that begins where `E` is due, or
-/// the first line again; other names of mechanisms; a challenge where none is due, and another line where one is; and an `S OK`, or
-/// an `S NO` with a message, where a bare `S NO` is due.
-pub fn faulty_logs()
-    ensures first { (accounts : Accounts) → IsWhy accounts (ended_by_lf (codes "E" ∷ [])) 1 no_line }
-    ensures order { (accounts : Accounts) → IsWhy accounts (ended_by_lf (header_one_text ∷ codes "C ABORT" ∷ [])) 2 out_of_order }
-    ensures end { (accounts : Accounts) → IsWhy accounts (one_session (codes "C GONE" ∷ offer_text ∷ [])) 4 out_of_order }
-    ensures halt { (accounts : Accounts) → IsWhy accounts (one_session (codes "S HALT" ∷ [])) 3 out_of_order }
-    ensures mechs { (accounts : Accounts) → IsWhy accounts
-        (ended_by_lf (header_one_text ∷ codes "S MECHS SCRAM-SHA-1" ∷ [])) 2 other_mechs }
-    ensures outcome { (accounts : Accounts) → IsWhy accounts
-        (one_session (codes "C AUTH PLAIN" ∷ codes "S CONT :" ∷ [])) 4 (other_outcome (refused_with [])) }
-    ensures challenge { (accounts : Accounts) → IsWhy accounts
-        (one_session (codes "C AUTH SCRAM-SHA-1" ∷ codes "S NO :" ∷ [])) 4 other_challenge }
-    ensures first_again { (accounts : Accounts) → IsWhy accounts (ended_by_lf (header_one_text ∷ header_one_text ∷ [])) 2 out_of_order }
-    ensures accepted { (accounts : Accounts) → IsWhy accounts
-        (one_session (codes "C ABORT" ∷ codes "S OK :" ∷ [])) 4 (other_outcome (refused_with [])) }
-    ensures message { (accounts : Accounts) → IsWhy accounts
-        (one_session (codes "C BAD" ∷ codes "S NO :e=other-error" ∷ [])) 4 (other_outcome (refused_with [])) }
-    ensures not_first { (accounts : Accounts) → IsWhy accounts
-        (one_session (codes "C AUTH SCRAM-SHA-1 :" ∷ codes "S CONT :" ∷ [])) 4 (other_outcome (refused_with [])) }
-{}
+ghost use Rattle.log_grammar.specs.laws.Examples.{header_one_text, first_alone, AreWhole};
 
 /// A log that ends with a halt is clean, and any line that follows a halt is at fault: nothing is due after it.
 pub fn halt_is_last()

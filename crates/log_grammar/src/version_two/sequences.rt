@@ -1,10 +1,5 @@
 //! Laws of logs of version 2, whose lines have the numbers of their sessions. Each is the contract of a function that does nothing.
 //! They hold for every limit of open sessions.
-ghost use Rattle.std.specs.Prelude.{[], ◌∷◌};
-ghost use Rattle.log_grammar.specs.Lines.{gone};
-ghost use Rattle.log_grammar.specs.Demands.{Accounts};
-ghost use Rattle.log_grammar.specs.Numbered.{numbered};
-ghost use Rattle.log_grammar.specs.laws.NumberedExamples.{offer, turns_away, two_at_once, IsWholeForTwo, BeginsNoneForTwo};
 ghost use Rattle.log_grammar.specs.laws.NumberedLaws.{GoesOnByANumberedLine, GoesOnByNoOtherNumberedLine, HasOneNumberedReading};
 ghost use Rattle.log_grammar.specs.laws.NumberedLaws.{NumberedLogsGoOnExactlySo, FirstNumberedLinesAreLogs, SessionsStandAlone};
 ghost use Rattle.log_grammar.specs.laws.NumberedLaws.{OpenSessionsAreCounted, FewSessionsAreOpen, NumberClassesFollowThePlace};
@@ -55,16 +50,4 @@ pub fn few_sessions_are_open()
 /// depending on how many sessions are open; nothing after a halt; and after BUSY its `E`.
 pub fn number_classes_follow_the_place()
     ensures { NumberClassesFollowThePlace }
-{}
-
-/// If two sessions may be open at once, a log of two with interleaved lines, and of a third that is turned away, is whole. No log
-/// begins with a third session while two are open, with a number left out, with a session that is turned away while only one is
-/// open, or with another line than its `E` after BUSY.
-pub fn two_sessions_at_once()
-    ensures whole { (accounts : Accounts) → IsWholeForTwo accounts two_at_once }
-    ensures third { (accounts : Accounts) → BeginsNoneForTwo accounts (offer 1 ∷ offer 2 ∷ offer 3 ∷ []) }
-    ensures gap { (accounts : Accounts) → BeginsNoneForTwo accounts (offer 1 ∷ offer 3 ∷ []) }
-    ensures early { (accounts : Accounts) → BeginsNoneForTwo accounts (offer 1 ∷ turns_away 2 ∷ []) }
-    ensures unended { (accounts : Accounts)
-        → BeginsNoneForTwo accounts (offer 1 ∷ offer 2 ∷ turns_away 3 ∷ numbered 1 gone ∷ []) }
 {}

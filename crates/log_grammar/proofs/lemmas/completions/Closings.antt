@@ -7,6 +7,7 @@ use Rattle.log_grammar.specs.Places.{Place, before_all, between, offered, asks_b
 use Rattle.log_grammar.specs.Places.{got_code, leaving, ending, halted}
 use Rattle.log_grammar.specs.Demands.{Accounts, IsVerdictDue, demands}
 use Rattle.log_grammar.specs.laws.FitAccounts.{AllCanBeChallenged}
+use Rattle.log_grammar.specs.laws.Completions.{EndSession}
 use Rattle.log_grammar.specs.state_machine.Steps.{IsTransition, told_at}
 use Rattle.log_grammar.specs.Numbered.{Numbered, MayBeNumbered, MayFollow}
 use Rattle.log_grammar.specs.NumberedLines.{IsNoFirstLine}
@@ -51,36 +52,60 @@ module _ (message : List ℕ) where
   ok_is_plain : IsLogLineWritable (said (accepts message)) → IsPlain (said (accepts message))
   ok_is_plain writable = record { writable = writable; room = λ limit before n. tt; follow = λ n m next. tt; has_number = tt }
 
+-- the lines end a session, or there are none
+abbrev pub MayEndSession : List LogLine → Type 0
+MayEndSession lines = (lines ≡ []) ⊎ EndSession lines
+
 -- there are lines that close a session at this place
 abbrev pub IsClosable : Accounts → Place → Type 0
-IsClosable accounts place = (lines : List LogLine) × Closes accounts place lines
+IsClosable accounts place = (lines : List LogLine) × Closes accounts place lines × MayEndSession lines
+
+-- `E` closes a session of which only that is due
+ended_closes : (accounts : Accounts) → Closes accounts ending (ended ∷ [])
+ended_closes accounts = (end_is_plain, refl, between, refl, refl)
+
+-- `C GONE` and `E` close a session when it is the client's turn
+gone_closes : (accounts : Accounts) (place : Place) → told_at place gone ≡ [] → IsTransition (demands accounts) place gone ending
+    → Closes accounts place (gone ∷ ended ∷ [])
+gone_closes accounts place quiet goes = (gone_is_plain, quiet, ending, goes, ended_closes accounts)
 
 -- a session of which only `E` is due can be closed, by that
 ending_is_closable : (accounts : Accounts) → IsClosable accounts ending
-ending_is_closable accounts = (ended ∷ [], (end_is_plain, refl, between, refl, refl))
+ending_is_closable accounts = (ended ∷ [], ended_closes accounts, inr (inl refl))
 
 -- a session can be closed by a refusal and `E` if the server may refuse
 refused_place_is_closable : (accounts : Accounts) (place : Place) (text : List ℕ) → IsLogLineWritable (said (refuses text))
     → told_at place (said (refuses text)) ≡ []
     → IsTransition (demands accounts) place (said (refuses text)) ending → IsClosable accounts place
-refused_place_is_closable accounts place text writable quiet goes =
-    let end = ending_is_closable accounts in
-    (said (refuses text) ∷ end.0, (refusal_is_plain text writable, quiet, ending, goes, end.1))
+refused_place_is_closable accounts place text writable quiet goes = (
+  said (refuses text) ∷ ended ∷ [],
+  (refusal_is_plain text writable, quiet, ending, goes, ended_closes accounts),
+  inr (inr (inr (inl (text, refl)))),
+)
 
 -- a session can be closed when it is the client's turn, since the client may go away
 client_turn_is_closable : (accounts : Accounts) (place : Place) → told_at place gone ≡ []
     → IsTransition (demands accounts) place gone ending
     → IsClosable accounts place
 client_turn_is_closable accounts place quiet goes =
-    let end = ending_is_closable accounts in (gone ∷ end.0, (gone_is_plain, quiet, ending, goes, end.1))
+    (gone ∷ ended ∷ [], gone_closes accounts place quiet goes, inr (inr (inl refl)))
+
+-- a session can be closed by a challenge, after which the client may go away
+challenged_place_is_closable : (accounts : Accounts) (place next : Place) (text : List ℕ) → IsLogLineWritable (said (cont text))
+    → told_at place (said (cont text)) ≡ [] → IsTransition (demands accounts) place (said (cont text)) next
+    → told_at next gone ≡ [] → IsTransition (demands accounts) next gone ending → IsClosable accounts place
+challenged_place_is_closable accounts place next text writable quiet goes silent leaves = (
+  said (cont text) ∷ gone ∷ ended ∷ [],
+  (cont_is_plain text writable, quiet, next, goes, gone_closes accounts next silent leaves),
+  inr (inr (inr (inr (inl (text, refl))))),
+)
 
 -- a session can be closed after a mechanism was asked for without a message
 asks_bare_is_closable : (accounts : Accounts) (m : List ℕ) → IsClosable accounts (asks_bare m)
 asks_bare_is_closable accounts m = elim (decided_offered m) [
   | inr none ↦ refused_place_is_closable accounts (asks_bare m) [] bare_refusal_is_writable refl ((none, refl), refl)
   | inl is ↦
-      let turn = client_turn_is_closable accounts (waits_first m) refl refl in
-      (said (cont []) ∷ turn.0, (cont_is_plain [] (bare_cont_is_writable), refl, waits_first m, ((is, refl), refl), turn.1))
+      challenged_place_is_closable accounts (asks_bare m) (waits_first m) [] bare_cont_is_writable refl ((is, refl), refl) refl refl
 ]
 
 -- a session can be closed while a client-first message waits for its answer
@@ -93,9 +118,8 @@ got_first_is_closable accounts fit m first = elim (decided_first_message m first
       let text = challenge.0 in
       let next = waits_final m is.0 first text in
       let message = challenge.1.opens.is_challenge in
-      let turn = client_turn_is_closable accounts next refl refl in
       let writable = cont_is_writable text (utf8_is_message text message.utf8_text.utf8) message.short in
-      (said (cont text) ∷ turn.0, (cont_is_plain text writable, refl, next, (is.0, challenge.1, refl), turn.1))
+      challenged_place_is_closable accounts (got_first m first) next text writable refl (is.0, challenge.1, refl) refl refl
 ]
 
 -- a session can be closed while a client-final message waits for the verdict that is due
@@ -106,8 +130,11 @@ got_final_is_closable accounts m account first challenge last (refuse why) is =
     ((why, is, refl), refl)
 got_final_is_closable accounts m account first challenge last (accept signature) is =
     let a = due_acceptance_is_writable accounts m account first challenge last signature is in
-    let turn = client_turn_is_closable accounts (waits_code account) refl refl in
-    (said (accepts a.text) ∷ turn.0, (ok_is_plain a.text a.line, refl, waits_code account, ((signature, is, a.authentic), refl), turn.1))
+    let leaves = gone_closes accounts (waits_code account) refl refl in (
+      said (accepts a.text) ∷ gone ∷ ended ∷ [],
+      (ok_is_plain a.text a.line, refl, waits_code account, ((signature, is, a.authentic), refl), leaves),
+      inr (inr (inr (inr (inr (a.text, refl))))),
+    )
 
 -- the session at this place can be closed by some lines, or it has no line yet, waits for the reply to a code, or is halted
 abbrev pub Exit : Accounts → Place → Type 0
@@ -120,7 +147,7 @@ Exit accounts place =
 pub place_has_exit : (accounts : Accounts) → AllCanBeChallenged accounts → (place : Place)
     → ChallengeMeetsDemand (demands accounts) place → Exit accounts place
 place_has_exit accounts fit before_all opened = inr (inl refl)
-place_has_exit accounts fit between opened = inl ([], refl)
+place_has_exit accounts fit between opened = inl ([], refl, inl refl)
 place_has_exit accounts fit offered opened = inl (client_turn_is_closable accounts offered refl refl)
 place_has_exit accounts fit (asks_bare m) opened = inl (asks_bare_is_closable accounts m)
 place_has_exit accounts fit (waits_first m) opened = inl (client_turn_is_closable accounts (waits_first m) refl refl)

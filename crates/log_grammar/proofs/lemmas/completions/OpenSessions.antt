@@ -2,6 +2,7 @@
 -- them all.
 use Rattle.std.proofs.Common.{◌≡◌, inl, inr, ℕ, zero, suc, ◌≤◌, true, false, List, [], ◌∷◌, ◌++◌, reverse, refl, sym, ◌∙◌, ap, subst, arith}
 use Rattle.std.proofs.Common.{append_assoc, append-nil}
+use Rattle.std.specs.Prelude.{map}
 use Rattle.std.specs.List.{AllByRecursion, AllZip}
 use Rattle.std.proofs.lemmas.Bool.{cases_Bool}
 use Rattle.std.proofs.lemmas.Bool.Decides.{eqb_tells}
@@ -12,11 +13,12 @@ use Rattle.log_grammar.specs.Lines.{LogLine, said, halt, IsLogLineWritable}
 use Rattle.log_grammar.specs.Places.{Place, before_all, between, halted, is_closed}
 use Rattle.log_grammar.specs.Demands.{Accounts, Demands, demands, HaveDueReplies}
 use Rattle.log_grammar.specs.laws.FitAccounts.{AllCanBeChallenged}
+use Rattle.log_grammar.specs.laws.Completions.{in_turn, EndSessions}
 use Rattle.log_grammar.specs.state_machine.Steps.{IsTransition, told_at}
 use Rattle.log_grammar.specs.Numbered.{Numbered, numbered, MayFollow, IsNumberedLogUpTo, MayEndNumbered}
 use Rattle.log_grammar.specs.NumberedLines.{IsSessionNumber, IsNoFirstLine, numbered_text, IsNumberedLine}
 use Rattle.log_grammar.specs.state_machine.NumberedSteps.{IsVisitTransition, put}
-use Rattle.log_grammar.proofs.lemmas.completions.Closings.{Closes, place_has_exit}
+use Rattle.log_grammar.proofs.lemmas.completions.Closings.{Closes, MayEndSession, place_has_exit}
 use Rattle.log_grammar.proofs.lemmas.lines.Written.{halt_is_writable}
 use Rattle.log_grammar.proofs.lemmas.many_sessions.WithoutLast.{numbered_log_has_last_transition}
 use Rattle.log_grammar.proofs.lemmas.lines.NumberedReadBack.{numbered_line_lacks_lf, numbered_line_is_writable}
@@ -26,16 +28,12 @@ use Rattle.log_grammar.proofs.lemmas.many_sessions.LinesOfNumber.{one_and_others
 use Rattle.log_grammar.proofs.lemmas.ListEnds.{holds_by_last}
 use Rattle.log_grammar.proofs.lemmas.state_machine.StepKinds.{visit_transition_has_kind}
 
--- a log of version 2 can be completed: with some more lines it may end
-pub record IsNumberedCompletable (limit : ℕ) (accounts : Accounts) (log : List (Numbered LogLine)) : Type 0 where
-  -- the texts of the lines that complete it
-  pub texts : List (List ℕ)
-  -- these lines
-  pub more : List (Numbered LogLine)
-  -- the texts are those of the lines
-  pub are : AllZip IsNumberedLine texts more
+-- these lines complete a log of version 2: with them it may end
+pub record IsNumberedCompletedBy (limit : ℕ) (accounts : Accounts) (log more : List (Numbered LogLine)) : Type 0 where
+  -- the lines have their texts
+  pub are : AllZip IsNumberedLine (map numbered_text more) more
   -- no text has an LF
-  pub lack : AllByRecursion LacksLf texts
+  pub lack : AllByRecursion LacksLf (map numbered_text more)
   -- where each number stands after them
   pub places : ℕ → Place
   -- the replies recorded in all lines
@@ -44,6 +42,34 @@ pub record IsNumberedCompletable (limit : ℕ) (accounts : Accounts) (log : List
   pub spells : IsNumberedLogUpTo limit (demands accounts) (log ++ more) places told
   -- it may end there
   pub ends : MayEndNumbered places
+
+-- a log of version 2 can be completed by lines that end its open sessions
+abbrev pub IsNumberedCompletable : (limit : ℕ) → Accounts → List (Numbered LogLine) → Type 0
+IsNumberedCompletable limit accounts log =
+    (more : List (Numbered LogLine)) × EndSessions more × IsNumberedCompletedBy limit accounts log more
+
+-- no lines end the sessions, if none is open
+nothing_ends_sessions : EndSessions []
+nothing_ends_sessions = record { sessions = []; each = tt; last = []; may_halt = inl refl; are = refl }
+
+-- a halt ends all sessions
+halt_ends_sessions : (n : ℕ) → EndSessions (numbered n (said halt) ∷ [])
+halt_ends_sessions n =
+    record { sessions = []; each = tt; last = numbered n (said halt) ∷ []; may_halt = inr (n, refl); are = refl }
+
+-- the lines that end one session, if there are any, and then those that end others, end them all
+one_session_and_others_end : (n : ℕ) (lines : List LogLine) (others : List (Numbered LogLine)) → MayEndSession lines → EndSessions others
+    → EndSessions (map (numbered n) lines ++ others)
+one_session_and_others_end n lines others (inl none) end =
+    subst (λ (l : List LogLine). EndSessions (map (numbered n) l ++ others)) (sym none) end
+one_session_and_others_end n lines others (inr is) end = record {
+  sessions = numbered n lines ∷ end.sessions;
+  each = (is, end.each);
+  last = end.last;
+  may_halt = end.may_halt;
+  are = ap (λ (l : List (Numbered LogLine)). map (numbered n) lines ++ l) end.are
+      ∙ sym (append_assoc (map (numbered n) lines) (in_turn end.sessions) end.last);
+}
 
 -- any line may follow the last line
 abbrev pub Free : List (Numbered LogLine) → Type 0
@@ -94,11 +120,9 @@ OpenInRange places = (n : ℕ) → is_closed (places n) ≡ false → IsSessionN
 
 module _ (limit : ℕ) (accounts : Accounts) where
   -- a log is complete if the places of its numbers let it end
-  pub ended_numbered_log_is_completable : (log : List (Numbered LogLine)) (places : ℕ → Place) (told : List AccountAttempt)
-      → IsNumberedLogUpTo limit (demands accounts) log places told → MayEndNumbered places → IsNumberedCompletable limit accounts log
-  ended_numbered_log_is_completable log places told s ends = record {
-    texts = [];
-    more = [];
+  ended_numbered_log_is_complete : (log : List (Numbered LogLine)) (places : ℕ → Place) (told : List AccountAttempt)
+      → IsNumberedLogUpTo limit (demands accounts) log places told → MayEndNumbered places → IsNumberedCompletedBy limit accounts log []
+  ended_numbered_log_is_complete log places told s ends = record {
     are = tt;
     lack = tt;
     places = places;
@@ -107,33 +131,39 @@ module _ (limit : ℕ) (accounts : Accounts) where
     ends = ends;
   }
 
-  -- a log can be completed if one more line can be written and the log with it can be completed
-  pub shorter_numbered_log_is_completable : (log : List (Numbered LogLine)) (n : ℕ) (line : LogLine)
+  -- a log can be completed by nothing if the places of its numbers let it end
+  pub ended_numbered_log_is_completable : (log : List (Numbered LogLine)) (places : ℕ → Place) (told : List AccountAttempt)
+      → IsNumberedLogUpTo limit (demands accounts) log places told → MayEndNumbered places → IsNumberedCompletable limit accounts log
+  ended_numbered_log_is_completable log places told s ends =
+      ([], nothing_ends_sessions, ended_numbered_log_is_complete log places told s ends)
+
+  -- a log is completed by one more line that can be written, and then those that complete the log with it
+  pub numbered_line_and_others_complete_log : (log : List (Numbered LogLine)) (n : ℕ) (line : LogLine) (more : List (Numbered LogLine))
       → IsSessionNumber n → IsNoFirstLine line → IsLogLineWritable line
-      → IsNumberedCompletable limit accounts (log ++ numbered n line ∷ []) → IsNumberedCompletable limit accounts log
-  shorter_numbered_log_is_completable log n line number has written c =
+      → IsNumberedCompletedBy limit accounts (log ++ numbered n line ∷ []) more
+      → IsNumberedCompletedBy limit accounts log (numbered n line ∷ more)
+  numbered_line_and_others_complete_log log n line more number has written c =
       let x = numbered n line in
       let is = numbered_line_is_writable x number has written in
       record {
-        texts = numbered_text x ∷ c.texts;
-        more = x ∷ c.more;
         are = (is, c.are);
         lack = (numbered_line_lacks_lf (numbered_text x) x is, c.lack);
         places = c.places;
         told = c.told;
         spells = subst (λ (l : List (Numbered LogLine)). IsNumberedLogUpTo limit (demands accounts) l c.places c.told)
-            (append_assoc log (x ∷ []) c.more) c.spells;
+            (append_assoc log (x ∷ []) more) c.spells;
         ends = c.ends;
       }
 
-  -- a log can be completed if some lines close one number and the log after them can be completed
+  -- a log is completed by lines that close one number, and then those that complete the log with these
   closing_number_completes_log : (n : ℕ) → IsSessionNumber n
       → (lines : List LogLine) (log : List (Numbered LogLine)) (places : ℕ → Place) (told : List AccountAttempt)
       → IsNumberedLogUpTo limit (demands accounts) log places told → Free log → Closes accounts (places n) lines
       → ((longer : List (Numbered LogLine)) (after : ℕ → Place) (all : List AccountAttempt)
       → IsNumberedLogUpTo limit (demands accounts) longer after all → Free longer
       → after n ≡ between → ((m : ℕ) → (n ≡ m → ⊥) → after m ≡ places m) → IsNumberedCompletable limit accounts longer)
-      → IsNumberedCompletable limit accounts log
+      → (others : List (Numbered LogLine)) × EndSessions others
+      × IsNumberedCompletedBy limit accounts log (map (numbered n) lines ++ others)
   closing_number_completes_log n number [] log places told s free closed on =
       on log places told s free closed (λ m other. refl)
   closing_number_completes_log n number (line ∷ more) log places told s free (plain, quiet, next, goes, closes) on =
@@ -144,12 +174,15 @@ module _ (limit : ℕ) (accounts : Accounts) where
         goes = inl goes;
         due = subst (HaveDueReplies (demands accounts) (reverse told)) (sym quiet) tt;
       }) in
-      shorter_numbered_log_is_completable log n line number plain.has_number plain.writable
-      (closing_number_completes_log n number more longer (put n next places) (told ++ told_at (places n) line) s'
+      let (others, end, c) = closing_number_completes_log n number more longer (put n next places) (told ++ told_at (places n) line) s'
       (log_is_free_after log n line (plain.follow n))
       (subst (λ (p : Place). Closes accounts p more) (sym (put_sets_own n next places)) closes)
-      (λ after_log after all r free' at others. on after_log after all r free' at
-      (λ m other. others m other ∙ put_keeps_others n next places m other)))
+      (λ after_log after all r free' at kept. on after_log after all r free' at
+      (λ m other. kept m other ∙ put_keeps_others n next places m other)) in (
+        others,
+        end,
+        numbered_line_and_others_complete_log log n line (map (numbered n) more ++ others) number plain.has_number plain.writable c,
+      )
 
   -- a log can be completed by a halt if the place of some number allows it
   halt_completes_log : (log : List (Numbered LogLine)) (places : ℕ → Place) (told : List AccountAttempt) (n : ℕ) → IsSessionNumber n
@@ -162,10 +195,13 @@ module _ (limit : ℕ) (accounts : Accounts) where
         next = λ before x e. free before x e n (said halt);
         goes = inl goes;
         due = subst (HaveDueReplies (demands accounts) (reverse told)) (sym quiet) tt;
-      }) in
-      shorter_numbered_log_is_completable log n (said halt) number tt halt_is_writable
-      (ended_numbered_log_is_completable (log ++ numbered n (said halt) ∷ []) (put n halted places)
-      (told ++ told_at (places n) (said halt)) s' (inr (n, put_sets_own n halted places)))
+      }) in (
+        numbered n (said halt) ∷ [],
+        halt_ends_sessions n,
+        numbered_line_and_others_complete_log log n (said halt) [] number tt halt_is_writable
+            (ended_numbered_log_is_complete (log ++ numbered n (said halt) ∷ []) (put n halted places)
+            (told ++ told_at (places n) (said halt)) s' (inr (n, put_sets_own n halted places))),
+      )
 
 module _ (limit : ℕ) (accounts : Accounts) (fit : AllCanBeChallenged accounts) where
   -- if all numbers from k on are closed, the log is completed by closing those below k
@@ -195,9 +231,13 @@ module _ (limit : ℕ) (accounts : Accounts) (fit : AllCanBeChallenged accounts)
             let opened = number_challenge_meets_demand limit (demands accounts) log places told s k in
             elim (place_has_exit accounts fit (places k) opened) [
               | inl closable ↦
-                  closing_number_completes_log limit accounts k number closable.0 log places told s free closable.1
-                  (λ longer after all r free' at others. closing_all_completes_log k longer after all r free'
-                  (ranged_on after at others) (below after at others))
+                  let (others, end, c) = closing_number_completes_log limit accounts k number closable.0 log places told s free closable.1
+                  (λ longer after all r free' at kept. closing_all_completes_log k longer after all r free'
+                  (ranged_on after at kept) (below after at kept)) in (
+                    map (numbered k) closable.0 ++ others,
+                    one_session_and_others_end k closable.0 others closable.2 end,
+                    c,
+                  )
               | inr (inl start) ↦ absurd (no_number_is_before_all limit (demands accounts) log places told s k start)
               | inr (inr (inl waits)) ↦
                   halt_completes_log limit accounts log places told k number s free
