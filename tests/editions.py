@@ -13,9 +13,9 @@ EDITIONS = TOP / "docs" / "editions"
 # Of each page: the promise, and the contracts with which it begins, each by its crate, its source file, its function and those of its
 # clauses that are of the promise, or none if all are.
 PROMISES = {
-    "headline": ("An audit finds the first line at fault", [("sasl_log", "auditor.rt", "audit", "clean counts fault")]),
+    "headline": ("An audit finds the first line at fault", [("sasl_log", "auditor.rt", "audit", "clean counts first fault")]),
     "service": ("A code that has passed is spent", [
-        ("sasl_desk", "laws.rt", "told_counters_are_saved", ""), ("sasl_desk", "laws.rt", "no_counter_passes_twice", ""),
+        ("sasl_desk", "laws.rt", "passed_counters_are_saved", ""), ("sasl_desk", "laws.rt", "no_counter_passes_twice", ""),
         ("book_keeper", "keeper.rt", "judge", "")]),
     "login": ("A login is accepted exactly if RFC 5802 makes it valid", [("scram_ends", "laws.rt", "accepts_exactly_valid", "")]),
     "code": ("Each code has the reply that RFC 4226 and RFC 6238 give", [("otp_core", "token.rt", "attempt", "")]),

@@ -15,7 +15,7 @@ from collections.abc import Callable
 import shims
 import suite
 from checks import equal, holds
-from command_table import Command, command_of, parsed_book, prepare, run, with_account
+from command_table import Command, after_codes, command_of, parsed_book, prepare, run, with_account
 from expected import AUDITS, MECHS
 from processes import ran
 from suite import BOOK_OF_USER, PROGRAM, each, hotp, token
@@ -69,11 +69,13 @@ def each_refused(kind: str, folder: str, given: str) -> tuple[str | None, list[s
     return whole, answers
 
 
-def count_told(folder: str, kind: str, logged: str, check: Callable[[str], bool]) -> int:
-    """How many refused requests are reported by a service that, without refusals, logs `logged`. Each is reported at most once, and
-    `check` is then true for the log. More than half of all requests are those of the calls."""
+def count_told(folder: str, kind: str, is_due: Callable[[str], bool], check: Callable[[str], bool]) -> int:
+    """How many refused requests are reported by a service. What it prints, apart from their number, is due without refusals; with one
+    `check` is true of it. Each is reported at most once. More than half of all requests are those of the calls."""
     whole, answers = each_refused(kind, folder, BOOK)
-    equal(whole, f"{logged}out of memory 0\n", kind)
+    log, times = (whole or "").rsplit("out of memory ", 1)
+    holds(is_due(log), kind, "without refusals it is not what is due", whole)
+    equal(times, "0\n", kind, whole)
     told = 0
     for trial, answer in each(answers):
         with trial:
@@ -123,27 +125,35 @@ def is_clean(folder: str, log: str) -> bool:
     return is_front and status == 0 and output.startswith("clean sessions=")
 
 
+def is_whole(printed: str) -> bool:
+    """Whether the client was sent the lines of the server in the log and nothing else, the store holds the book after the code that has
+    passed, and the log is the whole one."""
+    wire, saved, log = printed.split("---\n")
+    sent = "".join(line.removeprefix("S ") for line in LOGGED.splitlines(True) if line.startswith("S "))
+    return (wire, log) == (sent, LOGGED) and parsed_book(saved) == after_codes(parsed_book(BOOK), 1)[1]
+
+
 def calls_are_made_again(folder: str) -> None:
-    """If a call of a desk is refused memory, the same call again leads to the log that was due."""
-    told = count_told(folder, "calls", LOGGED, LOGGED.__eq__)
+    """If a call of a desk is refused memory, the same call again leads to the log that was due, and has sent and saved what was due."""
+    told = count_told(folder, "calls", is_whole, is_whole)
     print(f"refused_calls.py: {told} requests of the calls of a desk are refused")
 
 
 def turns_are_taken_again(folder: str) -> None:
     """If a turn of a desk is refused memory, the same line again leads to the log that was due."""
-    told = count_told(folder, "turns", LOGGED, LOGGED.__eq__)
+    told = count_told(folder, "turns", LOGGED.__eq__, LOGGED.__eq__)
     print(f"refused_calls.py: {told} requests of turns of a desk are refused")
 
 
 def a_service_can_be_ended(folder: str) -> None:
     """If a service is refused memory, it ends with a clean log: some first lines of the one that was due, and then its end."""
-    told = count_told(folder, "service", LOGGED, lambda log: is_clean(folder, log))
+    told = count_told(folder, "service", LOGGED.__eq__, lambda log: is_clean(folder, log))
     print(f"refused_calls.py: {told} requests of a whole service are refused")
 
 
 def calls_of_a_hall_are_made_again(folder: str) -> None:
     """If a call of a hall is refused memory, the same call again leads to the log that was due."""
-    told = count_told(folder, "hall", IN_HALL, IN_HALL.__eq__)
+    told = count_told(folder, "hall", IN_HALL.__eq__, IN_HALL.__eq__)
     print(f"refused_calls.py: {told} requests of the calls of a hall are refused")
 
 

@@ -27,6 +27,11 @@ impl MemoryStore {
             saves: 0,
         }
     }
+
+    /// The text that it holds.
+    pub(crate) fn into_text(self) -> String {
+        self.text
+    }
 }
 
 impl BookStore for MemoryStore {

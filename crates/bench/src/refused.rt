@@ -96,18 +96,31 @@ fn print_end(rt: &impl Print, log: &[u8], refused: Option<u32>) -> io::Result<()
     }
 }
 
-// Gives these lines to a desk over this book, call by call, and makes a call that runs out of memory again. Returns how often memory
-// ran out, or None.
-fn called(alloc: Global, book: Book, lines: &str, log: &mut Vec<u8>) -> Option<u32> {
+// What a client was sent, how often memory ran out while it was served, and the text that the store then holds.
+#[derive(Drop)]
+struct Outcome {
+    wire: Vec<u8>,
+    refused: u32,
+    saved: String,
+}
+
+// Gives these lines to a desk over this book, call by call, and makes a call that runs out of memory again.
+fn called(alloc: Global, book: Book, lines: &str, log: &mut Vec<u8>) -> Option<Outcome> {
     let mut wire = Vec::new(alloc);
     let (mut desk, before) = begun(alloc, book, log)?;
     let greeting = greeted(&mut desk, &mut wire, log)?;
     let rest = all_heard(alloc, &mut desk, lines, &mut wire, log)?;
-    Some(before.saturating_add(greeting).saturating_add(rest))
+    let (_, store) = desk.close();
+    Some(Outcome {
+        wire,
+        refused: before.saturating_add(greeting).saturating_add(rest),
+        saved: store.into_text(),
+    })
 }
 
 /// Gives a login and `count` codes to a desk over the book in the file at `path`, call by call, and makes a call that runs out of
-/// memory again. Prints the desk's log, and how often memory ran out.
+/// memory again. Prints what its client was sent, the text that its store holds, and then, as the others do, its log and how often
+/// memory ran out.
 pub(crate) fn print_calls<R>(rt: &R, path: &str, count: u32) -> io::Result<()>
 where
     R: Print + Files + AllocGlobal,
@@ -115,8 +128,14 @@ where
     let alloc = rt.alloc();
     let (book, text) = (read_book(rt, path)?, login_and_codes(alloc, count)?);
     let mut log = Vec::new(alloc);
-    let refused = called(alloc, book, text.as_str(), &mut log);
-    print_end(rt, log.as_slice(), refused)
+    let Some(outcome) = called(alloc, book, text.as_str(), &mut log) else {
+        return print_end(rt, log.as_slice(), None);
+    };
+    if let Ok(wire) = str::from_utf8(outcome.wire.as_slice()) {
+        let saved = outcome.saved.as_str();
+        println!(rt; "{wire}---\n{saved}---")?;
+    }
+    print_end(rt, log.as_slice(), Some(outcome.refused))
 }
 
 // Takes a turn with a client that sends this line, and returns a count as `greeted` does.

@@ -1,5 +1,5 @@
 -- What a desk stands for: the book with which it began, and the run since.
-use Rattle.std.specs.Prelude.{ℕ, ◌≡◌, ◌⊎◌, true, List, [], ◌∷◌, ◌++◌, reverse}
+use Rattle.std.specs.Prelude.{ℕ, ◌≡◌, ◌⊎◌, ◌↔◌, true, List, [], ◌∷◌, ◌++◌, reverse}
 use Rattle.account_book.specs.{BookFields, IsBookText}
 use Rattle.account_book.specs.SavedBooks.{HasStoredText, HoldsBook}
 use Rattle.account_book.specs.Store.{StoreFacts}
@@ -7,7 +7,8 @@ use Rattle.account_book.specs.AccountAttempt.{AccountAttempt}
 use Rattle.account_book.specs.Tokens.{IsBookAttempt, IsBookAfterAttempts}
 use Rattle.book_keeper.specs.declared.keeper.Keeper.{Keeper}
 use Rattle.log_grammar.specs.Books.{accounts_in}
-use Rattle.log_grammar.specs.Lines.{LogLine, log_bytes}
+use Rattle.log_grammar.specs.Lines.{LogLine, said, halt, log_bytes}
+use Rattle.log_grammar.specs.laws.LastLines.{EndsWith}
 use Rattle.log_grammar.specs.Places.{Place, between, halted}
 use Rattle.log_grammar.specs.Demands.{Accounts, demands}
 use Rattle.log_grammar.specs.Begins.{Begins}
@@ -76,8 +77,7 @@ abbrev pub IsStoredAt : (IsStored : List ℕ → Type 0) → Accounts → List C
 IsStoredAt IsStored accounts calls halted book store = IsLostAfter IsStored accounts calls book store
 IsStoredAt IsStored accounts calls place book store = HoldsBook IsStored book store
 
--- what a run that kept this book may leave: this book, or this book with one more attempt (the laws `store_holds_a_book` and
--- `stops_leave_runs`)
+-- what a run that kept this book may leave, wherever it stops: this book, or this book with one more attempt
 abbrev pub MayLeave : (kept left : BookFields) → Type 0
 MayLeave kept left = (left ≡ kept) ⊎ ((attempt : AccountAttempt) × IsBookAttempt kept attempt left)
 
@@ -119,17 +119,22 @@ module _ {S : Type 0} (facts : S → StoreFacts) (IsStored : List ℕ → Type 0
     pub is_book : IsBookAfterAttempts start (reverse told) desk.keeper.book
     pub is_stored : IsStoredAt IsStored (accounts_in start) calls place desk.keeper.book (facts desk.keeper.store)
 
-  -- what a call did: it added lines, and a desk that had answered some calls has now answered this one as well
+  -- what a call did to a desk and its store
+  pub record AnswersCall (old : Desk S) (call : Call) (new : Desk S) : Type 0 where
+    -- a desk that had answered some calls has now answered this one as well
+    pub stands : (start : BookFields) (calls : List Call) → IsDeskAfter start calls old → IsDeskAfter start (call ∷ calls) new
+    -- the store was asked for one save for each line that needs one, and was given a text of the book with the attempt of this call
+    pub saves : (start : BookFields) (calls : List Call) → IsDeskAfter start calls old → CountsSaves facts call.lines old.keeper new.keeper
+    pub asks : (start : BookFields) (calls : List Call) (standing : IsDeskAfter start calls old)
+        → AsksToSaveAttempt facts call.request standing.place call.lines old.keeper new.keeper
+    pub quiet : IsQuiet facts call.lines old.keeper new.keeper
+
+  -- what a call did: it added lines, and a desk answered it
   pub record Answers (old : Desk S) (request : Request) (wire wire' log log' : List ℕ) (new : Desk S) : Type 0 where
     pub lines : List LogLine
     pub logged : log' ≡ log ++ log_bytes lines
     pub sent : wire' ≡ wire ++ wire_bytes lines
-    pub stands : (start : BookFields) (calls : List Call) → IsDeskAfter start calls old
-        → IsDeskAfter start (call_of request lines ∷ calls) new
-    -- the store was asked for one save for each line that needs one, and was given a text of the book with the attempt of this call
-    pub saves : (start : BookFields) (calls : List Call) → IsDeskAfter start calls old → CountsSaves facts lines old.keeper new.keeper
-    pub asks : (start : BookFields) (calls : List Call) (standing : IsDeskAfter start calls old)
-        → AsksToSaveAttempt facts request standing.place lines old.keeper new.keeper
-    pub quiet : IsQuiet facts lines old.keeper new.keeper
-    -- a call halts the desk only by a save in which the store failed
+    pub answers : AnswersCall old (call_of request lines) new
+    -- a call halts the desk only by a save in which the store failed, and does so if and only if its last line is `S HALT`
     pub halts : desk_phase new ≡ phase.Halted → LeavesFailedStore facts old.keeper new.keeper
+    pub says_halt : (desk_phase new ≡ phase.Halted) ↔ EndsWith lines (said halt ∷ [])

@@ -12,7 +12,8 @@ use Rattle.account_book.specs.SavedBooks.{HoldsBook}
 use Rattle.account_book.specs.Tokens.{IsBookAfterAttempts}
 use Rattle.book_keeper.specs.declared.keeper.Keeper.{Keeper}
 use Rattle.log_grammar.specs.Books.{accounts_in}
-use Rattle.log_grammar.specs.Lines.{LogLine, header_two, said, ended, busy, log_bytes}
+use Rattle.log_grammar.specs.Lines.{LogLine, header_two, said, ended, halt, busy, log_bytes}
+use Rattle.log_grammar.specs.laws.LastLines.{EndsWith}
 use Rattle.log_grammar.specs.Places.{Place, between, offered, waits_first, waits_final, waits_code, open_at}
 use Rattle.log_grammar.specs.Demands.{Accounts, demands}
 use Rattle.log_grammar.specs.Numbered.{Numbered, numbered, of_number, given_in, closed_in, IsNumberedLogUpTo}
@@ -170,5 +171,6 @@ module _ {S : Type 0} (facts : S → StoreFacts) (IsStored : List ℕ → Type 0
     pub asks : (start : BookFields) (calls : List (Numbered Call)) (standing : IsHallAfter start calls old)
         → AsksToSaveAttempt facts request (standing.places number) lines old.keeper new.keeper
     pub quiet : IsQuiet facts lines old.keeper new.keeper
-    -- a call halts the hall only by a save in which the store failed
+    -- a call halts the hall only by a save in which the store failed, and does so if and only if its last line is `S HALT`
     pub halts : new.is_halted ≡ true → LeavesFailedStore facts old.keeper new.keeper
+    pub says_halt : (new.is_halted ≡ true) ↔ EndsWith lines (said halt ∷ [])

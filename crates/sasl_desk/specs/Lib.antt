@@ -13,9 +13,11 @@ pub mod Halls
 pub mod Records
 pub mod AcceptedLogins
 pub mod Alone
+pub mod Faults
+pub mod Stops
+pub mod Passes
 pub mod Saved
 pub mod Changes
-pub mod Faults
 pub mod Inputs
 pub mod Clocks
 pub mod Outputs

@@ -3,10 +3,10 @@
 use Rattle.std.specs.Prelude.{ℕ, ◌≡◌, List, ◌++◌, reverse}
 use Rattle.account_book.specs.{BookFields, IsBookText}
 use Rattle.account_book.specs.SavedBooks.{HasStoredText}
-use Rattle.account_book.specs.Store.{StoreFacts, MayHold, MayHoldWithinSave}
+use Rattle.account_book.specs.Store.{StoreFacts, MayHold}
 use Rattle.account_book.specs.AccountAttempt.{AccountAttempt}
 use Rattle.account_book.specs.Tokens.{IsBookAttempt, IsBookAfterAttempts}
-use Rattle.account_book.specs.Spent.{spent_by_all, AreSpent, spent_by}
+use Rattle.account_book.specs.Spent.{AreSpent, spent_by}
 use Rattle.log_grammar.specs.Books.{accounts_in}
 use Rattle.log_grammar.specs.Begins.{Begins}
 use Rattle.log_grammar.specs.Demands.{demands}
@@ -15,6 +15,7 @@ use Rattle.log_grammar.specs.Numbered.{Numbered, IsNumberedLogUpTo}
 use Rattle.log_grammar.specs.Places.{Place}
 use Rattle.log_grammar.specs.Versions.{max_open_sessions}
 use Rattle.sasl_desk.specs.Desks.{IsTextLeft}
+use Rattle.sasl_desk.specs.Stops.{MayBeLeft}
 
 -- these attempts lead to a book. `IsStored` is true of some text of it, and each text that the store may hold is of this book, or of it
 -- with one more attempt.
@@ -45,16 +46,12 @@ pub record AreLinesSaved (IsStored : List ℕ → Type 0) (start : BookFields) (
 abbrev pub IsTextOfSpent : List (List ℕ × ℕ) → (text : List ℕ) → Type 0
 IsTextOfSpent counters text = (saved : BookFields) × IsBookText text saved × AreSpent counters saved
 
--- a desk or a hall began with the book `start`, has told these replies, and has the book `kept` in this store. Whichever text the store
--- may hold is that of a book in which each counter is spent that the replies have used, and each that was spent before the run.
-pub record AreToldCountersSaved (start : BookFields) (told : List AccountAttempt) (kept : BookFields) (store : StoreFacts) : Type 0 where
-  -- it is so at the end of a call, also of the text that a failed save was given
-  pub ended : (spent : List (List ℕ × ℕ)) (text : List ℕ) → AreSpent spent start → MayHold store text
-      → IsTextOfSpent (spent_by_all (reverse told) ++ spent) text
-  -- it is so within a call that is saving a text of `next`, the book with the attempt that is judged
-  pub within : (spent : List (List ℕ × ℕ)) (attempt : AccountAttempt) (next : BookFields) (asked text : List ℕ) → AreSpent spent start
-      → IsBookAttempt kept attempt next → IsBookText asked next → MayHoldWithinSave store asked text
-      → IsTextOfSpent (spent_by_all (reverse told) ++ spent) text
-  -- in the book with the attempt, the counters that the attempt uses are spent as well
+-- a desk or a hall began with the book `start`, has used these counters, and has the book `kept` in this store
+pub record AreCountersSaved (start : BookFields) (used : List (List ℕ × ℕ)) (kept : BookFields) (store : StoreFacts) : Type 0 where
+  -- wherever it stops, the text that its store may hold is that of a book in which each counter is spent that was used, and each that was
+  -- spent before the run
+  pub left : (spent : List (List ℕ × ℕ)) (text : List ℕ) → AreSpent spent start → MayBeLeft kept store text
+      → IsTextOfSpent (used ++ spent) text
+  -- in the book with one more attempt, the counters that the attempt uses are spent as well
   pub next : (spent : List (List ℕ × ℕ)) (attempt : AccountAttempt) (next : BookFields) → AreSpent spent start
-      → IsBookAttempt kept attempt next → AreSpent (spent_by attempt ++ (spent_by_all (reverse told) ++ spent)) next
+      → IsBookAttempt kept attempt next → AreSpent (spent_by attempt ++ (used ++ spent)) next

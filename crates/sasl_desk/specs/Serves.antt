@@ -3,7 +3,6 @@ use Rattle.std.specs.Prelude.{ℕ, ◌≡◌, ◌≢◌, ◌⊎◌, ◌<◌, ◌
 use Rattle.std.specs.Io.KnownBytes.{Appends}
 use Rattle.std.specs.List.{AllByRecursion}
 use Rattle.std.specs.declared.option.Option.{Option}
-use Rattle.account_book.specs.{BookFields}
 use Rattle.account_book.specs.Store.{StoreFacts}
 use Rattle.log_grammar.specs.Lines.{LogLine, log_bytes}
 use Rattle.sasl_log.specs.Source.{SourceFacts}
@@ -12,8 +11,7 @@ use Rattle.sasl_desk.specs.Bounds.{max_turns}
 use Rattle.sasl_desk.specs.Events.{goes_away}
 use Rattle.sasl_desk.specs.Inputs.{LineRead, ReadsLine, ReadsLines, event_read}
 use Rattle.sasl_desk.specs.Runs.{Request, greets, hears, Call, call_of, call_lines}
-use Rattle.sasl_desk.specs.Desks.{IsDeskAfter, IsSameDesk, desk_phase}
-use Rattle.sasl_desk.specs.SavedCalls.{CountsSaves}
+use Rattle.sasl_desk.specs.Desks.{AnswersCall, IsSameDesk, desk_phase}
 use Rattle.sasl_desk.specs.Outputs.{AreWritten}
 use Rattle.sasl_desk.specs.declared.desk.Desk.{Desk}
 use Rattle.sasl_desk.specs.declared.session.phase.Phase.TheVariants as phase
@@ -67,24 +65,23 @@ session_calls server_nonce greeting (turn ∷ before) = call_in turn ∷ session
 
 -- what a desk does for a client: `facts` are those of its store, and `IsStored` is true of each text that is stored
 module _ {S : Type 0} (facts : S → StoreFacts) (IsStored : List ℕ → Type 0) where
-  -- a desk that had answered some calls has answered these as well
-  pub record AnswersAll (old : Desk S) (calls : List Call) (new : Desk S) : Type 0 where
-    pub stands : (start : BookFields) (before : List Call) → IsDeskAfter facts IsStored start before old
-        → IsDeskAfter facts IsStored start (calls ++ before) new
-    pub saves : (start : BookFields) (before : List Call) → IsDeskAfter facts IsStored start before old
-        → CountsSaves facts (call_lines calls) old.keeper new.keeper
+  -- a desk answered these calls one after another, the latest of which comes first
+  abbrev pub AnswersEach : (old : Desk S) → List Call → (new : Desk S) → Type 0
+  AnswersEach old [] new = new ≡ old
+  AnswersEach old (call ∷ before) new =
+      (middle : Desk S) × AnswersEach old before middle × AnswersCall facts IsStored middle call new
 
   -- the desk answered what it was asked, and its lines were written
   pub record IsDone (request : Request) (old new : Desk S) (wire wire' log log' : SinkFacts) : Type 0 where
     pub lines : List LogLine
-    pub answers : AnswersAll old (call_of request lines ∷ []) new
+    pub answers : AnswersCall facts IsStored old (call_of request lines) new
     pub written : AreWritten lines wire wire' log log'
     pub halts : HaltsOnlyByStore facts new
 
   -- the desk answered what it was asked, and its lines were logged, but the wire to the client has failed
   pub record IsUnsent (request : Request) (old new : Desk S) (wire' log log' : SinkFacts) : Type 0 where
     pub lines : List LogLine
-    pub answers : AnswersAll old (call_of request lines ∷ []) new
+    pub answers : AnswersCall facts IsStored old (call_of request lines) new
     pub logged : Appends log.given log'.given (log_bytes lines)
     pub log_works : log'.failed ≡ false
     pub wire_fails : wire'.failed ≡ true
@@ -93,7 +90,7 @@ module _ {S : Type 0} (facts : S → StoreFacts) (IsStored : List ℕ → Type 0
   -- the desk answered what it was asked, but the log has failed: then the desk has halted, and nothing was sent
   pub record IsUnlogged (request : Request) (old new : Desk S) (wire wire' log' : SinkFacts) : Type 0 where
     pub lines : List LogLine
-    pub answers : AnswersAll old (call_of request lines ∷ []) new
+    pub answers : AnswersCall facts IsStored old (call_of request lines) new
     pub log_fails : log'.failed ≡ true
     pub halted : desk_phase new ≡ phase.Halted
     pub unsent : wire' ≡ wire
@@ -138,7 +135,7 @@ module _ {S : Type 0} (facts : S → StoreFacts) (IsStored : List ℕ → Type 0
       pub reads : ReadsLines old.input (reads_in turns) new.input
       pub moments : AllByRecursion (λ turn. IsNow turn.moment) turns
       pub asked : Appends old.given new.given (moments_in turns)
-      pub answers : AnswersAll old.desk (session_calls server_nonce greeting turns) new.desk
+      pub answers : AnswersEach old.desk (session_calls server_nonce greeting turns) new.desk
       pub written : AreWritten (call_lines (session_calls server_nonce greeting turns)) old.wire new.wire old.log new.log
       pub halts : HaltsOnlyByStore facts new.desk
 

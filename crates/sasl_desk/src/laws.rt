@@ -1,9 +1,9 @@
 //! Laws of spent counters, of sessions and of desks. Each is the contract of a function that does nothing.
-ghost use Rattle.std.specs.Prelude.{◌≡◌, ◌⊎◌, true, ℕ, List, [], ◌∷◌, ◌++◌};
+ghost use Rattle.std.specs.Prelude.{◌≡◌, ◌⊎◌, true, false, ℕ, List, [], ◌∷◌, ◌++◌};
 ghost use Rattle.account_book.specs.{BookFields, IsBookText};
 ghost use Rattle.account_book.specs.AccountAttempt.{AccountAttempt};
-ghost use Rattle.account_book.specs.Tokens.{IsBookAttempt, IsBookAfterAttempts};
-ghost use Rattle.account_book.specs.Store.{MayHold};
+ghost use Rattle.account_book.specs.Tokens.{IsBookAfterAttempts};
+ghost use Rattle.account_book.specs.Store.{StoreFacts};
 ghost use Rattle.account_book.specs.Spent.{spent_by_all, SpentStaysSpent, AreSpent};
 ghost use Rattle.log_grammar.specs.Books.{accounts_in};
 ghost use Rattle.log_grammar.specs.Versions.{IsLogFront, IsClean};
@@ -13,11 +13,13 @@ ghost use Rattle.log_grammar.specs.Demands.{Accounts};
 ghost use Rattle.sasl_desk.specs.AcceptedLogins.{LinesAcceptExactlyValid};
 ghost use Rattle.sasl_desk.specs.Desks.{IsDeskAfter, desk_phase};
 ghost use Rattle.sasl_desk.specs.Records.{HasItsRecords};
-ghost use Rattle.sasl_desk.specs.Changes.{IsDeskRunLeaving, Change, AreChanges, spent_by_changes};
-ghost use Rattle.sasl_desk.specs.Halls.{IsSessionRun};
+ghost use Rattle.sasl_desk.specs.Changes.{run_of, IsDeskRunOf, Change, AreChanges, AreUsedByChanges};
+ghost use Rattle.sasl_desk.specs.Halls.{IsSessionRun, IsPhaseOf};
 ghost use Rattle.sasl_desk.specs.Runs.{Call, run_lines, wire_bytes, IsRun, call_lines};
-ghost use Rattle.sasl_desk.specs.Saved.{IsLogSaved, AreToldCountersSaved};
+ghost use Rattle.sasl_desk.specs.Passes.{ArePassed};
+ghost use Rattle.sasl_desk.specs.Saved.{IsLogSaved, AreCountersSaved};
 ghost use Rattle.sasl_desk.specs.Sessions.{LongTextsAreBad};
+ghost use Rattle.sasl_desk.specs.Stops.{MayBeLeft, MayBeLeftUnbegun};
 ghost use Rattle.sasl_desk.specs.declared.desk.Desk.{Desk};
 ghost use Rattle.sasl_desk.specs.declared.session.phase.Phase.TheVariants as phase;
 ghost use Rattle.sasl_desk.specs.DueLines.{DueLinesStand, BadLinesStand, GoneClientsStand};
@@ -25,6 +27,7 @@ ghost use Rattle.sasl_desk.specs.DueLines.{DueLinesStand, BadLinesStand, GoneCli
 pub mod hall;
 
 use account_book::BookStore;
+use book_format::laws::has_one_book;
 
 /// A spent counter is one at which no code passes again. It stays spent, whatever the reply. The counters that a reply uses were
 /// not spent before it, and are spent after it.
@@ -63,6 +66,13 @@ pub fn log_is_clean<S: BookStore>()
         → (lines : List LogLine) → run_lines calls ≡ lines ++ said halt ∷ [] → IsClean (accounts_in start) (log_bytes (run_lines calls)) }
 {}
 
+/// The phase of a desk is that of the place to which its log has led, unless it has halted. It halts in the call whose last line is
+/// `S HALT` (`says_halt` of `Answers`), by `Desk::halt`, and in no other way.
+pub fn phases_are_those_of_places<S: BookStore>()
+    ensures { (start : BookFields) (calls : List Call) (desk : Desk S) (stands : IsDeskAfter S.facts S.IsStored start calls desk)
+        → IsPhaseOf stands.place (desk_phase desk) }
+{}
+
 /// A login is answered by `S OK` if it is valid (RFC 5802, sections 3 and 5), and else by `S NO`: in the log of a run, and in the lines of
 /// each session of a hall, each `S OK` directly follows the other messages of a valid login, and the first three of a login are
 /// directly followed by its outcome. This is so after each call, so the call that hears a client-final message gives the outcome.
@@ -96,14 +106,6 @@ pub fn bytes_are_those_of_calls()
     ensures begun { wire_bytes (run_lines []) ≡ [] }
 {}
 
-/// After each call, each text that the store may hold is that of a book that the run may leave: the desk's own or, if a save failed,
-/// perhaps the same with one more attempt.
-pub fn store_holds_a_book<S: BookStore>()
-    ensures { (start : BookFields) (calls : List Call) (desk : Desk S) (text : List ℕ)
-        → IsDeskAfter S.facts S.IsStored start calls desk → MayHold (S.facts desk.keeper.store) text
-        → (left : BookFields) × IsDeskRunLeaving S.facts S.IsStored start calls left × IsBookText text left }
-{}
-
 /// After each call, `IsStored` is true of some text of the book to which the replies in the log lead, and each text that the store may
 /// hold is of that book, or of it with one more attempt. That the save comes before the reply is in the contract of `Keeper::judge`.
 pub fn log_is_saved<S: BookStore>()
@@ -111,30 +113,37 @@ pub fn log_is_saved<S: BookStore>()
         → IsLogSaved S.IsStored start (log_bytes (run_lines calls)) (S.facts desk.keeper.store) }
 {}
 
-/// The desk's book with one more judged attempt is a book that the run may leave: a stop within a call, while the store replaces the
-/// old text with the new one, leaves no other.
-pub fn stops_leave_runs<S: BookStore>()
-    ensures { (start : BookFields) (calls : List Call) (desk : Desk S) (attempt : AccountAttempt) (next : BookFields)
-        → IsDeskAfter S.facts S.IsStored start calls desk → IsBookAttempt desk.keeper.book attempt next
-        → IsDeskRunLeaving S.facts S.IsStored start calls next }
+/// Wherever a run stops, the text that its store then holds is that of a book, with which the next run can begin: between two calls,
+/// also after a failed save, or within a call, while the store replaces the old text with the new one (`begun`); and in `begin` or after
+/// it has failed, where the book is the one that was handed in (`unbegun`).
+pub fn stops_leave_books<S: BookStore>()
+    ensures begun { (start : BookFields) (calls : List Call) (desk : Desk S) (text : List ℕ)
+        → IsDeskAfter S.facts S.IsStored start calls desk → MayBeLeft desk.keeper.book (S.facts desk.keeper.store) text
+        → (left : BookFields) × IsBookText text left × IsDeskRunOf S.facts S.IsStored (run_of start calls left) }
+    ensures unbegun { (book : BookFields) (store : StoreFacts) (text : List ℕ) → store.failed ≡ false → IsBookText store.saved book
+        → MayBeLeftUnbegun store book text → IsBookText text book }
 {}
 
-/// At every moment of a run, whichever text the store may hold is that of a book in which each counter is spent that replies to
-/// clients have used, and each that was spent before the run: at the end of a call, and within a call that is saving the book with
-/// the attempt that is judged. In this book the counters that the attempt uses are spent as well.
-pub fn told_counters_are_saved<S: BookStore>()
-    ensures { (start : BookFields) (calls : List Call) (desk : Desk S) (stands : IsDeskAfter S.facts S.IsStored start calls desk)
-        → AreToldCountersSaved start stands.told desk.keeper.book (S.facts desk.keeper.store) }
+/// Wherever a run stops, the text that its store then holds is that of a book in which each counter is spent that a PASS line in the
+/// run's log uses, and each that was spent before the run. If it stops within a call that saves the book with the attempt that it
+/// judges, the counters that this attempt uses are spent in that book as well.
+pub fn passed_counters_are_saved<S: BookStore>()
+    ensures { (start : BookFields) (calls : List Call) (desk : Desk S) → IsDeskAfter S.facts S.IsStored start calls desk
+        → (used : List (List ℕ × ℕ)) × ArePassed (accounts_in start) (run_lines calls) used
+        × AreCountersSaved start used desk.keeper.book (S.facts desk.keeper.store) }
 {}
 
-/// No counter of an account passes twice over all that happens to a book: runs of desks and halls, wherever each of them stopped,
-/// and between them attempts that are judged without a desk, unlocked tokens and added accounts. The counters that the replies use
-/// differ from each other and from those that were spent before, and all are spent in the book that is left.
+/// No counter of an account passes twice over all that happens to a book: runs of desks and halls, each begun with the book that is
+/// read from the text left by the one before, wherever that one stopped; and between them attempts that are judged without a desk,
+/// unlocked tokens and added accounts. The counters that the PASS lines of all logs use, and these attempts, differ from each other and
+/// from those that were spent before, and all are spent in the book that is left.
 pub fn no_counter_passes_twice<S: BookStore>()
     ensures { (first : BookFields) (changes : List Change) (last : BookFields) (spent : List (List ℕ × ℕ))
         → AreChanges S.facts S.IsStored first changes last → AreSpent spent first
-        → AreSpent (spent_by_changes changes ++ spent) last }
-{}
+        → (used : List (List ℕ × ℕ)) × AreUsedByChanges changes used × AreSpent (used ++ spent) last }
+{
+    has_one_book();
+}
 
 /// A text of more than 6200 bytes is recorded as `C BAD`. So is a line of a client that is too long, which `serve_turn` cuts after
 /// 6201 bytes.

@@ -14,4 +14,5 @@ pub mod Logs
 pub mod CallBytes
 pub mod Records
 pub mod Stores
+pub mod Changes
 pub mod Alone

@@ -16,6 +16,7 @@ pub mod Logs
 pub mod PathLines
 pub mod AcceptedLogins
 pub mod Changes
+pub mod Passes
 pub mod Stores
 pub mod Answered
 pub mod Served

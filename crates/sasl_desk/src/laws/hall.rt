@@ -1,9 +1,6 @@
 //! Laws of halls. Each is the contract of a function that does nothing.
 ghost use Rattle.std.specs.Prelude.{◌≡◌, true, None, ℕ, List, [], ◌∷◌, ◌++◌, map};
 ghost use Rattle.account_book.specs.{BookFields, IsBookText};
-ghost use Rattle.account_book.specs.AccountAttempt.{AccountAttempt};
-ghost use Rattle.account_book.specs.Tokens.{IsBookAttempt};
-ghost use Rattle.account_book.specs.Store.{MayHold};
 ghost use Rattle.log_grammar.specs.Books.{accounts_in};
 ghost use Rattle.log_grammar.specs.Lines.{LogLine, said, halt};
 ghost use Rattle.log_grammar.specs.Numbered.{Numbered, numbered, of_number};
@@ -12,9 +9,11 @@ ghost use Rattle.sasl_desk.specs.AcceptedLogins.{LinesAcceptExactlyValid};
 ghost use Rattle.sasl_desk.specs.Alone.{HaveSameRequests, HaveSameEntries, up_to_acceptance};
 ghost use Rattle.sasl_desk.specs.Halls.{HallFields, IsTurnedAway, hall_lines, hall_bytes, numbered_bytes, phase_of_number, IsPhaseOrNoneOf, IsHallAfter};
 ghost use Rattle.sasl_desk.specs.Records.{HasSessionRecords};
-ghost use Rattle.sasl_desk.specs.Changes.{IsHallRunLeaving};
+ghost use Rattle.sasl_desk.specs.Changes.{run_of, IsHallRunOf};
+ghost use Rattle.sasl_desk.specs.Passes.{AreNumberedPassed};
 ghost use Rattle.sasl_desk.specs.Runs.{Call, wire_bytes, call_lines};
-ghost use Rattle.sasl_desk.specs.Saved.{AreLinesSaved, AreToldCountersSaved};
+ghost use Rattle.sasl_desk.specs.Saved.{AreLinesSaved, AreCountersSaved};
+ghost use Rattle.sasl_desk.specs.Stops.{MayBeLeft};
 
 use account_book::BookStore;
 
@@ -71,14 +70,6 @@ pub fn bytes_are_those_of_calls()
         → wire_bytes (call_lines (call ∷ before)) ≡ wire_bytes (call_lines before) ++ wire_bytes call.lines }
 {}
 
-/// After each call, each text that the store may hold is that of a book that the run may leave: the hall's own or, if a save failed,
-/// perhaps the same with one more attempt.
-pub fn store_holds_a_book<S: BookStore>()
-    ensures { (start : BookFields) (calls : List (Numbered Call)) (hall : HallFields S) (text : List ℕ)
-        → IsHallAfter S.facts S.IsStored start calls hall → MayHold (S.facts hall.keeper.store) text
-        → (left : BookFields) × IsHallRunLeaving S.facts S.IsStored start calls left × IsBookText text left }
-{}
-
 /// After each call, `IsStored` is true of some text of the book to which the replies in the log lead, and each text that the store may
 /// hold is of that book, or of it with one more attempt. That the save comes before the reply is in the contract of `Keeper::judge`.
 pub fn log_is_saved<S: BookStore>()
@@ -86,20 +77,19 @@ pub fn log_is_saved<S: BookStore>()
         → AreLinesSaved S.IsStored start (hall_lines calls) (S.facts hall.keeper.store) }
 {}
 
-/// The hall's book with one more judged attempt is a book that the run may leave: a stop within a call, while the store replaces the
-/// old text with the new one, leaves no other.
-pub fn stops_leave_runs<S: BookStore>()
-    ensures { (start : BookFields) (calls : List (Numbered Call)) (hall : HallFields S) (attempt : AccountAttempt) (next : BookFields)
-        → IsHallAfter S.facts S.IsStored start calls hall → IsBookAttempt hall.keeper.book attempt next
-        → IsHallRunLeaving S.facts S.IsStored start calls next }
+/// Wherever a run stops, the text that its store then holds is that of a book, with which the next run can begin, as at a desk.
+pub fn stops_leave_books<S: BookStore>()
+    ensures { (start : BookFields) (calls : List (Numbered Call)) (hall : HallFields S) (text : List ℕ)
+        → IsHallAfter S.facts S.IsStored start calls hall → MayBeLeft hall.keeper.book (S.facts hall.keeper.store) text
+        → (left : BookFields) × IsBookText text left × IsHallRunOf S.facts S.IsStored (run_of start calls left) }
 {}
 
-/// As at a desk: at every moment of a run, whichever text the store may hold is that of a book in which each counter is spent that
-/// replies to clients have used, and each that was spent before the run.
-pub fn told_counters_are_saved<S: BookStore>()
-    ensures { (start : BookFields) (calls : List (Numbered Call)) (hall : HallFields S)
-        (stands : IsHallAfter S.facts S.IsStored start calls hall)
-        → AreToldCountersSaved start stands.told hall.keeper.book (S.facts hall.keeper.store) }
+/// As at a desk: wherever a run stops, the text that its store then holds is that of a book in which each counter is spent that a PASS
+/// line in the run's log uses, in any of its sessions, and each that was spent before the run.
+pub fn passed_counters_are_saved<S: BookStore>()
+    ensures { (start : BookFields) (calls : List (Numbered Call)) (hall : HallFields S) → IsHallAfter S.facts S.IsStored start calls hall
+        → (used : List (List ℕ × ℕ)) × AreNumberedPassed (accounts_in start) (hall_lines calls) used
+        × AreCountersSaved start used hall.keeper.book (S.facts hall.keeper.store) }
 {}
 
 /// Up to its outcome, what a session sends its client follows from what it was asked up to there, the server's part of its nonce and

@@ -29,7 +29,7 @@ use Rattle.sasl_desk.specs.declared.session.phase.Phase.TheVariants as phase
 use Rattle.sasl_desk.specs.declared.turn.AfterTurn.{AfterTurn}
 use Rattle.sasl_desk.specs.declared.turn.AfterTurn.TheVariants.{Going, Closed, Halted}
 use Rattle.sasl_desk.proofs.lemmas.halls.OpenSessions.{open_session_of}
-use Rattle.sasl_desk.proofs.lemmas.turns.Saves.{halted_after, turn_counts_saves, turn_asks_for_save, turn_is_quiet, halting_turn_failed_saving}
+use Rattle.sasl_desk.proofs.lemmas.turns.Saves.{halted_after, turn_counts_saves, turn_asks_for_save, turn_is_quiet, halting_turn_failed_saving, turn_says_halt}
 use Rattle.sasl_desk.proofs.lemmas.runs.Calls.{open_session_is_not_halted}
 use Rattle.sasl_desk.proofs.lemmas.halls.OpenAfterTurns.{LeavesSession, open_sessions_after}
 use Rattle.sasl_desk.proofs.lemmas.halls.Phases.{session_phase_fits_place, returned_phase_is_kept}
@@ -103,6 +103,7 @@ module _ {S : Type 0} {facts : S → StoreFacts} {IsStored : List ℕ → Type 0
     asks = λ start calls s. turn_asks_for_save (accounts_in start) (s.places n) (s.standing refl).0.0 t (working_hall_holds_book s refl);
     quiet = turn_is_quiet t;
     halts = halting_turn_failed_saving t;
+    says_halt = turn_says_halt t;
   }
 
 -- a hall whose open sessions stand in this order or in that
@@ -127,6 +128,7 @@ module _ {S : Type 0} {keeper : Keeper S} {open_sessions others : List OpenSessi
         asks = λ start calls s some. a.asks start calls (reordered_hall_stands same s) some;
         quiet = a.quiet;
         halts = a.halts;
+        says_halt = a.says_halt;
       }
 
   -- whether two halls are the same does not depend on the order of their open sessions

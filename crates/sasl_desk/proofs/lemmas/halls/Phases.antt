@@ -12,11 +12,13 @@ use Rattle.log_grammar.specs.Books.{accounts_in}
 use Rattle.log_grammar.specs.Places.{Place, before_all, between, offered, waits_first, waits_final, waits_code, is_closed}
 use Rattle.log_grammar.specs.Demands.{Accounts}
 use Rattle.log_grammar.specs.Numbered.{Numbered, of_number}
-use Rattle.sasl_desk.specs.Desks.{session_phase}
+use Rattle.sasl_desk.specs.Desks.{session_phase, state_phase, IsStateAt}
 use Rattle.sasl_desk.specs.OpenSessions.{has_number}
 use Rattle.sasl_desk.specs.Halls.{HallFields, IsSessionRun, IsOpenSessionAt, IsHallAfter, phase_after_halt, phase_of_number, phase_unless_ended, IsPhaseOf, IsPhaseOrNoneOf}
 use Rattle.sasl_desk.specs.Runs.{Call, IsAtRest}
 use Rattle.sasl_desk.specs.Sessions.{IsSessionAt}
+use Rattle.sasl_desk.specs.declared.desk.state.State.{State}
+use Rattle.sasl_desk.specs.declared.desk.state.State.TheVariants.{Closed, Open, Halted}
 use Rattle.sasl_desk.specs.declared.hall.open_session.OpenSession.{OpenSession}
 use Rattle.sasl_desk.specs.declared.session.Session.{Session}
 use Rattle.sasl_desk.specs.declared.session.Session.TheVariants.{WaitAuth, WaitFirst, WaitFinal, WaitCode}
@@ -45,6 +47,13 @@ session_phase_fits_place accounts at WaitAuth is = is
 session_phase_fits_place accounts at (WaitFirst mechanism) is = (_, is)
 session_phase_fits_place accounts at (WaitFinal waiting) (first, challenge, is, stands) = (_, _, first, challenge, is)
 session_phase_fits_place accounts at (WaitCode name) is = (name, is)
+
+-- the law: the phase of a desk is that of the place to which its log has led
+pub desk_phase_fits_place : (accounts : Accounts) (server_nonce : List ℕ) (at : Place) (state : State)
+    → IsStateAt accounts server_nonce at state → IsPhaseOf at (state_phase state)
+desk_phase_fits_place accounts server_nonce at Closed is = is
+desk_phase_fits_place accounts server_nonce at (Open session own) is = session_phase_fits_place accounts at session is.0
+desk_phase_fits_place accounts server_nonce at Halted is = tt
 
 -- the phase that fits a place, unless it is Halted
 phase_at : Place → Phase

@@ -1,25 +1,30 @@
 -- What the store of a desk or a hall holds, wherever it stops: a book that its run may leave, in which all that was told is spent. The
 -- file of a hall is `halls/Stores.antt`; what it shares with a desk is here.
-use Rattle.std.proofs.Common.{inl, inr, ℕ, List, ◌++◌, reverse, refl, sym, subst}
+use Rattle.std.proofs.Common.{◌≡◌, inl, inr, false, ℕ, List, ◌++◌, reverse, refl, sym, ◌∙◌, subst}
 use Rattle.account_book.specs.{BookFields, IsBookText}
 use Rattle.account_book.specs.SavedBooks.{HasStoredText, HoldsBook}
-use Rattle.account_book.specs.Store.{StoreFacts, MayHold, MayHoldWithinSave}
+use Rattle.account_book.specs.Store.{StoreFacts, MayHold, IsNotSaved}
 use Rattle.account_book.specs.AccountAttempt.{AccountAttempt}
-use Rattle.account_book.specs.Tokens.{IsBookAttempt, IsBookAfterAttempts}
+use Rattle.account_book.specs.Tokens.{IsBookAfterAttempts}
 use Rattle.account_book.specs.Spent.{AreSpent, spent_by_all}
 use Rattle.log_grammar.specs.Books.{accounts_in}
 use Rattle.log_grammar.specs.Lines.{log_bytes}
 use Rattle.log_grammar.specs.Places.{Place, halted}
 use Rattle.log_grammar.specs.Demands.{Accounts}
 use Rattle.sasl_desk.specs.Runs.{Call, run_lines}
-use Rattle.sasl_desk.specs.Saved.{IsToldSaved, IsLogSaved, IsTextOfSpent, AreToldCountersSaved}
+use Rattle.sasl_desk.specs.Saved.{IsToldSaved, IsLogSaved, AreCountersSaved}
 use Rattle.sasl_desk.specs.Desks.{IsLostAfter, IsStoredAt}
-use Rattle.sasl_desk.specs.Desks.{IsDeskAfter, IsTextLeft, MayLeave}
-use Rattle.sasl_desk.specs.Changes.{IsDeskRunLeaving}
+use Rattle.sasl_desk.specs.Desks.{IsDeskAfter, IsTextLeft}
+use Rattle.sasl_desk.specs.Changes.{run_of, IsDeskRunOf}
+use Rattle.sasl_desk.specs.Passes.{ArePassed}
+use Rattle.sasl_desk.specs.Stops.{MayBeLeft, MayBeLeftUnbegun}
 use Rattle.sasl_desk.specs.declared.desk.Desk.{Desk}
+use Rattle.sasl_desk.specs.declared.fault.DeskFault.TheVariants.{Halted, Unwritable, NoNumber, NoMemory}
+use Rattle.sasl_desk.proofs.lemmas.turns.Keepers.{store_failed_in_this_save}
 use Rattle.sasl_desk.proofs.lemmas.runs.Spent.{spent_stays_spent}
 use Rattle.sasl_desk.proofs.lemmas.runs.BooksAfterReplies.{replies_spend_counters}
 use Rattle.sasl_desk.proofs.lemmas.runs.Changes.{left_book_keeps_spent_counters}
+use Rattle.sasl_desk.proofs.lemmas.runs.Passes.{told_counters_are_passed}
 
 -- a desk or a hall that began with the book `start`, has told these replies, and has the book `kept` in this store
 pub record HoldsTold (IsStored : List ℕ → Type 0) (start : BookFields) (told : List AccountAttempt) (kept : BookFields)
@@ -73,38 +78,26 @@ module _ {IsStored : List ℕ → Type 0} {start : BookFields} {told : List Acco
   pub told_is_saved : IsToldSaved IsStored start told store
   told_is_saved = record { last = kept; is_last = holds.is_book; saved = holds.stored; held = holds.texts }
 
-  -- each text that its store may hold is that of a book that its run may leave
-  pub held_texts_are_left : {IsLeaving : BookFields → Type 0} → ((left : BookFields) → MayLeave kept left → IsLeaving left)
-      → (text : List ℕ) → MayHold store text → (left : BookFields) × IsLeaving left × IsBookText text left
-  held_texts_are_left leave text may =
-      let (left, leaves, is_text) = holds.texts text may in (left, leave left leaves, is_text)
+  -- each text that its store may hold where it stops is that of a book that its run may leave
+  pub stopped_text_is_left : (text : List ℕ) → MayBeLeft kept store text → IsTextLeft kept text
+  stopped_text_is_left text (inl may) = holds.texts text may
+  stopped_text_is_left text (inr (attempt, next, asked, one, is_text, inl may)) = holds.texts text may
+  stopped_text_is_left text (inr (attempt, next, asked, one, is_text, inr same)) =
+      (next, inr (attempt, one), subst (λ (t : List ℕ). IsBookText t next) (sym same) is_text)
 
   -- what was spent before the run, and what its replies used, is spent in its book
   kept_book_keeps_told_counters : (ps : List (List ℕ × ℕ)) → AreSpent ps start → AreSpent (spent_by_all (reverse told) ++ ps) kept
   kept_book_keeps_told_counters ps spent = replies_spend_counters start (reverse told) kept ps holds.is_book spent
 
-  -- it is spent in the book of each text that a run with its book may leave
-  left_text_keeps_told_counters : (ps : List (List ℕ × ℕ)) → AreSpent ps start → (text : List ℕ) → IsTextLeft kept text
-      → IsTextOfSpent (spent_by_all (reverse told) ++ ps) text
-  left_text_keeps_told_counters ps spent text (left, leaves, is_text) = (
-    left,
-    is_text,
-    left_book_keeps_spent_counters kept left (spent_by_all (reverse told) ++ ps) leaves (kept_book_keeps_told_counters ps spent),
-  )
-
-  -- a text that the store may hold while it saves a text of the book with one more attempt is one that a run may leave
-  text_within_save_may_be_left : (t : AccountAttempt) (next : BookFields) (asked text : List ℕ) → IsBookAttempt kept t next
-      → IsBookText asked next → MayHoldWithinSave store asked text → IsTextLeft kept text
-  text_within_save_may_be_left t next asked text one is_text (inl may) = holds.texts text may
-  text_within_save_may_be_left t next asked text one is_text (inr same) =
-      (next, inr (t, one), subst (λ (x : List ℕ). IsBookText x next) (sym same) is_text)
-
-  -- the law: whichever text the store may hold, what was spent before the run is spent in its book, and so is what the replies used
-  pub told_counters_are_saved : AreToldCountersSaved start told kept store
+  -- the law: wherever it stops, what was spent before the run is spent in the book of the text that is left, and so is what the replies used
+  pub told_counters_are_saved : AreCountersSaved start (spent_by_all (reverse told)) kept store
   told_counters_are_saved = record {
-    ended = λ ps text spent may. left_text_keeps_told_counters ps spent text (holds.texts text may);
-    within = λ ps t next asked text spent one is_text may.
-        left_text_keeps_told_counters ps spent text (text_within_save_may_be_left t next asked text one is_text may);
+    left = λ ps text spent stopped.
+        let (left, leaves, is_text) = stopped_text_is_left text stopped in (
+          left,
+          is_text,
+          left_book_keeps_spent_counters kept left (spent_by_all (reverse told) ++ ps) leaves (kept_book_keeps_told_counters ps spent),
+        );
     next = λ ps t next spent one.
         spent_stays_spent kept next t (spent_by_all (reverse told) ++ ps) one (kept_book_keeps_told_counters ps spent);
   }
@@ -128,6 +121,49 @@ module _ {S : Type 0} {facts : S → StoreFacts} {IsStored : List ℕ → Type 0
     saved = told_is_saved desk_holds_told;
   }
 
-  -- the run of a desk may leave the desk's book, and that book with one more attempt
-  pub desk_run_may_leave : (left : BookFields) → MayLeave desk.keeper.book left → IsDeskRunLeaving facts IsStored start calls left
-  desk_run_may_leave left leaves = (s.told, record { server = desk; stands = s; told_are = refl; leaves = leaves })
+  -- the law: wherever a desk stops, what was spent before its run is spent in the book of the text that is left, and so is what PASS used
+  pub passed_counters_are_saved : (used : List (List ℕ × ℕ)) × ArePassed (accounts_in start) (run_lines calls) used
+      × AreCountersSaved start used desk.keeper.book (facts desk.keeper.store)
+  passed_counters_are_saved = (
+    spent_by_all (reverse s.told),
+    told_counters_are_passed (accounts_in start) (run_lines calls) s.place s.told s.begins,
+    told_counters_are_saved desk_holds_told,
+  )
+
+  -- the law: wherever a desk stops, the text that is left is that of a book that its run leaves
+  pub stopped_desk_leaves_book : (text : List ℕ) → MayBeLeft desk.keeper.book (facts desk.keeper.store) text
+      → (left : BookFields) × IsBookText text left × IsDeskRunOf facts IsStored (run_of start calls left)
+  stopped_desk_leaves_book text stopped =
+      let (left, leaves, is_text) = stopped_text_is_left desk_holds_told text stopped in
+      (left, is_text, record { server = desk; stands = s; text = text; stopped = stopped; leaves = is_text })
+
+-- a store that has not failed holds a text of this book
+module _ (book : BookFields) (store : StoreFacts) (working : store.failed ≡ false) (read : IsBookText store.saved book) where
+  -- each text that it may hold is of the book
+  held_text_is_of_book : (text : List ℕ) → MayHold store text → IsBookText text book
+  held_text_is_of_book text (inl same) = subst (λ (t : List ℕ). IsBookText t book) (sym same) read
+  held_text_is_of_book text (inr (failed, same)) = absurd (cc (working, failed))
+
+  -- after it failed to save a text of the book, each text that it may hold is of the book
+  unsaved_text_is_of_book : (asked : List ℕ) (after : StoreFacts) → IsBookText asked book → IsNotSaved store asked after
+      → (text : List ℕ) → MayHold after text → IsBookText text book
+  unsaved_text_is_of_book asked after is_text lost text may =
+      let failed = store_failed_in_this_save store after asked working lost in
+      elim may [
+        | inl held ↦ elim failed.saved [
+          | inl before ↦ subst (λ (t : List ℕ). IsBookText t book) (sym (held ∙ before)) read
+          | inr same ↦ subst (λ (t : List ℕ). IsBookText t book) (sym (held ∙ same)) is_text
+        ]
+        | inr given ↦ subst (λ (t : List ℕ). IsBookText t book) (sym (given.1 ∙ failed.begun.asked)) is_text
+      ]
+
+  -- the law: if `begin` is stopped or fails, the text that is left is of the book
+  pub unbegun_text_is_of_book : (text : List ℕ) → MayBeLeftUnbegun store book text → IsBookText text book
+  unbegun_text_is_of_book text (inl (asked, is_text, inl may)) = held_text_is_of_book text may
+  unbegun_text_is_of_book text (inl (asked, is_text, inr same)) = subst (λ (t : List ℕ). IsBookText t book) (sym same) is_text
+  unbegun_text_is_of_book text (inr (NoMemory, after, same, may)) =
+      held_text_is_of_book text (subst (λ (f : StoreFacts). MayHold f text) same may)
+  unbegun_text_is_of_book text (inr (Halted, after, lost, may)) =
+      unsaved_text_is_of_book lost.text after lost.is_text lost.lost text may
+  unbegun_text_is_of_book text (inr (Unwritable, after, never, may)) = absurd never
+  unbegun_text_is_of_book text (inr (NoNumber, after, never, may)) = absurd never

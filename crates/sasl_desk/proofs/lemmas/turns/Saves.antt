@@ -1,8 +1,12 @@
 -- What a turn saves and changes, at a desk or a hall: one save for each line that stands for one, and nothing without such a line.
-use Rattle.std.proofs.Common.{◌≡◌, inl, inr, ◌+◌, Bool, true, false, ℕ, List, [], length, filter, refl, sym, ◌∙◌, ap, subst, arith}
+use Rattle.std.proofs.Common.{◌≡◌, ◌↔◌, inl, inr, ◌+◌, Bool, true, false, ℕ, List, [], ◌∷◌, length, filter, refl, sym, ◌∙◌, ap, subst, arith}
+use Rattle.std.specs.List.{AllByRecursion}
 use Rattle.std.specs.declared.option.Option.{Option}
 use Rattle.std.specs.declared.option.Option.TheVariants.{None, Some}
+use Rattle.std.proofs.lemmas.Bool.{false≢true}
+use Rattle.std.proofs.lemmas.List.{same_from_push}
 use Rattle.otp_core.specs.Attempt.{CodeTexts}
+use Rattle.otp_core.specs.declared.token.reply.Reply.{Reply}
 use Rattle.otp_core.specs.declared.token.reply.Reply.TheVariants.{Pass, Fail, Locked}
 use Rattle.account_book.specs.{BookFields, IsBookText}
 use Rattle.account_book.specs.Store.{StoreFacts}
@@ -13,9 +17,11 @@ use Rattle.book_keeper.specs.Keeper.{IsCodeJudged}
 use Rattle.book_keeper.specs.declared.keeper.Keeper.{Keeper}
 use Rattle.book_keeper.specs.declared.keeper.CodeJudged.{CodeJudged}
 use Rattle.book_keeper.specs.declared.keeper.CodeJudged.TheVariants.{Replied, NotSaved}
-use Rattle.log_grammar.specs.Lines.{LogLine, said, replies, halt}
+use Rattle.log_grammar.specs.Lines.{LogLine, said, heard, replies, halt, code_line}
+use Rattle.log_grammar.specs.laws.LastLines.{EndsWith}
 use Rattle.log_grammar.specs.Places.{Place, waits_code}
 use Rattle.log_grammar.specs.Demands.{Accounts}
+use Rattle.log_grammar.proofs.lemmas.ListEnds.{all_includes_element}
 use Rattle.sasl_desk.specs.Events.{ClientEvent}
 use Rattle.sasl_desk.specs.Runs.{hears}
 use Rattle.sasl_desk.specs.SavedCalls.{is_saving, IsAttemptOf, CountsSaves, AsksToSaveAttempt, IsQuiet, LeavesFailedStore}
@@ -38,13 +44,26 @@ record_is_not_saving (recorded.Line line) = refl
 record_is_not_saving recorded.Bad = refl
 record_is_not_saving recorded.Gone = refl
 
--- the store is not asked to save for any line of a turn that a session answers
-session_turn_saves_nothing : (turn : Turn) (message : List ℕ) → filter is_saving (turn_lines turn message) ≡ []
-session_turn_saves_nothing turn message = filter_keeps_none_if_none_passes is_saving (turn_lines turn message) (
+-- no line of a turn that a session answers stands for a save
+session_turn_lines_are_not_saving : (turn : Turn) (message : List ℕ) → AllByRecursion (λ line. is_saving line ≡ false) (turn_lines turn message)
+session_turn_lines_are_not_saving turn message = (
   record_is_not_saving turn.recorded,
   answer_lines_have (λ line. is_saving line ≡ false) (λ text. refl) (λ text. refl) (λ text. refl) refl turn.answer.says turn.answer.session
       message,
 )
+
+-- the store is not asked to save for any line of a turn that a session answers
+session_turn_saves_nothing : (turn : Turn) (message : List ℕ) → filter is_saving (turn_lines turn message) ≡ []
+session_turn_saves_nothing turn message =
+    filter_keeps_none_if_none_passes is_saving (turn_lines turn message) (session_turn_lines_are_not_saving turn message)
+
+-- lines of which none stands for a save do not end with `S HALT`
+unsaved_lines_have_no_halt : (lines : List LogLine) → AllByRecursion (λ line. is_saving line ≡ false) lines
+    → EndsWith lines (said halt ∷ []) → ⊥
+unsaved_lines_have_no_halt lines all (before, same) =
+    let each = subst (λ (l : List LogLine). AllByRecursion (λ line. is_saving line ≡ false) l) same all in
+    let unsaved : is_saving (said halt) ≡ false = all_includes_element (λ line. is_saving line ≡ false) before (said halt) [] each in
+    false≢true (sym unsaved)
 
 -- whether a turn that leaves its session so has halted its desk or its hall
 abbrev pub halted_after : AfterTurn → Bool
@@ -56,6 +75,10 @@ halted_after (Halted session) = true
 left_session_halts_nothing : (session : Option Session) → halted_after (after_turn_of session) ≡ true → ⊥
 left_session_halts_nothing (Some session) is = cc is
 left_session_halts_nothing None is = cc is
+
+-- a reply is not `S HALT`
+reply_is_no_halt : (moment : ℕ) (reply : Option Reply) → said (replies moment reply) ≡ said halt → ⊥
+reply_is_no_halt moment reply same = cc same
 
 -- what came of a code, or of two in a row: the book and the store before it was judged, and after
 module _ (IsStored : List ℕ → Type 0) (name : List ℕ) (moment : ℕ) (sent : CodeTexts) (old new : BookFields) (was now : StoreFacts) where
@@ -115,6 +138,17 @@ module _ (IsStored : List ℕ → Type 0) (name : List ℕ) (moment : ℕ) (sent
   code_is_quiet (Replied None) (one, kept) none = kept
   code_is_quiet NotSaved judged none = absurd (cc none)
 
+  -- a code halts a desk or a hall if and only if its last line is `S HALT`
+  code_says_halt : (judged : CodeJudged)
+      → (halted_after (after_judged name judged) ≡ true) ↔ EndsWith (judged_lines moment sent judged) (said halt ∷ [])
+  code_says_halt (Replied reply) = (
+    λ is. absurd (cc is),
+    λ ends.
+        let last = same_from_push (heard (code_line sent) ∷ []) ends.0 (said (replies moment reply)) (said halt) ends.1 in
+        absurd (reply_is_no_halt moment reply last.1),
+  )
+  code_says_halt NotSaved = (λ is. (heard (code_line sent) ∷ [], refl), λ ends. refl)
+
   -- if a code halts a desk or a hall, the store has failed, and the book stays as it was
   halting_code_failed_saving : (judged : CodeJudged) → IsCodeJudged IsStored old was name moment sent judged new now
       → halted_after (after_judged name judged) ≡ true → (now.failed ≡ true) × (new ≡ old)
@@ -161,3 +195,16 @@ module _ {S : Type 0} {facts : S → StoreFacts} {IsStored : List ℕ → Type 0
   halting_turn_failed_saving (inr (name, sent, asked, t)) is =
       halting_code_failed_saving IsStored name moment sent old.book new.book (facts old.store) (facts new.store) t.judged t.is_judged
       (rw t.is_left at is)
+
+  -- a turn halts the desk or the hall if and only if its last line is `S HALT`
+  pub turn_says_halt : IsTurnOf facts IsStored old session server_nonce event moment lines left new
+      → (halted_after left ≡ true) ↔ EndsWith lines (said halt ∷ [])
+  turn_says_halt (inl t) = (
+    λ is. absurd (left_session_halts_nothing t.turn.answer.session (rw t.is_left at is)),
+    λ ends. absurd (unsaved_lines_have_no_halt lines
+        (subst (λ (l : List LogLine). AllByRecursion (λ line. is_saving line ≡ false) l) (sym t.lines_are)
+        (session_turn_lines_are_not_saving t.turn t.message)) ends),
+  )
+  turn_says_halt (inr (name, sent, asked, t)) =
+      rw (t.lines_are, t.is_left)
+      (code_says_halt IsStored name moment sent old.book new.book (facts old.store) (facts new.store) t.judged)
